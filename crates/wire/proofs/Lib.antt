@@ -1,0 +1,2 @@
+pub mod RisingLemmas
+pub mod Joining

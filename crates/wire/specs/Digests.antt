@@ -1,0 +1,18 @@
+-- The digests: SHA-256 (FIPS 180-4) of a letter and what is digested.
+use Rattle.std.specs.Prelude.{ℕ, List, [], ◌∷◌, ◌++◌}
+use Rattle.std.specs.Int.{w16, w64, to_be_bytes}
+use Rattle.sha2.specs.Sha256.{sha256}
+use Rattle.wire.specs.declared.header.Header.{Header}
+use Rattle.wire.specs.Spelling.{body_bytes, header_body}
+
+-- of a header, without its signature: behind the letter H
+abbrev pub header_digest_of : Header → List ℕ
+header_digest_of h = sha256 (72 ∷ header_body h)
+
+-- of a certificate, whatever its votes: behind the letter C the header's digest, round and author
+abbrev pub certificate_digest_of : List ℕ → ℕ → ℕ → List ℕ
+certificate_digest_of header round author = sha256 (67 ∷ header ++ to_be_bytes w64 round ++ to_be_bytes w16 author)
+
+-- of the genesis certificate of an author: its header has round 0, no batches and no parents
+abbrev pub genesis_digest_of : ℕ → List ℕ
+genesis_digest_of author = certificate_digest_of (sha256 (72 ∷ body_bytes author 0 [] [])) 0 author

@@ -1,0 +1,143 @@
+-- Reading a message from left to right, field by field, up to the first fault.
+use Rattle.std.specs.Prelude.{◌≡◌, ℕ, ◌^◌, zero, suc, List, [], ◌∷◌, ◌++◌, length, take, drop, Result, Ok, Err, nat_lt, ◌==◌, if◌then◌else◌}
+use Rattle.std.specs.Int.{Width, w16, w64, byte_len, from_be_bytes}
+use Rattle.wire.specs.declared.error.WireError.{WireError}
+use Rattle.wire.specs.declared.error.WireError.TheVariants.{Memory, Short, Trailing, BadTag, NotCanonical, TooMany, BadRound}
+use Rattle.wire.specs.declared.keys.Author.{Author}
+use Rattle.wire.specs.declared.keys.Digest.{Digest}
+use Rattle.wire.specs.declared.keys.Signature.{Signature}
+use Rattle.wire.specs.declared.header.Header.{Header}
+use Rattle.wire.specs.declared.header.Vote.{Vote}
+use Rattle.wire.specs.declared.message.Message.{Message}
+use Rattle.wire.specs.declared.message.Message.TheVariants as message
+use Rattle.wire.specs.declared.references.BatchReference.{BatchReference}
+use Rattle.wire.specs.declared.references.ParentReference.{ParentReference}
+use Rattle.wire.specs.References.{batch_follows, parent_follows}
+
+infixl 10 ◌>>=◌
+abbrev pub ◌>>=◌ : {A B : Type 0} → Result A WireError → (A → Result B WireError) → Result B WireError
+(Ok x) >>= f = f x
+(Err e) >>= f = Err e
+
+-- the value of a field and the bytes behind it, or the first fault
+abbrev pub Read : Type 0 → Type 0
+Read X = Result (X × List ℕ) WireError
+
+-- ---- fields of fixed size
+
+abbrev pub number_at : Width → List ℕ → Read ℕ
+number_at w bytes = if nat_lt (length bytes) (byte_len w) then Err Short else Ok (from_be_bytes w (take (byte_len w) bytes), drop (byte_len w) bytes)
+
+abbrev pub bytes_at : ℕ → List ℕ → Read (List ℕ)
+bytes_at n bytes = if nat_lt (length bytes) n then Err Short else Ok (take n bytes, drop n bytes)
+
+unfoldable pub author_at : List ℕ → Read Author
+author_at bytes = do
+  n ← number_at w16 bytes
+  Ok (record { 0 = n.0 }, n.1)
+
+unfoldable pub digest_at : List ℕ → Read Digest
+digest_at bytes = do
+  d ← bytes_at 32 bytes
+  Ok (record { 0 = d.0 }, d.1)
+
+unfoldable pub signature_at : List ℕ → Read Signature
+signature_at bytes = do
+  s ← bytes_at 64 bytes
+  Ok (record { 0 = s.0 }, s.1)
+
+-- a round is at most 2^48
+unfoldable pub round_at : List ℕ → Read ℕ
+round_at bytes = do
+  n ← number_at w64 bytes
+  if nat_lt (2 ^ 48) n.0 then Err BadRound else Ok n
+
+-- a count is at most its limit
+unfoldable pub count_at : ℕ → List ℕ → Read ℕ
+count_at limit bytes = do
+  n ← number_at w16 bytes
+  if nat_lt limit n.0 then Err TooMany else Ok n
+
+-- ---- lists, whose order is tested as soon as the key of an entry is read
+
+-- so many entries, each read behind those before it
+unfoldable pub more_at : {X : Type 0} → (List X → List ℕ → Read X) → ℕ → List X → List ℕ → Read (List X)
+more_at entry_at zero before bytes = Ok (before, bytes)
+more_at entry_at (suc n) before bytes = do
+  entry ← entry_at before bytes
+  more_at entry_at n (before ++ entry.0 ∷ []) entry.1
+
+-- a batch behind those before it
+unfoldable pub batch_at : List BatchReference → List ℕ → Read BatchReference
+batch_at before bytes = do
+  digest ← digest_at bytes
+  if batch_follows before digest.0 then (number_at w16 digest.1 >>= λ worker. Ok (record { digest = digest.0; worker = worker.0 }, worker.1)) else Err NotCanonical
+
+-- their count, at most 128, and the batches
+unfoldable pub batches_at : List ℕ → Read (List BatchReference)
+batches_at bytes = do
+  count ← count_at 128 bytes
+  more_at batch_at count.0 [] count.1
+
+-- a parent behind those before it
+unfoldable pub parent_at : List ParentReference → List ℕ → Read ParentReference
+parent_at before bytes = do
+  author ← author_at bytes
+  if parent_follows before author.0 then (digest_at author.1 >>= λ certificate. Ok (record { author = author.0; certificate = certificate.0 }, certificate.1)) else Err NotCanonical
+
+-- their count, at most 31, and the parents
+unfoldable pub parents_at : List ℕ → Read (List ParentReference)
+parents_at bytes = do
+  count ← count_at 31 bytes
+  more_at parent_at count.0 [] count.1
+
+-- ---- messages
+
+unfoldable pub header_at : List ℕ → Read Header
+header_at bytes = do
+  author ← author_at bytes
+  round ← round_at author.1
+  batches ← batches_at round.1
+  parents ← parents_at batches.1
+  signature ← signature_at parents.1
+  Ok (record { author = author.0; round = round.0; batches = batches.0; parents = parents.0; signature = signature.0 }, signature.1)
+
+unfoldable pub vote_at : List ℕ → Read Vote
+vote_at bytes = do
+  header ← digest_at bytes
+  round ← round_at header.1
+  author ← author_at round.1
+  voter ← author_at author.1
+  signature ← signature_at voter.1
+  Ok (record { header = header.0; round = round.0; author = author.0; voter = voter.0; signature = signature.0 }, signature.1)
+
+-- the tag, and what it has
+unfoldable pub tagged_at : List ℕ → Read Message
+tagged_at [] = Err Short
+tagged_at (tag ∷ bytes) =
+    if tag == 3 then (header_at bytes >>= λ h. Ok (message.Header h.0, h.1))
+    else if tag == 4 then (vote_at bytes >>= λ v. Ok (message.Vote v.0, v.1))
+    else Err BadTag
+
+-- the message that all of the bytes are, or the first fault
+unfoldable pub message_of : List ℕ → Result Message WireError
+message_of bytes = do
+  m ← tagged_at bytes
+  if length m.1 == 0 then Ok m.0 else Err Trailing
+
+-- ---- what a reader of the code returns
+
+-- the fault that reading gives, unless memory ran out
+abbrev pub Faults : {Y : Type 0} → WireError → Result Y WireError → Type 0
+Faults Memory read = Unit {0}
+Faults Short read = read ≡ Err Short
+Faults Trailing read = read ≡ Err Trailing
+Faults BadTag read = read ≡ Err BadTag
+Faults NotCanonical read = read ≡ Err NotCanonical
+Faults TooMany read = read ≡ Err TooMany
+Faults BadRound read = read ≡ Err BadRound
+
+-- what reading gives, as view sees it, unless memory ran out
+abbrev pub Gives : {X Y : Type 0} → (X → Y) → Result X WireError → Result Y WireError → Type 0
+Gives view (Ok x) read = read ≡ Ok (view x)
+Gives view (Err e) read = Faults e read

@@ -1,0 +1,94 @@
+//! The digests of headers and certificates. They take no memory.
+
+ghost use Rattle.std.specs.Prelude.{◌≡◌, ◌++◌, ◌∷◌, [], List, ℕ, ◌≤◌, length};
+ghost use Rattle.sha2.specs.Sha256.{sha256};
+ghost use Rattle.sha2.specs.Hashers.{Holds256};
+ghost use Rattle.wire.specs.Spelling.{batches_bytes, parents_bytes, body_bytes};
+ghost use Rattle.wire.specs.Digests.{header_digest_of, certificate_digest_of, genesis_digest_of};
+
+use crate::header::Header;
+use crate::keys::{Author, Digest};
+use crate::numbers::{eight_bytes, two_bytes};
+use crate::references::{BatchReference, ParentReference};
+use crate::round::Round;
+use sha2::{Digest as Hasher, Sha256};
+
+/// What comes before a header in its digest: the letter H.
+const HEADER_LETTER: u8 = 0x48;
+
+/// What comes before a certificate in its digest: the letter C.
+const CERTIFICATE_LETTER: u8 = 0x43;
+
+fn feed_batches(hasher: &mut Sha256, batches: &[BatchReference])
+    requires { length batches.now ≤ 128 }
+    ensures { (m : List ℕ) → Holds256 hasher.old m → Holds256 hasher.new (m ++ batches_bytes batches.now) }
+{
+    hasher.update(two_bytes(batches.len() as u16));
+    for batch in batches {
+        hasher.update(batch.digest.0);
+        hasher.update(two_bytes(batch.worker));
+    }
+}
+
+fn feed_parents(hasher: &mut Sha256, parents: &[ParentReference])
+    requires { length parents.now ≤ 31 }
+    ensures { (m : List ℕ) → Holds256 hasher.old m → Holds256 hasher.new (m ++ parents_bytes parents.now) }
+{
+    hasher.update(two_bytes(parents.len() as u16));
+    for parent in parents {
+        hasher.update(two_bytes(parent.author.0));
+        hasher.update(parent.certificate.0);
+    }
+}
+
+fn body_digest(
+    author: Author,
+    round: Round,
+    batches: &[BatchReference],
+    parents: &[ParentReference],
+) -> Digest
+    requires few_batches { length batches.now ≤ 128 }
+    requires few_parents { length parents.now ≤ 31 }
+    ensures { result.0 ≡ sha256 (72 ∷ body_bytes author.0 round batches.now parents.now) }
+{
+    let mut hasher = Sha256::new();
+    hasher.update([HEADER_LETTER]);
+    hasher.update(two_bytes(author.0));
+    hasher.update(eight_bytes(round.number()));
+    feed_batches(&mut hasher, batches);
+    feed_parents(&mut hasher, parents);
+    Digest(hasher.finalize())
+}
+
+/// The digest of a header, without its signature.
+pub fn header_digest(header: &Header) -> Digest
+    ensures { result.0 ≡ header_digest_of header.now }
+{
+    body_digest(
+        header.author,
+        header.round,
+        header.batches.as_slice(),
+        header.parents.as_slice(),
+    )
+}
+
+/// The digest of the certificate of a header, of which this are the digest, the round and the author. It
+/// doesn't depend on the votes.
+pub fn certificate_digest(header: &Digest, round: Round, author: Author) -> Digest
+    ensures { result.0 ≡ certificate_digest_of header.now.0 round author.0 }
+{
+    let mut hasher = Sha256::new();
+    hasher.update([CERTIFICATE_LETTER]);
+    hasher.update(header.0);
+    hasher.update(eight_bytes(round.number()));
+    hasher.update(two_bytes(author.0));
+    Digest(hasher.finalize())
+}
+
+/// The digest of the genesis certificate of an author: round 0, no batches, no parents, no votes.
+pub fn genesis_digest(author: Author) -> Digest
+    ensures { result.0 ≡ genesis_digest_of author.0 }
+{
+    let header = body_digest(author, Round::genesis(), &[], &[]);
+    certificate_digest(&header, Round::genesis(), author)
+}

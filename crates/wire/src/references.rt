@@ -1,0 +1,177 @@
+//! What a header refers to: batches, and certificates of the round before.
+
+ghost use Rattle.std.specs.Prelude.{◌≡◌, ◌<◌, ◌≤◌, ◌++◌, [], ◌∷◌, List, length, IsTrue, ◌↔◌, MatchResult, OnOk, OnErr, IfOk};
+ghost use Rattle.wire.specs.References.{batch_follows, parent_follows, batches_rise, parents_rise};
+
+use crate::error::WireError;
+use crate::keys::{Author, Digest};
+use std::alloc::{AllocError, Global};
+use std::marker::Model;
+
+/// Batches that a header may name, at most.
+pub const MAX_BATCHES: usize = 128;
+
+/// Parents that a header may name, at most: one of each member of the largest committee.
+pub const MAX_PARENTS: usize = 31;
+
+/// A batch that a header names: its digest, and the worker that holds it.
+#[derive(Clone, Copy, Debug, PartialEq, Eq)]
+pub struct BatchReference {
+    pub digest: Digest,
+    pub worker: u16,
+}
+
+/// A certificate of the round before that a header names: its author, and its digest.
+#[derive(Clone, Copy, Debug, PartialEq, Eq)]
+pub struct ParentReference {
+    pub author: Author,
+    pub certificate: Digest,
+}
+
+/// The batches of a header: at most `MAX_BATCHES`, their digests rising strictly.
+#[derive(Debug, Drop)]
+pub struct BatchReferences {
+    list: Vec<BatchReference>,
+}
+
+impl Model for BatchReferences {
+    ghost use Rattle.std.specs.Prelude.{List, IsTrue, length, ◌≤◌};
+    ghost use Rattle.wire.specs.declared.references.BatchReference.{BatchReference};
+    ghost use Rattle.wire.specs.References.{batches_rise};
+
+    ghost Value = { List BatchReference };
+
+    ghost view = { λ r. r.list.items };
+
+    ghost invariant = { λ r. (length r.list.items ≤ 128) × IsTrue (batches_rise r.list.items) };
+}
+
+impl BatchReferences {
+    /// No batches.
+    pub fn new(alloc: Global) -> BatchReferences
+        ensures { result ≡ [] }
+    {
+        BatchReferences {
+            list: Vec::new(alloc),
+        }
+    }
+
+    /// How many there are.
+    pub fn len(&self) -> usize
+        ensures value { result ≡ length self.now }
+        ensures limit { result ≤ 128 }
+    {
+        self.list.len()
+    }
+
+    /// Whether there is none.
+    pub fn is_empty(&self) -> bool
+        ensures { IsTrue result ↔ (self.now ≡ []) }
+    {
+        self.list.is_empty()
+    }
+
+    /// Whether a batch of this digest may come next: the last one's digest is less.
+    pub fn may_follow(&self, digest: &Digest) -> bool
+        ensures { result ≡ batch_follows self.now digest.now }
+    {
+        match self.list.last() {
+            None => true,
+            Some(last) => last.digest.cmp(digest).is_lt(),
+        }
+    }
+
+    /// Adds a batch at the end.
+    pub fn push(&mut self, batch: BatchReference) -> Result<(), AllocError>
+        requires room { length self.old < 128 }
+        requires follows { IsTrue (batch_follows self.old batch.digest) }
+        ensures ok { OnOk result (self.new ≡ self.old ++ batch ∷ []) }
+        ensures err { OnErr result (self.new ≡ self.old) }
+    {
+        self.list.push(batch)?;
+        Ok(())
+    }
+
+    /// The batches, in their order.
+    pub fn as_slice(&self) -> &[BatchReference]
+        ensures value { result.now ≡ self.now }
+        ensures limit { length self.now ≤ 128 }
+        ensures order { IsTrue (batches_rise self.now) }
+    {
+        &self.list
+    }
+}
+
+/// The parents of a header: at most `MAX_PARENTS`, their authors rising strictly.
+#[derive(Debug, Drop)]
+pub struct ParentReferences {
+    list: Vec<ParentReference>,
+}
+
+impl Model for ParentReferences {
+    ghost use Rattle.std.specs.Prelude.{List, IsTrue, length, ◌≤◌};
+    ghost use Rattle.wire.specs.declared.references.ParentReference.{ParentReference};
+    ghost use Rattle.wire.specs.References.{parents_rise};
+
+    ghost Value = { List ParentReference };
+
+    ghost view = { λ r. r.list.items };
+
+    ghost invariant = { λ r. (length r.list.items ≤ 31) × IsTrue (parents_rise r.list.items) };
+}
+
+impl ParentReferences {
+    /// No parents.
+    pub fn new(alloc: Global) -> ParentReferences
+        ensures { result ≡ [] }
+    {
+        ParentReferences {
+            list: Vec::new(alloc),
+        }
+    }
+
+    /// How many there are.
+    pub fn len(&self) -> usize
+        ensures value { result ≡ length self.now }
+        ensures limit { result ≤ 31 }
+    {
+        self.list.len()
+    }
+
+    /// Whether there is none.
+    pub fn is_empty(&self) -> bool
+        ensures { IsTrue result ↔ (self.now ≡ []) }
+    {
+        self.list.is_empty()
+    }
+
+    /// Whether a parent by this author may come next: the last one's author is less.
+    pub fn may_follow(&self, author: Author) -> bool
+        ensures { result ≡ parent_follows self.now author }
+    {
+        match self.list.last() {
+            None => true,
+            Some(last) => last.author.0 < author.0,
+        }
+    }
+
+    /// Adds a parent at the end.
+    pub fn push(&mut self, parent: ParentReference) -> Result<(), AllocError>
+        requires room { length self.old < 31 }
+        requires follows { IsTrue (parent_follows self.old parent.author) }
+        ensures ok { OnOk result (self.new ≡ self.old ++ parent ∷ []) }
+        ensures err { OnErr result (self.new ≡ self.old) }
+    {
+        self.list.push(parent)?;
+        Ok(())
+    }
+
+    /// The parents, in their order.
+    pub fn as_slice(&self) -> &[ParentReference]
+        ensures value { result.now ≡ self.now }
+        ensures limit { length self.now ≤ 31 }
+        ensures order { IsTrue (parents_rise self.now) }
+    {
+        &self.list
+    }
+}
