@@ -1,0 +1,11 @@
+use Rattle.std.proofs.Common.{◌≡◌, ◌-◌, ◌≤◌, length}
+use Rattle.wire.specs.Reading.{more_at, batch_at, batches_at}
+use Rattle.wire_read.proofs.lists.batches_of.Given as goal
+
+-- those that are still read, behind those so far, are all
+abbrev pub invariant-loop : goal.invariant-loop
+invariant-loop l = record {
+  limit : l.count ≤ 128;
+  so_many : length l.batches ≡ l.counter;
+  so_far : more_at batch_at (l.count - l.counter) l.batches l.reader ≡ batches_at l.fn.reader;
+}

@@ -1,0 +1,67 @@
+//! The lists of a header. The order is tested as soon as an entry's key is read.
+
+ghost use Rattle.std.specs.Prelude.{◌≡◌, IfOk, IsTrue};
+ghost use Rattle.wire.specs.References.{batch_follows, parent_follows};
+ghost use Rattle.wire.specs.Reading.{Gives, batch_at, batches_at, parent_at, parents_at};
+
+use crate::reader::Reader;
+use std::alloc::Global;
+use wire::{
+    BatchReference, BatchReferences, MAX_BATCHES, MAX_PARENTS, ParentReference, ParentReferences,
+    WireError,
+};
+
+#[tactic(auto, unfolding(wire::specs::Reading::batch_at))]
+fn batch_of(reader: &mut Reader, before: &BatchReferences) -> Result<BatchReference, WireError>
+    ensures reads { Gives (λ x. (x, reader.new)) result (batch_at before.now reader.old) }
+    ensures follows { IfOk result (λ batch. IsTrue (batch_follows before.now batch.digest)) }
+{
+    let digest = reader.digest()?;
+    if !before.may_follow(&digest) {
+        return Err(WireError::NotCanonical);
+    }
+    let worker = reader.number()?;
+    Ok(BatchReference { digest, worker })
+}
+
+#[tactic(auto, unfolding(wire::specs::Reading::batches_at))]
+pub fn batches_of(alloc: Global, reader: &mut Reader) -> Result<BatchReferences, WireError>
+    ensures { Gives (λ x. (x, reader.new)) result (batches_at reader.old) }
+{
+    let count = reader.count(MAX_BATCHES as u16)?;
+    let mut batches = BatchReferences::new(alloc);
+    for _ in 0..count {
+        let batch = batch_of(reader, &batches)?;
+        batches.push(batch)?;
+    }
+    Ok(batches)
+}
+
+#[tactic(auto, unfolding(wire::specs::Reading::parent_at))]
+fn parent_of(reader: &mut Reader, before: &ParentReferences) -> Result<ParentReference, WireError>
+    ensures reads { Gives (λ x. (x, reader.new)) result (parent_at before.now reader.old) }
+    ensures follows { IfOk result (λ parent. IsTrue (parent_follows before.now parent.author)) }
+{
+    let author = reader.author()?;
+    if !before.may_follow(author) {
+        return Err(WireError::NotCanonical);
+    }
+    let certificate = reader.digest()?;
+    Ok(ParentReference {
+        author,
+        certificate,
+    })
+}
+
+#[tactic(auto, unfolding(wire::specs::Reading::parents_at))]
+pub fn parents_of(alloc: Global, reader: &mut Reader) -> Result<ParentReferences, WireError>
+    ensures { Gives (λ x. (x, reader.new)) result (parents_at reader.old) }
+{
+    let count = reader.count(MAX_PARENTS as u16)?;
+    let mut parents = ParentReferences::new(alloc);
+    for _ in 0..count {
+        let parent = parent_of(reader, &parents)?;
+        parents.push(parent)?;
+    }
+    Ok(parents)
+}
