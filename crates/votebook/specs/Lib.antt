@@ -1,0 +1,2 @@
+pub mod Slot
+pub mod Votes

@@ -1,0 +1,97 @@
+//! The votes, by round and author.
+
+ghost use Rattle.std.specs.Prelude.{◌≡◌, ℕ, ◌≤◌, ◌<◌, IfOk, OnErr};
+ghost use Rattle.std.specs.FinMap as map;
+ghost use Rattle.votebook.specs.Slot.{slot_of as spec_slot};
+ghost use Rattle.votebook.specs.Votes.{Answers, voted_in, votes_after, ForgetsTo};
+
+use crate::slot::Slot;
+use std::alloc::{AllocError, Global};
+use std::collections::BTreeMap;
+use std::marker::Model;
+use wire::{Author, Digest, Round};
+
+/// What the book says of a vote that is asked for.
+#[derive(Clone, Copy, Debug, PartialEq, Eq)]
+pub enum Voted {
+    /// The author and round had no vote; now they have this one.
+    New,
+    /// They had this vote already.
+    Again,
+    /// They have the vote for another header.
+    Equivocation,
+}
+
+/// The votes. Contracts see a finite map from slots to header digests.
+#[derive(Drop)]
+pub struct VoteBook {
+    votes: BTreeMap<Slot, Digest>,
+}
+
+impl Model for VoteBook {
+    ghost use Rattle.std.specs.FinMap as map;
+    ghost use Rattle.wire.specs.declared.keys.Digest.{Digest};
+    ghost use Rattle.votebook.specs.Slot.{slot_cmp, coded_slot, coded_digest};
+
+    ghost Value = { map.FinMap slot_cmp Digest };
+
+    ghost coded = { map.code coded_slot coded_digest };
+
+    ghost view = { λ b. map.from_entries b.votes.entries };
+}
+
+impl VoteBook {
+    /// A book with no votes.
+    pub fn new(alloc: Global) -> VoteBook
+        ensures { result ≡ map.empty }
+    {
+        VoteBook {
+            votes: BTreeMap::new(alloc),
+        }
+    }
+
+    /// The header that has the vote of this author and round, if any.
+    pub fn voted(&self, author: Author, round: Round) -> Option<Digest>
+        ensures { result ≡ voted_in self.now author round }
+    {
+        self.votes.get(&slot_of(author, round)).copied()
+    }
+
+    /// Asks for the vote of this author and round for a header. Only `New` changes the book, by this vote.
+    pub fn vote(
+        &mut self,
+        author: Author,
+        round: Round,
+        header: Digest,
+    ) -> Result<Voted, AllocError>
+        ensures answer { IfOk result (Answers (voted_in self.old author round) header) }
+        ensures votes { IfOk result (λ voted. self.new ≡ votes_after voted self.old author round header) }
+        ensures err { OnErr result (self.new ≡ self.old) }
+    {
+        match self.voted(author, round) {
+            None => {
+                self.votes.insert(slot_of(author, round), header)?;
+                Ok(Voted::New)
+            }
+            Some(other) if other == header => Ok(Voted::Again),
+            Some(_) => Ok(Voted::Equivocation),
+        }
+    }
+
+    /// Drops the votes of the rounds at or below this one.
+    pub fn forget_to(&mut self, round: Round)
+        ensures { ForgetsTo round self.old self.new }
+    {
+        let last = round.number();
+        self.votes.retain(|slot, _| slot.round > last);
+    }
+}
+
+fn slot_of(author: Author, round: Round) -> Slot
+    ensures { result ≡ spec_slot author round }
+{
+    Slot {
+        round: round.number(),
+        author: author.0,
+    }
+}
