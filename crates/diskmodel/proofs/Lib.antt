@@ -1,0 +1,6 @@
+pub mod Calls
+pub mod Effects
+pub mod Kept
+pub mod Moments
+pub mod Places
+pub mod Torn

@@ -1,0 +1,53 @@
+-- What the calls of a disk do to its bytes, and what a stop may leave of them.
+use Rattle.std.specs.Prelude.{◌<◌, ◌≡◌, ◌⊎◌, ℕ, ◌+◌, ◌≤◌, max, min, List, ◌++◌, length, take, drop, Result, OnErr}
+use Rattle.diskmodel.specs.declared.disk.DiskFault.{DiskFault}
+
+-- old with these bytes written at this place, which is within it or at its end
+abbrev pub written : List ℕ → ℕ → List ℕ → List ℕ
+written old at bytes = take at old ++ bytes ++ drop (at + length bytes) old
+
+-- found, after a write of count bytes at this place that a stop may have cut short: any bytes in the
+-- place of those written, the same elsewhere, and a length up to that of the whole write
+pub record IsTorn (at count : ℕ) (old found : List ℕ) : Type 0 where
+  pub before : take at found ≡ take at old
+  pub behind : drop (at + count) found ≡ drop (at + count) old
+  pub no_shorter : length old ≤ length found
+  pub no_longer : length found ≤ max (length old) (at + count)
+
+-- found, after a cut to this length that a stop may have come before: the same bytes up to there,
+-- any behind it, and a length between the two
+pub record IsCut (len : ℕ) (old found : List ℕ) : Type 0 where
+  pub front : take len found ≡ take len old
+  pub no_shorter : min len (length old) ≤ length found
+  pub no_longer : length found ≤ length old
+
+-- each outcome now is an outcome from before the call, changed so
+abbrev pub ComesBy : (List ℕ → List ℕ → Type 0) → (List ℕ → Type 0) → (List ℕ → Type 0) → Type 0
+ComesBy change old new = (c : List ℕ) → new c → (d : List ℕ) × old d × change d c
+
+-- nothing that a stop may leave is new
+abbrev pub NoneNew : (List ℕ → Type 0) → (List ℕ → Type 0) → Type 0
+NoneNew old new = (c : List ℕ) → new c → old c
+
+-- a stop leaves these bytes and no others
+abbrev pub LeavesOnly : List ℕ → (List ℕ → Type 0) → Type 0
+LeavesOnly bytes outcome = (c : List ℕ) → outcome c → c ≡ bytes
+
+-- The clock goes on over a call: what a stop may have left since an earlier moment is what it may
+-- have left before, or what it may leave now.
+pub record GoesOn (before now : ℕ) (old new : ℕ → List ℕ → Type 0) (outcome : List ℕ → Type 0) : Type 0 where
+  pub later : before ≤ now
+  pub nothing_else : (t : ℕ) (c : List ℕ) → t ≤ before → new t c → old t c ⊎ outcome c
+  pub keeps : (t : ℕ) (c : List ℕ) → t ≤ before → old t c → new t c
+
+-- an error comes only where the disk has failed since
+pub record HasCause {T : Type 0} (before now : ℕ) (result : Result T DiskFault) : Type 0 where
+  pub later : before ≤ now
+  pub failed : OnErr result (before < now)
+
+-- a stop at any moment since old leaves bytes of which P holds
+pub record AtEachMoment {D : Type 0} (clock : D → ℕ) (outcome_since : D → ℕ → List ℕ → Type 0) (old new : D) (P : List ℕ → Type 0) : Type 0 where
+  pub later : clock old ≤ clock new
+  pub each : (c : List ℕ) → outcome_since new (clock old) c → P c
+  -- for a caller that began earlier
+  pub before : (t : ℕ) (c : List ℕ) → t ≤ clock old → outcome_since new t c → outcome_since old t c ⊎ P c

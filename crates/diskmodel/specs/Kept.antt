@@ -1,0 +1,32 @@
+-- What a disk in memory keeps beside its record of calls, so that a call need not go through it.
+use Rattle.std.specs.Prelude.{◌≡◌, ℕ, ◌≤◌, Bool, true, false, Option, Some, List, [], ◌∷◌, ◌++◌, length, slice_get, ◌-◌}
+use Rattle.diskmodel.specs.declared.call.Span.{Span}
+use Rattle.diskmodel.specs.declared.call.Call.{Call}
+use Rattle.diskmodel.specs.declared.call.Call.TheVariants.{Stopped}
+use Rattle.diskmodel.specs.Outcomes.{IsOutcome, state}
+
+-- the calls come to these values, and what a read gives is an outcome
+pub record Keeps (first : List ℕ) (calls : List Call) (firm : List ℕ) (smallest greatest : ℕ) (spans : List Span) (content : List ℕ) : Type 0 where
+  pub firm_is : (state first calls).firm ≡ firm
+  pub smallest_is : (state first calls).smallest ≡ smallest
+  pub greatest_is : (state first calls).greatest ≡ greatest
+  pub spans_are : (state first calls).spans ≡ spans
+  pub content_is : (state first calls).content ≡ content
+  pub in_firm : smallest ≤ length firm
+  pub possible : IsOutcome first calls content
+
+-- whether this is a stop
+abbrev pub is_stop : Option Call → Bool
+is_stop (Some (Stopped found)) = true
+is_stop _ = false
+
+-- whether the last call is a stop
+abbrev pub ends_in_stop : List Call → Bool
+ends_in_stop calls = is_stop (slice_get calls (length calls - 1))
+
+-- a stop that was the last call has given way to another
+pub record ReplacesStop (found : List ℕ) (old new : List Call) : Type 0 where
+  pub before : List Call
+  pub gone : List ℕ
+  pub was : old ≡ before ++ Stopped gone ∷ []
+  pub is : new ≡ before ++ Stopped found ∷ []

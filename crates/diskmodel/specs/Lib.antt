@@ -1,0 +1,6 @@
+pub mod Countdowns
+pub mod Disk
+pub mod Kept
+pub mod Memory
+pub mod Outcomes
+pub mod Recorded

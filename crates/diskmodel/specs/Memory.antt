@@ -1,0 +1,63 @@
+-- What clauses see of a disk in memory.
+use Rattle.std.specs.Prelude.{◌≡◌, ℕ, ◌-◌, List, length, Option, Some, Result, IsErr, OnErr}
+use Rattle.diskmodel.specs.Disk.{GoesOn}
+use Rattle.diskmodel.specs.declared.disk.DiskFault.{DiskFault}
+use Rattle.diskmodel.specs.declared.call.Call.{Call}
+use Rattle.diskmodel.specs.declared.call.CallKind.{CallKind}
+use Rattle.diskmodel.specs.declared.memory.MemDisk.{MemDisk}
+use Rattle.diskmodel.specs.Countdowns.{countdown, counting}
+use Rattle.diskmodel.specs.Outcomes.{State, state, IsOutcome, IsOutcomeSince}
+use Rattle.diskmodel.specs.Recorded.{IsAsBefore}
+
+-- the bytes that it began with
+abbrev pub first_of : MemDisk → List ℕ
+first_of disk = disk.history.first.items
+
+-- the calls so far
+abbrev pub calls_of : MemDisk → List Call
+calls_of disk = disk.history.calls.items
+
+-- what the calls come to
+abbrev pub state_of : MemDisk → State
+state_of disk = state (first_of disk) (calls_of disk)
+
+-- what a read gives
+abbrev pub content_of : MemDisk → List ℕ
+content_of disk = disk.history.content.items
+
+-- what a stop may leave at this moment
+abbrev pub CanStopAt : MemDisk → List ℕ → Type 0
+CanStopAt disk found = IsOutcome (first_of disk) (calls_of disk) found
+
+-- what the next stop leaves, if it is one of its outcomes then
+abbrev pub choice_of : MemDisk → Option (List ℕ)
+choice_of disk = disk.choice
+
+-- how many calls of this kind from now one fails
+abbrev pub countdown_of : MemDisk → CallKind → ℕ
+countdown_of disk call = countdown disk.countdowns call
+
+-- the same disk, with another choice
+abbrev pub choosing : MemDisk → List ℕ → MemDisk
+choosing disk outcome = record disk { choice = Some outcome }
+
+-- the same disk, on which the count-th call of this kind from now on fails
+abbrev pub telling : MemDisk → CallKind → ℕ → MemDisk
+telling disk call count = record disk { countdowns = counting disk.countdowns call count }
+
+-- the same record, choice and bytes
+pub record IsUndisturbed (old new : MemDisk) : Type 0 where
+  pub history : new.history ≡ old.history
+  pub choice : new.choice ≡ old.choice
+
+-- its clock goes on
+abbrev pub TimeGoesOn : MemDisk → MemDisk → Type 0
+TimeGoesOn old new =
+    GoesOn (length (calls_of old)) (length (calls_of new)) (IsOutcomeSince (first_of old) (calls_of old)) (IsOutcomeSince (first_of new) (calls_of new)) (CanStopAt new)
+
+-- a call of this kind counts, fails where it has been told to, and has no effect where it fails
+pub record Heeds {T : Type 0} (call : CallKind) (old new : MemDisk) (result : Result T DiskFault) : Type 0 where
+  pub told : countdown_of old call ≡ 1 → IsErr result
+  pub counted : new.countdowns ≡ counting old.countdowns call (countdown_of old call - 1)
+  pub no_effect : OnErr result (IsAsBefore old.history new.history)
+  pub choice : choice_of new ≡ choice_of old

@@ -1,0 +1,93 @@
+-- What a stop of the machine may leave of a disk, by five rules over the calls so far.
+--   1. Bytes that weren't written or cut since the last successful sync stay.
+--   2. A byte that was written since then, or lies past the smallest length since then, may hold any
+--      value after a stop.
+--   3. The length after a stop is any between the smallest and the greatest since that sync.
+--   4. After a successful sync what a read gives is the only outcome of a stop.
+--   5. A stop may come inside a call: the outcomes are then those before it together with those
+--      after it. After a stop reads give one of the outcomes, and the others stay until a sync.
+use Rattle.std.specs.Prelude.{◌<◌, ◌≡◌, ℕ, ◌+◌, ◌≤◌, max, min, Bool, false, ◌&&◌, nat_le, nat_lt, List, [], ◌∷◌, ◌++◌, length, take, slice_index}
+use Rattle.std.specs.List.{list_any}
+use Rattle.std.proofs.Common.{arith, subst, sym}
+use Rattle.std.proofs.lemmas.List.{take_all}
+use Rattle.diskmodel.specs.Disk.{written}
+use Rattle.diskmodel.specs.declared.call.Span.{Span}
+use Rattle.diskmodel.specs.declared.call.Call.{Call}
+use Rattle.diskmodel.specs.declared.call.Call.TheVariants.{Wrote, Cut, Synced, Stopped}
+
+-- whether a place is one of the row
+abbrev pub holds : Span → ℕ → Bool
+holds span place = nat_le span.place place && nat_lt place (span.place + span.count)
+
+-- whether a place was written
+abbrev pub is_written : List Span → ℕ → Bool
+is_written spans place = list_any (λ span. holds span place) spans
+
+-- what counts of the calls so far: the bytes at the last successful sync, the smallest and the
+-- greatest length since then, the places that were written since then, and what a read gives
+pub record State : Type 0 where
+  pub firm : List ℕ
+  pub smallest : ℕ
+  pub greatest : ℕ
+  pub spans : List Span
+  pub content : List ℕ
+
+-- right after a sync
+abbrev pub firmed : List ℕ → State
+firmed bytes = record { firm = bytes; smallest = length bytes; greatest = length bytes; spans = []; content = bytes }
+
+-- with these places written since
+abbrev pub marked : State → ℕ → ℕ → State
+marked s place count = record s { spans = s.spans ++ record { place = place; count = count } ∷ [] }
+
+-- with these bytes for what a read gives
+abbrev pub giving : State → List ℕ → State
+giving s bytes = record s { smallest = min s.smallest (length bytes); greatest = max s.greatest (length bytes); content = bytes }
+
+-- after one call more
+abbrev pub after : State → Call → State
+after s (Wrote place bytes) = giving (marked s place (length bytes)) (written s.content place bytes)
+after s (Cut len) = giving s (take len s.content)
+after s Synced = firmed s.content
+after s (Stopped found) = record s { content = found }
+
+-- after these calls, from the first to the last
+abbrev pub after_all : State → List Call → State
+after_all s [] = s
+after_all s (call ∷ calls) = after_all (after s call) calls
+
+-- after these calls on a disk that began with these bytes, all of them firm
+abbrev pub state : List ℕ → List Call → State
+state first calls = after_all (firmed first) calls
+
+-- a stop may leave these bytes
+pub record CanLeave (s : State) (found : List ℕ) : Type 0 where
+  pub no_shorter : s.smallest ≤ length found
+  pub no_longer : length found ≤ s.greatest
+  -- a place below the smallest length that wasn't written
+  pub stays : (place : ℕ) → place < s.smallest → is_written s.spans place ≡ false → slice_index found place ≡ slice_index s.firm place
+
+-- what a stop may leave after these calls
+abbrev pub IsOutcome : List ℕ → List Call → List ℕ → Type 0
+IsOutcome first calls found = CanLeave (state first calls) found
+
+-- what a stop may have left after the first t of these calls or later
+pub record IsOutcomeSince (first : List ℕ) (calls : List Call) (t : ℕ) (found : List ℕ) : Type 0 where
+  pub moment : ℕ
+  pub no_earlier : t ≤ moment
+  pub no_later : moment ≤ length calls
+  pub outcome : IsOutcome first (take moment calls) found
+
+-- the last moment is one of those from an earlier one on
+pub counts_last : (first : List ℕ) (calls : List Call) (t : ℕ) (found : List ℕ) → t ≤ length calls → IsOutcome first calls found → IsOutcomeSince first calls t found
+counts_last first calls t found early outcome = record {
+  moment = length calls;
+  no_earlier = early;
+  no_later = omega arith;
+  outcome = subst (λ (past : List Call). IsOutcome first past found) (sym (take_all (length calls) calls (omega arith))) outcome;
+}
+
+-- from the last moment on there is no other
+pub only_last : (first : List ℕ) (calls : List Call) (found : List ℕ) → IsOutcomeSince first calls (length calls) found → IsOutcome first calls found
+only_last first calls found since =
+    subst (λ (past : List Call). IsOutcome first past found) (take_all since.moment calls since.no_earlier) since.outcome

@@ -1,0 +1,92 @@
+//! The calls of a disk, as a record of them keeps them.
+ghost use Rattle.std.specs.Prelude.{◌≡◌, ◌+◌, ◌<◌, ◌≤◌, ◌↔◌, List, ℕ, IsTrue};
+
+use std::marker::Model;
+
+/// Bytes that are kept. A clause reads them as a list.
+#[derive(Debug, Drop)]
+pub struct Bytes {
+    items: Vec<u8>,
+}
+
+impl Model for Bytes {
+    ghost use Rattle.std.specs.Prelude.{ℕ, List};
+
+    ghost Value = { List ℕ };
+
+    ghost view = { λ bytes. bytes.items.items };
+}
+
+impl Bytes {
+    /// These bytes. It takes no memory.
+    pub fn from_vec(items: Vec<u8>) -> Bytes
+        ensures { result ≡ items.items }
+    {
+        Bytes { items }
+    }
+
+    /// The bytes.
+    pub fn as_slice(&self) -> &[u8]
+        ensures { result.now ≡ self.now }
+    {
+        &self.items
+    }
+
+    /// Gives the bytes back. It takes no memory.
+    pub fn into_vec(self) -> Vec<u8>
+        ensures { result.items ≡ self }
+    {
+        self.items
+    }
+}
+
+/// A call that a disk has carried out, or a stop of the machine. Places and lengths are in bytes.
+#[derive(Debug, Drop)]
+pub enum Call {
+    /// These bytes were written at this place.
+    Wrote {
+        /// Where the first of them went.
+        place: u64,
+        /// What was written.
+        bytes: Bytes,
+    },
+    /// The disk was cut to this length.
+    Cut(u64),
+    /// All that a read gave was made firm.
+    Synced,
+    /// The machine stopped, and left these bytes.
+    Stopped(Bytes),
+}
+
+/// A kind of call that can be told to fail.
+#[derive(Clone, Copy, Debug, PartialEq, Eq)]
+pub enum CallKind {
+    /// `read_at`.
+    Read,
+    /// `write_at`.
+    Write,
+    /// `cut`.
+    Cut,
+    /// `sync`.
+    Sync,
+}
+
+/// A row of places, in bytes.
+#[derive(Clone, Copy, Debug, PartialEq, Eq)]
+pub struct Span {
+    /// The first of them.
+    pub place: u64,
+    /// How many they are.
+    pub count: u64,
+}
+
+impl Span {
+    ghost use Rattle.diskmodel.specs.Outcomes.{holds};
+
+    /// Whether this place is one of them.
+    pub fn holds(&self, place: u64) -> bool
+        ensures { result ≡ holds self.now place }
+    {
+        self.place <= place && place - self.place < self.count
+    }
+}

@@ -1,0 +1,196 @@
+//! The record of a disk in memory, and what it comes to.
+ghost use Rattle.std.specs.Prelude.{◌≡◌, ◌⊎◌, ℕ, ◌+◌, ◌-◌, ◌<◌, ◌≤◌, ◌↔◌, min, max, Bool, false, List, [], ◌∷◌, ◌++◌, length, take, IsTrue, IfOk, OnOk, OnErr, slice_index, vec_len, vec_capacity};
+ghost use Rattle.diskmodel.specs.Disk.{written};
+ghost use Rattle.diskmodel.specs.Outcomes.{is_written, state, IsOutcome};
+ghost use Rattle.diskmodel.specs.Kept.{Keeps, ends_in_stop};
+
+use crate::call::{Bytes, Call, Span};
+use std::alloc::{AllocError, Global};
+
+/// The smallest and the greatest length since the last sync, in bytes.
+#[derive(Clone, Copy, Debug, PartialEq, Eq)]
+pub struct Lengths {
+    pub smallest: usize,
+    pub greatest: usize,
+}
+
+impl Lengths {
+    /// This one alone.
+    pub fn only(len: usize) -> Lengths
+        ensures { result ≡ record { smallest = len; greatest = len } }
+    {
+        Lengths {
+            smallest: len,
+            greatest: len,
+        }
+    }
+
+    /// One length more.
+    pub fn note(&mut self, len: usize)
+        ensures smallest { self.new.smallest ≡ min self.old.smallest len }
+        ensures greatest { self.new.greatest ≡ max self.old.greatest len }
+    {
+        self.smallest = self.smallest.min(len);
+        self.greatest = self.greatest.max(len);
+    }
+
+    /// Whether a length lies between them.
+    pub fn include(&self, len: usize) -> bool
+        ensures { IsTrue result ↔ ((self.now.smallest ≤ len) × (len ≤ self.now.greatest)) }
+    {
+        self.smallest <= len && len <= self.greatest
+    }
+}
+
+/// What a disk began with, its calls since, and what they come to.
+#[derive(Drop)]
+pub struct History {
+    alloc: Global,
+    pub first: Vec<u8>,
+    pub calls: Vec<Call>,
+    pub firm: Vec<u8>,
+    pub lengths: Lengths,
+    pub spans: Vec<Span>,
+    pub content: Vec<u8>,
+    ghost kept: { Keeps first.items calls.items firm.items lengths.smallest lengths.greatest spans.items content.items },
+    // Where the last call is no stop there is room for one.
+    ghost room: { ends_in_stop calls.items ≡ false → vec_len calls < vec_capacity calls },
+    // The content can be as long as it was since the last sync.
+    ghost fits: { lengths.greatest ≤ vec_capacity content },
+}
+
+/// Puts bytes into a list at a place within it or at its end. Where memory is refused the list is as before.
+fn overlay(list: &mut Vec<u8>, at: usize, bytes: &[u8]) -> Result<(), AllocError>
+    requires { at ≤ vec_len list.old }
+    ensures ok { OnOk result (list.new.items ≡ written list.old.items at bytes.now) }
+    ensures err { OnErr result (list.new.items ≡ list.old.items) }
+    ensures capacity { vec_capacity list.old ≤ vec_capacity list.new }
+{
+    let within = bytes.len().min(list.len() - at);
+    list.extend_from_slice(&bytes[within..])?;
+    list[at..at + within].copy_from_slice(&bytes[..within]);
+    Ok(())
+}
+
+/// Removes the last call if it is a stop. Then there is room for another.
+fn forget_last_stop(calls: &mut Vec<Call>)
+    requires { ends_in_stop calls.old.items ≡ false → vec_len calls.old < vec_capacity calls.old }
+    ensures room { vec_len calls.new < vec_capacity calls.new }
+    ensures rest { (calls.new.items ≡ calls.old.items) ⊎ ((found : List ℕ) × (calls.old.items ≡ calls.new.items ++ Call.Stopped found ∷ [])) }
+{
+    if let Some(Call::Stopped(_)) = calls.last() {
+        let _ = calls.pop();
+    }
+}
+
+impl History {
+    ghost use Rattle.diskmodel.specs.Recorded.{Adds, IsAsBefore, TakesStop};
+
+    /// A disk with these bytes, all of them firm.
+    pub fn new(alloc: Global, bytes: Vec<u8>) -> Result<History, AllocError>
+        ensures first { IfOk result (λ history. history.first.items ≡ bytes.items) }
+        ensures calls { IfOk result (λ history. history.calls.items ≡ []) }
+        ensures content { IfOk result (λ history. history.content.items ≡ bytes.items) }
+    {
+        let lengths = Lengths::only(bytes.len());
+        Ok(History {
+            alloc,
+            first: bytes.to_vec(alloc)?,
+            calls: Vec::with_capacity(alloc, 1)?,
+            firm: bytes.to_vec(alloc)?,
+            lengths,
+            spans: Vec::new(alloc),
+            content: bytes,
+        })
+    }
+
+    /// Whether this place was written since the last sync.
+    pub fn is_written(&self, place: u64) -> bool
+        ensures { result ≡ is_written self.now.spans.items place }
+    {
+        self.spans.iter().any(|span| span.holds(place))
+    }
+
+    /// Whether a stop may leave these bytes.
+    pub fn can_leave(&self, found: &[u8]) -> bool
+        ensures { IsTrue result ↔ IsOutcome self.now.first.items self.now.calls.items found.now }
+    {
+        self.lengths.include(found.len()) && self.keeps_firm(found)
+    }
+
+    /// Whether the bytes that must stay have stayed.
+    fn keeps_firm(&self, found: &[u8]) -> bool
+        requires { self.now.lengths.smallest ≤ length found.now }
+        ensures { IsTrue result ↔ ((place : ℕ) → place < self.now.lengths.smallest → is_written self.now.spans.items place ≡ false
+            → slice_index found.now place ≡ slice_index self.now.firm.items place) }
+    {
+        for place in 0..self.lengths.smallest {
+            if !self.is_written(place as u64) && found[place] != self.firm[place] {
+                return false;
+            }
+        }
+        true
+    }
+
+    /// Writes bytes within the content or at its end. Where memory is refused all is as before.
+    pub fn write(&mut self, at: usize, bytes: &[u8]) -> Result<(), AllocError>
+        requires { at ≤ length self.old.content.items }
+        ensures added { OnOk result (Adds (Call.Wrote at bytes.now) self.old self.new) }
+        ensures content { OnOk result (self.new.content.items ≡ written self.old.content.items at bytes.now) }
+        ensures err { OnErr result (IsAsBefore self.old self.new) }
+    {
+        let copy = Bytes::from_vec(bytes.to_vec(self.alloc)?);
+        // One place more than this call takes is for a stop after it.
+        self.calls.reserve(2)?;
+        self.spans.reserve(1)?;
+        overlay(&mut self.content, at, bytes)?;
+        self.lengths.note(self.content.len());
+        let place = at as u64;
+        let count = bytes.len() as u64;
+        self.spans.push_reserved(Span { place, count });
+        self.calls.push_reserved(Call::Wrote { place, bytes: copy });
+        Ok(())
+    }
+
+    /// Cuts the content to a length. Where memory is refused all is as before.
+    pub fn cut(&mut self, len: usize) -> Result<(), AllocError>
+        requires { len ≤ length self.old.content.items }
+        ensures added { OnOk result (Adds (Call.Cut len) self.old self.new) }
+        ensures content { OnOk result (self.new.content.items ≡ take len self.old.content.items) }
+        ensures err { OnErr result (IsAsBefore self.old self.new) }
+    {
+        self.calls.reserve(2)?;
+        self.content.truncate(len);
+        self.lengths.note(self.content.len());
+        self.calls.push_reserved(Call::Cut(len as u64));
+        Ok(())
+    }
+
+    /// Makes the content firm. Where memory is refused all is as before.
+    pub fn sync(&mut self) -> Result<(), AllocError>
+        ensures added { OnOk result (Adds Call.Synced self.old self.new) }
+        ensures content { self.new.content.items ≡ self.old.content.items }
+        ensures err { OnErr result (IsAsBefore self.old self.new) }
+    {
+        let firm = self.content.to_vec(self.alloc)?;
+        self.calls.reserve(2)?;
+        self.firm = firm;
+        self.lengths = Lengths::only(self.content.len());
+        self.spans.clear();
+        self.calls.push_reserved(Call::Synced);
+        Ok(())
+    }
+
+    /// Stops the machine, which leaves these bytes. It takes no memory: the content has been as long
+    /// before, and a stop right after a stop takes the other's place in the record.
+    pub fn stop(&mut self, found: Bytes)
+        requires { IsOutcome self.old.first.items self.old.calls.items found }
+        ensures taken { TakesStop found self.old self.new }
+        ensures content { self.new.content.items ≡ found }
+    {
+        self.content.clear();
+        let _ = self.content.extend_from_slice(found.as_slice());
+        forget_last_stop(&mut self.calls);
+        self.calls.push_reserved(Call::Stopped(found));
+    }
+}

@@ -1,0 +1,15 @@
+//! A disk as a list of bytes, of which a stop of the machine may leave less than was written.
+#![tactic(auto)]
+
+mod call;
+mod countdowns;
+mod disk;
+mod fault_count;
+mod history;
+mod memory;
+#[cfg(test)]
+mod tests;
+
+pub use call::{Bytes, Call, CallKind};
+pub use disk::{Disk, DiskFault, StopDisk};
+pub use memory::MemDisk;

@@ -1,0 +1,245 @@
+//! A disk in memory, which can be told to fail and on which a stop of the machine can be played.
+ghost use Rattle.std.specs.Prelude.{◌≡◌, ℕ, ◌+◌, ◌-◌, ◌<◌, ◌≤◌, ◌↔◌, List, [], None, Some, length, take, drop, IsTrue, IsErr, IfOk, OnOk, OnErr, is_ok};
+ghost use Rattle.diskmodel.specs.Disk.{HasCause, NoneNew, GoesOn};
+ghost use Rattle.diskmodel.specs.Outcomes.{is_written};
+
+use crate::call::{Bytes, Call, CallKind};
+use crate::countdowns::Countdowns;
+use crate::disk::{Disk, DiskFault, StopDisk};
+use crate::fault_count::FaultCount;
+use crate::history::History;
+use std::alloc::{AllocError, Global};
+
+/// A disk in memory. It keeps its first bytes and the record of its calls.
+#[derive(Drop)]
+pub struct MemDisk {
+    history: History,
+    countdowns: Countdowns,
+    choice: Option<Bytes>,
+    faults: FaultCount,
+}
+
+impl MemDisk {
+    ghost use Rattle.diskmodel.specs.Countdowns.{countdown, counting};
+    ghost use Rattle.diskmodel.specs.Memory.{first_of, calls_of, state_of, content_of, CanStopAt, choice_of, countdown_of, choosing, telling, IsUndisturbed};
+
+    /// A disk with these bytes, all of them synced.
+    ///
+    /// # Errors
+    /// Where memory is refused.
+    pub fn new(alloc: Global, bytes: Vec<u8>) -> Result<MemDisk, AllocError>
+        ensures first { IfOk result (λ disk. first_of disk ≡ bytes.items) }
+        ensures calls { IfOk result (λ disk. calls_of disk ≡ []) }
+        ensures content { IfOk result (λ disk. content_of disk ≡ bytes.items) }
+        ensures choice { IfOk result (λ disk. choice_of disk ≡ None) }
+        ensures told { IfOk result (λ disk. (call : CallKind) → countdown_of disk call ≡ 0) }
+    {
+        Ok(MemDisk {
+            history: History::new(alloc, bytes)?,
+            countdowns: Countdowns::NEVER,
+            choice: None,
+            faults: FaultCount::none(),
+        })
+    }
+
+    /// What a read gives.
+    pub fn bytes(&self) -> &[u8]
+        ensures { result.now ≡ content_of self.now }
+    {
+        &self.history.content
+    }
+
+    /// The bytes of the last successful sync, or those of the beginning if there was none.
+    pub fn firm(&self) -> &[u8]
+        ensures { result.now ≡ (state_of self.now).firm }
+    {
+        &self.history.firm
+    }
+
+    /// Whether the byte at this place was written since the last successful sync.
+    pub fn is_written(&self, place: u64) -> bool
+        ensures { result ≡ is_written (state_of self.now).spans place }
+    {
+        self.history.is_written(place)
+    }
+
+    /// The calls so far, those that failed left out. A stop is among them where it left a choice, and
+    /// it takes the place of a stop right before it.
+    pub fn calls(&self) -> &[Call]
+        ensures { result.now ≡ calls_of self.now }
+    {
+        &self.history.calls
+    }
+
+    /// Tells a call to fail: the count-th of its kind from now on, once, and without any effect. At 0
+    /// none is told to. Each kind is counted by itself.
+    pub fn fail(&mut self, call: CallKind, count: u64)
+        ensures { self.new ≡ telling self.old call count }
+    {
+        self.countdowns.set(call, count);
+    }
+
+    /// Whether a stop at this moment may leave these bytes.
+    pub fn can_leave(&self, bytes: &[u8]) -> bool
+        ensures { IsTrue result ↔ CanStopAt self.now bytes.now }
+    {
+        self.history.can_leave(bytes)
+    }
+
+    /// Chooses what the next stop leaves, if it is one of its outcomes then. Otherwise that stop
+    /// leaves what a read gives.
+    pub fn choose(&mut self, outcome: Vec<u8>)
+        ensures { self.new ≡ choosing self.old outcome.items }
+    {
+        self.choice = Some(Bytes::from_vec(outcome));
+    }
+
+    /// Counts a failure.
+    fn fault(&mut self) -> DiskFault
+        ensures undisturbed { IsUndisturbed self.old self.new }
+        ensures told { self.new.countdowns ≡ self.old.countdowns }
+        ensures count { self.new.faults.count ≡ self.old.faults.count + 1 }
+    {
+        self.faults = self.faults.one_more();
+        DiskFault
+    }
+
+    /// Counts a call, and fails where it has been told to.
+    fn fail_if_told(&mut self, call: CallKind) -> Result<(), DiskFault>
+        ensures undisturbed { IsUndisturbed self.old self.new }
+        ensures cause { HasCause self.old.faults.count self.new.faults.count result }
+        ensures told { IsErr result ↔ (countdown self.old.countdowns call ≡ 1) }
+        ensures counted { self.new.countdowns ≡ counting self.old.countdowns call (countdown self.old.countdowns call - 1) }
+    {
+        if self.countdowns.count(call) {
+            return Err(self.fault());
+        }
+        Ok(())
+    }
+
+    /// Counts a refusal of memory as a failure.
+    fn counted(&mut self, outcome: Result<(), AllocError>) -> Result<(), DiskFault>
+        ensures undisturbed { IsUndisturbed self.old self.new }
+        ensures told { self.new.countdowns ≡ self.old.countdowns }
+        ensures cause { HasCause self.old.faults.count self.new.faults.count result }
+        ensures same { is_ok result ≡ is_ok outcome }
+    {
+        match outcome {
+            Ok(()) => Ok(()),
+            Err(_) => Err(self.fault()),
+        }
+    }
+}
+
+impl Disk for MemDisk {
+    ghost use Rattle.diskmodel.specs.Outcomes.{IsOutcome, IsOutcomeSince, counts_last, only_last};
+    ghost use Rattle.diskmodel.specs.Disk.{written, IsTorn, IsCut, ComesBy, LeavesOnly};
+    ghost use Rattle.diskmodel.specs.Recorded.{Adds};
+    ghost use Rattle.diskmodel.specs.Memory.{content_of, CanStopAt, countdown_of, TimeGoesOn, Heeds};
+
+    ghost content = { λ disk. disk.history.content.items };
+
+    ghost outcome = { λ disk. IsOutcome disk.history.first.items disk.history.calls.items };
+
+    ghost clock = { λ disk. length disk.history.calls.items };
+
+    ghost outcome_since = { λ disk. IsOutcomeSince disk.history.first.items disk.history.calls.items };
+
+    ghost faults = { λ disk. disk.faults.count };
+
+    ghost content_is_outcome = { λ disk. disk.history.kept.possible };
+
+    ghost counts_now = { λ disk t c. counts_last disk.history.first.items disk.history.calls.items t c };
+
+    ghost only_now = { λ disk c. only_last disk.history.first.items disk.history.calls.items c };
+
+    fn len(&mut self) -> Result<u64, DiskFault> {
+        Ok(self.history.content.len() as u64)
+    }
+
+    fn read_at(&mut self, at: u64, buffer: &mut [u8]) -> Result<(), DiskFault>
+        requires { at + length buffer.old ≤ length (content_of self.old) }
+        ensures bytes { OnOk result (buffer.new ≡ take (length buffer.old) (drop at (content_of self.old))) }
+        ensures content { content_of self.new ≡ content_of self.old }
+        ensures outcomes { NoneNew (CanStopAt self.old) (CanStopAt self.new) }
+        ensures time { TimeGoesOn self.old self.new }
+        ensures cause { HasCause self.old.faults.count self.new.faults.count result }
+
+        // It fails only where it has been told to.
+        ensures heeds { Heeds CallKind.Read self.old self.new result }
+        ensures succeeds { OnErr result (countdown_of self.old CallKind.Read ≡ 1) }
+    {
+        self.fail_if_told(CallKind::Read)?;
+        let at = at as usize;
+        buffer.copy_from_slice(&self.history.content[at..at + buffer.len()]);
+        Ok(())
+    }
+
+    fn write_at(&mut self, at: u64, bytes: &[u8]) -> Result<(), DiskFault>
+        requires { at ≤ length (content_of self.old) }
+        ensures content { OnOk result (content_of self.new ≡ written (content_of self.old) at bytes.now) }
+        ensures outcomes { ComesBy (IsTorn at (length bytes.now)) (CanStopAt self.old) (CanStopAt self.new) }
+        ensures time { TimeGoesOn self.old self.new }
+        ensures cause { HasCause self.old.faults.count self.new.faults.count result }
+        ensures recorded { OnOk result (Adds (Call.Wrote at bytes.now) self.old.history self.new.history) }
+        ensures heeds { Heeds CallKind.Write self.old self.new result }
+    {
+        self.fail_if_told(CallKind::Write)?;
+        let outcome = self.history.write(at as usize, bytes);
+        self.counted(outcome)
+    }
+
+    fn cut(&mut self, len: u64) -> Result<(), DiskFault>
+        requires { len ≤ length (content_of self.old) }
+        ensures content { OnOk result (content_of self.new ≡ take len (content_of self.old)) }
+        ensures outcomes { ComesBy (IsCut len) (CanStopAt self.old) (CanStopAt self.new) }
+        ensures time { TimeGoesOn self.old self.new }
+        ensures cause { HasCause self.old.faults.count self.new.faults.count result }
+        ensures recorded { OnOk result (Adds (Call.Cut len) self.old.history self.new.history) }
+        ensures heeds { Heeds CallKind.Cut self.old self.new result }
+    {
+        self.fail_if_told(CallKind::Cut)?;
+        let outcome = self.history.cut(len as usize);
+        self.counted(outcome)
+    }
+
+    fn sync(&mut self) -> Result<(), DiskFault>
+        ensures firm { OnOk result (LeavesOnly (content_of self.old) (CanStopAt self.new)) }
+        ensures content { content_of self.new ≡ content_of self.old }
+        ensures outcomes { NoneNew (CanStopAt self.old) (CanStopAt self.new) }
+        ensures time { TimeGoesOn self.old self.new }
+        ensures cause { HasCause self.old.faults.count self.new.faults.count result }
+        ensures recorded { OnOk result (Adds Call.Synced self.old.history self.new.history) }
+        ensures heeds { Heeds CallKind.Sync self.old self.new result }
+    {
+        self.fail_if_told(CallKind::Sync)?;
+        let outcome = self.history.sync();
+        self.counted(outcome)
+    }
+}
+
+impl StopDisk for MemDisk {
+    ghost use Rattle.diskmodel.specs.Memory.{content_of, CanStopAt, choice_of, TimeGoesOn};
+
+    /// It takes no memory, and no choice is left behind it.
+    fn stop(&mut self)
+        ensures content { CanStopAt self.old (content_of self.new) }
+        ensures outcomes { NoneNew (CanStopAt self.old) (CanStopAt self.new) }
+        ensures time { TimeGoesOn self.old self.new }
+        ensures faults { self.new.faults.count ≡ self.old.faults.count }
+
+        // Each outcome comes by its choice. Without one a read gives what it gave.
+        ensures chosen { (found : List ℕ) → choice_of self.old ≡ Some found → CanStopAt self.old found → content_of self.new ≡ found }
+        ensures otherwise { ((found : List ℕ) → choice_of self.old ≡ Some found → ¬ CanStopAt self.old found) → content_of self.new ≡ content_of self.old }
+        ensures spent { choice_of self.new ≡ None }
+        ensures told { self.new.countdowns ≡ self.old.countdowns }
+    {
+        let Some(found) = self.choice.take() else {
+            return;
+        };
+        if !self.history.can_leave(found.as_slice()) {
+            return;
+        }
+        self.history.stop(found);
+    }
+}
