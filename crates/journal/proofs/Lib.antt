@@ -1,0 +1,6 @@
+mod Bytes
+mod Loops
+mod Moments
+mod Parts
+mod Stops
+mod Walks

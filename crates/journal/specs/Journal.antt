@@ -1,0 +1,40 @@
+-- What a journal on a disk is, and what a stop of the machine leaves of it.
+use Rattle.std.specs.Prelude.{◌≡◌, ◌⊎◌, ℕ, ◌-◌, ◌<◌, List, ◌++◌, length, Result, Ok, Err}
+use Rattle.diskmodel.specs.Disk.{LeavesOnly}
+use Rattle.journal.specs.declared.record.Record.{Record}
+use Rattle.journal.specs.declared.journal.Journal.{Journal}
+use Rattle.journal.specs.Format.{kept, walk, stands}
+
+-- the disk of a journal
+abbrev pub disk_of : {D : Type 0} → Journal D → D
+disk_of journal = journal.disk
+
+-- The file stands for records, and the closed gate that ends its groups is its last byte.
+pub record EndsClosed (file : List ℕ) : Type 0 where
+  pub records : List Record
+  pub stands_for : stands file ≡ Ok records
+  pub ends : walk 0 0 file ≡ Ok (records, length file - 1)
+  pub some : 0 < length file
+
+-- A journal that can be added to: its file ends with its closed gate and is firm, and its length is kept.
+pub record IsAlive {D : Type 0} (content : D → List ℕ) (outcome : D → List ℕ → Type 0) (journal : Journal D) : Type 0 where
+  pub ends_closed : EndsClosed (content (disk_of journal))
+  pub len : journal.len ≡ length (content (disk_of journal))
+  pub firm : LeavesOnly (content (disk_of journal)) (outcome (disk_of journal))
+
+-- these records, and then those of a group whose gate is at this place
+abbrev pub with_group : ℕ → List (List ℕ) → Result (List Record) ℕ → Result (List Record) ℕ
+with_group gate group (Ok records) = Ok (records ++ kept gate group)
+with_group gate group (Err place) = Err place
+
+-- what this file stands for, and then the records of a group whose gate is its last byte
+abbrev pub stands_with : List ℕ → List (List ℕ) → Result (List Record) ℕ
+stands_with file group = with_group (length file - 1) group (stands file)
+
+-- what a stop leaves stands for the records of this file, or for these with the whole group
+abbrev pub IsBeforeOrAfter : List ℕ → List (List ℕ) → List ℕ → Type 0
+IsBeforeOrAfter file group left = (stands left ≡ stands file) ⊎ (stands left ≡ stands_with file group)
+
+-- what a stop leaves stands for what one of these stands for
+abbrev pub StandsAsOneOf : (List ℕ → Type 0) → List ℕ → Type 0
+StandsAsOneOf outcome left = (first : List ℕ) × outcome first × (stands left ≡ stands first)

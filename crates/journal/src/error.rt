@@ -1,0 +1,62 @@
+//! Why a journal could not be opened or added to.
+
+ghost use Rattle.std.specs.Prelude.{◌≡◌};
+ghost use Rattle.journal.specs.declared.error.JournalError.TheVariants.{Memory, Device};
+
+use diskmodel::DiskFault;
+use std::alloc::{AllocError, AllocFailed};
+use thiserror::Error;
+
+/// Why a journal could not be opened, or a group could not be added.
+#[derive(Clone, Copy, Debug, PartialEq, Eq, Error)]
+pub enum JournalError {
+    /// Memory was refused.
+    #[error("1 Memory")]
+    Memory,
+    /// The disk failed.
+    #[error("2 Device")]
+    Device,
+    /// No whole group stands behind the open gate at this place, in bytes from the front.
+    #[error("3 Damaged")]
+    Damaged(u64),
+    /// The journal was made with other settings. Opening and appending never answer it: it is for
+    /// the layer that keeps settings.
+    #[error("4 ConfigMismatch")]
+    ConfigMismatch,
+    /// The journal would pass its greatest length.
+    #[error("5 Full")]
+    Full,
+}
+
+impl From<DiskFault> for JournalError {
+    ghost from_gives = { λ _ e. e ≡ Device };
+
+    fn from(_fault: DiskFault) -> JournalError {
+        JournalError::Device
+    }
+}
+
+impl From<AllocError> for JournalError {
+    ghost from_gives = { λ _ e. e ≡ Memory };
+
+    fn from(_error: AllocError) -> JournalError {
+        JournalError::Memory
+    }
+}
+
+impl<T: Drop> From<AllocFailed<T>> for JournalError {
+    ghost from_gives = { λ _ e. e ≡ Memory };
+
+    fn from(_error: AllocFailed<T>) -> JournalError {
+        JournalError::Memory
+    }
+}
+
+/// A call that failed, with the disk that it was given.
+#[derive(Debug, Drop)]
+pub struct Failed<E, D> {
+    /// Why it failed.
+    pub error: E,
+    /// The disk, handed back.
+    pub disk: D,
+}

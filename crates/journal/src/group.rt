@@ -1,0 +1,114 @@
+//! A group of records, ready to be written.
+
+ghost use Rattle.std.specs.Prelude.{◌≡◌, ◌+◌, ◌<◌, ◌≤◌, ◌^◌, ◌++◌, [], ◌∷◌, length, take, drop, IfOk, OnOk};
+ghost use Rattle.std.specs.Option.{SomeIff};
+ghost use Rattle.journal.specs.Format.{FitsGroup, body_len, contents, body_bytes, group_bytes};
+
+use crate::layout::{CLOSED, LENGTH_BYTES, MAX_GROUP_BYTES, MAX_GROUP_RECORDS};
+use std::alloc::{AllocError, Global};
+use std::marker::Model;
+
+/// Records that are to be added together, within the limits of a group. It must be appended, or
+/// discarded.
+pub struct Group {
+    // The length of the body, the body, and the closed gate for the next group.
+    bytes: Vec<u8>,
+    count: u64,
+}
+
+impl Model for Group {
+    ghost use Rattle.std.specs.Prelude.{List, ℕ};
+    ghost use Rattle.journal.specs.Format.{IsWritten, written_records};
+
+    ghost Value = { List (List ℕ) };
+
+    ghost view = { λ group. written_records group.bytes.items };
+
+    ghost invariant = { λ group. IsWritten group.bytes.items group.count };
+}
+
+impl Group {
+    /// The group of these records, or `None` outside a group's limits.
+    pub fn new(alloc: Global, records: Vec<Vec<u8>>) -> Result<Option<Group>, AllocError>
+        ensures { IfOk result (λ group. SomeIff group (FitsGroup (contents records.items)) (contents records.items)) }
+    {
+        if records.is_empty() || records.len() > MAX_GROUP_RECORDS {
+            return Ok(None);
+        }
+        let Some(len) = body_len_within(&records) else {
+            return Ok(None);
+        };
+        let bytes = bytes_of(alloc, &records, len)?;
+        let count = records.len() as u64;
+        Ok(Some(Group { bytes, count }))
+    }
+
+    /// How many records it has.
+    pub fn records_count(&self) -> u64
+        ensures value { result ≡ length self.now }
+        ensures fits { FitsGroup self.now }
+    {
+        self.count
+    }
+
+    // The bytes to be written behind the gate of this group.
+    pub(crate) fn into_bytes(self) -> Vec<u8>
+        ensures bytes { result.items ≡ group_bytes self }
+        ensures fits { FitsGroup self }
+    {
+        let Group { bytes, count: _ } = self;
+        bytes
+    }
+
+    // How long it is on the disk, without its own gate, in bytes.
+    pub(crate) fn written_len(&self) -> u64
+        ensures { result ≡ 5 + body_len self.now }
+    {
+        self.bytes.len() as u64
+    }
+
+    /// Spends a group that is not to be appended.
+    pub fn discard(self) {
+        let Group { bytes: _, count: _ } = self;
+    }
+}
+
+// The length of the records' body, or `None` above a group's limit.
+fn body_len_within(records: &[Vec<u8>]) -> Option<usize>
+    ensures { SomeIff result (body_len (contents records.now) ≤ 4194304) (body_len (contents records.now)) }
+{
+    let mut total = 0;
+    for record in records {
+        let room = MAX_GROUP_BYTES - total;
+        if room < LENGTH_BYTES || record.len() > room - LENGTH_BYTES {
+            return None;
+        }
+        total += LENGTH_BYTES + record.len();
+    }
+    Some(total)
+}
+
+// The bytes of a group of these records behind its gate, with the closed gate for the next group.
+fn bytes_of(alloc: Global, records: &[Vec<u8>], len: usize) -> Result<Vec<u8>, AllocError>
+    requires fits { len ≤ 4194304 }
+    requires len { len ≡ body_len (contents records.now) }
+    ensures { IfOk result (λ bytes. bytes.items ≡ group_bytes (contents records.now)) }
+{
+    let mut bytes = Vec::with_capacity(alloc, LENGTH_BYTES + len + 1)?;
+    bytes.extend_from_slice(&(len as u32).to_be_bytes())?;
+    put_body(&mut bytes, records)?;
+    bytes.push(CLOSED)?;
+    Ok(bytes)
+}
+
+// Puts the records behind the bytes, each with its length before it.
+fn put_body(bytes: &mut Vec<u8>, records: &[Vec<u8>]) -> Result<(), AllocError>
+    requires { body_len (contents records.now) ≤ 4194304 }
+    ensures { OnOk result (bytes.new.items ≡ bytes.old.items ++ body_bytes (contents records.now)) }
+{
+    for record in records {
+        bytes.extend_from_slice(&(record.len() as u32).to_be_bytes())?;
+        bytes.extend_from_slice(record)?;
+    }
+    Ok(())
+}

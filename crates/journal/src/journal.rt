@@ -1,0 +1,201 @@
+//! A journal on a disk.
+
+ghost use Rattle.std.specs.Prelude.{◌≡◌, ◌≢◌, ◌⊎◌, ◌↔◌, ◌+◌, ◌-◌, ◌*◌, ◌^◌, ◌<◌, ◌≤◌, List, ℕ, length, Ok, Err, IfOk, IfErr, OnOk, OnErr, IsErrOf};
+ghost use Rattle.diskmodel.specs.Disk.{LeavesOnly, AtEachMoment, NoneNew};
+ghost use Rattle.journal.specs.Format.{body_len, stands, ScansTo};
+ghost use Rattle.journal.specs.Journal.{disk_of, EndsClosed, IsAlive, stands_with, IsBeforeOrAfter, StandsAsOneOf};
+
+use crate::error::{Failed, JournalError};
+use crate::group::Group;
+use crate::layout::{CLOSED, MAX_JOURNAL_BYTES, OPEN};
+use crate::reading::scan;
+use crate::record::Record;
+use diskmodel::Disk;
+use std::alloc::Global;
+use std::marker::Model;
+
+/// Groups of records on a disk, each of them there as a whole or not at all.
+#[derive(Drop)]
+pub struct Journal<D: Disk> {
+    disk: D,
+    len: u64,
+}
+
+/// Says that a group is on the disk, and how many records it has. It must be spent.
+pub struct Synced {
+    records: u64,
+}
+
+impl Model for Synced {
+    ghost use Rattle.std.specs.Prelude.{ℕ};
+
+    ghost Value = { ℕ };
+
+    ghost view = { λ synced. synced.records };
+}
+
+impl Synced {
+    /// How many records the group has. It spends the word that they are on the disk.
+    pub fn records(self) -> u64
+        ensures { result ≡ self }
+    {
+        let Synced { records } = self;
+        records
+    }
+}
+
+impl<D: Disk> Journal<D> {
+    /// Opens the journal on a disk, and gives the records of its groups from the front. A failed
+    /// call hands the disk back.
+    pub fn open(
+        alloc: Global,
+        mut disk: D,
+    ) -> Result<(Journal<D>, Vec<Record>), Failed<JournalError, D>>
+        ensures alive { IfOk result (λ opened. IsAlive D.content D.outcome opened.0) }
+        ensures records { IfOk result (λ opened. stands (D.content disk) ≡ Ok opened.1.items) }
+        ensures same { IfOk result (λ opened. stands (D.content (disk_of opened.0)) ≡ stands (D.content disk)) }
+
+        // A stop at any moment of the call leaves what stands for the same as one that came before it.
+        ensures any_moment { IfOk result (λ opened. AtEachMoment D.clock D.outcome_since disk (disk_of opened.0) (StandsAsOneOf (D.outcome disk))) }
+        ensures any_moment_err { IfErr result (λ failed. AtEachMoment D.clock D.outcome_since disk failed.disk (StandsAsOneOf (D.outcome disk))) }
+
+        ensures damaged { IfErr result (λ failed. (gate : ℕ) → failed.error ≡ JournalError.Damaged gate → stands (D.content disk) ≡ Err gate) }
+        ensures device { IfErr result (λ failed. failed.error ≡ JournalError.Device → D.faults disk < D.faults failed.disk) }
+        ensures never_full { IfErr result (λ failed. failed.error ≢ JournalError.Full) }
+        ensures never_config { IfErr result (λ failed. failed.error ≢ JournalError.ConfigMismatch) }
+
+        // The count of the disk's faults doesn't fall.
+        ensures faults { IfOk result (λ opened. D.faults disk ≤ D.faults (disk_of opened.0)) }
+        ensures faults_err { IfErr result (λ failed. D.faults disk ≤ D.faults failed.disk) }
+    {
+        match repair(alloc, &mut disk) {
+            Ok((records, len)) => Ok((Journal { disk, len }, records)),
+            Err(error) => Err(Failed { error, disk }),
+        }
+    }
+
+    /// Adds a group behind the others. At `Ok` it is on the disk. At `Full` nothing has changed.
+    /// At `Device` open the disk again. It takes no memory.
+    pub fn append(&mut self, group: Group) -> Result<Synced, JournalError>
+        requires { IsAlive D.content D.outcome self.old }
+
+        ensures alive { OnOk result (IsAlive D.content D.outcome self.new) }
+        ensures records { OnOk result (stands (D.content (disk_of self.new)) ≡ stands_with (D.content (disk_of self.old)) group) }
+        ensures synced { IfOk result (λ synced. synced ≡ length group) }
+
+        // A stop at any moment of the call leaves the records from before it, with the whole group or without.
+        ensures any_moment { AtEachMoment D.clock D.outcome_since (disk_of self.old) (disk_of self.new) (IsBeforeOrAfter (D.content (disk_of self.old)) group) }
+
+        ensures errors { IfErr result (λ error. (error ≡ JournalError.Device) ⊎ (error ≡ JournalError.Full)) }
+        ensures device { IsErrOf result JournalError.Device → D.faults (disk_of self.old) < D.faults (disk_of self.new) }
+        ensures full { IsErrOf result JournalError.Full ↔ (2 ^ 40 < length (D.content (disk_of self.old)) + 5 + body_len group) }
+        ensures unchanged { IsErrOf result JournalError.Full → self.new ≡ self.old }
+        ensures faults { D.faults (disk_of self.old) ≤ D.faults (disk_of self.new) }
+    {
+        let added = group.written_len();
+        if added > MAX_JOURNAL_BYTES.saturating_sub(self.len) {
+            group.discard();
+            return Err(JournalError::Full);
+        }
+        let records = group.records_count();
+        write_group(&mut self.disk, self.len, group)?;
+        self.len += added;
+        Ok(Synced { records })
+    }
+
+    /// Gives the disk back.
+    pub fn into_disk(self) -> D
+        ensures { result ≡ disk_of self }
+    {
+        let Journal { disk, len: _ } = self;
+        disk
+    }
+}
+
+// Writes a group behind the closed gate that ends a file of this length, and then opens that gate.
+fn write_group<D: Disk>(disk: &mut D, len: u64, group: Group) -> Result<(), JournalError>
+    requires ends_closed { EndsClosed (D.content disk.old) }
+    requires len { len ≡ length (D.content disk.old) }
+    requires room { len + 5 + body_len group < 2 ^ 64 }
+    requires firm { LeavesOnly (D.content disk.old) (D.outcome disk.old) }
+
+    ensures ends_closed { OnOk result (EndsClosed (D.content disk.new)) }
+    ensures len { OnOk result (length (D.content disk.new) ≡ len + 5 + body_len group) }
+    ensures records { OnOk result (stands (D.content disk.new) ≡ stands_with (D.content disk.old) group) }
+    ensures firm { OnOk result (LeavesOnly (D.content disk.new) (D.outcome disk.new)) }
+    ensures any_moment { AtEachMoment D.clock D.outcome_since disk.old disk.new (IsBeforeOrAfter (D.content disk.old) group) }
+    ensures errors { IfErr result (λ error. error ≡ JournalError.Device) }
+    ensures faults { D.faults disk.old ≤ D.faults disk.new }
+    ensures device { OnErr result (D.faults disk.old < D.faults disk.new) }
+{
+    let bytes = group.into_bytes();
+    disk.write_at(len, &bytes)?;
+    // The group has to be firm before its gate is opened.
+    disk.sync()?;
+    disk.write_at(len - 1, &[OPEN])?;
+    disk.sync()?;
+    Ok(())
+}
+
+// The records on a disk and the length of its file, which it leaves with a closed gate at its end.
+fn repair<D: Disk>(alloc: Global, disk: &mut D) -> Result<(Vec<Record>, u64), JournalError>
+    ensures ends_closed { OnOk result (EndsClosed (D.content disk.new)) }
+    ensures len { IfOk result (λ found. found.1 ≡ length (D.content disk.new)) }
+    ensures records { IfOk result (λ found. stands (D.content disk.old) ≡ Ok found.0.items) }
+    ensures same { OnOk result (stands (D.content disk.new) ≡ stands (D.content disk.old)) }
+    ensures firm { OnOk result (LeavesOnly (D.content disk.new) (D.outcome disk.new)) }
+    ensures any_moment { AtEachMoment D.clock D.outcome_since disk.old disk.new (StandsAsOneOf (D.outcome disk.old)) }
+    ensures damaged { (gate : ℕ) → IsErrOf result (JournalError.Damaged gate) → stands (D.content disk.old) ≡ Err gate }
+    ensures faults { D.faults disk.old ≤ D.faults disk.new }
+    ensures device { IsErrOf result JournalError.Device → D.faults disk.old < D.faults disk.new }
+    ensures never_full { IfErr result (λ error. error ≢ JournalError.Full) }
+    ensures never_config { IfErr result (λ error. error ≢ JournalError.ConfigMismatch) }
+{
+    // Each gate has to be firm before it is read.
+    disk.sync()?;
+    let bytes = read_all(alloc, disk)?;
+    let (records, gate) = scan(alloc, &bytes)?;
+    close_end(disk, bytes.len() as u64, gate)?;
+    Ok((records, gate + 1))
+}
+
+// All the bytes of a disk.
+fn read_all<D: Disk>(alloc: Global, disk: &mut D) -> Result<Vec<u8>, JournalError>
+    ensures bytes { IfOk result (λ bytes. bytes.items ≡ D.content disk.old) }
+    ensures content { D.content disk.new ≡ D.content disk.old }
+    ensures outcomes { NoneNew (D.outcome disk.old) (D.outcome disk.new) }
+    ensures any_moment { AtEachMoment D.clock D.outcome_since disk.old disk.new (D.outcome disk.old) }
+    ensures errors { IfErr result (λ error. (error ≡ JournalError.Memory) ⊎ (error ≡ JournalError.Device)) }
+    ensures faults { D.faults disk.old ≤ D.faults disk.new }
+    ensures device { IsErrOf result JournalError.Device → D.faults disk.old < D.faults disk.new }
+{
+    let len = disk.len()? as usize;
+    let mut bytes = vec![in alloc; 0; len]?;
+    disk.read_at(0, &mut bytes)?;
+    Ok(bytes)
+}
+
+// Makes the closed gate at this place the end of a firm file of this length.
+fn close_end<D: Disk>(disk: &mut D, len: u64, gate: u64) -> Result<(), JournalError>
+    requires len { len ≡ length (D.content disk.old) }
+    requires found { ScansTo (D.content disk.old) gate }
+    requires firm { LeavesOnly (D.content disk.old) (D.outcome disk.old) }
+
+    ensures ends_closed { OnOk result (EndsClosed (D.content disk.new)) }
+    ensures len { OnOk result (length (D.content disk.new) ≡ gate + 1) }
+    ensures records { OnOk result (stands (D.content disk.new) ≡ stands (D.content disk.old)) }
+    ensures firm { OnOk result (LeavesOnly (D.content disk.new) (D.outcome disk.new)) }
+    ensures any_moment { AtEachMoment D.clock D.outcome_since disk.old disk.new (λ left. stands left ≡ stands (D.content disk.old)) }
+    ensures errors { IfErr result (λ error. error ≡ JournalError.Device) }
+    ensures faults { D.faults disk.old ≤ D.faults disk.new }
+    ensures device { OnErr result (D.faults disk.old < D.faults disk.new) }
+{
+    if len < 2 {
+        disk.write_at(0, &[CLOSED])?;
+        disk.sync()?;
+    } else if len - 1 > gate {
+        disk.cut(gate + 1)?;
+        disk.sync()?;
+    }
+    Ok(())
+}
