@@ -1,0 +1,6 @@
+pub mod Event
+pub mod Admission
+pub mod Step
+pub mod Pending
+pub mod Queue
+pub mod Book

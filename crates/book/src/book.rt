@@ -1,0 +1,174 @@
+//! The book.
+
+ghost use Rattle.std.specs.Prelude.{◌≡◌, ◌+◌, ◌≤◌, ◌^◌, length};
+ghost use Rattle.journal.specs.Format.{contents};
+ghost use Rattle.book.specs.Pending.{EachFits};
+
+use crate::checked::Checked;
+use crate::pending::{drop_front, first_group, push_record, record_of};
+use crate::queue::{Queued, enqueue};
+use crate::refusal::Refusal;
+use crate::validator::{Step, Validator};
+use journal::{Group, Synced};
+use std::alloc::{AllocError, Global};
+use std::collections::VecDeque;
+#[cfg(test)]
+use wire::Author;
+use wire::Output;
+
+/// Records that one run may accept.
+pub const MAX_ACCEPTED: u64 = 1 << 48;
+
+/// Outputs of one event, at most.
+const MAX_OUTPUTS: usize = 1;
+
+/// What an accepted event is answered.
+#[derive(Clone, Copy, Debug, PartialEq, Eq)]
+pub struct Receipt {
+    /// How many records were accepted in this run, with this one if it is new. The event's outputs go out
+    /// once so many are settled.
+    pub ticket: u64,
+    /// Whether the event is new; else it was accepted before.
+    pub new: bool,
+}
+
+/// The value under the lock. Since the run's start so many records were accepted and so many settled; between
+/// the two stand those that were taken, and those that are pending.
+#[derive(Drop)]
+pub struct Book {
+    alloc: Global,
+    validator: Validator,
+    pending: Vec<Vec<u8>>,
+    queue: VecDeque<Queued>,
+    accepted: u64,
+    settled: u64,
+    down: bool,
+    ghost each_fits: { EachFits (contents pending.items) },
+    ghost few: { accepted ≤ 2 ^ 48 },
+    ghost order: { settled + length pending.items ≤ accepted },
+}
+
+impl Book {
+    ghost use Rattle.std.specs.Prelude.{◌⊎◌, ◌∷◌, [], ◌++◌, ◌<◌, false, true, take, drop, IsTrue, IsNone, IsSome, IfOk, IfErr, IfSome, OnOk, OnErr, IsErrOf, MatchOption, MatchResult, ◌↔◌, is_some, if◌then◌else◌};
+    ghost use Rattle.std.specs.FinMap as map;
+    ghost use Rattle.book.specs.declared.validator.Admission.TheVariants.{New, Known};
+    ghost use Rattle.book.specs.Admission.{Admits, IsFromPeer};
+    ghost use Rattle.book.specs.Book.{standing, with_new, with_known, releasable, MayAnswer};
+    ghost use Rattle.book.specs.Pending.{IsLongestBeginning};
+
+    /// A book over this validator that has accepted nothing.
+    pub fn new(alloc: Global, validator: Validator) -> Book
+        ensures { standing result ≡ record { validator = validator; pending = []; queue = []; accepted = 0; settled = 0; down = false } }
+    {
+        Book {
+            alloc,
+            validator,
+            pending: Vec::new(alloc),
+            queue: VecDeque::new(alloc),
+            accepted: 0,
+            settled: 0,
+            down: false,
+        }
+    }
+
+    /// Takes an event. A new one gets a record, which is pending from now on; its outputs, and those of an event
+    /// that was accepted before, go out once all that was accepted is settled. A refusal changes nothing.
+    pub fn accept(&mut self, event: Checked) -> Result<Receipt, Refusal>
+        requires { IsFromPeer (standing self.old).validator.own event }
+        // It is down exactly where it was told so.
+        ensures down { IsErrOf result Refusal.Down ↔ IsTrue (standing self.old).down }
+        ensures new { IfOk result (λ receipt. IsTrue receipt.new → Admits (standing self.old).validator event New × (standing self.new ≡ with_new (standing self.old) event)) }
+        ensures known { IfOk result (λ receipt. receipt.new ≡ false → Admits (standing self.old).validator event Known × (standing self.new ≡ with_known (standing self.old) event)) }
+        ensures ticket { IfOk result (λ receipt. receipt.ticket ≡ (standing self.new).accepted) }
+        ensures refused { IfErr result (MayAnswer (standing self.old) event) }
+        ensures err { OnErr result (standing self.new ≡ standing self.old) }
+    {
+        if self.down {
+            return Err(Refusal::Down);
+        }
+        if self.accepted == MAX_ACCEPTED && self.validator.is_new(&event) {
+            return Err(Refusal::StoreFull);
+        }
+        // What can fail comes first.
+        let record = record_of(self.alloc, &event)?;
+        self.pending.reserve(1)?;
+        self.queue.reserve(MAX_OUTPUTS)?;
+        match self.validator.step(event)? {
+            Step::New(outputs) => {
+                self.accepted += 1;
+                push_record(&mut self.pending, record);
+                enqueue(&mut self.queue, self.accepted, outputs);
+                Ok(Receipt {
+                    ticket: self.accepted,
+                    new: true,
+                })
+            }
+            Step::Known(outputs) => {
+                enqueue(&mut self.queue, self.accepted, outputs);
+                Ok(Receipt {
+                    ticket: self.accepted,
+                    new: false,
+                })
+            }
+        }
+    }
+
+    /// Takes the longest beginning of the pending records that fits a group; `None` where nothing is pending.
+    /// Where memory is refused, nothing was taken.
+    pub fn take(&mut self) -> Result<Option<Group>, AllocError>
+        ensures none { IfOk result (λ group. IsNone group ↔ ((standing self.old).pending ≡ [])) }
+        ensures group { IfOk result (λ group. IfSome group (λ group. IsLongestBeginning (standing self.old).pending group (standing self.new).pending)) }
+        ensures room { IfOk result (λ group. IfSome group (λ group. (standing self.new).settled + length group + length (standing self.new).pending ≤ (standing self.new).accepted)) }
+        ensures rest { standing self.new ≡ record (standing self.old) { pending = (standing self.new).pending } }
+        ensures nothing { IfOk result (λ group. IsNone group → standing self.new ≡ standing self.old) }
+        ensures err { OnErr result (standing self.new ≡ standing self.old) }
+    {
+        if self.pending.is_empty() {
+            return Ok(None);
+        }
+        let group = first_group(self.alloc, &self.pending)?;
+        drop_front(&mut self.pending, group.records_count() as usize);
+        Ok(Some(group))
+    }
+
+    /// Says that a group is on the disk: the one that was taken first of those that aren't settled.
+    pub fn settle(&mut self, synced: Synced)
+        requires { (standing self.old).settled + synced + length (standing self.old).pending ≤ (standing self.old).accepted }
+        ensures { standing self.new ≡ record (standing self.old) { settled = (standing self.old).settled + synced } }
+    {
+        self.settled += synced.records();
+    }
+
+    /// The first output, if all the records that it rests on are settled and the book isn't down.
+    pub fn release(&mut self) -> Option<Output>
+        ensures output { result ≡ releasable (standing self.old) }
+        ensures queue { standing self.new ≡ (if is_some result then record (standing self.old) { queue = drop 1 (standing self.old).queue } else standing self.old) }
+    {
+        if self.down || self.queue.front()?.ticket > self.settled {
+            return None;
+        }
+        self.queue.pop_front().map(|queued| queued.output)
+    }
+
+    /// Says that a device call failed. From now on nothing is accepted or released.
+    pub fn fail(&mut self)
+        ensures { standing self.new ≡ record (standing self.old) { down = true } }
+    {
+        self.down = true;
+    }
+
+    /// The validator's number.
+    #[cfg(test)]
+    pub fn own(&self) -> Author
+        ensures { result ≡ (standing self.now).validator.own }
+    {
+        self.validator.own()
+    }
+
+    /// Whether `fail` was called.
+    pub fn is_down(&self) -> bool
+        ensures { result ≡ (standing self.now).down }
+    {
+        self.down
+    }
+}

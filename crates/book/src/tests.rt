@@ -1,0 +1,122 @@
+//! A validator's answers, and a book up to a fault.
+
+use super::*;
+use std::alloc::Global;
+use std::test::Fail;
+use wire::{
+    Author, BatchReference, BatchReferences, Digest, Header, Message, ParentReference,
+    ParentReferences, Round, Signature, genesis_digest,
+};
+
+/// The header of an author in a round over the genesis certificates from this member on.
+fn header(alloc: Global, author: u16, round: u64, first: u16) -> Result<Header, Fail> {
+    let mut parents = ParentReferences::new(alloc);
+    for member in [first, first.saturating_add(1), first.saturating_add(2)] {
+        let author = Author(member);
+        if parents.len() < 3 && parents.may_follow(author) {
+            parents.push(ParentReference {
+                author,
+                certificate: genesis_digest(author),
+            })?;
+        }
+    }
+    Ok(Header {
+        author: Author(author),
+        round: Round::new(round)?,
+        batches: BatchReferences::new(alloc),
+        parents,
+        signature: Signature([0; 64]),
+    })
+}
+
+fn submit(book: &mut Book, header: Header) -> Result<Receipt, Refusal> {
+    if header.author == book.own() {
+        return Err(Refusal::NotOurs);
+    }
+    book.accept(Checked::new(header.author, Message::Header(header)))
+}
+
+#[test]
+fn headers_are_answered_in_the_order_of_the_tests(rt: HostRuntime) -> Result<(), Fail> {
+    let alloc = rt.alloc();
+    let mut book = Book::new(alloc, Validator::new(alloc, Author(0), 4));
+    assert_eq!(rt;
+        submit(&mut book, header(alloc, 1, 0, 0)?),
+        Err(Refusal::TooOld)
+    );
+    assert_eq!(rt;
+        submit(&mut book, header(alloc, 1, 1, 2)?),
+        Err(Refusal::MissingParents)
+    );
+    assert_eq!(rt;
+        submit(&mut book, header(alloc, 1, 2, 0)?),
+        Err(Refusal::MissingParents)
+    );
+    let mut with_batch = header(alloc, 1, 1, 0)?;
+    let digest = Digest([7; 32]);
+    if with_batch.batches.is_empty() && with_batch.batches.may_follow(&digest) {
+        with_batch
+            .batches
+            .push(BatchReference { digest, worker: 0 })?;
+    }
+    assert_eq!(rt; submit(&mut book, with_batch), Err(Refusal::MissingBatch));
+    let new = Receipt {
+        ticket: 1,
+        new: true,
+    };
+    assert_eq!(rt; submit(&mut book, header(alloc, 1, 1, 0)?), Ok(new));
+    let known = Receipt {
+        ticket: 1,
+        new: false,
+    };
+    assert_eq!(rt; submit(&mut book, header(alloc, 1, 1, 0)?), Ok(known));
+    assert_eq!(rt;
+        submit(&mut book, header(alloc, 1, 1, 1)?),
+        Err(Refusal::Equivocation)
+    );
+    Ok(())
+}
+
+#[test]
+fn nothing_goes_out_before_it_is_settled_or_after_a_fault(rt: HostRuntime) -> Result<(), Fail> {
+    let alloc = rt.alloc();
+    let mut book = Book::new(alloc, Validator::new(alloc, Author(0), 4));
+    assert!(rt; submit(&mut book, header(alloc, 1, 1, 0)?).is_ok());
+    assert!(rt; submit(&mut book, header(alloc, 2, 1, 0)?).is_ok());
+    assert_eq!(rt; book.release(), None);
+    match book.take()? {
+        None => assert!(rt; false, "two records are pending"),
+        Some(group) => {
+            assert_eq!(rt; group.records_count(), 2);
+            group.discard();
+        }
+    }
+    match book.take()? {
+        None => {}
+        Some(group) => group.discard(),
+    }
+    assert_eq!(rt; book.release(), None);
+    assert!(rt; !book.is_down());
+    book.fail();
+    assert!(rt; book.is_down());
+    assert_eq!(rt;
+        submit(&mut book, header(alloc, 3, 1, 0)?),
+        Err(Refusal::Down)
+    );
+    assert_eq!(rt; book.release(), None);
+    Ok(())
+}
+
+#[test]
+fn a_validator_answers_without_a_book(rt: HostRuntime) -> Result<(), Fail> {
+    let alloc = rt.alloc();
+    let mut validator = Validator::new(alloc, Author(0), 4);
+    let proposed = header(alloc, 1, 1, 0)?;
+    assert!(rt; proposed.author != validator.own());
+    let event = Checked::new(proposed.author, Message::Header(proposed));
+    assert_eq!(rt; event.sender(), Author(1));
+    assert_eq!(rt; validator.admission(&event), Admission::New);
+    assert!(rt; validator.is_new(&event));
+    assert!(rt; matches!(validator.step(event), Ok(Step::New(_))));
+    Ok(())
+}

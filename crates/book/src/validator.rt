@@ -1,0 +1,191 @@
+//! The validator: what it answers an event, and what it keeps.
+
+ghost use Rattle.std.specs.Prelude.{◌≡◌, ◌⊎◌, ◌↔◌, [], ◌∷◌, All, IsTrue, IfOk, OnOk, OnErr, MatchResult, if◌then◌else◌};
+ghost use Rattle.std.specs.Bool.{OnTrue};
+ghost use Rattle.std.specs.FinMap as map;
+ghost use Rattle.book.specs.Admission.{Admits, AdmitsHeader, AdmitsVote, IsHeld, IsFromPeer, vote_for, outputs_for, with_header};
+ghost use Rattle.book.specs.Step.{admission_of, outputs_of, state_after};
+
+use crate::checked::Checked;
+use crate::refusal::Refusal;
+use std::alloc::Global;
+use std::marker::Model;
+use votebook::VoteBook;
+use wire::{
+    Author, Header, Message, Output, ParentReference, Round, Signature, Vote, genesis_digest,
+    header_digest,
+};
+
+/// What a validator answers an event.
+#[derive(Clone, Copy, Debug, PartialEq, Eq)]
+pub enum Admission {
+    /// It is accepted, and recorded.
+    New,
+    /// It was accepted before, and changes nothing.
+    Known,
+    /// It is refused, and changes nothing.
+    Refused(Refusal),
+}
+
+/// What an accepted event puts out.
+#[derive(Debug, Drop)]
+pub enum Step {
+    /// The event is new.
+    New(Vec<Output>),
+    /// The event was accepted before.
+    Known(Vec<Output>),
+}
+
+/// One validator of a committee. For now it takes headers of other members, over the genesis certificates.
+#[derive(Drop)]
+pub struct Validator {
+    alloc: Global,
+    own: Author,
+    members: u16,
+    votes: VoteBook,
+}
+
+impl Model for Validator {
+    ghost use Rattle.book.specs.Admission.{State, coded_state};
+
+    ghost Value = { State };
+
+    ghost coded = { coded_state };
+
+    ghost view = { λ v. record { own = v.own; members = v.members; votes = v.votes } };
+}
+
+impl Validator {
+    /// The validator of this number, in a committee of so many members, that has taken no event.
+    pub fn new(alloc: Global, own: Author, members: u16) -> Validator
+        ensures { result ≡ record { own = own; members = members; votes = map.empty } }
+    {
+        Validator {
+            alloc,
+            own,
+            members,
+            votes: VoteBook::new(alloc),
+        }
+    }
+
+    /// Its number.
+    pub fn own(&self) -> Author
+        ensures { result ≡ self.now.own }
+    {
+        self.own
+    }
+
+    /// What an event is answered. It changes nothing.
+    pub fn admission(&self, event: &Checked) -> Admission
+        requires { IsFromPeer self.now.own event.now }
+        ensures { Admits self.now event.now result }
+    {
+        match event.message() {
+            Message::Header(header) => self.header_admission(header),
+            Message::Vote(vote) => self.vote_admission(vote),
+        }
+    }
+
+    /// Whether an event would be new.
+    pub fn is_new(&self, event: &Checked) -> bool
+        requires { IsFromPeer self.now.own event.now }
+        ensures { IsTrue result ↔ Admits self.now event.now Admission.New }
+    {
+        matches!(self.admission(event), Admission::New)
+    }
+
+    /// Takes an event. Only a new one changes the validator, and a refusal leaves it as it was.
+    pub fn step(&mut self, event: Checked) -> Result<Step, Refusal>
+        requires { IsFromPeer self.old.own event }
+        ensures answer { MatchResult result (λ step. Admits self.old event (admission_of step)) (λ e. (e ≡ Refusal.Memory) ⊎ Admits self.old event (Admission.Refused e)) }
+        ensures outputs { IfOk result (λ step. outputs_of step ≡ outputs_for self.old.own event) }
+        ensures state { IfOk result (λ step. self.new ≡ state_after step self.old event) }
+        ensures err { OnErr result (self.new ≡ self.old) }
+    {
+        let admission = self.admission(&event);
+        if let Admission::Refused(refusal) = admission {
+            return Err(refusal);
+        }
+        match event.message() {
+            Message::Header(header) => self.take_header(header, admission == Admission::New),
+            Message::Vote(_) => unreachable!(),
+        }
+    }
+
+    // Takes a header that is new or known.
+    fn take_header(&mut self, header: &Header, is_new: bool) -> Result<Step, Refusal>
+        requires new { OnTrue is_new (AdmitsHeader self.old header.now Admission.New) }
+        ensures memory { MatchResult result (λ step. admission_of step ≡ (if is_new then Admission.New else Admission.Known)) (λ e. e ≡ Refusal.Memory) }
+        ensures outputs { IfOk result (λ step. outputs_of step ≡ Output.Vote (vote_for self.old.own header.now) ∷ []) }
+        ensures votes { OnOk result (self.new ≡ (if is_new then with_header self.old header.now else self.old)) }
+        ensures err { OnErr result (self.new ≡ self.old) }
+    {
+        let vote = vote_on(self.own, header);
+        let digest = vote.header;
+        let mut outputs = Vec::with_capacity(self.alloc, 1)?;
+        outputs.push(Output::Vote(vote))?;
+        if !is_new {
+            return Ok(Step::Known(outputs));
+        }
+        self.votes.vote(header.author, header.round, digest)?;
+        Ok(Step::New(outputs))
+    }
+
+    fn header_admission(&self, header: &Header) -> Admission
+        ensures { AdmitsHeader self.now header.now result }
+    {
+        if header.round.number() == 0 {
+            return Admission::Refused(Refusal::TooOld);
+        }
+        match self.votes.voted(header.author, header.round) {
+            Some(voted) if voted == header_digest(header) => Admission::Known,
+            Some(_) => Admission::Refused(Refusal::Equivocation),
+            None if !all_held(self.members, header.round, header.parents.as_slice()) => {
+                Admission::Refused(Refusal::MissingParents)
+            }
+            None if !header.batches.is_empty() => Admission::Refused(Refusal::MissingBatch),
+            None => Admission::New,
+        }
+    }
+
+    fn vote_admission(&self, vote: &Vote) -> Admission
+        ensures { AdmitsVote self.now vote.now result }
+    {
+        if vote.author == self.own && vote.round.number() == 0 {
+            return Admission::Refused(Refusal::TooOld);
+        }
+        Admission::Refused(Refusal::NotOurs)
+    }
+}
+
+fn all_held(members: u16, round: Round, parents: &[ParentReference]) -> bool
+    ensures { IsTrue result ↔ All (IsHeld members round) parents.now }
+{
+    for parent in parents {
+        if !is_held(members, round, parent) {
+            return false;
+        }
+    }
+    true
+}
+
+// The vote of a validator for a header. Its signature is empty until there are signers.
+fn vote_on(own: Author, header: &Header) -> Vote
+    ensures { result ≡ vote_for own header.now }
+{
+    Vote {
+        header: header_digest(header),
+        round: header.round,
+        author: header.author,
+        voter: own,
+        signature: Signature([0; 64]),
+    }
+}
+
+fn is_held(members: u16, round: Round, parent: &ParentReference) -> bool
+    ensures { IsTrue result ↔ IsHeld members round parent.now }
+{
+    round.number() == 1
+        && parent.author.0 < members
+        && parent.certificate == genesis_digest(parent.author)
+}
