@@ -1,0 +1,218 @@
+//! The simulated node: its journal and its book.
+
+ghost use Rattle.std.specs.Prelude.{◌≡◌, ◌≢◌};
+ghost use Rattle.book.specs.Book.{standing};
+ghost use Rattle.node_sim.specs.declared.settings.TheConstants.{OWN};
+
+use crate::answer::{Answer, FlushError};
+use crate::command::Stopping;
+use crate::ending::Ending;
+use crate::labels::Labels;
+use crate::live::{Appended, LiveJournal};
+use crate::opening::{Opened, open};
+use crate::settings::OWN;
+use book::{Book, Checked};
+use diskmodel::{CallKind, MemDisk, StopDisk};
+use std::alloc::{AllocError, Global};
+use wire::{Header, Message, Output};
+
+/// What the bytes of a group hold that a stop came upon before their sync.
+const TORN_BYTE: u8 = 0xee;
+
+/// The syncs of a journal that is opened and gets a group: of the opening, of the group's body, of its gate.
+const BODY_SYNC: u64 = 2;
+
+const GATE_SYNC: u64 = 3;
+
+/// Where the node's records are kept.
+#[derive(Drop)]
+enum Store {
+    Live(LiveJournal<MemDisk>),
+    /// After a fault.
+    Failed(MemDisk),
+}
+
+impl Store {
+    fn into_disk(self) -> MemDisk {
+        match self {
+            Store::Live(journal) => journal.into_disk(),
+            Store::Failed(disk) => disk,
+        }
+    }
+}
+
+/// The node.
+#[derive(Drop)]
+pub struct Node {
+    store: Store,
+    book: Book,
+    ghost own: { (standing book).validator.own ≡ OWN },
+}
+
+impl Node {
+    /// The node after what is on a disk, and how many events that is.
+    pub fn open(alloc: Global, disk: MemDisk) -> Result<(Node, u64), Ending> {
+        match open(alloc, disk) {
+            Ok(
+                Opened {
+                    journal,
+                    validator,
+                    events,
+                },
+            ) => {
+                let store = Store::Live(journal);
+                let book = Book::new(alloc, validator);
+                Ok((Node { store, book }, events))
+            }
+            Err(failed) => Err(Ending::from(failed.error)),
+        }
+    }
+
+    /// Submits a checked header as from its author.
+    pub fn submit(&mut self, header: Header) -> Answer<'static>
+        requires { header.author ≢ OWN }
+    {
+        let event = Checked::new(header.author, Message::Header(header));
+        match self.book.accept(event) {
+            Ok(receipt) if receipt.new => Answer::New(receipt.ticket),
+            Ok(receipt) => Answer::Known(receipt.ticket),
+            Err(refusal) => Answer::Refused(refusal),
+        }
+    }
+
+    /// The next output that may go out.
+    pub fn collect<'a>(&mut self, labels: &'a Labels) -> Answer<'a> {
+        match self.book.release() {
+            None => Answer::OutNone,
+            Some(Output::Vote(vote)) => {
+                Answer::OutVote(labels.name_of(&vote.header).unwrap_or("-"))
+            }
+        }
+    }
+
+    /// One round: takes a group, writes it and settles it. After a fault the node is down.
+    pub fn flush(self) -> (Node, Result<u64, FlushError>) {
+        let Node { store, mut book } = self;
+        let journal = match store {
+            Store::Live(journal) => journal,
+            Store::Failed(disk) => {
+                let store = Store::Failed(disk);
+                return (Node { store, book }, Err(FlushError::Down));
+            }
+        };
+        if book.is_down() {
+            let store = Store::Live(journal);
+            return (Node { store, book }, Err(FlushError::Down));
+        }
+        let group = match book.take() {
+            Ok(Some(group)) => group,
+            Ok(None) => {
+                let store = Store::Live(journal);
+                return (Node { store, book }, Ok(0));
+            }
+            Err(_) => {
+                let store = Store::Live(journal);
+                return (Node { store, book }, Err(FlushError::Memory));
+            }
+        };
+        let count = group.records_count();
+        match journal.append(group) {
+            Appended::Done(journal, synced) => {
+                book.settle(synced);
+                let store = Store::Live(journal);
+                (Node { store, book }, Ok(count))
+            }
+            Appended::Full(journal) => {
+                book.fail();
+                let store = Store::Live(journal);
+                (Node { store, book }, Err(FlushError::Full))
+            }
+            Appended::Failed(disk) => {
+                book.fail();
+                let store = Store::Failed(disk);
+                (Node { store, book }, Err(FlushError::Device))
+            }
+        }
+    }
+
+    /// Gives the disk back.
+    #[cfg(test)]
+    pub fn into_disk(self) -> MemDisk {
+        let Node { store, book: _ } = self;
+        store.into_disk()
+    }
+
+    /// Stops the machine and opens the node again; answers how many events were found.
+    pub fn stop(self, alloc: Global, stopping: Stopping) -> Result<(Node, u64), Ending> {
+        let Node { store, book } = self;
+        let mut disk = match stopping {
+            Stopping::Lose => losing(alloc, store.into_disk())?,
+            Stopping::Keep => store.into_disk(),
+            Stopping::Body => interrupted(alloc, store, book, BODY_SYNC, TORN_BYTE)?,
+            Stopping::Gate(byte) => interrupted(alloc, store, book, GATE_SYNC, byte)?,
+        };
+        disk.stop();
+        Node::open(alloc, disk)
+    }
+}
+
+// The disk, of which the next stop leaves the bytes of the last sync.
+fn losing(alloc: Global, mut disk: MemDisk) -> Result<MemDisk, AllocError> {
+    let firm = disk.firm().to_vec(alloc)?;
+    disk.choose(firm);
+    Ok(disk)
+}
+
+// The disk in the midst of writing a group, at this sync. The next stop leaves this
+// byte wherever one was written since the sync before. With nothing to write the disk is as it was.
+fn interrupted(
+    alloc: Global,
+    store: Store,
+    mut book: Book,
+    sync: u64,
+    byte: u8,
+) -> Result<MemDisk, Ending> {
+    let journal = match store {
+        Store::Live(journal) => journal,
+        Store::Failed(disk) => return Ok(disk),
+    };
+    if book.is_down() {
+        return Ok(journal.into_disk());
+    }
+    let Some(group) = book.take()? else {
+        return Ok(journal.into_disk());
+    };
+    let mut disk = journal.into_disk();
+    disk.fail(CallKind::Sync, sync);
+    let journal = match LiveJournal::open(alloc, disk) {
+        Ok((journal, _)) => journal,
+        Err(failed) => {
+            group.discard();
+            return Err(Ending::from(failed.error));
+        }
+    };
+    let disk = match journal.append(group) {
+        Appended::Failed(disk) => disk,
+        Appended::Full(journal) => journal.into_disk(),
+        Appended::Done(journal, synced) => {
+            let _ = synced.records();
+            journal.into_disk()
+        }
+    };
+    Ok(tearing(alloc, disk, byte)?)
+}
+
+// The disk, of which the next stop leaves this byte wherever one was written since the last sync.
+fn tearing(alloc: Global, mut disk: MemDisk, byte: u8) -> Result<MemDisk, AllocError> {
+    let mut torn = Vec::new(alloc);
+    for (place, kept) in disk.bytes().iter().enumerate() {
+        let found = if disk.is_written(place as u64) {
+            byte
+        } else {
+            *kept
+        };
+        torn.push(found)?;
+    }
+    disk.choose(torn);
+    Ok(disk)
+}

@@ -1,0 +1,185 @@
+//! Opening the node: the journal's records, and the validator after their events.
+
+ghost use Rattle.std.specs.Prelude.{◌≡◌, IfOk, IfSome};
+ghost use Rattle.book.specs.Admission.{IsFromPeer};
+
+use crate::checks::check;
+use crate::live::{Appended, LiveJournal};
+use crate::settings::{BATCHES, DEPTH, MEMBERS, OWN, WORKERS};
+use book::{Checked, EVENT_RECORD, Refusal, Step, Validator};
+use diskmodel::Disk;
+use journal::{Failed, Group, JournalError, Record};
+use std::alloc::{AllocError, Global};
+use wire::numbers::two_bytes;
+use wire::{Author, Message, WireError};
+use wire_read::decode;
+
+/// What a configuration record begins with: its kind, and the version of the journal.
+const CONFIGURATION_FRONT: [u8; 2] = [0, 1];
+
+/// The bytes of a key.
+const KEY_BYTES: usize = 32;
+
+/// A node's journal, the validator after its events, and how many these are.
+pub struct Opened<D: Disk> {
+    pub journal: LiveJournal<D>,
+    pub validator: Validator,
+    pub events: u64,
+}
+
+/// Opens the node on a disk. An empty journal gets the configuration.
+pub fn open<D: Disk>(alloc: Global, disk: D) -> Result<Opened<D>, Failed<JournalError, D>>
+    ensures { IfOk result (λ opened. opened.validator.own ≡ OWN) }
+{
+    let (journal, records) = LiveJournal::open(alloc, disk)?;
+    let Some((first, events)) = records.split_first() else {
+        let journal = write_configuration(alloc, journal)?;
+        let validator = Validator::new(alloc, OWN, MEMBERS);
+        return Ok(Opened {
+            journal,
+            validator,
+            events: 0,
+        });
+    };
+    match replay(alloc, first, events) {
+        Ok(validator) => Ok(Opened {
+            journal,
+            validator,
+            events: events.len() as u64,
+        }),
+        Err(error) => Err(Failed {
+            error,
+            disk: journal.into_disk(),
+        }),
+    }
+}
+
+fn write_configuration<D: Disk>(
+    alloc: Global,
+    journal: LiveJournal<D>,
+) -> Result<LiveJournal<D>, Failed<JournalError, D>> {
+    let group = match configuration_group(alloc) {
+        Ok(group) => group,
+        Err(_) => {
+            return Err(Failed {
+                error: JournalError::Memory,
+                disk: journal.into_disk(),
+            });
+        }
+    };
+    match journal.append(group) {
+        Appended::Done(journal, synced) => {
+            let _ = synced.records();
+            Ok(journal)
+        }
+        Appended::Full(journal) => Err(Failed {
+            error: JournalError::Full,
+            disk: journal.into_disk(),
+        }),
+        Appended::Failed(disk) => Err(Failed {
+            error: JournalError::Device,
+            disk,
+        }),
+    }
+}
+
+fn configuration_group(alloc: Global) -> Result<Group, AllocError> {
+    let mut records = Vec::new(alloc);
+    records.push(configuration(alloc)?)?;
+    match Group::new(alloc, records)? {
+        Some(group) => Ok(group),
+        None => Err(AllocError),
+    }
+}
+
+// The configuration record: kind, version, own number, depth, workers, batches, members, and their keys.
+fn configuration(alloc: Global) -> Result<Vec<u8>, AllocError> {
+    let mut record = Vec::new(alloc);
+    record.extend_from_slice(&CONFIGURATION_FRONT)?;
+    record.extend_from_slice(&two_bytes(OWN.0))?;
+    record.extend_from_slice(&two_bytes(DEPTH))?;
+    record.extend_from_slice(&two_bytes(WORKERS))?;
+    record.extend_from_slice(&BATCHES.to_be_bytes())?;
+    record.extend_from_slice(&two_bytes(MEMBERS))?;
+    for member in 0..MEMBERS {
+        // Member k has the key of 32 bytes k + 1.
+        record.extend_from_slice(&[member as u8 + 1; KEY_BYTES])?;
+    }
+    Ok(record)
+}
+
+// The validator after the events of these records, of which the first is the configuration.
+fn replay(alloc: Global, first: &Record, events: &[Record]) -> Result<Validator, JournalError>
+    ensures { IfOk result (λ validator. validator.own ≡ OWN) }
+{
+    check_configuration(alloc, first, events)?;
+    let mut validator = Validator::new(alloc, OWN, MEMBERS);
+    for record in events {
+        replay_event(alloc, &mut validator, record)?;
+    }
+    Ok(validator)
+}
+
+// The first record is this node's configuration, alone in its group.
+fn check_configuration(
+    alloc: Global,
+    first: &Record,
+    events: &[Record],
+) -> Result<(), JournalError> {
+    let bytes = first.bytes.as_slice();
+    if !has_shape(bytes) || events.iter().any(|record| record.gate == first.gate) {
+        return Err(JournalError::Damaged(first.gate));
+    }
+    if configuration(alloc)?.as_slice() != bytes {
+        return Err(JournalError::ConfigMismatch);
+    }
+    Ok(())
+}
+
+// A configuration record of this version has the length that its number of members gives.
+fn has_shape(bytes: &[u8]) -> bool {
+    match bytes {
+        [0, 1, _, _, _, _, _, _, _, _, _, _, high, low, keys @ ..] => {
+            let members = u16::from_be_bytes([*high, *low]) as usize;
+            keys.len() == members * KEY_BYTES
+        }
+        _ => false,
+    }
+}
+
+// Takes the event of a record, which has to be new.
+fn replay_event(
+    alloc: Global,
+    validator: &mut Validator,
+    record: &Record,
+) -> Result<(), JournalError>
+    requires { validator.old.own ≡ OWN }
+    ensures { validator.new.own ≡ OWN }
+{
+    let damaged = JournalError::Damaged(record.gate);
+    let Some(event) = event_of(alloc, record.bytes.as_slice())? else {
+        return Err(damaged);
+    };
+    match validator.step(event) {
+        Ok(Step::New(_)) => Ok(()),
+        Err(Refusal::Memory) => Err(JournalError::Memory),
+        _ => Err(damaged),
+    }
+}
+
+// The event of a record: a header of another member that passes the checks.
+fn event_of(alloc: Global, bytes: &[u8]) -> Result<Option<Checked>, AllocError>
+    ensures { IfOk result (λ found. IfSome found (IsFromPeer OWN)) }
+{
+    let [EVENT_RECORD, high, low, message @ ..] = bytes else {
+        return Ok(None);
+    };
+    let sender = Author(u16::from_be_bytes([*high, *low]));
+    match decode(alloc, message) {
+        Ok(Message::Header(header)) if header.author != OWN && check(sender, &header).is_ok() => {
+            Ok(Some(Checked::new(sender, Message::Header(header))))
+        }
+        Err(WireError::Memory) => Err(AllocError),
+        _ => Ok(None),
+    }
+}
