@@ -5,7 +5,7 @@ use Rattle.wire.specs.declared.message.Message.TheVariants as message
 use Rattle.book.specs.declared.refusal.Refusal.TheVariants.{Memory, Down, TooOld, MissingParents, MissingBatch, Equivocation, NotOurs, StoreFull}
 use Rattle.book.specs.declared.validator.Admission.{Admission}
 use Rattle.book.specs.declared.validator.Admission.TheVariants.{New, Known, Refused}
-use Rattle.book.specs.Event.{Event}
+use Rattle.wire.specs.Events.{Event}
 use Rattle.book.specs.Admission.{State, Admits, AdmitsHeader}
 
 new_header : (state : State) (header : Header) (a : Admission) → AdmitsHeader state header New → AdmitsHeader state header a → a ≡ New
@@ -24,4 +24,8 @@ pub only_new : (state : State) (event : Event) (a : Admission) → Admits state 
 only_new state event a n h = elim event.message as (λ m. Admits state (record { sender = event.sender; message = m }) New → Admits state (record { sender = event.sender; message = m }) a → a ≡ New) [
   | message.Header header ↦ λ n h. new_header state header a n h
   | message.Vote vote ↦ λ n h. absurd n
+  | message.Batch batch ↦ λ n h. absurd n
+  | message.BatchAck ack ↦ λ n h. absurd n
+  | message.Certificate certificate ↦ λ n h. absurd n
+  | message.Coin coin ↦ λ n h. absurd n
 ] n h

@@ -17,7 +17,7 @@ use Rattle.votebook.specs.Votes.{Votes, voted_in}
 use Rattle.book.specs.declared.refusal.Refusal.TheVariants.{Memory, Down, TooOld, MissingParents, MissingBatch, Equivocation, NotOurs, StoreFull}
 use Rattle.book.specs.declared.validator.Admission.{Admission}
 use Rattle.book.specs.declared.validator.Admission.TheVariants.{New, Known, Refused}
-use Rattle.book.specs.Event.{Event}
+use Rattle.wire.specs.Events.{Event}
 
 -- a validator: its number, the number of members, and the votes
 pub record State : Type 0 where
@@ -34,7 +34,7 @@ coded_state = code_by (Author × (ℕ × Votes)) (coded× coded_author (coded× 
 
 -- the digest of a header
 abbrev pub digest_of : Header → Digest
-digest_of header = record { 0 = header_digest_of header }
+digest_of header = record { 0 = header_digest_of header.body }
 
 -- a parent of a header of this round is held: only the genesis certificates of the members are
 pub record IsHeld (members round : ℕ) (parent : ParentReference) : Type 0 where
@@ -44,21 +44,21 @@ pub record IsHeld (members round : ℕ) (parent : ParentReference) : Type 0 wher
 
 -- the header's author and round have no vote yet, and its round isn't the genesis
 pub record IsUnvoted (state : State) (header : Header) : Type 0 where
-  pub round : 0 < header.round
-  pub unvoted : voted_in state.votes header.author header.round ≡ None
+  pub round : 0 < header.body.round
+  pub unvoted : voted_in state.votes header.body.author header.body.round ≡ None
 
 abbrev pub AllHeld : State → Header → Type 0
-AllHeld state header = All (IsHeld state.members header.round) header.parents
+AllHeld state header = All (IsHeld state.members header.body.round) header.body.parents
 
 -- What a header of another member is answered. The tests are made in the order of the refusals' numbers, but
 -- whether its author and round have a vote comes second. No batches are held.
 abbrev pub AdmitsHeader : State → Header → Admission → Type 0
-AdmitsHeader state header (Refused TooOld) = header.round ≡ 0
-AdmitsHeader state header Known = (0 < header.round) × (voted_in state.votes header.author header.round ≡ Some (digest_of header))
-AdmitsHeader state header (Refused Equivocation) = (0 < header.round) × (other : Digest) × (voted_in state.votes header.author header.round ≡ Some other) × (other ≢ digest_of header)
+AdmitsHeader state header (Refused TooOld) = header.body.round ≡ 0
+AdmitsHeader state header Known = (0 < header.body.round) × (voted_in state.votes header.body.author header.body.round ≡ Some (digest_of header))
+AdmitsHeader state header (Refused Equivocation) = (0 < header.body.round) × (other : Digest) × (voted_in state.votes header.body.author header.body.round ≡ Some other) × (other ≢ digest_of header)
 AdmitsHeader state header (Refused MissingParents) = IsUnvoted state header × (AllHeld state header → ⊥)
-AdmitsHeader state header (Refused MissingBatch) = IsUnvoted state header × AllHeld state header × (header.batches ≢ [])
-AdmitsHeader state header New = IsUnvoted state header × AllHeld state header × (header.batches ≡ [])
+AdmitsHeader state header (Refused MissingBatch) = IsUnvoted state header × AllHeld state header × (header.body.batches ≢ [])
+AdmitsHeader state header New = IsUnvoted state header × AllHeld state header × (header.body.batches ≡ [])
 AdmitsHeader state header (Refused Memory) = ⊥
 AdmitsHeader state header (Refused Down) = ⊥
 AdmitsHeader state header (Refused NotOurs) = ⊥
@@ -77,18 +77,20 @@ Admits state event admission = AdmitsMessage event.message
     AdmitsMessage : Message → Type 0
     AdmitsMessage (message.Header header) = AdmitsHeader state header admission
     AdmitsMessage (message.Vote vote) = AdmitsVote state vote admission
+    AdmitsMessage _ = ⊥
 
--- the event isn't a header of this validator itself
-abbrev pub IsFromPeer : Author → Event → Type 0
-IsFromPeer own event = IsFrom event.message
+-- the events that this validator knows: headers of other members, and votes
+abbrev pub IsKnownKind : Author → Event → Type 0
+IsKnownKind own event = IsOfKind event.message
   where
-    IsFrom : Message → Type 0
-    IsFrom (message.Header header) = header.author ≢ own
-    IsFrom (message.Vote vote) = Unit {0}
+    IsOfKind : Message → Type 0
+    IsOfKind (message.Header header) = header.body.author ≢ own
+    IsOfKind (message.Vote vote) = Unit {0}
+    IsOfKind _ = ⊥
 
 -- this validator's vote for a header
 abbrev pub vote_for : Author → Header → Vote
-vote_for own header = record { header = digest_of header; round = header.round; author = header.author; voter = own; signature = record { 0 = replicate 64 0 } }
+vote_for own header = record { header = digest_of header; round = header.body.round; author = header.body.author; voter = own; signature = record { 0 = replicate 64 0 } }
 
 -- what is put out where an event is new or known: for a header the vote
 abbrev pub outputs_for : Author → Event → List Output
@@ -96,11 +98,11 @@ outputs_for own event = outputs_of event.message
   where
     outputs_of : Message → List Output
     outputs_of (message.Header header) = output.Vote (vote_for own header) ∷ []
-    outputs_of (message.Vote vote) = []
+    outputs_of _ = []
 
 -- the state with the vote for a header
 abbrev pub with_header : State → Header → State
-with_header state header = record state { votes = map.insert state.votes (slot_of header.author header.round) (digest_of header) }
+with_header state header = record state { votes = map.insert state.votes (slot_of header.body.author header.body.round) (digest_of header) }
 
 -- the state after a new event
 abbrev pub state_with : State → Event → State
@@ -108,4 +110,4 @@ state_with state event = state_after event.message
   where
     state_after : Message → State
     state_after (message.Header header) = with_header state header
-    state_after (message.Vote vote) = state
+    state_after _ = state

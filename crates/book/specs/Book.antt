@@ -3,7 +3,8 @@ use Rattle.std.specs.Prelude.{◌≡◌, ℕ, ◌+◌, ◌^◌, List, [], ◌∷
 use Rattle.wire.specs.declared.output.Output.{Output}
 use Rattle.journal.specs.Format.{contents}
 use Rattle.book.specs.declared.book.Book.{Book}
-use Rattle.book.specs.Event.{Event, record_of}
+use Rattle.wire.specs.Events.{Event}
+use Rattle.book.specs.Record.{record_of}
 use Rattle.book.specs.declared.refusal.Refusal.{Refusal}
 use Rattle.book.specs.declared.refusal.Refusal.TheVariants.{Memory, Down, TooOld, MissingParents, MissingBatch, Equivocation, NotOurs, StoreFull}
 use Rattle.book.specs.declared.validator.Admission.TheVariants.{New, Refused}

@@ -1,4 +1,4 @@
-pub mod Event
+pub mod Record
 pub mod Admission
 pub mod Step
 pub mod Pending

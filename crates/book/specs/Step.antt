@@ -5,7 +5,7 @@ use Rattle.book.specs.declared.validator.Admission.{Admission}
 use Rattle.book.specs.declared.validator.Admission.TheVariants as admission
 use Rattle.book.specs.declared.validator.Step.{Step}
 use Rattle.book.specs.declared.validator.Step.TheVariants.{New, Known}
-use Rattle.book.specs.Event.{Event}
+use Rattle.wire.specs.Events.{Event}
 use Rattle.book.specs.Admission.{State, state_with}
 
 -- what admission says of it

@@ -52,7 +52,7 @@ impl Book {
     ghost use Rattle.std.specs.Prelude.{◌⊎◌, ◌∷◌, [], ◌++◌, ◌<◌, false, true, take, drop, IsTrue, IsNone, IsSome, IfOk, IfErr, IfSome, OnOk, OnErr, IsErrOf, MatchOption, MatchResult, ◌↔◌, is_some, if◌then◌else◌};
     ghost use Rattle.std.specs.FinMap as map;
     ghost use Rattle.book.specs.declared.validator.Admission.TheVariants.{New, Known};
-    ghost use Rattle.book.specs.Admission.{Admits, IsFromPeer};
+    ghost use Rattle.book.specs.Admission.{Admits, IsKnownKind};
     ghost use Rattle.book.specs.Book.{standing, with_new, with_known, releasable, MayAnswer};
     ghost use Rattle.book.specs.Pending.{IsLongestBeginning};
 
@@ -74,7 +74,7 @@ impl Book {
     /// Takes an event. A new one gets a record, which is pending from now on; its outputs, and those of an event
     /// that was accepted before, go out once all that was accepted is settled. A refusal changes nothing.
     pub fn accept(&mut self, event: Checked) -> Result<Receipt, Refusal>
-        requires { IsFromPeer (standing self.old).validator.own event }
+        requires { IsKnownKind (standing self.old).validator.own event }
         // It is down exactly where it was told so.
         ensures down { IsErrOf result Refusal.Down ↔ IsTrue (standing self.old).down }
         ensures new { IfOk result (λ receipt. IsTrue receipt.new → Admits (standing self.old).validator event New × (standing self.new ≡ with_new (standing self.old) event)) }

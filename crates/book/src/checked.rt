@@ -13,7 +13,7 @@ pub struct Checked {
 }
 
 impl Model for Checked {
-    ghost use Rattle.book.specs.Event.{Event};
+    ghost use Rattle.wire.specs.Events.{Event};
 
     ghost Value = { Event };
 

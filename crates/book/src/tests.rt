@@ -4,7 +4,7 @@ use super::*;
 use std::alloc::Global;
 use std::test::Fail;
 use wire::{
-    Author, BatchReference, BatchReferences, Digest, Header, Message, ParentReference,
+    Author, BatchReference, BatchReferences, Digest, Header, HeaderBody, Message, ParentReference,
     ParentReferences, Round, Signature, genesis_digest,
 };
 
@@ -21,19 +21,21 @@ fn header(alloc: Global, author: u16, round: u64, first: u16) -> Result<Header, 
         }
     }
     Ok(Header {
-        author: Author(author),
-        round: Round::new(round)?,
-        batches: BatchReferences::new(alloc),
-        parents,
+        body: HeaderBody {
+            author: Author(author),
+            round: Round::new(round)?,
+            batches: BatchReferences::new(alloc),
+            parents,
+        },
         signature: Signature([0; 64]),
     })
 }
 
 fn submit(book: &mut Book, header: Header) -> Result<Receipt, Refusal> {
-    if header.author == book.own() {
+    if header.body.author == book.own() {
         return Err(Refusal::NotOurs);
     }
-    book.accept(Checked::new(header.author, Message::Header(header)))
+    book.accept(Checked::new(header.body.author, Message::Header(header)))
 }
 
 #[test]
@@ -54,8 +56,9 @@ fn headers_are_answered_in_the_order_of_the_tests(rt: HostRuntime) -> Result<(),
     );
     let mut with_batch = header(alloc, 1, 1, 0)?;
     let digest = Digest([7; 32]);
-    if with_batch.batches.is_empty() && with_batch.batches.may_follow(&digest) {
+    if with_batch.body.batches.is_empty() && with_batch.body.batches.may_follow(&digest) {
         with_batch
+            .body
             .batches
             .push(BatchReference { digest, worker: 0 })?;
     }
@@ -83,7 +86,7 @@ fn nothing_goes_out_before_it_is_settled_or_after_a_fault(rt: HostRuntime) -> Re
     let mut book = Book::new(alloc, Validator::new(alloc, Author(0), 4));
     assert!(rt; submit(&mut book, header(alloc, 1, 1, 0)?).is_ok());
     assert!(rt; submit(&mut book, header(alloc, 2, 1, 0)?).is_ok());
-    assert_eq!(rt; book.release(), None);
+    assert!(rt; book.release().is_none());
     match book.take()? {
         None => assert!(rt; false, "two records are pending"),
         Some(group) => {
@@ -95,7 +98,7 @@ fn nothing_goes_out_before_it_is_settled_or_after_a_fault(rt: HostRuntime) -> Re
         None => {}
         Some(group) => group.discard(),
     }
-    assert_eq!(rt; book.release(), None);
+    assert!(rt; book.release().is_none());
     assert!(rt; !book.is_down());
     book.fail();
     assert!(rt; book.is_down());
@@ -103,7 +106,7 @@ fn nothing_goes_out_before_it_is_settled_or_after_a_fault(rt: HostRuntime) -> Re
         submit(&mut book, header(alloc, 3, 1, 0)?),
         Err(Refusal::Down)
     );
-    assert_eq!(rt; book.release(), None);
+    assert!(rt; book.release().is_none());
     Ok(())
 }
 
@@ -112,8 +115,8 @@ fn a_validator_answers_without_a_book(rt: HostRuntime) -> Result<(), Fail> {
     let alloc = rt.alloc();
     let mut validator = Validator::new(alloc, Author(0), 4);
     let proposed = header(alloc, 1, 1, 0)?;
-    assert!(rt; proposed.author != validator.own());
-    let event = Checked::new(proposed.author, Message::Header(proposed));
+    assert!(rt; proposed.body.author != validator.own());
+    let event = Checked::new(proposed.body.author, Message::Header(proposed));
     assert_eq!(rt; event.sender(), Author(1));
     assert_eq!(rt; validator.admission(&event), Admission::New);
     assert!(rt; validator.is_new(&event));

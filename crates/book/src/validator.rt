@@ -3,7 +3,7 @@
 ghost use Rattle.std.specs.Prelude.{◌≡◌, ◌⊎◌, ◌↔◌, [], ◌∷◌, All, IsTrue, IfOk, OnOk, OnErr, MatchResult, if◌then◌else◌};
 ghost use Rattle.std.specs.Bool.{OnTrue};
 ghost use Rattle.std.specs.FinMap as map;
-ghost use Rattle.book.specs.Admission.{Admits, AdmitsHeader, AdmitsVote, IsHeld, IsFromPeer, vote_for, outputs_for, with_header};
+ghost use Rattle.book.specs.Admission.{Admits, AdmitsHeader, AdmitsVote, IsHeld, IsKnownKind, vote_for, outputs_for, with_header};
 ghost use Rattle.book.specs.Step.{admission_of, outputs_of, state_after};
 
 use crate::checked::Checked;
@@ -77,18 +77,19 @@ impl Validator {
 
     /// What an event is answered. It changes nothing.
     pub fn admission(&self, event: &Checked) -> Admission
-        requires { IsFromPeer self.now.own event.now }
+        requires { IsKnownKind self.now.own event.now }
         ensures { Admits self.now event.now result }
     {
         match event.message() {
             Message::Header(header) => self.header_admission(header),
             Message::Vote(vote) => self.vote_admission(vote),
+            _ => unreachable!(),
         }
     }
 
     /// Whether an event would be new.
     pub fn is_new(&self, event: &Checked) -> bool
-        requires { IsFromPeer self.now.own event.now }
+        requires { IsKnownKind self.now.own event.now }
         ensures { IsTrue result ↔ Admits self.now event.now Admission.New }
     {
         matches!(self.admission(event), Admission::New)
@@ -96,7 +97,7 @@ impl Validator {
 
     /// Takes an event. Only a new one changes the validator, and a refusal leaves it as it was.
     pub fn step(&mut self, event: Checked) -> Result<Step, Refusal>
-        requires { IsFromPeer self.old.own event }
+        requires { IsKnownKind self.old.own event }
         ensures answer { MatchResult result (λ step. Admits self.old event (admission_of step)) (λ e. (e ≡ Refusal.Memory) ⊎ Admits self.old event (Admission.Refused e)) }
         ensures outputs { IfOk result (λ step. outputs_of step ≡ outputs_for self.old.own event) }
         ensures state { IfOk result (λ step. self.new ≡ state_after step self.old event) }
@@ -108,7 +109,7 @@ impl Validator {
         }
         match event.message() {
             Message::Header(header) => self.take_header(header, admission == Admission::New),
-            Message::Vote(_) => unreachable!(),
+            _ => unreachable!(),
         }
     }
 
@@ -127,23 +128,27 @@ impl Validator {
         if !is_new {
             return Ok(Step::Known(outputs));
         }
-        self.votes.vote(header.author, header.round, digest)?;
+        self.votes
+            .vote(header.body.author, header.body.round, digest)?;
         Ok(Step::New(outputs))
     }
 
     fn header_admission(&self, header: &Header) -> Admission
         ensures { AdmitsHeader self.now header.now result }
     {
-        if header.round.number() == 0 {
+        if header.body.round.number() == 0 {
             return Admission::Refused(Refusal::TooOld);
         }
-        match self.votes.voted(header.author, header.round) {
-            Some(voted) if voted == header_digest(header) => Admission::Known,
+        match self.votes.voted(header.body.author, header.body.round) {
+            Some(voted) if voted == header_digest(&header.body) => Admission::Known,
             Some(_) => Admission::Refused(Refusal::Equivocation),
-            None if !all_held(self.members, header.round, header.parents.as_slice()) => {
-                Admission::Refused(Refusal::MissingParents)
-            }
-            None if !header.batches.is_empty() => Admission::Refused(Refusal::MissingBatch),
+            None
+                if !all_held(
+                    self.members,
+                    header.body.round,
+                    header.body.parents.as_slice(),
+                ) => { Admission::Refused(Refusal::MissingParents) }
+            None if !header.body.batches.is_empty() => Admission::Refused(Refusal::MissingBatch),
             None => Admission::New,
         }
     }
@@ -174,9 +179,9 @@ fn vote_on(own: Author, header: &Header) -> Vote
     ensures { result ≡ vote_for own header.now }
 {
     Vote {
-        header: header_digest(header),
-        round: header.round,
-        author: header.author,
+        header: header_digest(&header.body),
+        round: header.body.round,
+        author: header.body.author,
         voter: own,
         signature: Signature([0; 64]),
     }

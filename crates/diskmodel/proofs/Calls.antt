@@ -2,12 +2,13 @@
 use Rattle.std.proofs.Common.{◌≡◌, ◌⊎◌, ℕ, ◌+◌, ◌-◌, ◌<◌, ◌≤◌, max, false, List, [], ◌∷◌, ◌++◌, length, take, drop, get_or, refl, sym, ap, ◌∙◌, inl, inr, ⊎_elim, arith, length-append, length-take, length-drop}
 use Rattle.std.proofs.lemmas.Bool.{or_parts, or_from, cases_lt}
 use Rattle.std.proofs.lemmas.List.{take_at, get_or-take, get_or-drop, get_or_append_left, get_or-append_right, ext_get_or}
+use Rattle.std.proofs.lemmas.List.Elements.{All-append, All-take, All-drop}
 use Rattle.diskmodel.specs.declared.call.Call.{Call}
 use Rattle.diskmodel.specs.declared.call.Call.TheVariants.{Wrote, Cut, Stopped}
 use Rattle.diskmodel.specs.Disk.{written, IsTorn, IsCut, ComesBy}
-use Rattle.diskmodel.specs.Outcomes.{State, CanLeave, holds, is_written, after, after_all, firmed}
+use Rattle.diskmodel.specs.Outcomes.{State, AreBytes, CanLeave, holds, is_written, after, after_all, firmed}
 use Rattle.diskmodel.proofs.Places.{is_written-push, outside, outside_before, outside_behind, cases_le}
-use Rattle.diskmodel.proofs.Torn.{length-written, written_before, written_behind, refirmed, length-refirmed, untorn, length-untorn, untorn_before, untorn_inside, untorn_behind, untorn_IsTorn, IsTorn_refl, IsCut_refl}
+use Rattle.diskmodel.proofs.Torn.{written_bytes, refirmed_bytes, untorn_bytes, length-written, written_before, written_behind, refirmed, length-refirmed, untorn, length-untorn, untorn_before, untorn_inside, untorn_behind, untorn_IsTorn, IsTorn_refl, IsCut_refl}
 
 -- one call more at the end
 pub after_all-push : (s : State) (calls : List Call) (call : Call) → after_all s (calls ++ call ∷ []) ≡ after (after_all s calls) call
@@ -27,8 +28,9 @@ marked_outside s at bytes place none off =
     ∙ or_from (is_written s.spans place) (holds (record { place = at; count = length bytes }) place) none (⊎_elim (outside_before at (length bytes) place) (outside_behind at (length bytes) place) off)
 
 -- what a read gives after a write is an outcome
-pub possible_write : (s : State) (at : ℕ) (bytes : List ℕ) → CanLeave s s.content → at ≤ length s.content → CanLeave (after s (Wrote at bytes)) (written s.content at bytes)
-possible_write s at bytes now within = record {
+pub possible_write : (s : State) (at : ℕ) (bytes : List ℕ) → CanLeave s s.content → AreBytes bytes → at ≤ length s.content → CanLeave (after s (Wrote at bytes)) (written s.content at bytes)
+possible_write s at bytes now are_bytes within = record {
+  are_bytes = written_bytes s.content at bytes now.are_bytes are_bytes;
   no_shorter = omega arith;
   no_longer = omega arith;
   stays = λ place below none.
@@ -42,6 +44,7 @@ pub possible_cut : (s : State) (len : ℕ) → CanLeave s s.content → len ≤ 
 possible_cut s len now within =
     let size : length (take len s.content) ≡ len = length-take len s.content ∙ omega arith in
     record {
+      are_bytes = All-take (λ number. number < 256) len s.content now.are_bytes;
       no_shorter = omega arith;
       no_longer = omega arith;
       stays = λ place below none. get_or-take len s.content place 0 (omega arith) ∙ now.stays place (omega arith) none;
@@ -51,13 +54,13 @@ possible_cut s len now within =
 pub firm_only : (bytes found : List ℕ) → CanLeave (firmed bytes) found → found ≡ bytes
 firm_only bytes found left = ext_get_or 0 found bytes (omega arith) (λ place below. left.stays place (omega arith) refl)
 
-pub possible_firm : (bytes : List ℕ) → CanLeave (firmed bytes) bytes
-possible_firm bytes = record { no_shorter = omega arith; no_longer = omega arith; stays = λ place below none. refl }
+pub possible_firm : (bytes : List ℕ) → AreBytes bytes → CanLeave (firmed bytes) bytes
+possible_firm bytes are_bytes = record { are_bytes = are_bytes; no_shorter = omega arith; no_longer = omega arith; stays = λ place below none. refl }
 
 -- an outcome after a write comes by it from an outcome before
-pub torn_write : (s : State) (at : ℕ) (bytes : List ℕ) → s.smallest ≤ length s.firm → CanLeave s s.content → at ≤ length s.content
+pub torn_write : (s : State) (at : ℕ) (bytes : List ℕ) → s.smallest ≤ length s.firm → AreBytes s.firm → CanLeave s s.content → at ≤ length s.content
     → ComesBy (IsTorn at (length bytes)) (CanLeave s) (CanLeave (after s (Wrote at bytes)))
-torn_write s at bytes in_firm now within found left =
+torn_write s at bytes in_firm firm_bytes now within found left =
     let size : length (written s.content at bytes) ≡ max (length s.content) (at + length bytes) = length-written s.content at bytes within in
     let enough : s.smallest ≤ length found = omega arith in
     let kept : (place : ℕ) → place < s.smallest → is_written s.spans place ≡ false → (place < at) ⊎ (at + length bytes ≤ place) → get_or found place 0 ≡ get_or s.firm place 0 =
@@ -65,7 +68,7 @@ torn_write s at bytes in_firm now within found left =
     ⊎_elim
     (λ (short : length found ≤ at). (
       found,
-      record { no_shorter = enough; no_longer = omega arith; stays = λ place below none. kept place below none (inl (omega arith)) },
+      record { are_bytes = left.are_bytes; no_shorter = enough; no_longer = omega arith; stays = λ place below none. kept place below none (inl (omega arith)) },
       IsTorn_refl at (length bytes) found,
     ))
     (λ (long : at < length found).
@@ -75,6 +78,8 @@ torn_write s at bytes in_firm now within found left =
     let front : length (take s.smallest s.firm) ≡ s.smallest = length-take s.smallest s.firm ∙ omega arith in (
       take s.greatest (untorn at (length bytes) under found),
       record {
+        are_bytes = All-take (λ number. number < 256) s.greatest (untorn at (length bytes) under found)
+            (untorn_bytes at (length bytes) under found (refirmed_bytes s.smallest s.firm found firm_bytes left.are_bytes) left.are_bytes);
         no_shorter = rw length-take (omega arith);
         no_longer = rw length-take (omega arith);
         stays = λ place below none.
@@ -95,14 +100,14 @@ torn_write s at bytes in_firm now within found left =
     (cases_le (length found) at)
 
 -- an outcome after a cut comes by it from an outcome before
-pub torn_cut : (s : State) (len : ℕ) → s.smallest ≤ length s.firm → CanLeave s s.content → len ≤ length s.content
+pub torn_cut : (s : State) (len : ℕ) → s.smallest ≤ length s.firm → AreBytes s.firm → CanLeave s s.content → len ≤ length s.content
     → ComesBy (IsCut len) (CanLeave s) (CanLeave (after s (Cut len)))
-torn_cut s len in_firm now within found left =
+torn_cut s len in_firm firm_bytes now within found left =
     let size : length (take len s.content) ≡ len = length-take len s.content ∙ omega arith in
     ⊎_elim
     (λ (deep : s.smallest ≤ len). (
       found,
-      record { no_shorter = omega arith; no_longer = omega arith; stays = λ place below none. left.stays place (omega arith) none },
+      record { are_bytes = left.are_bytes; no_shorter = omega arith; no_longer = omega arith; stays = λ place below none. left.stays place (omega arith) none },
       IsCut_refl len found,
     ))
     (λ (shallow : len < s.smallest).
@@ -113,6 +118,8 @@ torn_cut s len in_firm now within found left =
     let size_all : length (take len found ++ drop len under) ≡ max s.smallest (length found) = length-append (take len found) (drop len under) ∙ omega (arith, length-drop len under) in (
       take len found ++ drop len under,
       record {
+        are_bytes = All-append (λ number. number < 256) (take len found) (drop len under) (All-take (λ number. number < 256) len found left.are_bytes)
+            (All-drop (λ number. number < 256) len under (refirmed_bytes s.smallest s.firm found firm_bytes left.are_bytes));
         no_shorter = omega arith;
         no_longer = omega arith;
         stays = λ place below none. ⊎_elim
@@ -138,7 +145,7 @@ torn_cut s len in_firm now within found left =
 
 -- a stop changes nothing of what a stop may leave
 pub unstopped : (s : State) (gone found : List ℕ) → CanLeave s found → CanLeave (after s (Stopped gone)) found
-unstopped s gone found left = record { no_shorter = left.no_shorter; no_longer = left.no_longer; stays = left.stays }
+unstopped s gone found left = record { are_bytes = left.are_bytes; no_shorter = left.no_shorter; no_longer = left.no_longer; stays = left.stays }
 
 pub stopped : (s : State) (gone found : List ℕ) → CanLeave (after s (Stopped gone)) found → CanLeave s found
-stopped s gone found left = record { no_shorter = left.no_shorter; no_longer = left.no_longer; stays = left.stays }
+stopped s gone found left = record { are_bytes = left.are_bytes; no_shorter = left.no_shorter; no_longer = left.no_longer; stays = left.stays }

@@ -10,7 +10,7 @@ use Rattle.diskmodel.specs.declared.history.History.{History}
 use Rattle.diskmodel.specs.Disk.{IsTorn, IsCut, ComesBy, NoneNew, LeavesOnly, GoesOn}
 use Rattle.diskmodel.specs.Outcomes.{IsOutcome, IsOutcomeSince}
 use Rattle.diskmodel.specs.Recorded.{Adds, IsAsBefore, TakesStop}
-use Rattle.diskmodel.proofs.Moments.{MayAdd, time, time_stop, outcomes_write, outcomes_cut, outcomes_sync, outcomes_stop, firm_sync}
+use Rattle.diskmodel.proofs.Moments.{MayAdd, time, time_stop, outcomes_write, outcomes_cut, outcomes_sync, outcomes_stop, others_stop, firm_sync}
 
 -- the record is as before, or has one call more
 pub record Effect (call : Call) (old new : History) : Type 0 where
@@ -60,6 +60,11 @@ pub stop_of : (found : List ℕ) (old new : History) → TakesStop found old new
 stop_of found old new done =
     subst (λ (first : List ℕ). NoneNew (IsOutcome old.first.items old.calls.items) (IsOutcome first new.calls.items)) (sym done.first)
     (outcomes_stop old.first.items old.calls.items new.calls.items found done.calls)
+
+pub stop_others_of : (found : List ℕ) (old new : History) → TakesStop found old new → NoneNew (IsOutcome new.first.items new.calls.items) (IsOutcome old.first.items old.calls.items)
+stop_others_of found old new done =
+    subst (λ (first : List ℕ). NoneNew (IsOutcome first new.calls.items) (IsOutcome old.first.items old.calls.items)) (sym done.first)
+    (others_stop old.first.items old.calls.items new.calls.items found done.calls)
 
 pub stop_time_of : (found : List ℕ) (old new : History) → TakesStop found old new
     → GoesOn (length old.calls.items) (length new.calls.items) (IsOutcomeSince old.first.items old.calls.items) (IsOutcomeSince new.first.items new.calls.items) (IsOutcome new.first.items new.calls.items)

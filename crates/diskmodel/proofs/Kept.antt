@@ -6,7 +6,7 @@ use Rattle.diskmodel.specs.declared.call.Call.{Call}
 use Rattle.diskmodel.specs.declared.call.Call.TheVariants.{Wrote, Cut, Synced, Stopped}
 use Rattle.diskmodel.specs.declared.call.Span.{Span}
 use Rattle.diskmodel.specs.Disk.{written}
-use Rattle.diskmodel.specs.Outcomes.{State, CanLeave, IsOutcome, after, firmed, state}
+use Rattle.diskmodel.specs.Outcomes.{State, AreBytes, CanLeave, IsOutcome, after, firmed, state}
 use Rattle.diskmodel.specs.Kept.{Keeps, ReplacesStop, is_stop, ends_in_stop}
 use Rattle.diskmodel.proofs.Calls.{after_all-push, possible_write, possible_cut, possible_firm, unstopped, stopped}
 
@@ -30,11 +30,15 @@ pub state_in_firm : (first : List ℕ) (calls : List Call) (firm : List ℕ) (sm
     → Keeps first calls firm smallest greatest spans content → (state first calls).smallest ≤ length (state first calls).firm
 state_in_firm first calls firm smallest greatest spans content kept = omega (arith, kept.smallest_is, ap length kept.firm_is, kept.in_firm)
 
+pub state_firm_bytes : (first : List ℕ) (calls : List Call) (firm : List ℕ) (smallest greatest : ℕ) (spans : List Span) (content : List ℕ)
+    → Keeps first calls firm smallest greatest spans content → AreBytes (state first calls).firm
+state_firm_bytes first calls firm smallest greatest spans content kept = subst AreBytes (sym kept.firm_is) kept.firm_bytes
+
 pub kept_write : (first : List ℕ) (calls : List Call) (firm : List ℕ) (smallest greatest : ℕ) (spans : List Span) (content : List ℕ) (at : ℕ) (bytes : List ℕ)
-    → Keeps first calls firm smallest greatest spans content → at ≤ length content
+    → Keeps first calls firm smallest greatest spans content → AreBytes bytes → at ≤ length content
     → Keeps first (calls ++ Wrote at bytes ∷ []) firm (min smallest (length (written content at bytes))) (max greatest (length (written content at bytes)))
     (spans ++ record { place = at; count = length bytes } ∷ []) (written content at bytes)
-kept_write first calls firm smallest greatest spans content at bytes kept within =
+kept_write first calls firm smallest greatest spans content at bytes kept are_bytes within =
     let push : state first (calls ++ Wrote at bytes ∷ []) ≡ after (state first calls) (Wrote at bytes) = state-push first calls (Wrote at bytes) in
     let read : written (state first calls).content at bytes ≡ written content at bytes = ap (λ (c : List ℕ). written c at bytes) kept.content_is in
     let inside : at ≤ length (state first calls).content = omega (arith, ap length kept.content_is) in
@@ -45,9 +49,10 @@ kept_write first calls firm smallest greatest spans content at bytes kept within
       spans_are = ap (λ (s : State). s.spans) push ∙ ap (λ (rows : List Span). rows ++ record { place = at; count = length bytes } ∷ []) kept.spans_are;
       content_is = ap (λ (s : State). s.content) push ∙ read;
       in_firm = omega (arith, kept.in_firm);
+      firm_bytes = kept.firm_bytes;
       possible = IsOutcome-push first calls (Wrote at bytes) (written content at bytes)
           (subst (λ (c : List ℕ). CanLeave (after (state first calls) (Wrote at bytes)) c) read
-          (possible_write (state first calls) at bytes (state_possible first calls firm smallest greatest spans content kept) inside));
+          (possible_write (state first calls) at bytes (state_possible first calls firm smallest greatest spans content kept) are_bytes inside));
     }
 
 pub kept_cut : (first : List ℕ) (calls : List Call) (firm : List ℕ) (smallest greatest : ℕ) (spans : List Span) (content : List ℕ) (len : ℕ)
@@ -64,6 +69,7 @@ kept_cut first calls firm smallest greatest spans content len kept within =
       spans_are = ap (λ (s : State). s.spans) push ∙ kept.spans_are;
       content_is = ap (λ (s : State). s.content) push ∙ read;
       in_firm = omega (arith, kept.in_firm);
+      firm_bytes = kept.firm_bytes;
       possible = IsOutcome-push first calls (Cut len) (take len content)
           (subst (λ (c : List ℕ). CanLeave (after (state first calls) (Cut len)) c) read
           (possible_cut (state first calls) len (state_possible first calls firm smallest greatest spans content kept) inside));
@@ -81,7 +87,8 @@ kept_sync first calls firm smallest greatest spans content kept =
       spans_are = ap (λ (s : State). s.spans) now;
       content_is = ap (λ (s : State). s.content) now;
       in_firm = omega arith;
-      possible = subst (λ (s : State). CanLeave s content) (sym now) (possible_firm content);
+      firm_bytes = kept.possible.are_bytes;
+      possible = subst (λ (s : State). CanLeave s content) (sym now) (possible_firm content kept.possible.are_bytes);
     }
 
 -- a stop leaves all as it was but what a read gives
@@ -97,6 +104,7 @@ kept_stop first calls firm smallest greatest spans content found kept left =
       spans_are = ap (λ (s : State). s.spans) push ∙ kept.spans_are;
       content_is = ap (λ (s : State). s.content) push;
       in_firm = kept.in_firm;
+      firm_bytes = kept.firm_bytes;
       possible = IsOutcome-push first calls (Stopped found) found (unstopped (state first calls) found found left);
     }
 
@@ -112,6 +120,7 @@ kept_as first calls calls' firm firm' smallest smallest' greatest greatest' span
   spans_are = ap (λ (past : List Call). (state first past).spans) same_calls ∙ kept.spans_are ∙ sym same_spans;
   content_is = ap (λ (past : List Call). (state first past).content) same_calls ∙ kept.content_is ∙ sym same_content;
   in_firm = omega (arith, kept.in_firm, ap length same_firm);
+  firm_bytes = subst AreBytes (sym same_firm) kept.firm_bytes;
   possible = subst (λ (past : List Call). IsOutcome first past content') (sym same_calls) (subst (λ (bytes : List ℕ). IsOutcome first calls bytes) (sym same_content) kept.possible);
 }
 
@@ -142,6 +151,7 @@ kept_replaced first rest firm smallest greatest spans content gone found kept le
       spans_are = ap (λ (s : State). s.spans) push ∙ ap (λ (s : State). s.spans) (sym push_gone) ∙ kept.spans_are;
       content_is = ap (λ (s : State). s.content) push;
       in_firm = kept.in_firm;
+      firm_bytes = kept.firm_bytes;
       possible = IsOutcome-unstopped first rest found found (IsOutcome-stopped first rest gone found left);
     }
 

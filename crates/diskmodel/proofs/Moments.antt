@@ -10,7 +10,7 @@ use Rattle.diskmodel.specs.Outcomes.{CanLeave, IsOutcome, IsOutcomeSince, after,
 use Rattle.diskmodel.specs.Kept.{Keeps, ReplacesStop}
 use Rattle.diskmodel.proofs.Calls.{firm_only, torn_write, torn_cut}
 use Rattle.diskmodel.proofs.Torn.{IsTorn_refl, IsCut_refl}
-use Rattle.diskmodel.proofs.Kept.{IsOutcome-pushed, state_possible, state_in_firm, IsOutcome-stopped, IsOutcome-unstopped}
+use Rattle.diskmodel.proofs.Kept.{IsOutcome-pushed, state_possible, state_in_firm, state_firm_bytes, IsOutcome-stopped, IsOutcome-unstopped}
 
 -- the first calls are those from before one more
 take-push : (calls : List Call) (call : Call) (moment : ℕ) → moment ≤ length calls → take moment (calls ++ call ∷ []) ≡ take moment calls
@@ -97,7 +97,7 @@ module _ (first : List ℕ) (old : List Call) (firm : List ℕ) (smallest greate
   pub outcomes_write : (at : ℕ) (bytes : List ℕ) (new : List Call) → at ≤ length content → MayAdd (Wrote at bytes) old new → ComesBy (IsTorn at (length bytes)) (IsOutcome first old) (IsOutcome first new)
   outcomes_write at bytes new within may found left =
       ⊎_elim
-      (torn_write (state first old) at bytes (state_in_firm first old firm smallest greatest spans content kept) (state_possible first old firm smallest greatest spans content kept)
+      (torn_write (state first old) at bytes (state_in_firm first old firm smallest greatest spans content kept) (state_firm_bytes first old firm smallest greatest spans content kept) (state_possible first old firm smallest greatest spans content kept)
       (omega (arith, ap length kept.content_is)) found)
       (λ (same : IsOutcome first old found). (found, same, IsTorn_refl at (length bytes) found))
       (outcome_of first (Wrote at bytes) old new found may left)
@@ -105,7 +105,7 @@ module _ (first : List ℕ) (old : List Call) (firm : List ℕ) (smallest greate
   pub outcomes_cut : (len : ℕ) (new : List Call) → len ≤ length content → MayAdd (Cut len) old new → ComesBy (IsCut len) (IsOutcome first old) (IsOutcome first new)
   outcomes_cut len new within may found left =
       ⊎_elim
-      (torn_cut (state first old) len (state_in_firm first old firm smallest greatest spans content kept) (state_possible first old firm smallest greatest spans content kept)
+      (torn_cut (state first old) len (state_in_firm first old firm smallest greatest spans content kept) (state_firm_bytes first old firm smallest greatest spans content kept) (state_possible first old firm smallest greatest spans content kept)
       (omega (arith, ap length kept.content_is)) found)
       (λ (same : IsOutcome first old found). (found, same, IsCut_refl len found))
       (outcome_of first (Cut len) old new found may left)
@@ -123,13 +123,21 @@ module _ (first : List ℕ) (old : List Call) (firm : List ℕ) (smallest greate
       (λ (same : IsOutcome first old found). same)
       (outcome_of first Synced old new found may left)
 
--- a stop leaves the outcomes as they are
+-- a stop makes no outcome
 pub outcomes_stop : (first : List ℕ) (old new : List Call) (found : List ℕ) → (new ≡ old ++ Stopped found ∷ []) ⊎ ReplacesStop found old new → NoneNew (IsOutcome first old) (IsOutcome first new)
 outcomes_stop first old new found (inl more) bytes left = IsOutcome-stopped first old found bytes (subst (λ (calls : List Call). IsOutcome first calls bytes) more left)
 outcomes_stop first old new found (inr replaces) bytes left =
     subst (λ (calls : List Call). IsOutcome first calls bytes) (sym replaces.was)
     (IsOutcome-unstopped first replaces.before replaces.gone bytes
     (IsOutcome-stopped first replaces.before found bytes (subst (λ (calls : List Call). IsOutcome first calls bytes) replaces.is left)))
+
+-- and all of them stay
+pub others_stop : (first : List ℕ) (old new : List Call) (found : List ℕ) → (new ≡ old ++ Stopped found ∷ []) ⊎ ReplacesStop found old new → NoneNew (IsOutcome first new) (IsOutcome first old)
+others_stop first old new found (inl more) bytes left = subst (λ (calls : List Call). IsOutcome first calls bytes) (sym more) (IsOutcome-unstopped first old found bytes left)
+others_stop first old new found (inr replaces) bytes left =
+    subst (λ (calls : List Call). IsOutcome first calls bytes) (sym replaces.is)
+    (IsOutcome-unstopped first replaces.before found bytes
+    (IsOutcome-stopped first replaces.before replaces.gone bytes (subst (λ (calls : List Call). IsOutcome first calls bytes) replaces.was left)))
 
 pub time_stop : (first : List ℕ) (old new : List Call) (found : List ℕ) → (new ≡ old ++ Stopped found ∷ []) ⊎ ReplacesStop found old new
     → GoesOn (length old) (length new) (IsOutcomeSince first old) (IsOutcomeSince first new) (IsOutcome first new)

@@ -1,8 +1,10 @@
 -- Lists of bytes from which a torn write or a cut leads to others.
 use Rattle.std.proofs.Common.{◌≡◌, ℕ, ◌+◌, ◌-◌, ◌<◌, ◌≤◌, min, max, List, ◌++◌, length, take, drop, get_or, refl, sym, ap, ◌∙◌, ⊎_elim, arith, length-append, length-take, length-drop}
 use Rattle.std.proofs.lemmas.List.{take_all, drop_all, take_at, drop_at, take-take, append_assoc, places}
+use Rattle.std.proofs.lemmas.List.Elements.{All-append, All-take, All-drop}
 use Rattle.diskmodel.proofs.Places.{cases_le}
 use Rattle.diskmodel.specs.Disk.{written, IsTorn, IsCut}
+use Rattle.diskmodel.specs.Outcomes.{AreBytes}
 
 pub length-written : (old : List ℕ) (at : ℕ) (bytes : List ℕ) → at ≤ length old → length (written old at bytes) ≡ max (length old) (at + length bytes)
 length-written old at bytes within = simp (length-append, length-take, length-drop) (omega arith)
@@ -13,6 +15,12 @@ written_before old at bytes place within before = grind (arith, places)
 pub written_behind : (old : List ℕ) (at : ℕ) (bytes : List ℕ) (place : ℕ) → at ≤ length old → at + length bytes ≤ place → get_or (written old at bytes) place 0 ≡ get_or old place 0
 written_behind old at bytes place within behind = grind (arith, places)
 
+pub written_bytes : (old : List ℕ) (at : ℕ) (bytes : List ℕ) → AreBytes old → AreBytes bytes → AreBytes (written old at bytes)
+written_bytes old at bytes in_old in_bytes =
+    All-append (λ number. number < 256) (take at old ++ bytes) (drop (at + length bytes) old)
+    (All-append (λ number. number < 256) (take at old) bytes (All-take (λ number. number < 256) at old in_old) in_bytes)
+    (All-drop (λ number. number < 256) (at + length bytes) old in_old)
+
 -- found, with the firm bytes below the smallest length
 abbrev pub refirmed : ℕ → List ℕ → List ℕ → List ℕ
 refirmed smallest firm found = take smallest firm ++ drop smallest found
@@ -20,12 +28,25 @@ refirmed smallest firm found = take smallest firm ++ drop smallest found
 pub length-refirmed : (smallest : ℕ) (firm found : List ℕ) → smallest ≤ length firm → smallest ≤ length found → length (refirmed smallest firm found) ≡ length found
 length-refirmed smallest firm found in_firm in_found = simp (length-append, length-take, length-drop) (omega arith)
 
+pub refirmed_bytes : (smallest : ℕ) (firm found : List ℕ) → AreBytes firm → AreBytes found → AreBytes (refirmed smallest firm found)
+refirmed_bytes smallest firm found in_firm in_found =
+    All-append (λ number. number < 256) (take smallest firm) (drop smallest found)
+    (All-take (λ number. number < 256) smallest firm in_firm)
+    (All-drop (λ number. number < 256) smallest found in_found)
+
 -- found, with what may have stood in a row of places before it was written
 abbrev pub untorn : ℕ → ℕ → List ℕ → List ℕ → List ℕ
 untorn at count under found = take at found ++ take count (drop at under) ++ drop (at + count) found
 
 pub length-untorn : (at count : ℕ) (under found : List ℕ) → length under ≡ length found → at ≤ length found → length (untorn at count under found) ≡ length found
 length-untorn at count under found same within = simp (length-append, length-take, length-drop) (omega arith)
+
+pub untorn_bytes : (at count : ℕ) (under found : List ℕ) → AreBytes under → AreBytes found → AreBytes (untorn at count under found)
+untorn_bytes at count under found in_under in_found =
+    All-append (λ number. number < 256) (take at found ++ take count (drop at under)) (drop (at + count) found)
+    (All-append (λ number. number < 256) (take at found) (take count (drop at under)) (All-take (λ number. number < 256) at found in_found)
+    (All-take (λ number. number < 256) count (drop at under) (All-drop (λ number. number < 256) at under in_under)))
+    (All-drop (λ number. number < 256) (at + count) found in_found)
 
 pub untorn_before : (at count : ℕ) (under found : List ℕ) (place : ℕ) → at ≤ length found → place < at → get_or (untorn at count under found) place 0 ≡ get_or found place 0
 untorn_before at count under found place within before = grind (arith, places)

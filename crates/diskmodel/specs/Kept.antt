@@ -3,7 +3,7 @@ use Rattle.std.specs.Prelude.{◌≡◌, ℕ, ◌≤◌, Bool, true, false, Opti
 use Rattle.diskmodel.specs.declared.call.Span.{Span}
 use Rattle.diskmodel.specs.declared.call.Call.{Call}
 use Rattle.diskmodel.specs.declared.call.Call.TheVariants.{Stopped}
-use Rattle.diskmodel.specs.Outcomes.{IsOutcome, state}
+use Rattle.diskmodel.specs.Outcomes.{AreBytes, IsOutcome, state}
 
 -- the calls come to these values, and what a read gives is an outcome
 pub record Keeps (first : List ℕ) (calls : List Call) (firm : List ℕ) (smallest greatest : ℕ) (spans : List Span) (content : List ℕ) : Type 0 where
@@ -13,6 +13,7 @@ pub record Keeps (first : List ℕ) (calls : List Call) (firm : List ℕ) (small
   pub spans_are : (state first calls).spans ≡ spans
   pub content_is : (state first calls).content ≡ content
   pub in_firm : smallest ≤ length firm
+  pub firm_bytes : AreBytes firm
   pub possible : IsOutcome first calls content
 
 -- whether this is a stop

@@ -1,11 +1,12 @@
 -- What clauses see of a disk in memory.
-use Rattle.std.specs.Prelude.{◌≡◌, ℕ, ◌-◌, List, length, Option, Some, Result, IsErr, OnErr}
+use Rattle.std.specs.Prelude.{◌≡◌, ℕ, List, length, Option, Some, Result, IsErr, OnOk, OnErr}
+use Rattle.std.specs.List.{Contains}
 use Rattle.diskmodel.specs.Disk.{GoesOn}
 use Rattle.diskmodel.specs.declared.disk.DiskFault.{DiskFault}
 use Rattle.diskmodel.specs.declared.call.Call.{Call}
 use Rattle.diskmodel.specs.declared.call.CallKind.{CallKind}
 use Rattle.diskmodel.specs.declared.memory.MemDisk.{MemDisk}
-use Rattle.diskmodel.specs.Countdowns.{countdown, counting}
+use Rattle.diskmodel.specs.Countdowns.{Counts, counts_of, counts_for, counting}
 use Rattle.diskmodel.specs.Outcomes.{State, state, IsOutcome, IsOutcomeSince}
 use Rattle.diskmodel.specs.Recorded.{IsAsBefore}
 
@@ -33,17 +34,13 @@ CanStopAt disk found = IsOutcome (first_of disk) (calls_of disk) found
 abbrev pub choice_of : MemDisk → Option (List ℕ)
 choice_of disk = disk.choice
 
--- how many calls of this kind from now one fails
-abbrev pub countdown_of : MemDisk → CallKind → ℕ
-countdown_of disk call = countdown disk.countdowns call
+-- for each kind of call the counts of those that have been told to fail
+abbrev pub told_of : MemDisk → Counts
+told_of disk = counts_of disk.countdowns
 
 -- the same disk, with another choice
 abbrev pub choosing : MemDisk → List ℕ → MemDisk
 choosing disk outcome = record disk { choice = Some outcome }
-
--- the same disk, on which the count-th call of this kind from now on fails
-abbrev pub telling : MemDisk → CallKind → ℕ → MemDisk
-telling disk call count = record disk { countdowns = counting disk.countdowns call count }
 
 -- the same record, choice and bytes
 pub record IsUndisturbed (old new : MemDisk) : Type 0 where
@@ -55,9 +52,11 @@ abbrev pub TimeGoesOn : MemDisk → MemDisk → Type 0
 TimeGoesOn old new =
     GoesOn (length (calls_of old)) (length (calls_of new)) (IsOutcomeSince (first_of old) (calls_of old)) (IsOutcomeSince (first_of new) (calls_of new)) (CanStopAt new)
 
--- a call of this kind counts, fails where it has been told to, and has no effect where it fails
+-- A call of this kind counts, and fails where it has been told to. Where it fails it has no effect, and
+-- where it succeeds no fault is counted.
 pub record Heeds {T : Type 0} (call : CallKind) (old new : MemDisk) (result : Result T DiskFault) : Type 0 where
-  pub told : countdown_of old call ≡ 1 → IsErr result
-  pub counted : new.countdowns ≡ counting old.countdowns call (countdown_of old call - 1)
+  pub told : Contains (counts_for (told_of old) call) 1 → IsErr result
+  pub counted : told_of new ≡ counting (told_of old) call
   pub no_effect : OnErr result (IsAsBefore old.history new.history)
+  pub no_fault : OnOk result (new.faults.count ≡ old.faults.count)
   pub choice : choice_of new ≡ choice_of old

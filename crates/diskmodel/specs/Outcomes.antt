@@ -7,7 +7,7 @@
 --   5. A stop may come inside a call: the outcomes are then those before it together with those
 --      after it. After a stop reads give one of the outcomes, and the others stay until a sync.
 use Rattle.std.specs.Prelude.{◌<◌, ◌≡◌, ℕ, ◌+◌, ◌≤◌, max, min, Bool, false, ◌&&◌, nat_le, nat_lt, List, [], ◌∷◌, ◌++◌, length, take, slice_index}
-use Rattle.std.specs.List.{list_any}
+use Rattle.std.specs.List.{All, list_any}
 use Rattle.std.proofs.Common.{arith, subst, sym}
 use Rattle.std.proofs.lemmas.List.{take_all}
 use Rattle.diskmodel.specs.Disk.{written}
@@ -60,8 +60,13 @@ after_all s (call ∷ calls) = after_all (after s call) calls
 abbrev pub state : List ℕ → List Call → State
 state first calls = after_all (firmed first) calls
 
+-- each of these numbers is a byte
+abbrev pub AreBytes : List ℕ → Type 0
+AreBytes numbers = All (λ number. number < 256) numbers
+
 -- a stop may leave these bytes
 pub record CanLeave (s : State) (found : List ℕ) : Type 0 where
+  pub are_bytes : AreBytes found
   pub no_shorter : s.smallest ≤ length found
   pub no_longer : length found ≤ s.greatest
   -- a place below the smallest length that wasn't written

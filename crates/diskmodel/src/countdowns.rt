@@ -1,59 +1,72 @@
 //! Which calls of a disk have been told to fail.
-ghost use Rattle.std.specs.Prelude.{◌≡◌, ◌-◌, ◌↔◌, IsTrue};
+ghost use Rattle.std.specs.Prelude.{◌≡◌, ◌↔◌, IsTrue, OnOk, OnErr};
+ghost use Rattle.std.specs.List.{Contains};
+ghost use Rattle.diskmodel.specs.Countdowns.{lowered};
 
 use crate::call::CallKind;
+use std::alloc::{AllocError, Global};
 
-/// For each kind of call how many calls from now one fails, 0 for never.
-#[derive(Clone, Copy, Debug, PartialEq, Eq)]
+/// For each kind of call how many calls from now one fails, for each that has been told to.
+#[derive(Drop)]
 pub struct Countdowns {
-    pub read: u64,
-    pub write: u64,
-    pub cut: u64,
-    pub sync: u64,
+    pub read: Vec<u64>,
+    pub write: Vec<u64>,
+    pub cut: Vec<u64>,
+    pub sync: Vec<u64>,
+}
+
+/// Lowers each count by one and drops those that come to 0. Says whether one of them was 1.
+fn count_down(counts: &mut Vec<u64>) -> bool
+    ensures fails { IsTrue result ↔ Contains counts.old.items 1 }
+    ensures lowered { counts.new.items ≡ lowered counts.old.items }
+{
+    let is_due = counts.contains(&1);
+    for count in counts.iter_mut() {
+        *count = count.saturating_sub(1);
+    }
+    counts.retain(|count| *count > 0);
+    is_due
 }
 
 impl Countdowns {
-    ghost use Rattle.diskmodel.specs.Countdowns.{countdown, counting};
+    ghost use Rattle.diskmodel.specs.Countdowns.{no_counts, counts_of, counts_for, telling, counting};
 
-    /// No call fails.
-    pub const NEVER: Countdowns = Countdowns {
-        read: 0,
-        write: 0,
-        cut: 0,
-        sync: 0,
-    };
-
-    /// How many calls of this kind from now one fails.
-    fn left(&self, call: CallKind) -> u64
-        ensures { result ≡ countdown self.now call }
+    /// No call fails. It takes no memory.
+    pub fn none(alloc: Global) -> Countdowns
+        ensures { counts_of result ≡ no_counts }
     {
-        match call {
-            CallKind::Read => self.read,
-            CallKind::Write => self.write,
-            CallKind::Cut => self.cut,
-            CallKind::Sync => self.sync,
+        Countdowns {
+            read: Vec::new(alloc),
+            write: Vec::new(alloc),
+            cut: Vec::new(alloc),
+            sync: Vec::new(alloc),
         }
     }
 
-    /// Tells the count-th call of this kind from now on to fail.
-    pub fn set(&mut self, call: CallKind, count: u64)
-        ensures { self.new ≡ counting self.old call count }
+    /// Tells the count-th call of this kind from now on to fail too.
+    pub fn tell(&mut self, call: CallKind, count: u64) -> Result<(), AllocError>
+        ensures told { OnOk result (counts_of self.new ≡ telling (counts_of self.old) call count) }
+        ensures err { OnErr result (counts_of self.new ≡ counts_of self.old) }
     {
         match call {
-            CallKind::Read => self.read = count,
-            CallKind::Write => self.write = count,
-            CallKind::Cut => self.cut = count,
-            CallKind::Sync => self.sync = count,
+            CallKind::Read => self.read.push(count)?,
+            CallKind::Write => self.write.push(count)?,
+            CallKind::Cut => self.cut.push(count)?,
+            CallKind::Sync => self.sync.push(count)?,
         }
+        Ok(())
     }
 
-    /// Counts a call of this kind, and says whether it is the one that fails.
+    /// Counts a call of this kind, and says whether it is one that fails.
     pub fn count(&mut self, call: CallKind) -> bool
-        ensures fails { IsTrue result ↔ (countdown self.old call ≡ 1) }
-        ensures counted { self.new ≡ counting self.old call (countdown self.old call - 1) }
+        ensures fails { IsTrue result ↔ Contains (counts_for (counts_of self.old) call) 1 }
+        ensures counted { counts_of self.new ≡ counting (counts_of self.old) call }
     {
-        let left = self.left(call);
-        self.set(call, left.saturating_sub(1));
-        left == 1
+        match call {
+            CallKind::Read => count_down(&mut self.read),
+            CallKind::Write => count_down(&mut self.write),
+            CallKind::Cut => count_down(&mut self.cut),
+            CallKind::Sync => count_down(&mut self.sync),
+        }
     }
 }

@@ -81,11 +81,12 @@ pub trait Disk {
 
 /// A disk on which a stop of the machine can be played.
 pub trait StopDisk: Disk {
-    /// Stops the machine: from then on a read gives one of the outcomes of a stop. The others stay
+    /// Stops the machine: from then on a read gives one of the outcomes of a stop. All of them stay
     /// possible until a sync.
     fn stop(&mut self)
         ensures content { Self.outcome self.old (Self.content self.new) }
         ensures outcomes { NoneNew (Self.outcome self.old) (Self.outcome self.new) }
+        ensures others { NoneNew (Self.outcome self.new) (Self.outcome self.old) }
         ensures time { GoesOn (Self.clock self.old) (Self.clock self.new) (Self.outcome_since self.old) (Self.outcome_since self.new) (Self.outcome self.new) }
         ensures faults { Self.faults self.new ≡ Self.faults self.old };
 }

@@ -1,5 +1,6 @@
 //! A disk in memory, which can be told to fail and on which a stop of the machine can be played.
-ghost use Rattle.std.specs.Prelude.{◌≡◌, ℕ, ◌+◌, ◌-◌, ◌<◌, ◌≤◌, ◌↔◌, List, [], None, Some, length, take, drop, IsTrue, IsErr, IfOk, OnOk, OnErr, is_ok};
+ghost use Rattle.std.specs.Prelude.{◌≡◌, ℕ, ◌+◌, ◌-◌, ◌<◌, ◌≤◌, ◌↔◌, List, [], None, Some, length, take, drop, IsTrue, IsErr, Ok, IfOk, OnOk, OnErr, is_ok};
+ghost use Rattle.std.specs.List.{Contains};
 ghost use Rattle.diskmodel.specs.Disk.{HasCause, NoneNew, GoesOn};
 ghost use Rattle.diskmodel.specs.Outcomes.{is_written};
 
@@ -20,8 +21,8 @@ pub struct MemDisk {
 }
 
 impl MemDisk {
-    ghost use Rattle.diskmodel.specs.Countdowns.{countdown, counting};
-    ghost use Rattle.diskmodel.specs.Memory.{first_of, calls_of, state_of, content_of, CanStopAt, choice_of, countdown_of, choosing, telling, IsUndisturbed};
+    ghost use Rattle.diskmodel.specs.Countdowns.{no_counts, counts_for, telling, counting};
+    ghost use Rattle.diskmodel.specs.Memory.{first_of, calls_of, state_of, content_of, CanStopAt, choice_of, told_of, choosing, IsUndisturbed};
 
     /// A disk with these bytes, all of them synced.
     ///
@@ -32,11 +33,11 @@ impl MemDisk {
         ensures calls { IfOk result (λ disk. calls_of disk ≡ []) }
         ensures content { IfOk result (λ disk. content_of disk ≡ bytes.items) }
         ensures choice { IfOk result (λ disk. choice_of disk ≡ None) }
-        ensures told { IfOk result (λ disk. (call : CallKind) → countdown_of disk call ≡ 0) }
+        ensures told { IfOk result (λ disk. told_of disk ≡ no_counts) }
     {
         Ok(MemDisk {
             history: History::new(alloc, bytes)?,
-            countdowns: Countdowns::NEVER,
+            countdowns: Countdowns::none(alloc),
             choice: None,
             faults: FaultCount::none(),
         })
@@ -72,11 +73,17 @@ impl MemDisk {
     }
 
     /// Tells a call to fail: the count-th of its kind from now on, once, and without any effect. At 0
-    /// none is told to. Each kind is counted by itself.
-    pub fn fail(&mut self, call: CallKind, count: u64)
-        ensures { self.new ≡ telling self.old call count }
+    /// none is told to. Each kind is counted by itself, and more than one call of a kind can be told.
+    ///
+    /// # Errors
+    /// Where memory is refused. Then no other call is told to fail than before.
+    pub fn fail(&mut self, call: CallKind, count: u64) -> Result<(), AllocError>
+        ensures told { OnOk result (told_of self.new ≡ telling (told_of self.old) call count) }
+        ensures err { OnErr result (told_of self.new ≡ told_of self.old) }
+        ensures undisturbed { IsUndisturbed self.old self.new }
+        ensures no_fault { self.new.faults.count ≡ self.old.faults.count }
     {
-        self.countdowns.set(call, count);
+        self.countdowns.tell(call, count)
     }
 
     /// Whether a stop at this moment may leave these bytes.
@@ -97,7 +104,7 @@ impl MemDisk {
     /// Counts a failure.
     fn fault(&mut self) -> DiskFault
         ensures undisturbed { IsUndisturbed self.old self.new }
-        ensures told { self.new.countdowns ≡ self.old.countdowns }
+        ensures told { told_of self.new ≡ told_of self.old }
         ensures count { self.new.faults.count ≡ self.old.faults.count + 1 }
     {
         self.faults = self.faults.one_more();
@@ -108,8 +115,9 @@ impl MemDisk {
     fn fail_if_told(&mut self, call: CallKind) -> Result<(), DiskFault>
         ensures undisturbed { IsUndisturbed self.old self.new }
         ensures cause { HasCause self.old.faults.count self.new.faults.count result }
-        ensures told { IsErr result ↔ (countdown self.old.countdowns call ≡ 1) }
-        ensures counted { self.new.countdowns ≡ counting self.old.countdowns call (countdown self.old.countdowns call - 1) }
+        ensures no_fault { OnOk result (self.new.faults.count ≡ self.old.faults.count) }
+        ensures told { IsErr result ↔ Contains (counts_for (told_of self.old) call) 1 }
+        ensures counted { told_of self.new ≡ counting (told_of self.old) call }
     {
         if self.countdowns.count(call) {
             return Err(self.fault());
@@ -120,8 +128,9 @@ impl MemDisk {
     /// Counts a refusal of memory as a failure.
     fn counted(&mut self, outcome: Result<(), AllocError>) -> Result<(), DiskFault>
         ensures undisturbed { IsUndisturbed self.old self.new }
-        ensures told { self.new.countdowns ≡ self.old.countdowns }
+        ensures told { told_of self.new ≡ told_of self.old }
         ensures cause { HasCause self.old.faults.count self.new.faults.count result }
+        ensures no_fault { OnOk result (self.new.faults.count ≡ self.old.faults.count) }
         ensures same { is_ok result ≡ is_ok outcome }
     {
         match outcome {
@@ -135,7 +144,8 @@ impl Disk for MemDisk {
     ghost use Rattle.diskmodel.specs.Outcomes.{IsOutcome, IsOutcomeSince, counts_last, only_last};
     ghost use Rattle.diskmodel.specs.Disk.{written, IsTorn, IsCut, ComesBy, LeavesOnly};
     ghost use Rattle.diskmodel.specs.Recorded.{Adds};
-    ghost use Rattle.diskmodel.specs.Memory.{content_of, CanStopAt, countdown_of, TimeGoesOn, Heeds};
+    ghost use Rattle.diskmodel.specs.Countdowns.{counts_for};
+    ghost use Rattle.diskmodel.specs.Memory.{content_of, CanStopAt, told_of, TimeGoesOn, IsUndisturbed, Heeds};
 
     ghost content = { λ disk. disk.history.content.items };
 
@@ -153,7 +163,16 @@ impl Disk for MemDisk {
 
     ghost only_now = { λ disk c. only_last disk.history.first.items disk.history.calls.items c };
 
-    fn len(&mut self) -> Result<u64, DiskFault> {
+    fn len(&mut self) -> Result<u64, DiskFault>
+        ensures value { result ≡ Ok (length (content_of self.old)) }
+        ensures content { content_of self.new ≡ content_of self.old }
+        ensures outcomes { NoneNew (CanStopAt self.old) (CanStopAt self.new) }
+        ensures time { TimeGoesOn self.old self.new }
+        ensures cause { HasCause self.old.faults.count self.new.faults.count result }
+
+        // It doesn't count as a call.
+        ensures unchanged { self.new ≡ self.old }
+    {
         Ok(self.history.content.len() as u64)
     }
 
@@ -165,9 +184,10 @@ impl Disk for MemDisk {
         ensures time { TimeGoesOn self.old self.new }
         ensures cause { HasCause self.old.faults.count self.new.faults.count result }
 
-        // It fails only where it has been told to.
+        // It fails only where it has been told to, and isn't in the record.
         ensures heeds { Heeds CallKind.Read self.old self.new result }
-        ensures succeeds { OnErr result (countdown_of self.old CallKind.Read ≡ 1) }
+        ensures undisturbed { IsUndisturbed self.old self.new }
+        ensures succeeds { OnErr result (Contains (counts_for (told_of self.old) CallKind.Read) 1) }
     {
         self.fail_if_told(CallKind::Read)?;
         let at = at as usize;
@@ -219,12 +239,13 @@ impl Disk for MemDisk {
 }
 
 impl StopDisk for MemDisk {
-    ghost use Rattle.diskmodel.specs.Memory.{content_of, CanStopAt, choice_of, TimeGoesOn};
+    ghost use Rattle.diskmodel.specs.Memory.{content_of, CanStopAt, choice_of, told_of, TimeGoesOn};
 
     /// It takes no memory, and no choice is left behind it.
     fn stop(&mut self)
         ensures content { CanStopAt self.old (content_of self.new) }
         ensures outcomes { NoneNew (CanStopAt self.old) (CanStopAt self.new) }
+        ensures others { NoneNew (CanStopAt self.new) (CanStopAt self.old) }
         ensures time { TimeGoesOn self.old self.new }
         ensures faults { self.new.faults.count ≡ self.old.faults.count }
 
@@ -232,7 +253,7 @@ impl StopDisk for MemDisk {
         ensures chosen { (found : List ℕ) → choice_of self.old ≡ Some found → CanStopAt self.old found → content_of self.new ≡ found }
         ensures otherwise { ((found : List ℕ) → choice_of self.old ≡ Some found → ¬ CanStopAt self.old found) → content_of self.new ≡ content_of self.old }
         ensures spent { choice_of self.new ≡ None }
-        ensures told { self.new.countdowns ≡ self.old.countdowns }
+        ensures told { told_of self.new ≡ told_of self.old }
     {
         let Some(found) = self.choice.take() else {
             return;

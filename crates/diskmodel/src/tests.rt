@@ -95,10 +95,10 @@ fn stops_in_a_row_leave_their_choices(rt: HostRuntime) -> Result<(), Fail> {
 fn a_call_fails_where_it_is_told_to(rt: HostRuntime) -> Result<(), Fail> {
     let alloc = rt.alloc();
     let mut disk = MemDisk::new(alloc, [1, 2].to_vec(alloc)?)?;
-    disk.fail(CallKind::Read, 2);
-    disk.fail(CallKind::Write, 1);
-    disk.fail(CallKind::Cut, 1);
-    disk.fail(CallKind::Sync, 1);
+    disk.fail(CallKind::Read, 2)?;
+    disk.fail(CallKind::Write, 1)?;
+    disk.fail(CallKind::Cut, 1)?;
+    disk.fail(CallKind::Sync, 1)?;
     let mut buffer = [0];
     disk.read_at(1, &mut buffer)?;
     assert_eq!(rt; disk.read_at(0, &mut buffer), Err(DiskFault));
@@ -112,6 +112,26 @@ fn a_call_fails_where_it_is_told_to(rt: HostRuntime) -> Result<(), Fail> {
     disk.sync()?;
     disk.cut(1)?;
     assert_eq!(rt; disk.bytes(), [5].as_slice());
+    Ok(())
+}
+
+#[test]
+fn more_than_one_call_of_a_kind_is_told_to_fail(rt: HostRuntime) -> Result<(), Fail> {
+    let alloc = rt.alloc();
+    let mut disk = MemDisk::new(alloc, Vec::new(alloc))?;
+    for count in [3, 0, 1, 3] {
+        disk.fail(CallKind::Sync, count)?;
+    }
+    assert_eq!(rt; disk.sync(), Err(DiskFault));
+    disk.fail(CallKind::Sync, 4)?;
+    for is_told in [false, true, false, true, false] {
+        let outcome = disk.sync();
+        if is_told {
+            assert_eq!(rt; outcome, Err(DiskFault));
+        } else {
+            outcome?;
+        }
+    }
     Ok(())
 }
 

@@ -4,3 +4,4 @@ mod Moments
 mod Parts
 mod Stops
 mod Walks
+mod Written

@@ -7,7 +7,7 @@ use Rattle.journal.specs.declared.record.Record.{Record}
 use Rattle.journal.specs.Format.{FitsGroup, body_len, group_bytes, kept, with_front, walk, scan, stands, only_records, ScansTo, FailsAs}
 use Rattle.journal.specs.declared.error.JournalError.{JournalError}
 use Rattle.journal.specs.declared.error.JournalError.TheVariants as errors
-use Rattle.journal.specs.Journal.{EndsClosed, stands_with, with_group, IsBeforeOrAfter}
+use Rattle.journal.specs.Journal.{EndsClosed, stands_with, IsClosedUp, with_group, IsBeforeOrAfter}
 use Rattle.journal.proofs.Parts.{length-group}
 use Rattle.journal.proofs.Walks.{Ended, walk_ended, walk_swap, walk_behind, walk_closed, walk_written, stands_walk, stands_short}
 
@@ -80,6 +80,9 @@ module _ (file : List ℕ) (ends : EndsClosed file) where
     gate_is : length file - 1 ≡ length parts.front
     gate_is = omega (arith, parts.size)
 
+    before_gate : take (length file - 1) file ≡ parts.front
+    before_gate = ap (λ (l : List ℕ). take (length file - 1) l) parts.file_is ∙ take_at parts.front (0 ∷ []) (length file - 1) (sym gate_is)
+
     front_staged : take (length file - 1) (file ++ group_bytes group) ≡ parts.front
     front_staged = ap (λ (l : List ℕ). take (length file - 1) l) staged_is ∙ take_at parts.front (0 ∷ group_bytes group) (length file - 1) (sym gate_is)
 
@@ -117,31 +120,33 @@ module _ (file : List ℕ) (ends : EndsClosed file) where
     pub staged_before : IsBeforeOrAfter file group (file ++ group_bytes group)
     staged_before = inl (ap stands staged_is ∙ stands_behind parts.front (group_bytes group) [] parts.records parts.found ∙ sym parts.stands_for)
 
-    written_gate : written (file ++ group_bytes group) (length file - 1) (1 ∷ []) ≡ parts.front ++ 1 ∷ group_bytes group
-    written_gate =
-        ap (λ (l : List ℕ). l ++ (1 ∷ []) ++ drop (length file - 1 + 1) (file ++ group_bytes group)) front_staged
-        ∙ ap (λ (l : List ℕ). parts.front ++ (1 ∷ []) ++ l) back_staged
-        ∙ append_assoc parts.front (1 ∷ []) (group_bytes group)
+    written_gate : (gate : ℕ) → written (file ++ group_bytes group) (length file - 1) (gate ∷ []) ≡ parts.front ++ gate ∷ group_bytes group
+    written_gate gate =
+        ap (λ (l : List ℕ). l ++ (gate ∷ []) ++ drop (length file - 1 + 1) (file ++ group_bytes group)) front_staged
+        ∙ ap (λ (l : List ℕ). parts.front ++ (gate ∷ []) ++ l) back_staged
+        ∙ append_assoc parts.front (gate ∷ []) (group_bytes group)
 
     -- the group's gate is open on the disk
-    pub record Added (new : List ℕ) : Type 0 where
+    pub record Added (gate : ℕ) (new : List ℕ) : Type 0 where
       pub ends_closed : EndsClosed new
       pub size : length new ≡ length file + 5 + body_len group
       pub records : stands new ≡ stands_with file group
+      pub content : new ≡ take (length file - 1) file ++ gate ∷ group_bytes group
 
-    pub added : (at : ℕ) (staged new : List ℕ) → at ≡ length file → staged ≡ file ++ group_bytes group → new ≡ written staged (at - 1) (1 ∷ []) → Added new
-    added at staged new at_end staged_is is =
+    pub added : (at gate : ℕ) (staged new : List ℕ) → gate ≢ 0 → at ≡ length file → staged ≡ file ++ group_bytes group → new ≡ written staged (at - 1) (gate ∷ []) → Added gate new
+    added at gate staged new is_open at_end staged_is is =
         let e = length file - 1 in
-        let whole : new ≡ parts.front ++ 1 ∷ group_bytes group = is ∙ (λ i. written (staged_is i) (at_end i - 1) (1 ∷ [])) ∙ written_gate in
+        let whole : new ≡ parts.front ++ gate ∷ group_bytes group = is ∙ (λ i. written (staged_is i) (at_end i - 1) (gate ∷ [])) ∙ written_gate gate in
         let size : length new ≡ length file + 5 + body_len group =
-        ap length whole ∙ length-append parts.front (1 ∷ group_bytes group) ∙ omega (arith, length-group group, parts.size) in
+        ap length whole ∙ length-append parts.front (gate ∷ group_bytes group) ∙ omega (arith, length-group group, parts.size) in
         let end_is : e + (5 + body_len group) ≡ length new - 1 = omega (arith, size, parts.size) in
         let found : walk 0 0 new ≡ Ok (parts.records ++ kept e group, length new - 1) =
-        ap (λ (l : List ℕ). walk 0 0 l) whole ∙ found_open 1 (λ one. omega arith) ∙ ap (λ (n : ℕ). Ok (parts.records ++ kept e group, n)) end_is in
+        ap (λ (l : List ℕ). walk 0 0 l) whole ∙ found_open gate is_open ∙ ap (λ (n : ℕ). Ok (parts.records ++ kept e group, n)) end_is in
         record {
           ends_closed = ends_at new (parts.records ++ kept e group) found (omega (arith, size, parts.size));
           size = size;
-          records = ap stands whole ∙ stands_open 1 (λ one. omega arith);
+          records = ap stands whole ∙ stands_open gate is_open;
+          content = whole ∙ ap (λ (l : List ℕ). l ++ gate ∷ group_bytes group) (sym before_gate);
         }
 
 abbrev gate_of : Result (List Record × ℕ) ℕ → ℕ
@@ -153,6 +158,7 @@ pub record Repaired (file new : List ℕ) (gate : ℕ) : Type 0 where
   pub ends_closed : EndsClosed new
   pub size : length new ≡ gate + 1
   pub records : stands new ≡ stands file
+  pub content : IsClosedUp file new
 
 module _ (file : List ℕ) (gate : ℕ) (scans : ScansTo file gate) where
   -- a file of at most one byte
@@ -173,6 +179,7 @@ module _ (file : List ℕ) (gate : ℕ) (scans : ScansTo file gate) where
         ends_closed = subst EndsClosed (sym whole) (ends_at (0 ∷ []) [] (walk_closed 0 0 [] refl) (omega arith));
         size = ap length whole ∙ omega (arith, short_gate short);
         records = ap stands whole ∙ stands_short (0 ∷ []) (omega arith) ∙ sym (stands_short file short);
+        content = record { short = λ _. whole; long = λ long. absurd (omega (arith, short, long)) };
       }
 
   module _ (long : 2 ≤ length file) where
@@ -216,6 +223,7 @@ module _ (file : List ℕ) (gate : ℕ) (scans : ScansTo file gate) where
               (omega (arith, size));
           size = size;
           records = ap stands whole ∙ stands_behind ended.front [] ended.behind scans.0 found ∙ sym file_stands;
+          content = record { short = λ short. absurd (omega (arith, short, long)); long = λ _. (gate, scans, is) };
         }
 
     -- nothing stands behind it
@@ -226,6 +234,7 @@ module _ (file : List ℕ) (gate : ℕ) (scans : ScansTo file gate) where
           ends_closed = ends_at file scans.0 (walked ∙ ap (λ (n : ℕ). Ok (scans.0, n)) last_is) (omega (arith, long));
           size = omega (arith, gate_inside, long);
           records = refl;
+          content = record { short = λ short. absurd (omega (arith, short, long)); long = λ _. (gate, scans, sym (take_all (gate + 1) file (omega (arith, last_is, long)))) };
         }
 
 pub gate_fits : (file : List ℕ) (gate limit : ℕ) → ScansTo file gate → length file < limit → 2 ≤ limit → gate + 1 < limit

@@ -34,6 +34,16 @@ body_bytes records = flat_map record_bytes records
 abbrev pub group_bytes : List (List ℕ) → List ℕ
 group_bytes records = to_be_bytes w32 (body_len records) ++ body_bytes records ++ 0 ∷ []
 
+-- this file with a group of these records behind it, whose gate is the file's last byte, and is open
+abbrev pub file_with : List ℕ → List (List ℕ) → List ℕ
+file_with file records = take (length file - 1) file ++ 1 ∷ group_bytes records
+
+-- the bytes of a file of these groups: each with its length and its body behind an open gate, and a closed
+-- gate behind the last
+abbrev pub file_bytes : List (List (List ℕ)) → List ℕ
+file_bytes [] = 0 ∷ []
+file_bytes (records ∷ groups) = 1 ∷ [] ++ to_be_bytes w32 (body_len records) ++ body_bytes records ++ file_bytes groups
+
 -- the number in the length field at the front
 abbrev pub length_field : List ℕ → ℕ
 length_field bytes = from_be_bytes w32 (take 4 bytes)
@@ -75,6 +85,11 @@ kept_at gate bytes = record { bytes = bytes; gate = gate }
 -- the records of the group behind the gate at this place
 abbrev pub kept : ℕ → List (List ℕ) → List Record
 kept gate records = map (kept_at gate) records
+
+-- the records of these groups, the first of which has its gate at this place
+abbrev pub all_kept : ℕ → List (List (List ℕ)) → List Record
+all_kept gate [] = []
+all_kept gate (records ∷ groups) = kept gate records ++ all_kept (gate + 1 + 4 + body_len records) groups
 
 -- these records, and then those that are found
 abbrev pub with_front : List Record → Result (List Record × ℕ) ℕ → Result (List Record × ℕ) ℕ

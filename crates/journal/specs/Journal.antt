@@ -1,9 +1,9 @@
 -- What a journal on a disk is, and what a stop of the machine leaves of it.
-use Rattle.std.specs.Prelude.{◌≡◌, ◌⊎◌, ℕ, ◌-◌, ◌<◌, List, ◌++◌, length, Result, Ok, Err}
+use Rattle.std.specs.Prelude.{◌≡◌, ◌⊎◌, ℕ, ◌+◌, ◌-◌, ◌<◌, ◌≤◌, List, [], ◌∷◌, ◌++◌, length, take, Result, Ok, Err}
 use Rattle.diskmodel.specs.Disk.{LeavesOnly}
 use Rattle.journal.specs.declared.record.Record.{Record}
 use Rattle.journal.specs.declared.journal.Journal.{Journal}
-use Rattle.journal.specs.Format.{kept, walk, stands}
+use Rattle.journal.specs.Format.{kept, walk, stands, ScansTo}
 
 -- the disk of a journal
 abbrev pub disk_of : {D : Type 0} → Journal D → D
@@ -30,6 +30,12 @@ with_group gate group (Err place) = Err place
 -- what this file stands for, and then the records of a group whose gate is its last byte
 abbrev pub stands_with : List ℕ → List (List ℕ) → Result (List Record) ℕ
 stands_with file group = with_group (length file - 1) group (stands file)
+
+-- What an opening leaves of a file: one closed gate of a file of at most one byte, and otherwise the bytes up
+-- to the closed gate at which reading ends.
+pub record IsClosedUp (file left : List ℕ) : Type 0 where
+  pub short : length file < 2 → left ≡ 0 ∷ []
+  pub long : 2 ≤ length file → (gate : ℕ) × ScansTo file gate × (left ≡ take (gate + 1) file)
 
 -- what a stop leaves stands for the records of this file, or for these with the whole group
 abbrev pub IsBeforeOrAfter : List ℕ → List (List ℕ) → List ℕ → Type 0

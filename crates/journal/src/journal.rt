@@ -2,8 +2,8 @@
 
 ghost use Rattle.std.specs.Prelude.{◌≡◌, ◌≢◌, ◌⊎◌, ◌↔◌, ◌+◌, ◌-◌, ◌*◌, ◌^◌, ◌<◌, ◌≤◌, List, ℕ, length, Ok, Err, IfOk, IfErr, OnOk, OnErr, IsErrOf};
 ghost use Rattle.diskmodel.specs.Disk.{LeavesOnly, AtEachMoment, NoneNew};
-ghost use Rattle.journal.specs.Format.{body_len, stands, ScansTo};
-ghost use Rattle.journal.specs.Journal.{disk_of, EndsClosed, IsAlive, stands_with, IsBeforeOrAfter, StandsAsOneOf};
+ghost use Rattle.journal.specs.Format.{body_len, stands, file_with, ScansTo};
+ghost use Rattle.journal.specs.Journal.{disk_of, EndsClosed, IsAlive, stands_with, IsClosedUp, IsBeforeOrAfter, StandsAsOneOf};
 
 use crate::error::{Failed, JournalError};
 use crate::group::Group;
@@ -54,6 +54,10 @@ impl<D: Disk> Journal<D> {
         ensures alive { IfOk result (λ opened. IsAlive D.content D.outcome opened.0) }
         ensures records { IfOk result (λ opened. stands (D.content disk) ≡ Ok opened.1.items) }
         ensures same { IfOk result (λ opened. stands (D.content (disk_of opened.0)) ≡ stands (D.content disk)) }
+        ensures content { IfOk result (λ opened. IsClosedUp (D.content disk) (D.content (disk_of opened.0))) }
+
+        // Only a failure of the disk leaves other bytes than there were.
+        ensures unchanged { IfErr result (λ failed. failed.error ≢ JournalError.Device → D.content failed.disk ≡ D.content disk) }
 
         // A stop at any moment of the call leaves what stands for the same as one that came before it.
         ensures any_moment { IfOk result (λ opened. AtEachMoment D.clock D.outcome_since disk (disk_of opened.0) (StandsAsOneOf (D.outcome disk))) }
@@ -81,6 +85,7 @@ impl<D: Disk> Journal<D> {
 
         ensures alive { OnOk result (IsAlive D.content D.outcome self.new) }
         ensures records { OnOk result (stands (D.content (disk_of self.new)) ≡ stands_with (D.content (disk_of self.old)) group) }
+        ensures content { OnOk result (D.content (disk_of self.new) ≡ file_with (D.content (disk_of self.old)) group) }
         ensures synced { IfOk result (λ synced. synced ≡ length group) }
 
         // A stop at any moment of the call leaves the records from before it, with the whole group or without.
@@ -122,6 +127,7 @@ fn write_group<D: Disk>(disk: &mut D, len: u64, group: Group) -> Result<(), Jour
     ensures ends_closed { OnOk result (EndsClosed (D.content disk.new)) }
     ensures len { OnOk result (length (D.content disk.new) ≡ len + 5 + body_len group) }
     ensures records { OnOk result (stands (D.content disk.new) ≡ stands_with (D.content disk.old) group) }
+    ensures content { OnOk result (D.content disk.new ≡ file_with (D.content disk.old) group) }
     ensures firm { OnOk result (LeavesOnly (D.content disk.new) (D.outcome disk.new)) }
     ensures any_moment { AtEachMoment D.clock D.outcome_since disk.old disk.new (IsBeforeOrAfter (D.content disk.old) group) }
     ensures errors { IfErr result (λ error. error ≡ JournalError.Device) }
@@ -143,6 +149,8 @@ fn repair<D: Disk>(alloc: Global, disk: &mut D) -> Result<(Vec<Record>, u64), Jo
     ensures len { IfOk result (λ found. found.1 ≡ length (D.content disk.new)) }
     ensures records { IfOk result (λ found. stands (D.content disk.old) ≡ Ok found.0.items) }
     ensures same { OnOk result (stands (D.content disk.new) ≡ stands (D.content disk.old)) }
+    ensures content { OnOk result (IsClosedUp (D.content disk.old) (D.content disk.new)) }
+    ensures unchanged { IfErr result (λ error. error ≢ JournalError.Device → D.content disk.new ≡ D.content disk.old) }
     ensures firm { OnOk result (LeavesOnly (D.content disk.new) (D.outcome disk.new)) }
     ensures any_moment { AtEachMoment D.clock D.outcome_since disk.old disk.new (StandsAsOneOf (D.outcome disk.old)) }
     ensures damaged { (gate : ℕ) → IsErrOf result (JournalError.Damaged gate) → stands (D.content disk.old) ≡ Err gate }
@@ -183,6 +191,7 @@ fn close_end<D: Disk>(disk: &mut D, len: u64, gate: u64) -> Result<(), JournalEr
 
     ensures ends_closed { OnOk result (EndsClosed (D.content disk.new)) }
     ensures len { OnOk result (length (D.content disk.new) ≡ gate + 1) }
+    ensures content { OnOk result (IsClosedUp (D.content disk.old) (D.content disk.new)) }
     ensures records { OnOk result (stands (D.content disk.new) ≡ stands (D.content disk.old)) }
     ensures firm { OnOk result (LeavesOnly (D.content disk.new) (D.outcome disk.new)) }
     ensures any_moment { AtEachMoment D.clock D.outcome_since disk.old disk.new (λ left. stands left ≡ stands (D.content disk.old)) }

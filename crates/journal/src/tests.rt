@@ -138,7 +138,7 @@ fn a_failed_call_of_the_disk_is_answered(rt: HostRuntime) -> Result<(), Fail> {
         (CallKind::Sync, 4, 2),
     ] {
         let mut disk = disk_with(alloc, &[0])?;
-        disk.fail(kind, count);
+        disk.fail(kind, count)?;
         let (mut journal, _) = opened(alloc, disk)?;
         let group = Group::new(alloc, two_records(alloc)?)?.ok_or("it is a group")?;
         match journal.append(group) {
@@ -169,6 +169,7 @@ fn errors_are_a_number_and_a_name(rt: HostRuntime) -> Result<(), Fail> {
 
 #[test]
 fn bytes_stand_for_records(rt: HostRuntime) -> Result<(), Fail> {
+    written_groups_stand();
     let alloc = rt.alloc();
     for (file, count) in [
         ([].as_slice(), 0),
@@ -178,6 +179,16 @@ fn bytes_stand_for_records(rt: HostRuntime) -> Result<(), Fail> {
     ] {
         assert_eq!(rt; stands(alloc, file)?.len(), count);
     }
+    // Groups of the records `a`, and of nothing and `bc`, and a byte behind the closed gate.
+    let file = [
+        1, 0, 0, 0, 5, 0, 0, 0, 1, 97, 1, 0, 0, 0, 10, 0, 0, 0, 0, 0, 0, 0, 2, 98, 99, 0, 0x99,
+    ];
+    let wanted = [
+        (b"a".as_slice(), 0),
+        (b"".as_slice(), 10),
+        (b"bc".as_slice(), 10),
+    ];
+    assert!(rt; are(&stands(alloc, &file)?, &wanted));
     assert!(rt; matches!(stands(alloc, &[2, 2]), Err(JournalError::Damaged(0))));
     Ok(())
 }

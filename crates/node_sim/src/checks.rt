@@ -26,13 +26,13 @@ pub enum CheckError {
 
 /// The first test that a header from this sender fails. Its signature isn't tested.
 pub fn check(sender: Author, header: &Header) -> Result<(), CheckError> {
-    if sender.0 >= MEMBERS || header.author.0 >= MEMBERS {
+    if sender.0 >= MEMBERS || header.body.author.0 >= MEMBERS {
         return Err(CheckError::UnknownAuthor);
     }
-    if header.author != sender {
+    if header.body.author != sender {
         return Err(CheckError::BadSender);
     }
-    let parents = header.parents.as_slice();
+    let parents = header.body.parents.as_slice();
     if parents.len() < QUORUM {
         return Err(CheckError::TooFewParents);
     }
@@ -43,6 +43,7 @@ pub fn check(sender: Author, header: &Header) -> Result<(), CheckError> {
         return Err(CheckError::UnknownAuthor);
     }
     if header
+        .body
         .batches
         .as_slice()
         .iter()

@@ -7,8 +7,8 @@ use crate::ending::Ending;
 use crate::labels::Labels;
 use std::alloc::Global;
 use wire::{
-    BatchReferences, Header, MAX_PARENTS, ParentReference, ParentReferences, Round, Signature,
-    WireError,
+    BatchReferences, Header, HeaderBody, MAX_PARENTS, ParentReference, ParentReferences, Round,
+    Signature, WireError,
 };
 
 /// Defines the header of a form. The first fault that reading its bytes would meet is answered, and defines
@@ -32,10 +32,12 @@ pub fn define(
         Err(error) => return Ok(Err(error)),
     };
     let header = Header {
-        author: form.author,
-        round,
-        batches: BatchReferences::new(alloc),
-        parents,
+        body: HeaderBody {
+            author: form.author,
+            round,
+            batches: BatchReferences::new(alloc),
+            parents,
+        },
         signature: Signature([0; 64]),
     };
     labels.define(form.label, header)?;

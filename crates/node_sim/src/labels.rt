@@ -70,8 +70,9 @@ impl Labels {
 
     /// Defines a label for a header.
     pub fn define(&mut self, name: &str, header: Header) -> Result<(), AllocError> {
-        let (author, round) = (header.author, header.round);
-        let digest = header_digest(&header);
+        let body = &header.body;
+        let (author, round) = (body.author, body.round);
+        let digest = header_digest(body);
         let message = encode(self.alloc, &Message::Header(header))?;
         let name = String::from_str(self.alloc, name)?;
         self.list.push(Labelled {

@@ -70,9 +70,9 @@ impl Node {
 
     /// Submits a checked header as from its author.
     pub fn submit(&mut self, header: Header) -> Answer<'static>
-        requires { header.author ≢ OWN }
+        requires { header.body.author ≢ OWN }
     {
-        let event = Checked::new(header.author, Message::Header(header));
+        let event = Checked::new(header.body.author, Message::Header(header));
         match self.book.accept(event) {
             Ok(receipt) if receipt.new => Answer::New(receipt.ticket),
             Ok(receipt) => Answer::Known(receipt.ticket),
@@ -82,12 +82,15 @@ impl Node {
 
     /// The next output that may go out.
     pub fn collect<'a>(&mut self, labels: &'a Labels) -> Answer<'a> {
-        match self.book.release() {
-            None => Answer::OutNone,
-            Some(Output::Vote(vote)) => {
-                Answer::OutVote(labels.name_of(&vote.header).unwrap_or("-"))
-            }
-        }
+        let Some(output) = self.book.release() else {
+            return Answer::OutNone;
+        };
+        // So far only votes are put out.
+        let name = match &output {
+            Output::Vote(vote) => labels.name_of(&vote.header),
+            _ => None,
+        };
+        Answer::OutVote(name.unwrap_or("-"))
     }
 
     /// One round: takes a group, writes it and settles it. After a fault the node is down.
@@ -183,7 +186,10 @@ fn interrupted(
         return Ok(journal.into_disk());
     };
     let mut disk = journal.into_disk();
-    disk.fail(CallKind::Sync, sync);
+    if let Err(error) = disk.fail(CallKind::Sync, sync) {
+        group.discard();
+        return Err(Ending::from(error));
+    }
     let journal = match LiveJournal::open(alloc, disk) {
         Ok((journal, _)) => journal,
         Err(failed) => {

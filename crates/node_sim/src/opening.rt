@@ -1,7 +1,7 @@
 //! Opening the node: the journal's records, and the validator after their events.
 
 ghost use Rattle.std.specs.Prelude.{◌≡◌, IfOk, IfSome};
-ghost use Rattle.book.specs.Admission.{IsFromPeer};
+ghost use Rattle.book.specs.Admission.{IsKnownKind};
 
 use crate::checks::check;
 use crate::live::{Appended, LiveJournal};
@@ -169,17 +169,19 @@ fn replay_event(
 
 // The event of a record: a header of another member that passes the checks.
 fn event_of(alloc: Global, bytes: &[u8]) -> Result<Option<Checked>, AllocError>
-    ensures { IfOk result (λ found. IfSome found (IsFromPeer OWN)) }
+    ensures { IfOk result (λ found. IfSome found (IsKnownKind OWN)) }
 {
     let [EVENT_RECORD, high, low, message @ ..] = bytes else {
         return Ok(None);
     };
     let sender = Author(u16::from_be_bytes([*high, *low]));
-    match decode(alloc, message) {
-        Ok(Message::Header(header)) if header.author != OWN && check(sender, &header).is_ok() => {
-            Ok(Some(Checked::new(sender, Message::Header(header))))
-        }
-        Err(WireError::Memory) => Err(AllocError),
-        _ => Ok(None),
+    let header = match decode(alloc, message) {
+        Ok(Message::Header(header)) => header,
+        Err(WireError::Memory) => return Err(AllocError),
+        _ => return Ok(None),
+    };
+    if header.body.author == OWN || check(sender, &header).is_err() {
+        return Ok(None);
     }
+    Ok(Some(Checked::new(sender, Message::Header(header))))
 }

@@ -124,17 +124,17 @@ fn header_of(
     };
     match decode(alloc, &labelled.message) {
         Ok(Message::Header(header)) => Ok(Ok(header)),
-        Ok(Message::Vote(_)) => Err(Ending::BadCommand),
+        Ok(_) => Err(Ending::BadCommand),
         Err(error) => Ok(Err(error)),
     }
 }
 
 // Submits a header as from its author. There are no own headers yet.
 fn submit(node: &mut Node, header: Header) -> Result<Answer<'static>, Ending> {
-    if header.author == OWN {
+    if header.body.author == OWN {
         return Err(Ending::BadCommand);
     }
-    if let Err(error) = check(header.author, &header) {
+    if let Err(error) = check(header.body.author, &header) {
         return Ok(Answer::Unchecked(error));
     }
     Ok(node.submit(header))

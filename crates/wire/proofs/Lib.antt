@@ -1,2 +1,3 @@
 pub mod RisingLemmas
 pub mod Joining
+pub mod Transactions

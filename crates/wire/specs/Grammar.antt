@@ -1,70 +1,69 @@
 -- Which values are messages, and which bytes spell them.
 use Rattle.std.specs.Prelude.{◌≡◌, ℕ, ◌<◌, ◌≤◌, ◌^◌, List, length, All, IsTrue}
-use Rattle.wire.specs.declared.keys.Author.{Author}
-use Rattle.wire.specs.declared.keys.Digest.{Digest}
-use Rattle.wire.specs.declared.keys.Signature.{Signature}
+use Rattle.wire.specs.declared.header.HeaderBody.{HeaderBody}
 use Rattle.wire.specs.declared.header.Header.{Header}
 use Rattle.wire.specs.declared.header.Vote.{Vote}
+use Rattle.wire.specs.declared.header.Certificate.{Certificate}
+use Rattle.wire.specs.declared.message.BatchAck.{BatchAck}
+use Rattle.wire.specs.declared.message.Coin.{Coin}
 use Rattle.wire.specs.declared.message.Message.{Message}
 use Rattle.wire.specs.declared.message.Message.TheVariants as message
 use Rattle.wire.specs.declared.references.BatchReference.{BatchReference}
 use Rattle.wire.specs.declared.references.ParentReference.{ParentReference}
-use Rattle.wire.specs.References.{batches_rise, parents_rise}
+use Rattle.wire.specs.declared.votes.VoteEntry.{VoteEntry}
+use Rattle.wire.specs.Fields.{IsNumber, IsAuthor, IsDigest, IsSignature, IsRound, IsWave}
+use Rattle.wire.specs.Batches.{IsBatch}
+use Rattle.wire.specs.References.{batches_rise, parents_rise, votes_rise}
 use Rattle.wire.specs.Spelling.{spelling}
 
--- so many bytes, each below 256
-pub record AreBytes (count : ℕ) (bytes : List ℕ) : Type 0 where
-  pub count_is : length bytes ≡ count
-  pub each : All (λ byte. byte < 256) bytes
-
--- a member's number, or a worker's, has two bytes
-abbrev pub IsNumber : ℕ → Type 0
-IsNumber n = n < 2 ^ 16
-
--- a member is named by its number
-abbrev pub IsAuthor : Author → Type 0
-IsAuthor a = IsNumber a.0
-
--- a digest has 32 bytes
-abbrev pub IsDigest : Digest → Type 0
-IsDigest d = AreBytes 32 d.0
-
--- a signature has 64 bytes
-abbrev pub IsSignature : Signature → Type 0
-IsSignature s = AreBytes 64 s.0
-
--- rounds go up to 2^48
-abbrev pub IsRound : ℕ → Type 0
-IsRound round = round ≤ 2 ^ 48
+-- an acknowledgement is by a member, of a batch's digest
+pub record IsAck (a : BatchAck) : Type 0 where
+  pub author : IsAuthor a.author
+  pub batch : IsDigest a.batch
 
 -- a batch is named by its digest, and by the worker that holds it
-pub record IsBatch (b : BatchReference) : Type 0 where
+pub record IsBatchReference (b : BatchReference) : Type 0 where
   pub digest : IsDigest b.digest
   pub worker : IsNumber b.worker
 
 -- a parent is named by its author, and by its certificate's digest
-pub record IsParent (p : ParentReference) : Type 0 where
+pub record IsParentReference (p : ParentReference) : Type 0 where
   pub author : IsAuthor p.author
   pub certificate : IsDigest p.certificate
+
+-- a vote in a certificate is by a voter, with its signature
+pub record IsVoteEntry (v : VoteEntry) : Type 0 where
+  pub voter : IsAuthor v.voter
+  pub signature : IsSignature v.signature
 
 -- a header names at most 128 batches, which rise by digest
 pub record AreBatches (batches : List BatchReference) : Type 0 where
   pub few : length batches ≤ 128
-  pub each : All IsBatch batches
+  pub each : All IsBatchReference batches
   pub rise : IsTrue (batches_rise batches)
 
 -- a header names at most 31 parents, which rise by author, so no author twice
 pub record AreParents (parents : List ParentReference) : Type 0 where
   pub few : length parents ≤ 31
-  pub each : All IsParent parents
+  pub each : All IsParentReference parents
   pub rise : IsTrue (parents_rise parents)
 
--- a header has an author, a round, batches, parents and a signature
-pub record IsHeader (h : Header) : Type 0 where
+-- a certificate has at most 31 votes, which rise by voter, so no voter twice
+pub record AreVotes (votes : List VoteEntry) : Type 0 where
+  pub few : length votes ≤ 31
+  pub each : All IsVoteEntry votes
+  pub rise : IsTrue (votes_rise votes)
+
+-- the body of a header has an author, a round, batches and parents
+pub record IsHeaderBody (h : HeaderBody) : Type 0 where
   pub author : IsAuthor h.author
   pub round : IsRound h.round
   pub batches : AreBatches h.batches
   pub parents : AreParents h.parents
+
+-- a header has a body and a signature
+pub record IsHeader (h : Header) : Type 0 where
+  pub body : IsHeaderBody h.body
   pub signature : IsSignature h.signature
 
 -- a vote has a header's digest, round and author, a voter and a signature
@@ -75,10 +74,24 @@ pub record IsVote (v : Vote) : Type 0 where
   pub voter : IsAuthor v.voter
   pub signature : IsSignature v.signature
 
--- a message is a header or a vote
+-- a certificate has the body of a header, and votes
+pub record IsCertificate (c : Certificate) : Type 0 where
+  pub header : IsHeaderBody c.header
+  pub votes : AreVotes c.votes
+
+-- a coin has a wave, and a value of eight bytes
+pub record IsCoin (c : Coin) : Type 0 where
+  pub wave : IsWave c.wave
+  pub value : c.value < 2 ^ 64
+
+-- what a message has, by its kind
 abbrev pub IsMessage : Message → Type 0
+IsMessage (message.Batch b) = IsBatch b
+IsMessage (message.BatchAck a) = IsAck a
 IsMessage (message.Header h) = IsHeader h
 IsMessage (message.Vote v) = IsVote v
+IsMessage (message.Certificate c) = IsCertificate c
+IsMessage (message.Coin c) = IsCoin c
 
 -- a message, and its one spelling in bytes
 abbrev pub Spells : Message → List ℕ → Type 0

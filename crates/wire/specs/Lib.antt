@@ -1,6 +1,10 @@
 pub mod Rising
 pub mod References
+pub mod Fields
+pub mod Batches
 pub mod Spelling
 pub mod Digests
 pub mod Reading
 pub mod Grammar
+pub mod Outputs
+pub mod Events

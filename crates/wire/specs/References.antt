@@ -1,4 +1,4 @@
--- The order of what a header refers to.
+-- The order of the lists of headers and certificates.
 use Rattle.std.specs.Prelude.{Bool, List, nat_lt}
 use Rattle.std.specs.Ordering.{nat_cmp, is_lt}
 use Rattle.std.specs.Cmp.Lexicographic.{slice_cmp}
@@ -6,6 +6,7 @@ use Rattle.wire.specs.declared.keys.Author.{Author}
 use Rattle.wire.specs.declared.keys.Digest.{Digest}
 use Rattle.wire.specs.declared.references.BatchReference.{BatchReference}
 use Rattle.wire.specs.declared.references.ParentReference.{ParentReference}
+use Rattle.wire.specs.declared.votes.VoteEntry.{VoteEntry}
 use Rattle.wire.specs.Rising.{rises, follows}
 
 -- of two digests, the first byte that differs tells which comes first
@@ -27,3 +28,11 @@ parents_rise = rises (λ a b. nat_lt a.author.0 b.author.0)
 -- a parent by this author may come next
 abbrev pub parent_follows : List ParentReference → Author → Bool
 parent_follows parents author = follows (λ a. nat_lt a.author.0 author.0) parents
+
+-- the votes rise by voter
+abbrev pub votes_rise : List VoteEntry → Bool
+votes_rise = rises (λ a b. nat_lt a.voter.0 b.voter.0)
+
+-- a vote by this voter may come next
+abbrev pub vote_follows : List VoteEntry → Author → Bool
+vote_follows votes voter = follows (λ a. nat_lt a.voter.0 voter.0) votes

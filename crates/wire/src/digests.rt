@@ -1,17 +1,21 @@
-//! The digests of headers and certificates. They take no memory.
+//! The digests of batches, headers and certificates. They take no memory.
 
 ghost use Rattle.std.specs.Prelude.{◌≡◌, ◌++◌, ◌∷◌, [], List, ℕ, ◌≤◌, length};
 ghost use Rattle.sha2.specs.Sha256.{sha256};
 ghost use Rattle.sha2.specs.Hashers.{Holds256};
 ghost use Rattle.wire.specs.Spelling.{batches_bytes, parents_bytes, body_bytes};
-ghost use Rattle.wire.specs.Digests.{header_digest_of, certificate_digest_of, genesis_digest_of};
+ghost use Rattle.wire.specs.Digests.{batch_digest_of, header_digest_of, certificate_digest_of, genesis_digest_of};
 
-use crate::header::Header;
+use crate::batch::Batch;
+use crate::header::HeaderBody;
 use crate::keys::{Author, Digest};
 use crate::numbers::{eight_bytes, two_bytes};
 use crate::references::{BatchReference, ParentReference};
 use crate::round::Round;
 use sha2::{Digest as Hasher, Sha256};
+
+/// What comes before a batch body in its digest: the letter B.
+const BATCH_LETTER: u8 = 0x42;
 
 /// What comes before a header in its digest: the letter H.
 const HEADER_LETTER: u8 = 0x48;
@@ -60,8 +64,18 @@ fn body_digest(
     Digest(hasher.finalize())
 }
 
+/// The digest of a batch: of its body, so also of its author and its worker.
+pub fn batch_digest(batch: &Batch) -> Digest
+    ensures { result.0 ≡ batch_digest_of batch.now }
+{
+    let mut hasher = Sha256::new();
+    hasher.update([BATCH_LETTER]);
+    hasher.update(batch.body());
+    Digest(hasher.finalize())
+}
+
 /// The digest of a header, without its signature.
-pub fn header_digest(header: &Header) -> Digest
+pub fn header_digest(header: &HeaderBody) -> Digest
     ensures { result.0 ≡ header_digest_of header.now }
 {
     body_digest(
@@ -72,8 +86,8 @@ pub fn header_digest(header: &Header) -> Digest
     )
 }
 
-/// The digest of the certificate of a header, of which this are the digest, the round and the author. It
-/// doesn't depend on the votes.
+/// The digest of the certificate of the header of this digest, round and author. It doesn't depend on the
+/// votes.
 pub fn certificate_digest(header: &Digest, round: Round, author: Author) -> Digest
     ensures { result.0 ≡ certificate_digest_of header.now.0 round author.0 }
 {

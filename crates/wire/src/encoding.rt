@@ -1,13 +1,25 @@
 //! Messages as bytes.
 
 ghost use Rattle.std.specs.Prelude.{◌≡◌, ◌≤◌, ◌+◌, ◌*◌, ◌++◌, ◌∷◌, length, IfOk, OnOk};
-ghost use Rattle.wire.specs.Spelling.{batches_bytes, parents_bytes, header_body, vote_bytes, spelling, length_of};
+ghost use Rattle.wire.specs.Spelling.{batch_reference_bytes, parent_reference_bytes, vote_entry_bytes, batches_bytes, parents_bytes, votes_bytes, header_body, header_body_len, spelling, length_of};
+ghost use Rattle.wire.specs.Fields.{EachIsByte, IsDigest, IsSignature};
+ghost use Rattle.wire.specs.Batches.{IsBatch};
+ghost use Rattle.wire.specs.Grammar.{IsBatchReference, IsParentReference, IsVoteEntry, AreBatches, AreParents, AreVotes, IsAck, IsHeaderBody, IsHeader, IsVote, IsCertificate, IsCoin, IsMessage, Spells};
 
-use crate::header::{Header, Vote};
-use crate::message::Message;
+use crate::batch::Batch;
+use crate::header::{Certificate, Header, HeaderBody, Vote};
+use crate::keys::{Digest, Signature};
+use crate::message::{BatchAck, Coin, Message};
 use crate::numbers::{eight_bytes, two_bytes};
-use crate::references::{BatchReferences, ParentReferences};
+use crate::references::{BatchReference, BatchReferences, ParentReference, ParentReferences};
+use crate::votes::{VoteEntries, VoteEntry};
 use std::alloc::{AllocError, Global};
+
+/// The tag of a batch message.
+pub const BATCH_TAG: u8 = 1;
+
+/// The tag of an acknowledgement.
+pub const ACK_TAG: u8 = 2;
 
 /// The tag of a header message.
 pub const HEADER_TAG: u8 = 3;
@@ -15,74 +27,211 @@ pub const HEADER_TAG: u8 = 3;
 /// The tag of a vote message.
 pub const VOTE_TAG: u8 = 4;
 
+/// The tag of a certificate message.
+pub const CERTIFICATE_TAG: u8 = 5;
+
+/// The tag of a coin message.
+pub const COIN_TAG: u8 = 6;
+
+fn put_bytes(out: &mut Vec<u8>, bytes: &[u8]) -> Result<(), AllocError>
+    ensures bytes { OnOk result (out.new.items ≡ out.old.items ++ bytes.now) }
+    ensures len { OnOk result (length out.new.items ≡ length out.old.items + length bytes.now) }
+    ensures fits { OnOk result (EachIsByte bytes.now) }
+{
+    out.extend_from_slice(bytes)
+}
+
+pub(crate) fn put_digest(out: &mut Vec<u8>, digest: &Digest) -> Result<(), AllocError>
+    ensures bytes { OnOk result (out.new.items ≡ out.old.items ++ digest.now.0) }
+    ensures len { OnOk result (length out.new.items ≡ length out.old.items + 32) }
+    ensures fits { OnOk result (IsDigest digest.now) }
+{
+    put_bytes(out, &digest.0)
+}
+
+fn put_signature(out: &mut Vec<u8>, signature: &Signature) -> Result<(), AllocError>
+    ensures bytes { OnOk result (out.new.items ≡ out.old.items ++ signature.now.0) }
+    ensures len { OnOk result (length out.new.items ≡ length out.old.items + 64) }
+    ensures fits { OnOk result (IsSignature signature.now) }
+{
+    put_bytes(out, &signature.0)
+}
+
+pub(crate) fn put_batch(out: &mut Vec<u8>, batch: &Batch) -> Result<(), AllocError>
+    ensures bytes { OnOk result (out.new.items ≡ out.old.items ++ spelling (Message.Batch batch.now)) }
+    ensures len { OnOk result (length out.new.items ≡ length out.old.items + length_of (Message.Batch batch.now)) }
+    ensures limit { OnOk result (length_of (Message.Batch batch.now) ≤ 500001) }
+    ensures fits { OnOk result (IsBatch batch.now) }
+{
+    out.push(BATCH_TAG)?;
+    out.extend_from_slice(batch.body())
+}
+
+pub(crate) fn put_ack(out: &mut Vec<u8>, ack: &BatchAck) -> Result<(), AllocError>
+    ensures bytes { OnOk result (out.new.items ≡ out.old.items ++ spelling (Message.BatchAck ack.now)) }
+    ensures len { OnOk result (length out.new.items ≡ length out.old.items + 35) }
+    ensures fits { OnOk result (IsAck ack.now) }
+{
+    out.push(ACK_TAG)?;
+    out.extend_from_slice(&two_bytes(ack.author.0))?;
+    put_digest(out, &ack.batch)
+}
+
+fn put_batch_reference(out: &mut Vec<u8>, batch: &BatchReference) -> Result<(), AllocError>
+    ensures bytes { OnOk result (out.new.items ≡ out.old.items ++ batch_reference_bytes batch.now) }
+    ensures len { OnOk result (length out.new.items ≡ length out.old.items + 34) }
+    ensures fits { OnOk result (IsBatchReference batch.now) }
+{
+    put_digest(out, &batch.digest)?;
+    out.extend_from_slice(&two_bytes(batch.worker))
+}
+
 fn put_batches(out: &mut Vec<u8>, batches: &BatchReferences) -> Result<(), AllocError>
     ensures bytes { OnOk result (out.new.items ≡ out.old.items ++ batches_bytes batches.now) }
     ensures len { OnOk result (length out.new.items ≡ length out.old.items + (2 + 34 * length batches.now)) }
+    ensures fits { OnOk result (AreBatches batches.now) }
+    ensures few { OnOk result (length batches.now ≤ 128) }
 {
     let list = batches.as_slice();
     out.extend_from_slice(&two_bytes(list.len() as u16))?;
     for batch in list {
-        out.extend_from_slice(&batch.digest.0)?;
-        out.extend_from_slice(&two_bytes(batch.worker))?;
+        put_batch_reference(out, batch)?;
     }
     Ok(())
+}
+
+fn put_parent_reference(out: &mut Vec<u8>, parent: &ParentReference) -> Result<(), AllocError>
+    ensures bytes { OnOk result (out.new.items ≡ out.old.items ++ parent_reference_bytes parent.now) }
+    ensures len { OnOk result (length out.new.items ≡ length out.old.items + 34) }
+    ensures fits { OnOk result (IsParentReference parent.now) }
+{
+    out.extend_from_slice(&two_bytes(parent.author.0))?;
+    put_digest(out, &parent.certificate)
 }
 
 fn put_parents(out: &mut Vec<u8>, parents: &ParentReferences) -> Result<(), AllocError>
     ensures bytes { OnOk result (out.new.items ≡ out.old.items ++ parents_bytes parents.now) }
     ensures len { OnOk result (length out.new.items ≡ length out.old.items + (2 + 34 * length parents.now)) }
+    ensures fits { OnOk result (AreParents parents.now) }
+    ensures few { OnOk result (length parents.now ≤ 31) }
 {
     let list = parents.as_slice();
     out.extend_from_slice(&two_bytes(list.len() as u16))?;
     for parent in list {
-        out.extend_from_slice(&two_bytes(parent.author.0))?;
-        out.extend_from_slice(&parent.certificate.0)?;
+        put_parent_reference(out, parent)?;
     }
     Ok(())
 }
 
-fn put_header_body(out: &mut Vec<u8>, header: &Header) -> Result<(), AllocError>
+fn put_vote_entry(out: &mut Vec<u8>, entry: &VoteEntry) -> Result<(), AllocError>
+    ensures bytes { OnOk result (out.new.items ≡ out.old.items ++ vote_entry_bytes entry.now) }
+    ensures len { OnOk result (length out.new.items ≡ length out.old.items + 66) }
+    ensures fits { OnOk result (IsVoteEntry entry.now) }
+{
+    out.extend_from_slice(&two_bytes(entry.voter.0))?;
+    put_signature(out, &entry.signature)
+}
+
+fn put_votes(out: &mut Vec<u8>, votes: &VoteEntries) -> Result<(), AllocError>
+    ensures bytes { OnOk result (out.new.items ≡ out.old.items ++ votes_bytes votes.now) }
+    ensures len { OnOk result (length out.new.items ≡ length out.old.items + (2 + 66 * length votes.now)) }
+    ensures few { OnOk result (length votes.now ≤ 31) }
+    ensures fits { OnOk result (AreVotes votes.now) }
+{
+    let list = votes.as_slice();
+    out.extend_from_slice(&two_bytes(list.len() as u16))?;
+    for vote in list {
+        put_vote_entry(out, vote)?;
+    }
+    Ok(())
+}
+
+fn put_header_body(out: &mut Vec<u8>, header: &HeaderBody) -> Result<(), AllocError>
     ensures bytes { OnOk result (out.new.items ≡ out.old.items ++ header_body header.now) }
-    ensures len { OnOk result (length out.new.items ≡ length out.old.items + (14 + 34 * (length header.now.batches + length header.now.parents))) }
-    ensures few { OnOk result (length header.now.batches + length header.now.parents ≤ 159) }
+    ensures len { OnOk result (length out.new.items ≡ length out.old.items + header_body_len header.now) }
+    ensures few { OnOk result (header_body_len header.now ≤ 5420) }
+    ensures fits { OnOk result (IsHeaderBody header.now) }
 {
     out.extend_from_slice(&two_bytes(header.author.0))?;
     out.extend_from_slice(&eight_bytes(header.round.number()))?;
     put_batches(out, &header.batches)?;
     put_parents(out, &header.parents)?;
-    let (_batches, _parents) = (header.batches.len(), header.parents.len());
     Ok(())
 }
 
-fn put_vote(out: &mut Vec<u8>, vote: &Vote) -> Result<(), AllocError>
-    ensures bytes { OnOk result (out.new.items ≡ out.old.items ++ vote_bytes vote.now) }
-    ensures len { OnOk result (length out.new.items ≡ length out.old.items + 108) }
+pub(crate) fn put_header(out: &mut Vec<u8>, header: &Header) -> Result<(), AllocError>
+    ensures bytes { OnOk result (out.new.items ≡ out.old.items ++ spelling (Message.Header header.now)) }
+    ensures len { OnOk result (length out.new.items ≡ length out.old.items + length_of (Message.Header header.now)) }
+    ensures limit { OnOk result (length_of (Message.Header header.now) ≤ 5485) }
+    ensures fits { OnOk result (IsHeader header.now) }
 {
-    out.extend_from_slice(&vote.header.0)?;
+    out.push(HEADER_TAG)?;
+    put_header_body(out, &header.body)?;
+    put_signature(out, &header.signature)
+}
+
+pub(crate) fn put_vote(out: &mut Vec<u8>, vote: &Vote) -> Result<(), AllocError>
+    ensures bytes { OnOk result (out.new.items ≡ out.old.items ++ spelling (Message.Vote vote.now)) }
+    ensures len { OnOk result (length out.new.items ≡ length out.old.items + 109) }
+    ensures fits { OnOk result (IsVote vote.now) }
+{
+    out.push(VOTE_TAG)?;
+    put_digest(out, &vote.header)?;
     out.extend_from_slice(&eight_bytes(vote.round.number()))?;
     out.extend_from_slice(&two_bytes(vote.author.0))?;
     out.extend_from_slice(&two_bytes(vote.voter.0))?;
-    out.extend_from_slice(&vote.signature.0)
+    put_signature(out, &vote.signature)
 }
 
-/// The one spelling of a message.
+pub(crate) fn put_certificate(
+    out: &mut Vec<u8>,
+    certificate: &Certificate,
+) -> Result<(), AllocError>
+    ensures bytes { OnOk result (out.new.items ≡ out.old.items ++ spelling (Message.Certificate certificate.now)) }
+    ensures len { OnOk result (length out.new.items ≡ length out.old.items + length_of (Message.Certificate certificate.now)) }
+    ensures limit { OnOk result (length_of (Message.Certificate certificate.now) ≤ 7469) }
+    ensures fits { OnOk result (IsCertificate certificate.now) }
+{
+    out.push(CERTIFICATE_TAG)?;
+    put_header_body(out, &certificate.header)?;
+    put_votes(out, &certificate.votes)
+}
+
+fn put_coin(out: &mut Vec<u8>, coin: &Coin) -> Result<(), AllocError>
+    ensures bytes { OnOk result (out.new.items ≡ out.old.items ++ spelling (Message.Coin coin.now)) }
+    ensures len { OnOk result (length out.new.items ≡ length out.old.items + 17) }
+    ensures fits { OnOk result (IsCoin coin.now) }
+{
+    out.push(COIN_TAG)?;
+    out.extend_from_slice(&eight_bytes(coin.wave.number()))?;
+    out.extend_from_slice(&eight_bytes(coin.value))
+}
+
+// Puts the spelling of a message.
+fn put_message(out: &mut Vec<u8>, message: &Message) -> Result<(), AllocError>
+    ensures bytes { OnOk result (out.new.items ≡ out.old.items ++ spelling message.now) }
+    ensures len { OnOk result (length out.new.items ≡ length out.old.items + length_of message.now) }
+    ensures limit { OnOk result (length_of message.now ≤ 500001) }
+    ensures fits { OnOk result (IsMessage message.now) }
+{
+    match message {
+        Message::Batch(batch) => put_batch(out, batch),
+        Message::BatchAck(ack) => put_ack(out, ack),
+        Message::Header(header) => put_header(out, header),
+        Message::Vote(vote) => put_vote(out, vote),
+        Message::Certificate(certificate) => put_certificate(out, certificate),
+        Message::Coin(coin) => put_coin(out, coin),
+    }
+}
+
+/// The one spelling of a message. `AllocError` where a growth was refused.
 pub fn encode(alloc: Global, message: &Message) -> Result<Vec<u8>, AllocError>
-    ensures spelling { IfOk result (λ bytes. bytes.items ≡ spelling message.now) }
+    ensures spelling { IfOk result (λ bytes. Spells message.now bytes.items) }
     ensures len { IfOk result (λ bytes. length bytes.items ≡ length_of message.now) }
-    // It fits a frame.
-    ensures limit { IfOk result (λ bytes. length bytes.items ≤ 524288) }
+    // So it fits a frame, with a sender before it.
+    ensures limit { IfOk result (λ bytes. length bytes.items ≤ 500001) }
 {
     let mut out = Vec::new(alloc);
-    match message {
-        Message::Header(header) => {
-            out.push(HEADER_TAG)?;
-            put_header_body(&mut out, header)?;
-            out.extend_from_slice(&header.signature.0)?;
-        }
-        Message::Vote(vote) => {
-            out.push(VOTE_TAG)?;
-            put_vote(&mut out, vote)?;
-        }
-    }
+    put_message(&mut out, message)?;
     Ok(out)
 }

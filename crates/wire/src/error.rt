@@ -24,7 +24,7 @@ pub enum WireError {
     /// A list doesn't rise strictly.
     #[error("5 NotCanonical")]
     NotCanonical,
-    /// A count or a length is above its limit.
+    /// A count, a length, or the sum of a batch's lengths is above its limit.
     #[error("6 TooMany")]
     TooMany,
     /// A round or a wave is out of its range.

@@ -1,17 +1,32 @@
-//! Headers, and the votes on them.
+//! Headers, the votes on them, and their certificates.
+
+ghost use Rattle.std.specs.Prelude.{◌≡◌, []};
 
 use crate::keys::{Author, Digest, Signature};
 use crate::references::{BatchReferences, ParentReferences};
 use crate::round::Round;
+use crate::votes::VoteEntries;
+use std::alloc::Global;
 
-/// What an author proposes in a round: batches to order, on top of certificates of the round before. The
-/// author signs the header digest.
+/// What an author proposes in a round: batches to order, on top of certificates of the round before.
+#[derive(Debug, Drop)]
+pub struct HeaderBody {
+    /// Who proposes.
+    pub author: Author,
+    /// The round that it is for.
+    pub round: Round,
+    /// The batches to order.
+    pub batches: BatchReferences,
+    /// The certificates of the round before.
+    pub parents: ParentReferences,
+}
+
+/// A proposal with its author's signature of the header digest.
 #[derive(Debug, Drop)]
 pub struct Header {
-    pub author: Author,
-    pub round: Round,
-    pub batches: BatchReferences,
-    pub parents: ParentReferences,
+    /// What is proposed.
+    pub body: HeaderBody,
+    /// The author's signature of the header digest.
     pub signature: Signature,
 }
 
@@ -20,9 +35,42 @@ pub struct Header {
 pub struct Vote {
     /// The header's digest.
     pub header: Digest,
+    /// The header's round.
     pub round: Round,
     /// The header's author.
     pub author: Author,
+    /// Who votes.
     pub voter: Author,
+    /// The voter's signature of the certificate digest.
     pub signature: Signature,
+}
+
+/// A header with the votes that make it part of the ledger. Its digest doesn't depend on the votes.
+#[derive(Debug, Drop)]
+pub struct Certificate {
+    /// The header, without its signature.
+    pub header: HeaderBody,
+    /// The votes on it.
+    pub votes: VoteEntries,
+}
+
+impl Certificate {
+    /// The genesis certificate of an author: round 0, no batches, no parents, no votes.
+    pub fn genesis(alloc: Global, author: Author) -> Certificate
+        ensures author { result.header.author ≡ author }
+        ensures round { result.header.round ≡ 0 }
+        ensures batches { result.header.batches ≡ [] }
+        ensures parents { result.header.parents ≡ [] }
+        ensures votes { result.votes ≡ [] }
+    {
+        Certificate {
+            header: HeaderBody {
+                author,
+                round: Round::genesis(),
+                batches: BatchReferences::new(alloc),
+                parents: ParentReferences::new(alloc),
+            },
+            votes: VoteEntries::new(alloc),
+        }
+    }
 }

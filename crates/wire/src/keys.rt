@@ -1,6 +1,6 @@
 //! Names of fixed size: members, digests, keys and signatures.
 
-/// A member of the committee, by its number.
+/// A member of the committee, by its number from 0 on. On the wire it may have any value of two bytes.
 #[derive(Clone, Copy, Debug, PartialEq, Eq, PartialOrd, Ord, Hash)]
 pub struct Author(pub u16);
 

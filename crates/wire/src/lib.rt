@@ -2,28 +2,37 @@
 //! one spelling in bytes, and the digests.
 #![tactic(auto)]
 
+mod batch;
 mod digests;
 mod encoding;
 mod error;
 mod header;
 mod keys;
+mod limits;
 mod message;
 pub mod numbers;
 mod output;
+mod output_bytes;
 mod references;
 mod round;
+mod votes;
 
-pub use digests::{certificate_digest, genesis_digest, header_digest};
-pub use encoding::{HEADER_TAG, VOTE_TAG, encode};
+pub use batch::{Batch, OpenBatch};
+pub use digests::{batch_digest, certificate_digest, genesis_digest, header_digest};
+pub use encoding::{ACK_TAG, BATCH_TAG, CERTIFICATE_TAG, COIN_TAG, HEADER_TAG, VOTE_TAG, encode};
 pub use error::WireError;
-pub use header::{Header, Vote};
+pub use header::{Certificate, Header, HeaderBody, Vote};
 pub use keys::{Author, Digest, Key, Signature};
-pub use message::Message;
-pub use output::Output;
-pub use references::{
-    BatchReference, BatchReferences, MAX_BATCHES, MAX_PARENTS, ParentReference, ParentReferences,
+pub use limits::{
+    MAX_BATCH_BYTES, MAX_BATCHES, MAX_FRAME_BYTES, MAX_ORDER_DIGESTS, MAX_PARENTS,
+    MAX_TRANSACTION_BYTES, MAX_TRANSACTIONS, MAX_VOTES,
 };
-pub use round::Round;
+pub use message::{BatchAck, Coin, Message};
+pub use output::{OrderDigests, Output};
+pub use output_bytes::{HOST, ORDER_TAG, TO_ALL, encode_output};
+pub use references::{BatchReference, BatchReferences, ParentReference, ParentReferences};
+pub use round::{Round, Wave};
+pub use votes::{VoteEntries, VoteEntry};
 
 #[cfg(test)]
 mod tests;

@@ -1,10 +1,96 @@
 //! What a validator gives out.
 
-use crate::header::Vote;
+ghost use Rattle.std.specs.Prelude.{◌≡◌, ◌<◌, ◌≤◌, ◌++◌, [], ◌∷◌, List, length, IsTrue, ◌↔◌, OnOk, OnErr};
+
+use crate::batch::Batch;
+use crate::header::{Certificate, Header, Vote};
+use crate::keys::{Author, Digest};
+use crate::limits::MAX_ORDER_DIGESTS;
+use crate::message::BatchAck;
+use std::alloc::{AllocError, Global};
+use std::marker::Model;
 
 /// Something that a validator gives out.
-#[derive(Clone, Copy, Debug, PartialEq, Eq)]
+#[derive(Debug, Drop)]
 pub enum Output {
-    /// A vote, to the author of the header.
+    /// An own batch, to all.
+    Batch(Batch),
+    /// That a batch is held, to the batch's author.
+    Ack { to: Author, ack: BatchAck },
+    /// An own header, to all.
+    Header(Header),
+    /// A vote, to the header's author.
     Vote(Vote),
+    /// An own certificate, to all.
+    Certificate(Certificate),
+    /// The certificates that the order has from the place `start` on, to the host.
+    Order { start: u64, digests: OrderDigests },
+}
+
+/// Certificate digests in their order, at most `MAX_ORDER_DIGESTS`.
+#[derive(Debug, Drop)]
+pub struct OrderDigests {
+    list: Vec<Digest>,
+}
+
+impl Model for OrderDigests {
+    ghost use Rattle.std.specs.Prelude.{List, length, ◌≤◌};
+    ghost use Rattle.wire.specs.declared.keys.Digest.{Digest};
+
+    ghost Value = { List Digest };
+
+    ghost view = { λ d. d.list.items };
+
+    ghost invariant = { λ d. length d.list.items ≤ 16000 };
+}
+
+impl OrderDigests {
+    /// No digests.
+    pub fn new(alloc: Global) -> OrderDigests
+        ensures { result ≡ [] }
+    {
+        OrderDigests {
+            list: Vec::new(alloc),
+        }
+    }
+
+    /// How many there are.
+    pub fn len(&self) -> usize
+        ensures value { result ≡ length self.now }
+        ensures limit { result ≤ 16000 }
+    {
+        self.list.len()
+    }
+
+    /// Whether there is none.
+    pub fn is_empty(&self) -> bool
+        ensures { IsTrue result ↔ (self.now ≡ []) }
+    {
+        self.list.is_empty()
+    }
+
+    /// Whether one more digest may be added: there are fewer than `MAX_ORDER_DIGESTS`.
+    pub fn has_room(&self) -> bool
+        ensures { IsTrue result ↔ (length self.now < 16000) }
+    {
+        self.list.len() < MAX_ORDER_DIGESTS
+    }
+
+    /// Adds a digest at the end, where `has_room` says that it may. `AllocError` where a growth was refused.
+    pub fn push(&mut self, digest: Digest) -> Result<(), AllocError>
+        requires { length self.old < 16000 }
+        ensures ok { OnOk result (self.new ≡ self.old ++ digest ∷ []) }
+        ensures err { OnErr result (self.new ≡ self.old) }
+    {
+        self.list.push(digest)?;
+        Ok(())
+    }
+
+    /// The digests, in their order.
+    pub fn as_slice(&self) -> &[Digest]
+        ensures value { result.now ≡ self.now }
+        ensures limit { length self.now ≤ 16000 }
+    {
+        &self.list
+    }
 }

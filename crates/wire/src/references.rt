@@ -1,30 +1,27 @@
 //! What a header refers to: batches, and certificates of the round before.
 
-ghost use Rattle.std.specs.Prelude.{◌≡◌, ◌<◌, ◌≤◌, ◌++◌, [], ◌∷◌, List, length, IsTrue, ◌↔◌, MatchResult, OnOk, OnErr, IfOk};
+ghost use Rattle.std.specs.Prelude.{◌≡◌, ◌<◌, ◌≤◌, ◌++◌, [], ◌∷◌, List, length, IsTrue, ◌↔◌, OnOk, OnErr};
 ghost use Rattle.wire.specs.References.{batch_follows, parent_follows, batches_rise, parents_rise};
 
-use crate::error::WireError;
 use crate::keys::{Author, Digest};
 use std::alloc::{AllocError, Global};
 use std::marker::Model;
 
-/// Batches that a header may name, at most.
-pub const MAX_BATCHES: usize = 128;
-
-/// Parents that a header may name, at most: one of each member of the largest committee.
-pub const MAX_PARENTS: usize = 31;
-
 /// A batch that a header names: its digest, and the worker that holds it.
 #[derive(Clone, Copy, Debug, PartialEq, Eq)]
 pub struct BatchReference {
+    /// The batch's digest.
     pub digest: Digest,
+    /// The worker that holds it: below the committee's number of workers.
     pub worker: u16,
 }
 
 /// A certificate of the round before that a header names: its author, and its digest.
 #[derive(Clone, Copy, Debug, PartialEq, Eq)]
 pub struct ParentReference {
+    /// The certificate's author.
     pub author: Author,
+    /// The certificate's digest.
     pub certificate: Digest,
 }
 
@@ -81,7 +78,8 @@ impl BatchReferences {
         }
     }
 
-    /// Adds a batch at the end.
+    /// Adds a batch at the end, where there is room and `may_follow` says that it may. `AllocError` where a growth
+    /// was refused.
     pub fn push(&mut self, batch: BatchReference) -> Result<(), AllocError>
         requires room { length self.old < 128 }
         requires follows { IsTrue (batch_follows self.old batch.digest) }
@@ -155,7 +153,8 @@ impl ParentReferences {
         }
     }
 
-    /// Adds a parent at the end.
+    /// Adds a parent at the end, where there is room and `may_follow` says that it may. `AllocError` where a growth
+    /// was refused.
     pub fn push(&mut self, parent: ParentReference) -> Result<(), AllocError>
         requires room { length self.old < 31 }
         requires follows { IsTrue (parent_follows self.old parent.author) }

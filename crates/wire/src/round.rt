@@ -1,6 +1,6 @@
-//! Rounds.
+//! Rounds, and waves.
 
-ghost use Rattle.std.specs.Prelude.{◌≡◌, ◌<◌, ◌≤◌, ◌^◌, ◌↔◌, MatchResult, IfOk, IsErrOf};
+ghost use Rattle.std.specs.Prelude.{◌≡◌, ◌<◌, ◌≤◌, ◌^◌, ◌↔◌, ◌⊎◌, MatchResult, IfOk, IsErrOf};
 
 use crate::error::WireError;
 use std::marker::Model;
@@ -50,6 +50,50 @@ impl Round {
     pub fn number(self) -> u64
         ensures value { result ≡ self }
         ensures limit { result ≤ 2 ^ 48 }
+    {
+        self.number
+    }
+}
+
+/// A wave of three rounds, `2w - 1` to `2w + 1`: from 1 to `Wave::MAX`.
+#[derive(Clone, Copy, Debug, PartialEq, Eq, PartialOrd, Ord, Hash)]
+pub struct Wave {
+    number: u64,
+}
+
+impl Model for Wave {
+    ghost use Rattle.std.specs.Prelude.{ℕ, ◌<◌, ◌^◌};
+
+    ghost Value = { ℕ };
+
+    ghost view = { λ w. w.number };
+
+    ghost invariant = { λ w. (0 < w.number) × (w.number < 2 ^ 47) };
+
+    ghost inverse = { λ n. record { number = n } };
+}
+
+impl Wave {
+    /// The greatest wave: its last round is the greatest odd one.
+    pub const MAX: u64 = (1 << 47) - 1;
+
+    /// The wave of this number, or `BadRound` for 0 and above `Wave::MAX`.
+    pub fn new(number: u64) -> Result<Wave, WireError>
+        ensures ok { IfOk result (λ wave. wave ≡ number) }
+        ensures bad_round { IsErrOf result WireError.BadRound ↔ ((number ≡ 0) ⊎ (2 ^ 47 ≤ number)) }
+        ensures no_other { MatchResult result (λ _. (0 < number) × (number < 2 ^ 47)) (λ e. e ≡ WireError.BadRound) }
+    {
+        if number == 0 || number > Wave::MAX {
+            return Err(WireError::BadRound);
+        }
+        Ok(Wave { number })
+    }
+
+    /// Its number.
+    pub fn number(self) -> u64
+        ensures value { result ≡ self }
+        ensures least { 0 < result }
+        ensures limit { result < 2 ^ 47 }
     {
         self.number
     }

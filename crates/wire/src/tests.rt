@@ -1,6 +1,7 @@
-//! Values from outside: digests and spellings that another program computed.
+//! Values from outside: digests and spellings that another program computed, and each limit.
 
 use super::*;
+use sha2::{Digest as Hasher, Sha256};
 use std::alloc::Global;
 use std::test::Fail;
 
@@ -38,10 +39,12 @@ fn first_header(alloc: Global) -> Result<Header, Fail> {
         }
     }
     Ok(Header {
-        author: Author(1),
-        round: Round::new(1)?,
-        batches: BatchReferences::new(alloc),
-        parents,
+        body: HeaderBody {
+            author: Author(1),
+            round: Round::new(1)?,
+            batches: BatchReferences::new(alloc),
+            parents,
+        },
         signature: Signature([0; 64]),
     })
 }
@@ -59,10 +62,11 @@ fn genesis_digests(rt: HostRuntime) -> Result<(), Fail> {
 #[test]
 fn a_header_has_181_bytes_and_its_digests(rt: HostRuntime) -> Result<(), Fail> {
     let header = first_header(rt.alloc())?;
-    let digest = header_digest(&header);
+    let body = &header.body;
+    let digest = header_digest(body);
     let text = hex(rt.alloc(), &digest.0)?;
     assert_eq!(rt; text.as_str(), HEADER_DIGEST);
-    let certificate = certificate_digest(&digest, header.round, header.author);
+    let certificate = certificate_digest(&digest, body.round, body.author);
     let text = hex(rt.alloc(), &certificate.0)?;
     assert_eq!(rt; text.as_str(), CERTIFICATE_DIGEST);
     let bytes = encode(rt.alloc(), &Message::Header(header))?;
@@ -88,16 +92,201 @@ fn a_vote_has_109_bytes(rt: HostRuntime) -> Result<(), Fail> {
     Ok(())
 }
 
+fn pushed(batch: &mut OpenBatch, transaction: &[u8]) -> Result<bool, Fail> {
+    if transaction.len() > MAX_TRANSACTION_BYTES || !batch.has_room(transaction.len()) {
+        return Ok(false);
+    }
+    batch.push(transaction)?;
+    Ok(true)
+}
+
+fn small_batch(alloc: Global) -> Result<Batch, Fail> {
+    let mut open = OpenBatch::new(alloc, Author(0), 0)?;
+    pushed(&mut open, b"ab")?;
+    Ok(open.close()?)
+}
+
+fn first_certificate(alloc: Global) -> Result<Certificate, Fail> {
+    let mut votes = VoteEntries::new(alloc);
+    for member in 0..3 {
+        let voter = Author(member);
+        if votes.len() < MAX_VOTES && votes.may_follow(voter) {
+            let signature = Signature([0; 64]);
+            votes.push(VoteEntry { voter, signature })?;
+        }
+    }
+    Ok(Certificate {
+        header: first_header(alloc)?.body,
+        votes,
+    })
+}
+
+const COIN: &str = "0600000000000000010000000000000007";
+
+const ACK: &str = "0200020707070707070707070707070707070707070707070707070707070707070707";
+
+const ACK_OUTPUT: &str =
+    "00010200020707070707070707070707070707070707070707070707070707070707070707";
+
+const ORDER_OUTPUT: &str =
+    "fffe0700000000000000030000000207070707070707070707070707070707070707070707070707070707070707070808080808080808080808080808080808080808080808080808080808080808";
+
+const BATCH: &str = "010000000000000001000000026162";
+
+const BATCH_DIGEST: &str = "3fdc652e3ebef0ddca6870974ecf1400fd6050691daa18698886f1b88ec42e77";
+
+fn ack() -> BatchAck {
+    BatchAck {
+        author: Author(2),
+        batch: Digest([7; 32]),
+    }
+}
+
+#[test]
+fn the_hash_is_sha_256(rt: HostRuntime) -> Result<(), Fail> {
+    let text = hex(rt.alloc(), &Sha256::digest(b"abc"))?;
+    assert_eq!(rt;
+        text.as_str(),
+        "ba7816bf8f01cfea414140de5dae2223b00361a396177a9cb410ff61f20015ad"
+    );
+    Ok(())
+}
+
+#[test]
+fn a_batch_has_its_bytes_and_its_digest(rt: HostRuntime) -> Result<(), Fail> {
+    let batch = small_batch(rt.alloc())?;
+    assert_eq!(rt; batch.author().0, 0);
+    assert_eq!(rt; batch.worker(), 0);
+    assert_eq!(rt; batch.len(), 1);
+    let text = hex(rt.alloc(), &batch_digest(&batch.share()?).0)?;
+    assert_eq!(rt; text.as_str(), BATCH_DIGEST);
+    let text = hex(rt.alloc(), &encode(rt.alloc(), &Message::Batch(batch))?)?;
+    assert_eq!(rt; text.as_str(), BATCH);
+    Ok(())
+}
+
+#[test]
+fn small_messages_have_their_bytes(rt: HostRuntime) -> Result<(), Fail> {
+    let text = hex(rt.alloc(), &encode(rt.alloc(), &Message::BatchAck(ack()))?)?;
+    assert_eq!(rt; text.as_str(), ACK);
+    let wave = Wave::new(1)?;
+    let coin = Message::Coin(Coin { wave, value: 7 });
+    let text = hex(rt.alloc(), &encode(rt.alloc(), &coin)?)?;
+    assert_eq!(rt; text.as_str(), COIN);
+    Ok(())
+}
+
+#[test]
+fn certificates_have_their_lengths(rt: HostRuntime) -> Result<(), Fail> {
+    let certificate = first_certificate(rt.alloc())?;
+    assert!(rt; !certificate.votes.is_empty());
+    assert!(rt; !certificate.votes.may_follow(Author(2)));
+    let bytes = encode(rt.alloc(), &Message::Certificate(certificate))?;
+    assert_eq!(rt; bytes.len(), 317);
+    let genesis = Certificate::genesis(rt.alloc(), Author(3));
+    let body = &genesis.header;
+    let digest = certificate_digest(&header_digest(body), body.round, body.author);
+    let text = hex(rt.alloc(), &digest.0)?;
+    assert_eq!(rt; text.as_str(), GENESIS[3]);
+    let bytes = encode(rt.alloc(), &Message::Certificate(genesis))?;
+    let text = hex(rt.alloc(), &bytes)?;
+    assert_eq!(rt; text.as_str(), "0500030000000000000000000000000000");
+    Ok(())
+}
+
+#[test]
+fn outputs_have_a_receiver(rt: HostRuntime) -> Result<(), Fail> {
+    let mut digests = OrderDigests::new(rt.alloc());
+    assert!(rt; digests.is_empty());
+    for byte in [7, 8] {
+        if digests.has_room() {
+            digests.push(Digest([byte; 32]))?;
+        }
+    }
+    let vote = Vote {
+        header: Digest([7; 32]),
+        round: Round::new(1)?,
+        author: Author(3),
+        voter: Author(0),
+        signature: Signature([0; 64]),
+    };
+    let cases = [
+        (Output::Batch(small_batch(rt.alloc())?), "ffff0100", 17),
+        (Output::Header(first_header(rt.alloc())?), "ffff0300", 183),
+        (Output::Vote(vote), "00030407", 111),
+        (
+            Output::Certificate(first_certificate(rt.alloc())?),
+            "ffff0500",
+            319,
+        ),
+    ];
+    for (output, front, len) in &cases {
+        let bytes = encode_output(rt.alloc(), output)?;
+        assert_eq!(rt; bytes.len(), *len);
+        let text = hex(rt.alloc(), &bytes[..4])?;
+        assert_eq!(rt; text.as_str(), *front);
+    }
+    let to = Author(1);
+    let text = hex(
+        rt.alloc(),
+        &encode_output(rt.alloc(), &Output::Ack { to, ack: ack() })?,
+    )?;
+    assert_eq!(rt; text.as_str(), ACK_OUTPUT);
+    let order = Output::Order { start: 3, digests };
+    let text = hex(rt.alloc(), &encode_output(rt.alloc(), &order)?)?;
+    assert_eq!(rt; text.as_str(), ORDER_OUTPUT);
+    Ok(())
+}
+
+#[test]
+fn pieces_of_the_order_have_a_limit(rt: HostRuntime) -> Result<(), Fail> {
+    let mut digests = OrderDigests::new(rt.alloc());
+    for _ in 0..16_001 {
+        if digests.has_room() {
+            digests.push(Digest([7; 32]))?;
+        }
+    }
+    assert_eq!(rt; digests.len(), 16_000);
+    let bytes = encode_output(rt.alloc(), &Output::Order { start: 0, digests })?;
+    assert_eq!(rt; bytes.len(), 512_015);
+    Ok(())
+}
+
+#[test]
+fn batches_have_limits(rt: HostRuntime) -> Result<(), Fail> {
+    let mut open = OpenBatch::new(rt.alloc(), Author(0), 0)?;
+    assert!(rt; open.is_empty());
+    let mut zeros = Vec::new(rt.alloc());
+    zeros.resize(65_536, 0)?;
+    for _ in 0..7 {
+        let taken = pushed(&mut open, &zeros)?;
+        assert!(rt; taken);
+    }
+    assert!(rt; !open.is_empty());
+    // The body has 458,788 bytes now.
+    assert!(rt; !open.has_room(65_536));
+    assert!(rt; !open.has_room(41_209));
+    zeros.truncate(41_208);
+    let taken = pushed(&mut open, &zeros)?;
+    assert!(rt; taken);
+    assert!(rt; !open.has_room(0));
+    assert_eq!(rt; open.close()?.body().len(), 500_000);
+    Ok(())
+}
+
 #[test]
 fn limits_and_order(rt: HostRuntime) -> Result<(), Fail> {
     assert_eq!(rt; Round::new(1 << 48)?.number(), 281_474_976_710_656);
     assert_eq!(rt; Round::new((1 << 48) + 1), Err(WireError::BadRound));
+    assert_eq!(rt; Wave::new((1 << 47) - 1)?.number(), 140_737_488_355_327);
+    assert_eq!(rt; Wave::new(1 << 47), Err(WireError::BadRound));
+    assert_eq!(rt; Wave::new(0), Err(WireError::BadRound));
     let header = first_header(rt.alloc())?;
-    assert!(rt; header.parents.may_follow(Author(3)));
-    assert!(rt; !header.parents.may_follow(Author(2)));
-    assert!(rt; !header.parents.is_empty());
-    assert_eq!(rt; header.batches.len(), 0);
-    let mut batches = header.batches;
+    assert!(rt; header.body.parents.may_follow(Author(3)));
+    assert!(rt; !header.body.parents.may_follow(Author(2)));
+    assert!(rt; !header.body.parents.is_empty());
+    assert_eq!(rt; header.body.batches.len(), 0);
+    let mut batches = BatchReferences::new(rt.alloc());
     let batch = BatchReference {
         digest: Digest([1; 32]),
         worker: 0,

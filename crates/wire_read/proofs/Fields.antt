@@ -1,16 +1,19 @@
 -- A field that is read is the field that is spelled, and what is spelled is read again, whatever follows.
 use Rattle.std.proofs.Common.{◌≡◌, ℕ, ◌^◌, ◌<◌, ◌≤◌, false, cond, ltb, List, ◌++◌, length, take, drop, Ok, Err, refl, sym, ap, subst, arith}
-use Rattle.std.specs.Int.{Width, w16, w64, byte_len, from_be_bytes, to_be_bytes}
-use Rattle.std.proofs.lemmas.Bool.{ltb-false, le-ltb}
+use Rattle.std.specs.Int.{Width, w16, w32, w64, byte_len, from_be_bytes, to_be_bytes}
+use Rattle.std.specs.Prelude.{◌&&◌}
+use Rattle.std.specs.Cmp.Derive.{both_true}
+use Rattle.std.proofs.lemmas.Bool.{ltb-false, ltb-true, le-ltb, lt-ltb}
+use Rattle.wire.proofs.RisingLemmas.{both-are}
 use Rattle.std.proofs.lemmas.List.{take_at, drop_at, take-append-drop, length-append, length-take}
-use Rattle.std.proofs.lemmas.Nat.{be_bytes_2, be_bytes_8, from_be_bytes-to_be_bytes_2, from_be_bytes-to_be_bytes_8}
+use Rattle.std.proofs.lemmas.Nat.{be_bytes_2, be_bytes_4, be_bytes_8, from_be_bytes-to_be_bytes_2, from_be_bytes-to_be_bytes_4, from_be_bytes-to_be_bytes_8}
 use Rattle.wire.specs.declared.error.WireError.TheVariants.{Short, TooMany, BadRound}
 use Rattle.wire.specs.declared.keys.Author.{Author}
 use Rattle.wire.specs.declared.keys.Digest.{Digest}
 use Rattle.wire.specs.declared.keys.Signature.{Signature}
-use Rattle.wire.specs.Grammar.{AreBytes, IsAuthor, IsDigest, IsSignature, IsRound}
-use Rattle.wire.specs.Reading.{number_at, bytes_at, author_at, digest_at, signature_at, round_at, count_at}
-use Rattle.wire_read.proofs.Steps.{bind_ok, guard_ok, ok_is, IsBytes, IsBytes-drop, IsBytes-take, are_bytes, Takes}
+use Rattle.wire.specs.Fields.{AreBytes, IsAuthor, IsDigest, IsSignature, IsRound, IsWave}
+use Rattle.wire.specs.Reading.{number_at, bytes_at, author_at, digest_at, signature_at, round_at, wave_at, count_at}
+use Rattle.wire_read.proofs.Steps.{bind_ok, guard_ok, held_ok, ok_is, IsBytes, IsBytes-drop, IsBytes-take, are_bytes, Takes}
 
 -- ---- numbers
 
@@ -26,6 +29,14 @@ wide16 = record {
   back = λ bytes len fits. be_bytes_2 bytes _ len fits refl;
   again = λ n lt. from_be_bytes-to_be_bytes_2 n lt;
   below = λ bytes fits. omega (arith, fits 0, fits 1);
+}
+
+pub wide32 : IsWide w32 (2 ^ 32)
+wide32 = record {
+  len = λ n. refl;
+  back = λ bytes len fits. be_bytes_4 bytes _ len fits refl;
+  again = λ n lt. from_be_bytes-to_be_bytes_4 n lt;
+  below = λ bytes fits. omega (arith, fits 0, fits 1, fits 2, fits 3);
 }
 
 pub wide64 : IsWide w64 (2 ^ 64)
@@ -120,17 +131,32 @@ round_again round rest is =
     let within : ltb (2 ^ 48) round ≡ false = le-ltb _ _ is in
     rw (number_again w64 (2 ^ 64) wide64 round rest (omega arith), within) refl
 
-pub count_takes : (limit : ℕ) (bytes : List ℕ) (x : ℕ × List ℕ) → IsBytes bytes → count_at limit bytes ≡ Ok x → Takes bytes (to_be_bytes w16 x.0) x.1 × (x.0 ≤ limit)
+pub wave_takes : (bytes : List ℕ) (x : ℕ × List ℕ) → IsBytes bytes → wave_at bytes ≡ Ok x → Takes bytes (to_be_bytes w64 x.0) x.1 × IsWave x.0
+unfolding wave_at
+wave_takes bytes x fits e =
+    let a = bind_ok (number_at w64 bytes) (λ n. cond (ltb 0 n.0 && ltb n.0 (2 ^ 47)) (Ok n) (Err BadRound)) x e in
+    let t = number_takes w64 (2 ^ 64) wide64 bytes a.0.0 a.0.1 fits a.1 in
+    let g = held_ok (ltb 0 a.0.0 && ltb a.0.0 (2 ^ 47)) BadRound (Ok a.0) x a.2 in
+    let both = both-are (ltb 0 a.0.0) (ltb a.0.0 (2 ^ 47)) g.0 in
+    subst (λ (y : ℕ × List ℕ). Takes bytes (to_be_bytes w64 y.0) y.1 × IsWave y.0) (ok_is a.0 x g.1) (t.0, record { least = ltb-true _ _ both.0; limit = ltb-true _ _ both.1 })
+
+pub wave_again : (wave : ℕ) (rest : List ℕ) → IsWave wave → wave_at (to_be_bytes w64 wave ++ rest) ≡ Ok (wave, rest)
+unfolding wave_at
+wave_again wave rest is =
+    let within = both_true (lt-ltb _ _ is.least) (lt-ltb _ _ is.limit) in
+    rw (number_again w64 (2 ^ 64) wide64 wave rest (omega (arith, is.limit)), within) refl
+
+pub count_takes : (w : Width) (top : ℕ) (wide : IsWide w top) (limit : ℕ) (bytes : List ℕ) (x : ℕ × List ℕ) → IsBytes bytes → count_at w limit bytes ≡ Ok x → Takes bytes (to_be_bytes w x.0) x.1 × (x.0 ≤ limit)
 unfolding count_at
-count_takes limit bytes x fits e =
-    let a = bind_ok (number_at w16 bytes) (λ n. cond (ltb limit n.0) (Err TooMany) (Ok n)) x e in
-    let t = number_takes w16 (2 ^ 16) wide16 bytes a.0.0 a.0.1 fits a.1 in
+count_takes w top wide limit bytes x fits e =
+    let a = bind_ok (number_at w bytes) (λ n. cond (ltb limit n.0) (Err TooMany) (Ok n)) x e in
+    let t = number_takes w top wide bytes a.0.0 a.0.1 fits a.1 in
     let g = guard_ok (ltb limit a.0.0) TooMany a.0 x a.2 in
     let within : a.0.0 ≤ limit = ltb-false _ _ g.0 in
-    subst (λ (y : ℕ × List ℕ). Takes bytes (to_be_bytes w16 y.0) y.1 × (y.0 ≤ limit)) g.1 (t.0, within)
+    subst (λ (y : ℕ × List ℕ). Takes bytes (to_be_bytes w y.0) y.1 × (y.0 ≤ limit)) g.1 (t.0, within)
 
-pub count_again : (limit count : ℕ) (rest : List ℕ) → limit < 2 ^ 16 → count ≤ limit → count_at limit (to_be_bytes w16 count ++ rest) ≡ Ok (count, rest)
+pub count_again : (w : Width) (top : ℕ) (wide : IsWide w top) (limit count : ℕ) (rest : List ℕ) → limit < top → count ≤ limit → count_at w limit (to_be_bytes w count ++ rest) ≡ Ok (count, rest)
 unfolding count_at
-count_again limit count rest small le =
+count_again w top wide limit count rest small le =
     let within : ltb limit count ≡ false = le-ltb _ _ le in
-    rw (number_again w16 (2 ^ 16) wide16 count rest (omega arith), within) refl
+    rw (number_again w top wide count rest (omega (arith, small, le)), within) refl

@@ -1,5 +1,5 @@
 -- The laws of whole messages: what is read is spelled so, what is spelled so is read, whatever follows, and so no spelling begins another.
-use Rattle.std.proofs.Common.{◌≡◌, ℕ, Bool, true, false, cond, eqb, List, [], ◌∷◌, ◌++◌, length, Result, Ok, Err, refl, sym, ap, subst, ◌∙◌, append_assoc, ◌⊎◌, inl, inr}
+use Rattle.std.proofs.Common.{◌≡◌, ℕ, ◌<◌, ◌^◌, Bool, true, false, cond, eqb, List, [], ◌∷◌, ◌++◌, length, Result, Ok, Err, refl, sym, ap, subst, ◌∙◌, append_assoc, ne_eqb, arith, ◌⊎◌, inl, inr}
 use Rattle.std.specs.Prelude.{IfOk}
 use Rattle.std.specs.Int.{w16, w64, to_be_bytes}
 use Rattle.std.proofs.lemmas.Bool.{eqb-true}
@@ -11,62 +11,103 @@ use Rattle.wire.specs.declared.keys.Digest.{Digest}
 use Rattle.wire.specs.declared.keys.Signature.{Signature}
 use Rattle.wire.specs.declared.references.BatchReference.{BatchReference}
 use Rattle.wire.specs.declared.references.ParentReference.{ParentReference}
+use Rattle.wire.specs.declared.header.HeaderBody.{HeaderBody}
 use Rattle.wire.specs.declared.header.Header.{Header}
 use Rattle.wire.specs.declared.header.Vote.{Vote}
+use Rattle.wire.specs.declared.header.Certificate.{Certificate}
+use Rattle.wire.specs.declared.message.BatchAck.{BatchAck}
+use Rattle.wire.specs.declared.message.Coin.{Coin}
 use Rattle.wire.specs.declared.message.Message.{Message}
 use Rattle.wire.specs.declared.message.Message.TheVariants as message
-use Rattle.wire.specs.Grammar.{IsHeader, IsVote, IsMessage, Spells}
-use Rattle.wire.specs.Spelling.{batches_bytes, parents_bytes, header_body, vote_bytes, spelling}
-use Rattle.wire.specs.Reading.{◌>>=◌, author_at, digest_at, signature_at, round_at, batches_at, parents_at, header_at, vote_at, tagged_at, message_of, Gives}
+use Rattle.wire.specs.Batches.{batch_body, IsBatch}
+use Rattle.wire.specs.Grammar.{IsAck, IsHeaderBody, IsHeader, IsVote, IsCertificate, IsCoin, IsMessage, Spells}
+use Rattle.wire.specs.Spelling.{ack_bytes, batches_bytes, parents_bytes, votes_bytes, header_body, header_bytes, vote_bytes, certificate_bytes, coin_bytes, spelling}
+use Rattle.wire.specs.Reading.{◌>>=◌, Read, number_at, author_at, digest_at, signature_at, round_at, wave_at, batches_at, parents_at, votes_at, batch_at, ack_at, header_body_at, header_at, vote_at, certificate_at, coin_at, tagged_at, message_of, Gives}
 use Rattle.wire_read.proofs.Steps.{bind_ok, held_ok, ok_is, IsBytes, IsBytes-rest, Takes, Takes-then}
-use Rattle.wire_read.proofs.Fields.{author_takes, author_again, digest_takes, digest_again, signature_takes, signature_again, round_takes, round_again}
-use Rattle.wire_read.proofs.RisingLists.{batches_take, batches_again, parents_take, parents_again}
+use Rattle.wire_read.proofs.Fields.{wide64, number_takes, number_again, author_takes, author_again, digest_takes, digest_again, signature_takes, signature_again, round_takes, round_again, wave_takes, wave_again}
+use Rattle.wire_read.proofs.RisingLists.{batches_take, batches_again, parents_take, parents_again, votes_take, votes_again}
+use Rattle.wire_read.proofs.BatchBodies.{contents_take, contents_again}
+
+-- reading what a kind of message has is spelling it
+pub record IsKind {X : Type 0} (at : List ℕ → Read X) (text : X → List ℕ) (Fits : X → Type 0) : Type 0 where
+  pub takes : (bytes : List ℕ) (x : X × List ℕ) → IsBytes bytes → at bytes ≡ Ok x → Takes bytes (text x.0) x.1 × Fits x.0
+  pub again : (x : X) (rest : List ℕ) → Fits x → at (text x ++ rest) ≡ Ok (x, rest)
+
+-- ---- batches and acknowledgements
+
+batch_kind : IsKind batch_at batch_body IsBatch
+batch_kind = record { takes = contents_take; again = contents_again }
+
+ack_takes : (bytes : List ℕ) (x : BatchAck × List ℕ) → IsBytes bytes → ack_at bytes ≡ Ok x → Takes bytes (ack_bytes x.0) x.1 × IsAck x.0
+unfolding ack_at
+ack_takes bytes x fits e =
+    let a = bind_ok (author_at bytes) (λ author. digest_at author.1 >>= λ batch. Ok (record { author = author.0; batch = batch.0 }, batch.1)) x e in
+    let b = bind_ok (digest_at a.0.1) (λ batch. Ok (record { author = a.0.0; batch = batch.0 }, batch.1)) x a.2 in
+    let t1 = author_takes bytes a.0 fits a.1 in
+    let t2 = digest_takes a.0.1 b.0 t1.0.rest_fits b.1 in
+    let both = Takes-then bytes (to_be_bytes w16 a.0.0.0) a.0.1 b.0.0.0 b.0.1 t1.0 t2.0 in
+    let made : BatchAck × List ℕ = (record { author = a.0.0; batch = b.0.0 }, b.0.1) in
+    subst (λ (y : BatchAck × List ℕ). Takes bytes (ack_bytes y.0) y.1 × IsAck y.0) {x = made} (ok_is made x b.2) (both, record { author = t1.1; batch = t2.1 })
+
+ack_again : (a : BatchAck) (rest : List ℕ) → IsAck a → ack_at (ack_bytes a ++ rest) ≡ Ok (a, rest)
+unfolding ack_at
+ack_again a rest is =
+    let regrouped : ack_bytes a ++ rest ≡ to_be_bytes w16 a.author.0 ++ (a.batch.0 ++ rest) = simp append_assoc in
+    ap ack_at regrouped ∙ rw (author_again a.author (a.batch.0 ++ rest) is.author, digest_again a.batch rest is.batch) refl
+
+ack_kind : IsKind ack_at ack_bytes IsAck
+ack_kind = record { takes = ack_takes; again = ack_again }
 
 -- ---- headers
 
-abbrev header_text : Header → List ℕ
-header_text h = to_be_bytes w16 h.author.0 ++ (to_be_bytes w64 h.round ++ (batches_bytes h.batches ++ (parents_bytes h.parents ++ h.signature.0)))
+abbrev body_from : Author → ℕ → List BatchReference → List ParentReference → HeaderBody
+body_from author round batches parents = record { author = author; round = round; batches = batches; parents = parents }
 
-header_text-is : (h : Header) → header_body h ++ h.signature.0 ≡ header_text h
-header_text-is h = simp append_assoc
+body_takes : (bytes : List ℕ) (x : HeaderBody × List ℕ) → IsBytes bytes → header_body_at bytes ≡ Ok x → Takes bytes (header_body x.0) x.1 × IsHeaderBody x.0
+unfolding header_body_at
+body_takes bytes x fits e =
+    let a = bind_ok (author_at bytes) (λ author. round_at author.1 >>= λ round. batches_at round.1 >>= λ batches. parents_at batches.1 >>= λ parents. Ok (body_from author.0 round.0 batches.0 parents.0, parents.1)) x e in
+    let b = bind_ok (round_at a.0.1) (λ round. batches_at round.1 >>= λ batches. parents_at batches.1 >>= λ parents. Ok (body_from a.0.0 round.0 batches.0 parents.0, parents.1)) x a.2 in
+    let c = bind_ok (batches_at b.0.1) (λ batches. parents_at batches.1 >>= λ parents. Ok (body_from a.0.0 b.0.0 batches.0 parents.0, parents.1)) x b.2 in
+    let d = bind_ok (parents_at c.0.1) (λ parents. Ok (body_from a.0.0 b.0.0 c.0.0 parents.0, parents.1)) x c.2 in
+    let t1 = author_takes bytes a.0 fits a.1 in
+    let t2 = round_takes a.0.1 b.0 t1.0.rest_fits b.1 in
+    let t3 = batches_take b.0.1 c.0 t2.0.rest_fits c.1 in
+    let t4 = parents_take c.0.1 d.0 t3.0.rest_fits d.1 in
+    let from3 = Takes-then b.0.1 (batches_bytes c.0.0) c.0.1 (parents_bytes d.0.0) d.0.1 t3.0 t4.0 in
+    let from2 = Takes-then a.0.1 (to_be_bytes w64 b.0.0) b.0.1 (batches_bytes c.0.0 ++ parents_bytes d.0.0) d.0.1 t2.0 from3 in
+    let from1 = Takes-then bytes (to_be_bytes w16 a.0.0.0) a.0.1 (to_be_bytes w64 b.0.0 ++ (batches_bytes c.0.0 ++ parents_bytes d.0.0)) d.0.1 t1.0 from2 in
+    let made : HeaderBody × List ℕ = (body_from a.0.0 b.0.0 c.0.0 d.0.0, d.0.1) in
+    subst (λ (y : HeaderBody × List ℕ). Takes bytes (header_body y.0) y.1 × IsHeaderBody y.0) {x = made} (ok_is made x d.2) (from1, record { author = t1.1; round = t2.1; batches = t3.1; parents = t4.1 })
 
-abbrev header_from : Author → ℕ → List BatchReference → List ParentReference → Signature → Header
-header_from author round batches parents signature = record { author = author; round = round; batches = batches; parents = parents; signature = signature }
-
-header_parts : (bytes : List ℕ) (author : Author × List ℕ) (round : ℕ × List ℕ) (batches : List BatchReference × List ℕ) (parents : List ParentReference × List ℕ) (signature : Signature × List ℕ)
-    → IsBytes bytes → author_at bytes ≡ Ok author → round_at author.1 ≡ Ok round → batches_at round.1 ≡ Ok batches → parents_at batches.1 ≡ Ok parents → signature_at parents.1 ≡ Ok signature
-    → Takes bytes (header_text (header_from author.0 round.0 batches.0 parents.0 signature.0)) signature.1 × IsHeader (header_from author.0 round.0 batches.0 parents.0 signature.0)
-header_parts bytes author round batches parents signature fits e1 e2 e3 e4 e5 =
-    let t1 = author_takes bytes author fits e1 in
-    let t2 = round_takes author.1 round t1.0.rest_fits e2 in
-    let t3 = batches_take round.1 batches t2.0.rest_fits e3 in
-    let t4 = parents_take batches.1 parents t3.0.rest_fits e4 in
-    let t5 = signature_takes parents.1 signature t4.0.rest_fits e5 in
-    let from4 = Takes-then batches.1 (parents_bytes parents.0) parents.1 signature.0.0 signature.1 t4.0 t5.0 in
-    let from3 = Takes-then round.1 (batches_bytes batches.0) batches.1 (parents_bytes parents.0 ++ signature.0.0) signature.1 t3.0 from4 in
-    let from2 = Takes-then author.1 (to_be_bytes w64 round.0) round.1 (batches_bytes batches.0 ++ (parents_bytes parents.0 ++ signature.0.0)) signature.1 t2.0 from3 in
-    let from1 = Takes-then bytes (to_be_bytes w16 author.0.0) author.1 (to_be_bytes w64 round.0 ++ (batches_bytes batches.0 ++ (parents_bytes parents.0 ++ signature.0.0))) signature.1 t1.0 from2 in
-    (from1, record { author = t1.1; round = t2.1; batches = t3.1; parents = t4.1; signature = t5.1 })
-
-header_takes : (bytes : List ℕ) (x : Header × List ℕ) → IsBytes bytes → header_at bytes ≡ Ok x → Takes bytes (header_text x.0) x.1 × IsHeader x.0
-unfolding header_at
-header_takes bytes x fits e =
-    let a = bind_ok (author_at bytes) (λ author. round_at author.1 >>= λ round. batches_at round.1 >>= λ batches. parents_at batches.1 >>= λ parents. signature_at parents.1 >>= λ signature. Ok (header_from author.0 round.0 batches.0 parents.0 signature.0, signature.1)) x e in
-    let b = bind_ok (round_at a.0.1) (λ round. batches_at round.1 >>= λ batches. parents_at batches.1 >>= λ parents. signature_at parents.1 >>= λ signature. Ok (header_from a.0.0 round.0 batches.0 parents.0 signature.0, signature.1)) x a.2 in
-    let c = bind_ok (batches_at b.0.1) (λ batches. parents_at batches.1 >>= λ parents. signature_at parents.1 >>= λ signature. Ok (header_from a.0.0 b.0.0 batches.0 parents.0 signature.0, signature.1)) x b.2 in
-    let d = bind_ok (parents_at c.0.1) (λ parents. signature_at parents.1 >>= λ signature. Ok (header_from a.0.0 b.0.0 c.0.0 parents.0 signature.0, signature.1)) x c.2 in
-    let s = bind_ok (signature_at d.0.1) (λ signature. Ok (header_from a.0.0 b.0.0 c.0.0 d.0.0 signature.0, signature.1)) x d.2 in
-    subst (λ (y : Header × List ℕ). Takes bytes (header_text y.0) y.1 × IsHeader y.0) {x = (header_from a.0.0 b.0.0 c.0.0 d.0.0 s.0.0, s.0.1)} (ok_is (header_from a.0.0 b.0.0 c.0.0 d.0.0 s.0.0, s.0.1) x s.2) (header_parts bytes a.0 b.0 c.0 d.0 s.0 fits a.1 b.1 c.1 d.1 s.1)
-
-header_again : (h : Header) (rest : List ℕ) → IsHeader h → header_at ((header_body h ++ h.signature.0) ++ rest) ≡ Ok (h, rest)
-unfolding header_at
-header_again h rest is =
-    let four = h.signature.0 ++ rest in
-    let three = parents_bytes h.parents ++ four in
+body_again : (h : HeaderBody) (rest : List ℕ) → IsHeaderBody h → header_body_at (header_body h ++ rest) ≡ Ok (h, rest)
+unfolding header_body_at
+body_again h rest is =
+    let three = parents_bytes h.parents ++ rest in
     let two = batches_bytes h.batches ++ three in
     let one = to_be_bytes w64 h.round ++ two in
-    let regrouped : (header_body h ++ h.signature.0) ++ rest ≡ to_be_bytes w16 h.author.0 ++ (to_be_bytes w64 h.round ++ (batches_bytes h.batches ++ (parents_bytes h.parents ++ (h.signature.0 ++ rest)))) = simp append_assoc in
-    ap header_at regrouped ∙ rw (author_again h.author one is.author, round_again h.round two is.round, batches_again h.batches three is.batches, parents_again h.parents four is.parents, signature_again h.signature rest is.signature) refl
+    let regrouped : header_body h ++ rest ≡ to_be_bytes w16 h.author.0 ++ (to_be_bytes w64 h.round ++ (batches_bytes h.batches ++ (parents_bytes h.parents ++ rest))) = simp append_assoc in
+    ap header_body_at regrouped ∙ rw (author_again h.author one is.author, round_again h.round two is.round, batches_again h.batches three is.batches, parents_again h.parents rest is.parents) refl
+
+header_takes : (bytes : List ℕ) (x : Header × List ℕ) → IsBytes bytes → header_at bytes ≡ Ok x → Takes bytes (header_bytes x.0) x.1 × IsHeader x.0
+unfolding header_at
+header_takes bytes x fits e =
+    let a = bind_ok (header_body_at bytes) (λ body. signature_at body.1 >>= λ signature. Ok (record { body = body.0; signature = signature.0 }, signature.1)) x e in
+    let b = bind_ok (signature_at a.0.1) (λ signature. Ok (record { body = a.0.0; signature = signature.0 }, signature.1)) x a.2 in
+    let t1 = body_takes bytes a.0 fits a.1 in
+    let t2 = signature_takes a.0.1 b.0 t1.0.rest_fits b.1 in
+    let both = Takes-then bytes (header_body a.0.0) a.0.1 b.0.0.0 b.0.1 t1.0 t2.0 in
+    let made : Header × List ℕ = (record { body = a.0.0; signature = b.0.0 }, b.0.1) in
+    subst (λ (y : Header × List ℕ). Takes bytes (header_bytes y.0) y.1 × IsHeader y.0) {x = made} (ok_is made x b.2) (both, record { body = t1.1; signature = t2.1 })
+
+header_again : (h : Header) (rest : List ℕ) → IsHeader h → header_at (header_bytes h ++ rest) ≡ Ok (h, rest)
+unfolding header_at
+header_again h rest is =
+    let regrouped : header_bytes h ++ rest ≡ header_body h.body ++ (h.signature.0 ++ rest) = append_assoc (header_body h.body) h.signature.0 rest in
+    ap header_at regrouped ∙ rw (body_again h.body (h.signature.0 ++ rest) is.body, signature_again h.signature rest is.signature) refl
+
+header_kind : IsKind header_at header_bytes IsHeader
+header_kind = record { takes = header_takes; again = header_again }
 
 -- ---- votes
 
@@ -114,6 +155,56 @@ vote_again v rest is =
     let regrouped : vote_bytes v ++ rest ≡ v.header.0 ++ (to_be_bytes w64 v.round ++ (to_be_bytes w16 v.author.0 ++ (to_be_bytes w16 v.voter.0 ++ (v.signature.0 ++ rest)))) = simp append_assoc in
     ap vote_at regrouped ∙ rw (digest_again v.header one is.header, round_again v.round two is.round, author_again v.author three is.author, author_again v.voter four is.voter, signature_again v.signature rest is.signature) refl
 
+vote_spelled : (bytes : List ℕ) (x : Vote × List ℕ) → IsBytes bytes → vote_at bytes ≡ Ok x → Takes bytes (vote_bytes x.0) x.1 × IsVote x.0
+vote_spelled bytes x fits e =
+    let t = vote_takes bytes x fits e in
+    (subst (λ (l : List ℕ). Takes bytes l x.1) (sym (vote_text-is x.0)) t.0, t.1)
+
+vote_kind : IsKind vote_at vote_bytes IsVote
+vote_kind = record { takes = vote_spelled; again = vote_again }
+
+-- ---- certificates and coins
+
+certificate_takes : (bytes : List ℕ) (x : Certificate × List ℕ) → IsBytes bytes → certificate_at bytes ≡ Ok x → Takes bytes (certificate_bytes x.0) x.1 × IsCertificate x.0
+unfolding certificate_at
+certificate_takes bytes x fits e =
+    let a = bind_ok (header_body_at bytes) (λ header. votes_at header.1 >>= λ votes. Ok (record { header = header.0; votes = votes.0 }, votes.1)) x e in
+    let b = bind_ok (votes_at a.0.1) (λ votes. Ok (record { header = a.0.0; votes = votes.0 }, votes.1)) x a.2 in
+    let t1 = body_takes bytes a.0 fits a.1 in
+    let t2 = votes_take a.0.1 b.0 t1.0.rest_fits b.1 in
+    let both = Takes-then bytes (header_body a.0.0) a.0.1 (votes_bytes b.0.0) b.0.1 t1.0 t2.0 in
+    let made : Certificate × List ℕ = (record { header = a.0.0; votes = b.0.0 }, b.0.1) in
+    subst (λ (y : Certificate × List ℕ). Takes bytes (certificate_bytes y.0) y.1 × IsCertificate y.0) {x = made} (ok_is made x b.2) (both, record { header = t1.1; votes = t2.1 })
+
+certificate_again : (c : Certificate) (rest : List ℕ) → IsCertificate c → certificate_at (certificate_bytes c ++ rest) ≡ Ok (c, rest)
+unfolding certificate_at
+certificate_again c rest is =
+    let regrouped : certificate_bytes c ++ rest ≡ header_body c.header ++ (votes_bytes c.votes ++ rest) = append_assoc (header_body c.header) (votes_bytes c.votes) rest in
+    ap certificate_at regrouped ∙ rw (body_again c.header (votes_bytes c.votes ++ rest) is.header, votes_again c.votes rest is.votes) refl
+
+certificate_kind : IsKind certificate_at certificate_bytes IsCertificate
+certificate_kind = record { takes = certificate_takes; again = certificate_again }
+
+coin_takes : (bytes : List ℕ) (x : Coin × List ℕ) → IsBytes bytes → coin_at bytes ≡ Ok x → Takes bytes (coin_bytes x.0) x.1 × IsCoin x.0
+unfolding coin_at
+coin_takes bytes x fits e =
+    let a = bind_ok (wave_at bytes) (λ wave. number_at w64 wave.1 >>= λ value. Ok (record { wave = wave.0; value = value.0 }, value.1)) x e in
+    let b = bind_ok (number_at w64 a.0.1) (λ value. Ok (record { wave = a.0.0; value = value.0 }, value.1)) x a.2 in
+    let t1 = wave_takes bytes a.0 fits a.1 in
+    let t2 = number_takes w64 (2 ^ 64) wide64 a.0.1 b.0.0 b.0.1 t1.0.rest_fits b.1 in
+    let both = Takes-then bytes (to_be_bytes w64 a.0.0) a.0.1 (to_be_bytes w64 b.0.0) b.0.1 t1.0 t2.0 in
+    let made : Coin × List ℕ = (record { wave = a.0.0; value = b.0.0 }, b.0.1) in
+    subst (λ (y : Coin × List ℕ). Takes bytes (coin_bytes y.0) y.1 × IsCoin y.0) {x = made} (ok_is made x b.2) (both, record { wave = t1.1; value = t2.1 })
+
+coin_again : (c : Coin) (rest : List ℕ) → IsCoin c → coin_at (coin_bytes c ++ rest) ≡ Ok (c, rest)
+unfolding coin_at
+coin_again c rest is =
+    let regrouped : coin_bytes c ++ rest ≡ to_be_bytes w64 c.wave ++ (to_be_bytes w64 c.value ++ rest) = append_assoc (to_be_bytes w64 c.wave) (to_be_bytes w64 c.value) rest in
+    ap coin_at regrouped ∙ rw (wave_again c.wave (to_be_bytes w64 c.value ++ rest) is.wave, number_again w64 (2 ^ 64) wide64 c.value rest is.value) refl
+
+coin_kind : IsKind coin_at coin_bytes IsCoin
+coin_kind = record { takes = coin_takes; again = coin_again }
+
 -- ---- messages
 
 -- a test that chose, and which way it went
@@ -121,41 +212,58 @@ chosen : {A : Type 0} (b : Bool) (x y z : A) → cond b x y ≡ z → ((b ≡ tr
 chosen true x y z e = inl (refl, e)
 chosen false x y z e = inr (refl, e)
 
-header_tagged : (bytes : List ℕ) (x : Message × List ℕ) → IsBytes bytes → (header_at bytes >>= λ h. Ok (message.Header h.0, h.1)) ≡ Ok x → Takes (3 ∷ bytes) (spelling x.0) x.1 × IsMessage x.0
-header_tagged bytes x fits e =
-    let a = bind_ok (header_at bytes) (λ h. Ok (message.Header h.0, h.1)) x e in
-    let t = header_takes bytes a.0 fits a.1 in
-    let made : Message × List ℕ = (message.Header a.0.0, a.0.1) in
-    let whole : 3 ∷ bytes ≡ (3 ∷ (header_body a.0.0 ++ a.0.0.signature.0)) ++ a.0.1 = ap (λ (w : List ℕ). 3 ∷ w) t.0.parts ∙ ap (λ (w : List ℕ). 3 ∷ (w ++ a.0.1)) (sym (header_text-is a.0.0)) in
-    subst (λ (y : Message × List ℕ). Takes (3 ∷ bytes) (spelling y.0) y.1 × IsMessage y.0) (ok_is made x a.2) (record { parts = whole; rest_fits = t.0.rest_fits }, t.1)
+-- what a kind of message has is read behind its tag
+abbrev of_kind : {X : Type 0} (at : List ℕ → Read X) (wrap : X → Message) → List ℕ → Read Message
+of_kind at wrap bytes = at bytes >>= λ y. Ok (wrap y.0, y.1)
 
-vote_tagged : (bytes : List ℕ) (x : Message × List ℕ) → IsBytes bytes → (vote_at bytes >>= λ v. Ok (message.Vote v.0, v.1)) ≡ Ok x → Takes (4 ∷ bytes) (spelling x.0) x.1 × IsMessage x.0
-vote_tagged bytes x fits e =
-    let a = bind_ok (vote_at bytes) (λ v. Ok (message.Vote v.0, v.1)) x e in
-    let t = vote_takes bytes a.0 fits a.1 in
-    let made : Message × List ℕ = (message.Vote a.0.0, a.0.1) in
-    let whole : 4 ∷ bytes ≡ (4 ∷ vote_bytes a.0.0) ++ a.0.1 = ap (λ (w : List ℕ). 4 ∷ w) t.0.parts ∙ ap (λ (w : List ℕ). 4 ∷ (w ++ a.0.1)) (sym (vote_text-is a.0.0)) in
-    subst (λ (y : Message × List ℕ). Takes (4 ∷ bytes) (spelling y.0) y.1 × IsMessage y.0) (ok_is made x a.2) (record { parts = whole; rest_fits = t.0.rest_fits }, t.1)
+-- a message of a kind is spelled by its tag and what it has
+record IsTagged {X : Type 0} (tag : ℕ) (text : X → List ℕ) (Fits : X → Type 0) (wrap : X → Message) : Type 0 where
+  text_is : (x : X) → spelling (wrap x) ≡ tag ∷ text x
+  fits : (x : X) → Fits x → IsMessage (wrap x)
 
-tag_takes : (tag : ℕ) (bytes : List ℕ) (x : Message × List ℕ) → IsBytes bytes → cond (eqb tag 3) (header_at bytes >>= λ h. Ok (message.Header h.0, h.1)) (cond (eqb tag 4) (vote_at bytes >>= λ v. Ok (message.Vote v.0, v.1)) (Err BadTag)) ≡ Ok x
-    → Takes (tag ∷ bytes) (spelling x.0) x.1 × IsMessage x.0
-tag_takes tag bytes x fits e =
-    elim (chosen (eqb tag 3) (header_at bytes >>= λ h. Ok (message.Header h.0, h.1)) (cond (eqb tag 4) (vote_at bytes >>= λ v. Ok (message.Vote v.0, v.1)) (Err BadTag)) (Ok x) e) [
-      | inl p ↦ subst (λ (t : ℕ). Takes (t ∷ bytes) (spelling x.0) x.1 × IsMessage x.0) (sym (eqb-true tag 3 p.0)) (header_tagged bytes x fits p.1)
-      | inr p ↦
-          let q = held_ok (eqb tag 4) BadTag (vote_at bytes >>= λ v. Ok (message.Vote v.0, v.1)) x p.1 in
-          subst (λ (t : ℕ). Takes (t ∷ bytes) (spelling x.0) x.1 × IsMessage x.0) (sym (eqb-true tag 4 q.0)) (vote_tagged bytes x fits q.1)
+kind_takes : {X : Type 0} (at : List ℕ → Read X) (text : X → List ℕ) (Fits : X → Type 0) (wrap : X → Message) (tag : ℕ) (is : IsKind at text Fits) (tagged : IsTagged tag text Fits wrap) (bytes : List ℕ) (x : Message × List ℕ)
+    → IsBytes bytes → of_kind at wrap bytes ≡ Ok x → Takes (tag ∷ bytes) (spelling x.0) x.1 × IsMessage x.0
+kind_takes {X} at text Fits wrap tag is tagged bytes x fits e =
+    let a = bind_ok (at bytes) (λ y. Ok (wrap y.0, y.1)) x e in
+    let t = is.takes bytes a.0 fits a.1 in
+    let made : Message × List ℕ = (wrap a.0.0, a.0.1) in
+    let whole : tag ∷ bytes ≡ spelling (wrap a.0.0) ++ a.0.1 = rw (tagged.text_is a.0.0) (ap (λ (w : List ℕ). tag ∷ w) t.0.parts) in
+    subst (λ (y : Message × List ℕ). Takes (tag ∷ bytes) (spelling y.0) y.1 × IsMessage y.0) (ok_is made x a.2) (record { parts = whole; rest_fits = t.0.rest_fits }, tagged.fits a.0.0 t.1)
+
+-- of a chain of tags, the first that is there is taken
+tag_takes : (tag here : ℕ) (bytes : List ℕ) (x : Message × List ℕ) (one other : Read Message)
+    → (one ≡ Ok x → Takes (here ∷ bytes) (spelling x.0) x.1 × IsMessage x.0) → (other ≡ Ok x → Takes (tag ∷ bytes) (spelling x.0) x.1 × IsMessage x.0)
+    → cond (eqb tag here) one other ≡ Ok x → Takes (tag ∷ bytes) (spelling x.0) x.1 × IsMessage x.0
+tag_takes tag here bytes x one other if_one if_other e =
+    elim (chosen (eqb tag here) one other (Ok x) e) [
+      | inl p ↦ subst (λ (t : ℕ). Takes (t ∷ bytes) (spelling x.0) x.1 × IsMessage x.0) (sym (eqb-true tag here p.0)) (if_one p.1)
+      | inr p ↦ if_other p.1
     ]
+
+no_message : (tag : ℕ) (bytes : List ℕ) (x : Message × List ℕ) (none : Read Message) → none ≡ Err BadTag → none ≡ Ok x → Takes (tag ∷ bytes) (spelling x.0) x.1 × IsMessage x.0
+no_message tag bytes x none is e = absurd cc
 
 tagged_takes : (bytes : List ℕ) (x : Message × List ℕ) → IsBytes bytes → tagged_at bytes ≡ Ok x → Takes bytes (spelling x.0) x.1 × IsMessage x.0
 unfolding tagged_at
 tagged_takes [] x fits e = absurd cc
-tagged_takes (tag ∷ bytes) x fits e = tag_takes tag bytes x (IsBytes-rest tag bytes fits) e
+tagged_takes (tag ∷ bytes) x fits e =
+    let rest = IsBytes-rest tag bytes fits in
+    tag_takes tag 1 bytes x _ _ (kind_takes batch_at batch_body IsBatch (λ b. message.Batch b) 1 batch_kind (record { text_is = λ _. refl; fits = λ _ h. h }) bytes x rest) (
+    tag_takes tag 2 bytes x _ _ (kind_takes ack_at ack_bytes IsAck (λ a. message.BatchAck a) 2 ack_kind (record { text_is = λ _. refl; fits = λ _ h. h }) bytes x rest) (
+    tag_takes tag 3 bytes x _ _ (kind_takes header_at header_bytes IsHeader (λ h. message.Header h) 3 header_kind (record { text_is = λ _. refl; fits = λ _ h. h }) bytes x rest) (
+    tag_takes tag 4 bytes x _ _ (kind_takes vote_at vote_bytes IsVote (λ v. message.Vote v) 4 vote_kind (record { text_is = λ _. refl; fits = λ _ h. h }) bytes x rest) (
+    tag_takes tag 5 bytes x _ _ (kind_takes certificate_at certificate_bytes IsCertificate (λ c. message.Certificate c) 5 certificate_kind (record { text_is = λ _. refl; fits = λ _ h. h }) bytes x rest) (
+    tag_takes tag 6 bytes x _ _ (kind_takes coin_at coin_bytes IsCoin (λ c. message.Coin c) 6 coin_kind (record { text_is = λ _. refl; fits = λ _ h. h }) bytes x rest) (
+    no_message tag bytes x (Err BadTag) refl)))))) e
 
 pub tagged_again : (m : Message) (rest : List ℕ) → IsMessage m → tagged_at (spelling m ++ rest) ≡ Ok (m, rest)
 unfolding tagged_at
+tagged_again (message.Batch b) rest is = rw (contents_again b rest is) refl
+tagged_again (message.BatchAck a) rest is = rw (ack_again a rest is) refl
 tagged_again (message.Header h) rest is = rw (header_again h rest is) refl
 tagged_again (message.Vote v) rest is = rw (vote_again v rest is) refl
+tagged_again (message.Certificate c) rest is = rw (certificate_again c rest is) refl
+tagged_again (message.Coin c) rest is = rw (coin_again c rest is) refl
 
 -- what the bytes are read as is a message, and they are its spelling
 pub is_spelled : (bytes : List ℕ) (m : Message) → IsBytes bytes → message_of bytes ≡ Ok m → Spells m bytes
@@ -184,3 +292,10 @@ pub one_message : (m n : Message) (x y : List ℕ) → IsMessage m → IsMessage
 one_message m n x y is-m is-n e =
     let same = ok_is (m, x) (n, y) (sym (tagged_again m x is-m) ∙ ap tagged_at e ∙ tagged_again n y is-n) in
     (ap (λ (p : Message × List ℕ). p.0) same, ap (λ (p : Message × List ℕ). p.1) same)
+
+-- bytes behind a message are refused as such
+pub trailing : (m : Message) (rest : List ℕ) → IsMessage m → 0 < length rest → message_of (spelling m ++ rest) ≡ Err Trailing
+unfolding message_of
+trailing m rest is some =
+    let left : eqb (length rest) 0 ≡ false = ne_eqb (length rest) 0 (λ e. omega (arith, some, e)) in
+    rw (tagged_again m rest is, left) refl

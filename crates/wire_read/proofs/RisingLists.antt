@@ -1,22 +1,22 @@
--- Lists that rise, read entry by entry: what is read is spelled so, and what is spelled so is read.
-use Rattle.std.proofs.Common.{◌≡◌, ℕ, zero, suc, ◌^◌, ◌≤◌, Bool, cond, List, [], ◌∷◌, ◌++◌, length, Ok, Err, refl, sym, ap, subst, ◌∙◌, append_assoc, arith}
+-- The lists that rise: what is read is spelled so, and what is spelled so is read.
+use Rattle.std.proofs.Common.{◌≡◌, ℕ, ◌^◌, Bool, cond, List, [], ◌∷◌, ◌++◌, Ok, Err, refl, ap, subst, ◌∙◌, append_assoc, arith}
 use Rattle.std.specs.Prelude.{IsTrue, nat_lt}
-use Rattle.std.specs.List.{flat_map, AllByRecursion}
+use Rattle.std.specs.Cmp.Derive.{both_true}
 use Rattle.std.specs.Int.{w16, to_be_bytes}
-use Rattle.std.proofs.lemmas.List.{append-nil}
-use Rattle.std.proofs.lemmas.List.Concat.{flat_map-cons}
 use Rattle.std.proofs.lemmas.List.Elements.{All-from_recursion, recursion_from_All}
 use Rattle.wire.specs.declared.error.WireError.TheVariants.{NotCanonical}
 use Rattle.wire.specs.declared.references.BatchReference.{BatchReference}
 use Rattle.wire.specs.declared.references.ParentReference.{ParentReference}
-use Rattle.wire.specs.Grammar.{IsBatch, IsParent, AreBatches, AreParents}
+use Rattle.wire.specs.declared.votes.VoteEntry.{VoteEntry}
+use Rattle.wire.specs.Grammar.{IsBatchReference, IsParentReference, IsVoteEntry, AreBatches, AreParents, AreVotes}
 use Rattle.wire.specs.Rising.{rises, follows}
-use Rattle.wire.specs.References.{digest_before, batch_follows, parent_follows}
-use Rattle.wire.specs.Spelling.{batch_bytes, parent_bytes, batches_bytes, parents_bytes}
-use Rattle.wire.specs.Reading.{◌>>=◌, Read, number_at, author_at, digest_at, count_at, more_at, batch_at, batches_at, parent_at, parents_at}
+use Rattle.wire.specs.References.{digest_before, batch_follows, parent_follows, vote_follows}
+use Rattle.wire.specs.Spelling.{batch_reference_bytes, parent_reference_bytes, vote_entry_bytes, batches_bytes, parents_bytes, votes_bytes}
+use Rattle.wire.specs.Reading.{◌>>=◌, Read, number_at, author_at, digest_at, signature_at, batch_reference_at, batches_at, parent_reference_at, parents_at, vote_entry_at, votes_at}
 use Rattle.wire.proofs.RisingLemmas.{both-are, rises-push}
 use Rattle.wire_read.proofs.Steps.{bind_ok, held_ok, ok_is, IsBytes, Takes, Takes-then}
-use Rattle.wire_read.proofs.Fields.{wide16, number_takes, number_again, author_takes, author_again, digest_takes, digest_again, count_takes, count_again}
+use Rattle.wire_read.proofs.EntryLists.{IsEntry, counted_take, counted_again}
+use Rattle.wire_read.proofs.Fields.{wide16, number_takes, number_again, author_takes, author_again, digest_takes, digest_again, signature_takes, signature_again}
 
 -- in a list that rises, what comes after the front may follow it
 may_follow : {X : Type 0} (below : X → X → Bool) (front : List X) (x : X) (rest : List X) → IsTrue (rises below (front ++ x ∷ rest)) → IsTrue (follows (λ a. below a x) front)
@@ -24,59 +24,34 @@ may_follow below [] x rest h = refl
 may_follow below (y ∷ []) x rest h = (both-are (below y x) (rises below (x ∷ rest)) h).0
 may_follow below (y ∷ z ∷ front) x rest h = may_follow below (z ∷ front) x rest (both-are (below y z) (rises below (z ∷ (front ++ x ∷ rest))) h).1
 
--- ---- entries of any kind
+-- the front of a list that rises does
+front_rises : {X : Type 0} (below : X → X → Bool) (front rest : List X) → IsTrue (rises below (front ++ rest)) → IsTrue (rises below front)
+front_rises below [] rest h = refl
+front_rises below (x ∷ []) rest h = refl
+front_rises below (x ∷ y ∷ front) rest h =
+    let parts = both-are (below x y) (rises below (y ∷ (front ++ rest))) h in
+    both_true parts.0 (front_rises below (y ∷ front) rest parts.1)
 
--- reading an entry behind others is spelling it, in the order
-pub record IsEntry {X : Type 0} (entry_at : List X → List ℕ → Read X) (text : X → List ℕ) (Fits : X → Type 0) (below : X → X → Bool) : Type 0 where
-  pub takes : (before : List X) (bytes : List ℕ) (x : X × List ℕ) → IsBytes bytes → entry_at before bytes ≡ Ok x → Takes bytes (text x.0) x.1 × Fits x.0 × IsTrue (follows (λ a. below a x.0) before)
-  pub again : (before : List X) (x : X) (rest : List ℕ) → Fits x → IsTrue (follows (λ a. below a x) before) → entry_at before (text x ++ rest) ≡ Ok (x, rest)
-
--- what reading so many entries gives
-pub record Reads {X : Type 0} (text : X → List ℕ) (Fits : X → Type 0) (below : X → X → Bool) (count : ℕ) (before : List X) (bytes : List ℕ) (x : List X × List ℕ) : Type 0 where
-  pub entries : List X
-  pub whole : x.0 ≡ before ++ entries
-  pub count_is : length entries ≡ count
-  pub takes : Takes bytes (flat_map text entries) x.1
-  pub fits : AllByRecursion Fits entries
-  pub rise : IsTrue (rises below x.0)
-
-more_take : {X : Type 0} (entry_at : List X → List ℕ → Read X) (text : X → List ℕ) (Fits : X → Type 0) (below : X → X → Bool) (is : IsEntry entry_at text Fits below) (n : ℕ) (before : List X) (bytes : List ℕ) (x : List X × List ℕ)
-    → IsBytes bytes → IsTrue (rises below before) → more_at entry_at n before bytes ≡ Ok x → Reads text Fits below n before bytes x
-unfolding more_at
-more_take {X} entry_at text Fits below is zero before bytes x fits rise e =
-    let made : List X × List ℕ = (before, bytes) in
-    subst (λ (y : List X × List ℕ). Reads text Fits below 0 before bytes y) (ok_is made x e) (record { entries = []; whole = sym (append-nil before); count_is = refl; takes = record { parts = refl; rest_fits = fits }; fits = tt; rise = rise })
-more_take {X} entry_at text Fits below is (suc n) before bytes x fits rise e =
-    let a = bind_ok (entry_at before bytes) (λ entry. more_at entry_at n (before ++ entry.0 ∷ []) entry.1) x e in
-    let first = is.takes before bytes a.0 fits a.1 in
-    let more = more_take entry_at text Fits below is n (before ++ a.0.0 ∷ []) a.0.1 x first.0.rest_fits (rises-push below before a.0.0 rise first.2) a.2 in
-    record {
-      entries = a.0.0 ∷ more.entries;
-      whole = more.whole ∙ append_assoc before (a.0.0 ∷ []) more.entries;
-      count_is = ap suc more.count_is;
-      takes = rw flat_map-cons (Takes-then bytes (text a.0.0) a.0.1 (flat_map text more.entries) x.1 first.0 more.takes);
-      fits = (first.1, more.fits);
-      rise = more.rise;
-    }
-
-more_again : {X : Type 0} (entry_at : List X → List ℕ → Read X) (text : X → List ℕ) (Fits : X → Type 0) (below : X → X → Bool) (is : IsEntry entry_at text Fits below) (entries before : List X) (rest : List ℕ)
-    → AllByRecursion Fits entries → IsTrue (rises below (before ++ entries)) → more_at entry_at (length entries) before (flat_map text entries ++ rest) ≡ Ok (before ++ entries, rest)
-unfolding more_at
-more_again {X} entry_at text Fits below is [] before rest fits rise = ap (λ (l : List X). Ok (l, rest)) (sym (append-nil before))
-more_again {X} entry_at text Fits below is (x ∷ entries) before rest fits rise =
-    let regrouped : flat_map text (x ∷ entries) ++ rest ≡ text x ++ (flat_map text entries ++ rest) = ap (λ (t : List ℕ). t ++ rest) (flat_map-cons text x entries) ∙ append_assoc (text x) (flat_map text entries) rest in
-    let joined : (before ++ x ∷ []) ++ entries ≡ before ++ x ∷ entries = append_assoc before (x ∷ []) entries in
-    let one : entry_at before (text x ++ (flat_map text entries ++ rest)) ≡ Ok (x, flat_map text entries ++ rest) = is.again before x (flat_map text entries ++ rest) fits.0 (may_follow below before x entries rise) in
-    let more = more_again entry_at text Fits below is entries (before ++ x ∷ []) rest fits.1 (subst (λ (l : List X). IsTrue (rises below l)) (sym joined) rise) in
-    ap (more_at entry_at (suc (length entries)) before) regrouped ∙ rw one more ∙ ap (λ (l : List X). Ok (l, rest)) joined
+-- an entry that is read where it may follow, in a list that rises
+rising : {X : Type 0} (vote_entry_at : List X → List ℕ → Read X) (text : X → List ℕ) (Fits : X → Type 0) (below : X → X → Bool)
+    → ((before : List X) (bytes : List ℕ) (x : X × List ℕ) → IsBytes bytes → vote_entry_at before bytes ≡ Ok x → Takes bytes (text x.0) x.1 × Fits x.0 × IsTrue (follows (λ a. below a x.0) before))
+    → ((before : List X) (x : X) (rest : List ℕ) → Fits x → IsTrue (follows (λ a. below a x) before) → vote_entry_at before (text x ++ rest) ≡ Ok (x, rest))
+    → IsEntry vote_entry_at text Fits (λ l. IsTrue (rises below l))
+rising vote_entry_at text Fits below takes again = record {
+  takes = λ before bytes x fits rise e.
+      let t = takes before bytes x fits e in
+      (t.0, t.1, rises-push below before x.0 rise t.2);
+  again = λ before x rest fits rise. again before x rest fits (may_follow below before x [] rise);
+  begins = λ front rest rise. front_rises below front rest rise;
+}
 
 -- ---- batches
 
 abbrev batch_below : BatchReference → BatchReference → Bool
 batch_below a b = digest_before a.digest b.digest
 
-batch_takes : (before : List BatchReference) (bytes : List ℕ) (x : BatchReference × List ℕ) → IsBytes bytes → batch_at before bytes ≡ Ok x → Takes bytes (batch_bytes x.0) x.1 × IsBatch x.0 × IsTrue (batch_follows before x.0.digest)
-unfolding batch_at
+batch_takes : (before : List BatchReference) (bytes : List ℕ) (x : BatchReference × List ℕ) → IsBytes bytes → batch_reference_at before bytes ≡ Ok x → Takes bytes (batch_reference_bytes x.0) x.1 × IsBatchReference x.0 × IsTrue (batch_follows before x.0.digest)
+unfolding batch_reference_at
 batch_takes before bytes x fits e =
     let a = bind_ok (digest_at bytes) (λ digest. cond (batch_follows before digest.0) (number_at w16 digest.1 >>= λ worker. Ok (record { digest = digest.0; worker = worker.0 }, worker.1)) (Err NotCanonical)) x e in
     let g = held_ok (batch_follows before a.0.0) NotCanonical (number_at w16 a.0.1 >>= λ worker. Ok (record { digest = a.0.0; worker = worker.0 }, worker.1)) x a.2 in
@@ -85,43 +60,34 @@ batch_takes before bytes x fits e =
     let t1 = number_takes w16 (2 ^ 16) wide16 a.0.1 b.0.0 b.0.1 t0.0.rest_fits b.1 in
     let both = Takes-then bytes a.0.0.0 a.0.1 (to_be_bytes w16 b.0.0) b.0.1 t0.0 t1.0 in
     let made : BatchReference × List ℕ = (record { digest = a.0.0; worker = b.0.0 }, b.0.1) in
-    subst (λ (y : BatchReference × List ℕ). Takes bytes (batch_bytes y.0) y.1 × IsBatch y.0 × IsTrue (batch_follows before y.0.digest)) {x = made} (ok_is made x b.2) (both, record { digest = t0.1; worker = t1.1 }, g.0)
+    subst (λ (y : BatchReference × List ℕ). Takes bytes (batch_reference_bytes y.0) y.1 × IsBatchReference y.0 × IsTrue (batch_follows before y.0.digest)) {x = made} (ok_is made x b.2) (both, record { digest = t0.1; worker = t1.1 }, g.0)
 
-batch_again : (before : List BatchReference) (b : BatchReference) (rest : List ℕ) → IsBatch b → IsTrue (batch_follows before b.digest) → batch_at before (batch_bytes b ++ rest) ≡ Ok (b, rest)
-unfolding batch_at
+batch_again : (before : List BatchReference) (b : BatchReference) (rest : List ℕ) → IsBatchReference b → IsTrue (batch_follows before b.digest) → batch_reference_at before (batch_reference_bytes b ++ rest) ≡ Ok (b, rest)
+unfolding batch_reference_at
 batch_again before b rest is may =
-    let regrouped : batch_bytes b ++ rest ≡ b.digest.0 ++ (to_be_bytes w16 b.worker ++ rest) = append_assoc b.digest.0 (to_be_bytes w16 b.worker) rest in
-    ap (batch_at before) regrouped ∙ rw (digest_again b.digest (to_be_bytes w16 b.worker ++ rest) is.digest, may, number_again w16 (2 ^ 16) wide16 b.worker rest is.worker) refl
+    let regrouped : batch_reference_bytes b ++ rest ≡ b.digest.0 ++ (to_be_bytes w16 b.worker ++ rest) = append_assoc b.digest.0 (to_be_bytes w16 b.worker) rest in
+    ap (batch_reference_at before) regrouped ∙ rw (digest_again b.digest (to_be_bytes w16 b.worker ++ rest) is.digest, may, number_again w16 (2 ^ 16) wide16 b.worker rest is.worker) refl
 
-batch_is : IsEntry batch_at batch_bytes (λ b. IsBatch b) batch_below
-batch_is = record { takes = batch_takes; again = batch_again }
+batch_is : IsEntry batch_reference_at batch_reference_bytes IsBatchReference (λ l. IsTrue (rises batch_below l))
+batch_is = rising batch_reference_at batch_reference_bytes IsBatchReference batch_below batch_takes batch_again
 
 pub batches_take : (bytes : List ℕ) (x : List BatchReference × List ℕ) → IsBytes bytes → batches_at bytes ≡ Ok x → Takes bytes (batches_bytes x.0) x.1 × AreBatches x.0
 unfolding batches_at
 batches_take bytes x fits e =
-    let a = bind_ok (count_at 128 bytes) (λ count. more_at batch_at count.0 [] count.1) x e in
-    let t0 = count_takes 128 bytes a.0 fits a.1 in
-    let r = more_take batch_at batch_bytes (λ b. IsBatch b) batch_below batch_is a.0.0 [] a.0.1 x t0.0.rest_fits refl a.2 in
-    let both = Takes-then bytes (to_be_bytes w16 a.0.0) a.0.1 (flat_map batch_bytes r.entries) x.1 t0.0 r.takes in
-    let counted : Takes bytes (batches_bytes r.entries) x.1 = subst (λ (k : ℕ). Takes bytes (to_be_bytes w16 k ++ flat_map batch_bytes r.entries) x.1) (sym r.count_is) both in
-    let few : length r.entries ≤ 128 = omega (arith, t0.1, r.count_is) in
-    let rise : IsTrue (rises batch_below r.entries) = subst (λ (l : List BatchReference). IsTrue (rises batch_below l)) r.whole r.rise in
-    subst (λ (l : List BatchReference). Takes bytes (batches_bytes l) x.1 × AreBatches l) (sym r.whole) (counted, record { few = few; each = All-from_recursion (λ b. IsBatch b) r.entries r.fits; rise = rise })
+    let r = counted_take w16 (2 ^ 16) wide16 128 batch_reference_at batch_reference_bytes IsBatchReference (λ l. IsTrue (rises batch_below l)) batch_is bytes x fits refl e in
+    (r.takes, record { few = r.few; each = All-from_recursion IsBatchReference x.0 r.fits; rise = r.sound })
 
 pub batches_again : (batches : List BatchReference) (rest : List ℕ) → AreBatches batches → batches_at (batches_bytes batches ++ rest) ≡ Ok (batches, rest)
 unfolding batches_at
-batches_again batches rest are =
-    let regrouped : batches_bytes batches ++ rest ≡ to_be_bytes w16 (length batches) ++ (flat_map batch_bytes batches ++ rest) = append_assoc (to_be_bytes w16 (length batches)) (flat_map batch_bytes batches) rest in
-    let more = more_again batch_at batch_bytes (λ b. IsBatch b) batch_below batch_is batches [] rest (recursion_from_All (λ b. IsBatch b) batches are.each) are.rise in
-    ap batches_at regrouped ∙ rw (count_again 128 (length batches) (flat_map batch_bytes batches ++ rest) (omega arith) are.few) more
+batches_again batches rest are = counted_again w16 (2 ^ 16) wide16 128 batch_reference_at batch_reference_bytes IsBatchReference (λ l. IsTrue (rises batch_below l)) batch_is batches rest (omega arith) are.few (recursion_from_All IsBatchReference batches are.each) are.rise
 
 -- ---- parents
 
 abbrev parent_below : ParentReference → ParentReference → Bool
 parent_below a b = nat_lt a.author.0 b.author.0
 
-parent_takes : (before : List ParentReference) (bytes : List ℕ) (x : ParentReference × List ℕ) → IsBytes bytes → parent_at before bytes ≡ Ok x → Takes bytes (parent_bytes x.0) x.1 × IsParent x.0 × IsTrue (parent_follows before x.0.author)
-unfolding parent_at
+parent_takes : (before : List ParentReference) (bytes : List ℕ) (x : ParentReference × List ℕ) → IsBytes bytes → parent_reference_at before bytes ≡ Ok x → Takes bytes (parent_reference_bytes x.0) x.1 × IsParentReference x.0 × IsTrue (parent_follows before x.0.author)
+unfolding parent_reference_at
 parent_takes before bytes x fits e =
     let a = bind_ok (author_at bytes) (λ author. cond (parent_follows before author.0) (digest_at author.1 >>= λ certificate. Ok (record { author = author.0; certificate = certificate.0 }, certificate.1)) (Err NotCanonical)) x e in
     let g = held_ok (parent_follows before a.0.0) NotCanonical (digest_at a.0.1 >>= λ certificate. Ok (record { author = a.0.0; certificate = certificate.0 }, certificate.1)) x a.2 in
@@ -130,32 +96,59 @@ parent_takes before bytes x fits e =
     let t1 = digest_takes a.0.1 b.0 t0.0.rest_fits b.1 in
     let both = Takes-then bytes (to_be_bytes w16 a.0.0.0) a.0.1 b.0.0.0 b.0.1 t0.0 t1.0 in
     let made : ParentReference × List ℕ = (record { author = a.0.0; certificate = b.0.0 }, b.0.1) in
-    subst (λ (y : ParentReference × List ℕ). Takes bytes (parent_bytes y.0) y.1 × IsParent y.0 × IsTrue (parent_follows before y.0.author)) {x = made} (ok_is made x b.2) (both, record { author = t0.1; certificate = t1.1 }, g.0)
+    subst (λ (y : ParentReference × List ℕ). Takes bytes (parent_reference_bytes y.0) y.1 × IsParentReference y.0 × IsTrue (parent_follows before y.0.author)) {x = made} (ok_is made x b.2) (both, record { author = t0.1; certificate = t1.1 }, g.0)
 
-parent_again : (before : List ParentReference) (p : ParentReference) (rest : List ℕ) → IsParent p → IsTrue (parent_follows before p.author) → parent_at before (parent_bytes p ++ rest) ≡ Ok (p, rest)
-unfolding parent_at
+parent_again : (before : List ParentReference) (p : ParentReference) (rest : List ℕ) → IsParentReference p → IsTrue (parent_follows before p.author) → parent_reference_at before (parent_reference_bytes p ++ rest) ≡ Ok (p, rest)
+unfolding parent_reference_at
 parent_again before p rest is may =
-    let regrouped : parent_bytes p ++ rest ≡ to_be_bytes w16 p.author.0 ++ (p.certificate.0 ++ rest) = append_assoc (to_be_bytes w16 p.author.0) p.certificate.0 rest in
-    ap (parent_at before) regrouped ∙ rw (author_again p.author (p.certificate.0 ++ rest) is.author, may, digest_again p.certificate rest is.certificate) refl
+    let regrouped : parent_reference_bytes p ++ rest ≡ to_be_bytes w16 p.author.0 ++ (p.certificate.0 ++ rest) = append_assoc (to_be_bytes w16 p.author.0) p.certificate.0 rest in
+    ap (parent_reference_at before) regrouped ∙ rw (author_again p.author (p.certificate.0 ++ rest) is.author, may, digest_again p.certificate rest is.certificate) refl
 
-parent_is : IsEntry parent_at parent_bytes (λ p. IsParent p) parent_below
-parent_is = record { takes = parent_takes; again = parent_again }
+parent_is : IsEntry parent_reference_at parent_reference_bytes IsParentReference (λ l. IsTrue (rises parent_below l))
+parent_is = rising parent_reference_at parent_reference_bytes IsParentReference parent_below parent_takes parent_again
 
 pub parents_take : (bytes : List ℕ) (x : List ParentReference × List ℕ) → IsBytes bytes → parents_at bytes ≡ Ok x → Takes bytes (parents_bytes x.0) x.1 × AreParents x.0
 unfolding parents_at
 parents_take bytes x fits e =
-    let a = bind_ok (count_at 31 bytes) (λ count. more_at parent_at count.0 [] count.1) x e in
-    let t0 = count_takes 31 bytes a.0 fits a.1 in
-    let r = more_take parent_at parent_bytes (λ p. IsParent p) parent_below parent_is a.0.0 [] a.0.1 x t0.0.rest_fits refl a.2 in
-    let both = Takes-then bytes (to_be_bytes w16 a.0.0) a.0.1 (flat_map parent_bytes r.entries) x.1 t0.0 r.takes in
-    let counted : Takes bytes (parents_bytes r.entries) x.1 = subst (λ (k : ℕ). Takes bytes (to_be_bytes w16 k ++ flat_map parent_bytes r.entries) x.1) (sym r.count_is) both in
-    let few : length r.entries ≤ 31 = omega (arith, t0.1, r.count_is) in
-    let rise : IsTrue (rises parent_below r.entries) = subst (λ (l : List ParentReference). IsTrue (rises parent_below l)) r.whole r.rise in
-    subst (λ (l : List ParentReference). Takes bytes (parents_bytes l) x.1 × AreParents l) (sym r.whole) (counted, record { few = few; each = All-from_recursion (λ p. IsParent p) r.entries r.fits; rise = rise })
+    let r = counted_take w16 (2 ^ 16) wide16 31 parent_reference_at parent_reference_bytes IsParentReference (λ l. IsTrue (rises parent_below l)) parent_is bytes x fits refl e in
+    (r.takes, record { few = r.few; each = All-from_recursion IsParentReference x.0 r.fits; rise = r.sound })
 
 pub parents_again : (parents : List ParentReference) (rest : List ℕ) → AreParents parents → parents_at (parents_bytes parents ++ rest) ≡ Ok (parents, rest)
 unfolding parents_at
-parents_again parents rest are =
-    let regrouped : parents_bytes parents ++ rest ≡ to_be_bytes w16 (length parents) ++ (flat_map parent_bytes parents ++ rest) = append_assoc (to_be_bytes w16 (length parents)) (flat_map parent_bytes parents) rest in
-    let more = more_again parent_at parent_bytes (λ p. IsParent p) parent_below parent_is parents [] rest (recursion_from_All (λ p. IsParent p) parents are.each) are.rise in
-    ap parents_at regrouped ∙ rw (count_again 31 (length parents) (flat_map parent_bytes parents ++ rest) (omega arith) are.few) more
+parents_again parents rest are = counted_again w16 (2 ^ 16) wide16 31 parent_reference_at parent_reference_bytes IsParentReference (λ l. IsTrue (rises parent_below l)) parent_is parents rest (omega arith) are.few (recursion_from_All IsParentReference parents are.each) are.rise
+
+-- ---- votes
+
+abbrev vote_below : VoteEntry → VoteEntry → Bool
+vote_below a b = nat_lt a.voter.0 b.voter.0
+
+vote_takes : (before : List VoteEntry) (bytes : List ℕ) (x : VoteEntry × List ℕ) → IsBytes bytes → vote_entry_at before bytes ≡ Ok x → Takes bytes (vote_entry_bytes x.0) x.1 × IsVoteEntry x.0 × IsTrue (vote_follows before x.0.voter)
+unfolding vote_entry_at
+vote_takes before bytes x fits e =
+    let a = bind_ok (author_at bytes) (λ voter. cond (vote_follows before voter.0) (signature_at voter.1 >>= λ signature. Ok (record { voter = voter.0; signature = signature.0 }, signature.1)) (Err NotCanonical)) x e in
+    let g = held_ok (vote_follows before a.0.0) NotCanonical (signature_at a.0.1 >>= λ signature. Ok (record { voter = a.0.0; signature = signature.0 }, signature.1)) x a.2 in
+    let b = bind_ok (signature_at a.0.1) (λ signature. Ok (record { voter = a.0.0; signature = signature.0 }, signature.1)) x g.1 in
+    let t0 = author_takes bytes a.0 fits a.1 in
+    let t1 = signature_takes a.0.1 b.0 t0.0.rest_fits b.1 in
+    let both = Takes-then bytes (to_be_bytes w16 a.0.0.0) a.0.1 b.0.0.0 b.0.1 t0.0 t1.0 in
+    let made : VoteEntry × List ℕ = (record { voter = a.0.0; signature = b.0.0 }, b.0.1) in
+    subst (λ (y : VoteEntry × List ℕ). Takes bytes (vote_entry_bytes y.0) y.1 × IsVoteEntry y.0 × IsTrue (vote_follows before y.0.voter)) {x = made} (ok_is made x b.2) (both, record { voter = t0.1; signature = t1.1 }, g.0)
+
+vote_again : (before : List VoteEntry) (v : VoteEntry) (rest : List ℕ) → IsVoteEntry v → IsTrue (vote_follows before v.voter) → vote_entry_at before (vote_entry_bytes v ++ rest) ≡ Ok (v, rest)
+unfolding vote_entry_at
+vote_again before v rest is may =
+    let regrouped : vote_entry_bytes v ++ rest ≡ to_be_bytes w16 v.voter.0 ++ (v.signature.0 ++ rest) = append_assoc (to_be_bytes w16 v.voter.0) v.signature.0 rest in
+    ap (vote_entry_at before) regrouped ∙ rw (author_again v.voter (v.signature.0 ++ rest) is.voter, may, signature_again v.signature rest is.signature) refl
+
+vote_is : IsEntry vote_entry_at vote_entry_bytes IsVoteEntry (λ l. IsTrue (rises vote_below l))
+vote_is = rising vote_entry_at vote_entry_bytes IsVoteEntry vote_below vote_takes vote_again
+
+pub votes_take : (bytes : List ℕ) (x : List VoteEntry × List ℕ) → IsBytes bytes → votes_at bytes ≡ Ok x → Takes bytes (votes_bytes x.0) x.1 × AreVotes x.0
+unfolding votes_at
+votes_take bytes x fits e =
+    let r = counted_take w16 (2 ^ 16) wide16 31 vote_entry_at vote_entry_bytes IsVoteEntry (λ l. IsTrue (rises vote_below l)) vote_is bytes x fits refl e in
+    (r.takes, record { few = r.few; each = All-from_recursion IsVoteEntry x.0 r.fits; rise = r.sound })
+
+pub votes_again : (votes : List VoteEntry) (rest : List ℕ) → AreVotes votes → votes_at (votes_bytes votes ++ rest) ≡ Ok (votes, rest)
+unfolding votes_at
+votes_again votes rest are = counted_again w16 (2 ^ 16) wide16 31 vote_entry_at vote_entry_bytes IsVoteEntry (λ l. IsTrue (rises vote_below l)) vote_is votes rest (omega arith) are.few (recursion_from_All IsVoteEntry votes are.each) are.rise

@@ -4,7 +4,7 @@ use Rattle.std.proofs.lemmas.Bool.{cases_lt}
 use Rattle.std.proofs.lemmas.List.{length-take, get_or-drop, get_or-take, get_or_past}
 use Rattle.std.proofs.lemmas.List.Elements.{All-from_get_or}
 use Rattle.wire.specs.declared.error.WireError.{WireError}
-use Rattle.wire.specs.Grammar.{AreBytes}
+use Rattle.wire.specs.Fields.{AreBytes}
 use Rattle.wire.specs.Reading.{◌>>=◌}
 
 -- the value of a step that did not fail

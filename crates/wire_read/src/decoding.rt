@@ -1,32 +1,53 @@
 //! Whole messages.
 
-ghost use Rattle.std.specs.Prelude.{◌≡◌, ◌++◌, List, ℕ, IfOk, Ok};
+ghost use Rattle.std.specs.Prelude.{◌≡◌, ◌<◌, ◌++◌, List, ℕ, length, IfOk, Ok, Err};
+ghost use Rattle.wire.specs.declared.error.WireError.TheVariants.{Trailing};
 ghost use Rattle.wire.specs.declared.message.Message.{Message};
 ghost use Rattle.wire.specs.Grammar.{IsMessage, Spells};
 ghost use Rattle.wire.specs.Spelling.{spelling};
-ghost use Rattle.wire.specs.Reading.{Gives, header_at, vote_at, tagged_at, message_of};
+ghost use Rattle.wire.specs.Reading.{Gives, ack_at, header_body_at, header_at, vote_at, certificate_at, coin_at, tagged_at, message_of};
 
-use crate::lists::{batches_of, parents_of};
+use crate::lists::{batches_of, parents_of, votes_of};
 use crate::reader::Reader;
+use crate::transactions::batch_of;
 use std::alloc::Global;
-use wire::{HEADER_TAG, Header, Message, VOTE_TAG, Vote, WireError};
+use wire::{
+    ACK_TAG, BATCH_TAG, BatchAck, CERTIFICATE_TAG, COIN_TAG, Certificate, Coin, HEADER_TAG, Header,
+    HeaderBody, Message, VOTE_TAG, Vote, WireError,
+};
 
-#[tactic(auto, unfolding(wire::specs::Reading::header_at))]
-fn header_of(alloc: Global, reader: &mut Reader) -> Result<Header, WireError>
-    ensures { Gives (λ x. (x, reader.new)) result (header_at reader.old) }
+#[tactic(auto, unfolding(wire::specs::Reading::ack_at))]
+fn ack_of(reader: &mut Reader) -> Result<BatchAck, WireError>
+    ensures { Gives (λ x. (x, reader.new)) result (ack_at reader.old) }
+{
+    let author = reader.author()?;
+    let batch = reader.digest()?;
+    Ok(BatchAck { author, batch })
+}
+
+#[tactic(auto, unfolding(wire::specs::Reading::header_body_at))]
+fn header_body_of(alloc: Global, reader: &mut Reader) -> Result<HeaderBody, WireError>
+    ensures { Gives (λ x. (x, reader.new)) result (header_body_at reader.old) }
 {
     let author = reader.author()?;
     let round = reader.round()?;
     let batches = batches_of(alloc, reader)?;
     let parents = parents_of(alloc, reader)?;
-    let signature = reader.signature()?;
-    Ok(Header {
+    Ok(HeaderBody {
         author,
         round,
         batches,
         parents,
-        signature,
     })
+}
+
+#[tactic(auto, unfolding(wire::specs::Reading::header_at))]
+fn header_of(alloc: Global, reader: &mut Reader) -> Result<Header, WireError>
+    ensures { Gives (λ x. (x, reader.new)) result (header_at reader.old) }
+{
+    let body = header_body_of(alloc, reader)?;
+    let signature = reader.signature()?;
+    Ok(Header { body, signature })
 }
 
 #[tactic(auto, unfolding(wire::specs::Reading::vote_at))]
@@ -47,6 +68,24 @@ fn vote_of(reader: &mut Reader) -> Result<Vote, WireError>
     })
 }
 
+#[tactic(auto, unfolding(wire::specs::Reading::certificate_at))]
+fn certificate_of(alloc: Global, reader: &mut Reader) -> Result<Certificate, WireError>
+    ensures { Gives (λ x. (x, reader.new)) result (certificate_at reader.old) }
+{
+    let header = header_body_of(alloc, reader)?;
+    let votes = votes_of(alloc, reader)?;
+    Ok(Certificate { header, votes })
+}
+
+#[tactic(auto, unfolding(wire::specs::Reading::coin_at))]
+fn coin_of(reader: &mut Reader) -> Result<Coin, WireError>
+    ensures { Gives (λ x. (x, reader.new)) result (coin_at reader.old) }
+{
+    let wave = reader.wave()?;
+    let value = reader.long_number()?;
+    Ok(Coin { wave, value })
+}
+
 #[tactic(auto, unfolding(wire::specs::Reading::message_of, wire::specs::Reading::tagged_at))]
 fn message_in(alloc: Global, bytes: &[u8]) -> Result<Message, WireError>
     ensures { Gives (λ message. message) result (message_of bytes.now) }
@@ -56,8 +95,12 @@ fn message_in(alloc: Global, bytes: &[u8]) -> Result<Message, WireError>
     };
     let mut reader = Reader::new(body);
     let message = match *tag {
+        BATCH_TAG => Message::Batch(batch_of(alloc, &mut reader)?),
+        ACK_TAG => Message::BatchAck(ack_of(&mut reader)?),
         HEADER_TAG => Message::Header(header_of(alloc, &mut reader)?),
         VOTE_TAG => Message::Vote(vote_of(&mut reader)?),
+        CERTIFICATE_TAG => Message::Certificate(certificate_of(alloc, &mut reader)?),
+        COIN_TAG => Message::Coin(coin_of(&mut reader)?),
         _ => return Err(WireError::BadTag),
     };
     if !reader.rest().is_empty() {
@@ -82,4 +125,9 @@ pub fn decode(alloc: Global, bytes: &[u8]) -> Result<Message, WireError>
 /// bytes are one message with the same bytes behind it.
 pub fn one_spelling()
     ensures { (m n : Message) (x y : List ℕ) → IsMessage m → IsMessage n → spelling m ++ x ≡ spelling n ++ y → (m ≡ n) × (x ≡ y) }
+{}
+
+/// Bytes that go on behind a message are refused as such, whatever they are.
+pub fn what_follows_is_trailing()
+    ensures { (m : Message) (rest : List ℕ) → IsMessage m → 0 < length rest → message_of (spelling m ++ rest) ≡ Err Trailing }
 {}

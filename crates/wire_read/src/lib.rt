@@ -1,11 +1,15 @@
-//! Bytes as messages: `decode` reads from left to right and answers the first fault that it meets.
+//! Bytes as messages: `decode` reads from left to right and answers the first fault that it meets, and a
+//! `FrameReader` cuts a stream into the bodies of its frames.
 #![tactic(auto)]
 
 mod decoding;
+mod frames;
 mod lists;
 mod reader;
+mod transactions;
 
-pub use decoding::{decode, one_spelling};
+pub use decoding::{decode, one_spelling, what_follows_is_trailing};
+pub use frames::{FrameReader, one_split};
 
 #[cfg(test)]
 mod tests;

@@ -1,19 +1,19 @@
-//! The lists of a header. The order is tested as soon as an entry's key is read.
+//! The lists of headers and certificates. The order is tested as soon as an entry's key is read.
 
 ghost use Rattle.std.specs.Prelude.{◌≡◌, IfOk, IsTrue};
-ghost use Rattle.wire.specs.References.{batch_follows, parent_follows};
-ghost use Rattle.wire.specs.Reading.{Gives, batch_at, batches_at, parent_at, parents_at};
+ghost use Rattle.wire.specs.References.{batch_follows, parent_follows, vote_follows};
+ghost use Rattle.wire.specs.Reading.{Gives, batch_reference_at, batches_at, parent_reference_at, parents_at, vote_entry_at, votes_at};
 
 use crate::reader::Reader;
 use std::alloc::Global;
 use wire::{
-    BatchReference, BatchReferences, MAX_BATCHES, MAX_PARENTS, ParentReference, ParentReferences,
-    WireError,
+    BatchReference, BatchReferences, MAX_BATCHES, MAX_PARENTS, MAX_VOTES, ParentReference,
+    ParentReferences, VoteEntries, VoteEntry, WireError,
 };
 
-#[tactic(auto, unfolding(wire::specs::Reading::batch_at))]
+#[tactic(auto, unfolding(wire::specs::Reading::batch_reference_at))]
 fn batch_of(reader: &mut Reader, before: &BatchReferences) -> Result<BatchReference, WireError>
-    ensures reads { Gives (λ x. (x, reader.new)) result (batch_at before.now reader.old) }
+    ensures reads { Gives (λ x. (x, reader.new)) result (batch_reference_at before.now reader.old) }
     ensures follows { IfOk result (λ batch. IsTrue (batch_follows before.now batch.digest)) }
 {
     let digest = reader.digest()?;
@@ -25,7 +25,7 @@ fn batch_of(reader: &mut Reader, before: &BatchReferences) -> Result<BatchRefere
 }
 
 #[tactic(auto, unfolding(wire::specs::Reading::batches_at))]
-pub fn batches_of(alloc: Global, reader: &mut Reader) -> Result<BatchReferences, WireError>
+pub(crate) fn batches_of(alloc: Global, reader: &mut Reader) -> Result<BatchReferences, WireError>
     ensures { Gives (λ x. (x, reader.new)) result (batches_at reader.old) }
 {
     let count = reader.count(MAX_BATCHES as u16)?;
@@ -37,9 +37,9 @@ pub fn batches_of(alloc: Global, reader: &mut Reader) -> Result<BatchReferences,
     Ok(batches)
 }
 
-#[tactic(auto, unfolding(wire::specs::Reading::parent_at))]
+#[tactic(auto, unfolding(wire::specs::Reading::parent_reference_at))]
 fn parent_of(reader: &mut Reader, before: &ParentReferences) -> Result<ParentReference, WireError>
-    ensures reads { Gives (λ x. (x, reader.new)) result (parent_at before.now reader.old) }
+    ensures reads { Gives (λ x. (x, reader.new)) result (parent_reference_at before.now reader.old) }
     ensures follows { IfOk result (λ parent. IsTrue (parent_follows before.now parent.author)) }
 {
     let author = reader.author()?;
@@ -54,7 +54,7 @@ fn parent_of(reader: &mut Reader, before: &ParentReferences) -> Result<ParentRef
 }
 
 #[tactic(auto, unfolding(wire::specs::Reading::parents_at))]
-pub fn parents_of(alloc: Global, reader: &mut Reader) -> Result<ParentReferences, WireError>
+pub(crate) fn parents_of(alloc: Global, reader: &mut Reader) -> Result<ParentReferences, WireError>
     ensures { Gives (λ x. (x, reader.new)) result (parents_at reader.old) }
 {
     let count = reader.count(MAX_PARENTS as u16)?;
@@ -64,4 +64,30 @@ pub fn parents_of(alloc: Global, reader: &mut Reader) -> Result<ParentReferences
         parents.push(parent)?;
     }
     Ok(parents)
+}
+
+#[tactic(auto, unfolding(wire::specs::Reading::vote_entry_at))]
+fn vote_of(reader: &mut Reader, before: &VoteEntries) -> Result<VoteEntry, WireError>
+    ensures reads { Gives (λ x. (x, reader.new)) result (vote_entry_at before.now reader.old) }
+    ensures follows { IfOk result (λ vote. IsTrue (vote_follows before.now vote.voter)) }
+{
+    let voter = reader.author()?;
+    if !before.may_follow(voter) {
+        return Err(WireError::NotCanonical);
+    }
+    let signature = reader.signature()?;
+    Ok(VoteEntry { voter, signature })
+}
+
+#[tactic(auto, unfolding(wire::specs::Reading::votes_at))]
+pub(crate) fn votes_of(alloc: Global, reader: &mut Reader) -> Result<VoteEntries, WireError>
+    ensures { Gives (λ x. (x, reader.new)) result (votes_at reader.old) }
+{
+    let count = reader.count(MAX_VOTES as u16)?;
+    let mut votes = VoteEntries::new(alloc);
+    for _ in 0..count {
+        let vote = vote_of(reader, &votes)?;
+        votes.push(vote)?;
+    }
+    Ok(votes)
 }

@@ -1,6 +1,11 @@
 //! Bytes from outside, and which fault comes first.
 
+mod cases;
+
+ghost use Rattle.std.specs.Prelude.{◌<◌};
+
 use super::*;
+use cases::CASES;
 use std::alloc::Global;
 use std::test::Fail;
 use wire::{Message, WireError, encode};
@@ -49,10 +54,10 @@ fn a_header_is_read_and_written_again(rt: HostRuntime) -> Result<(), Fail> {
     let Message::Header(header) = &message else {
         return Err("it is a header".into());
     };
-    assert_eq!(rt; header.author.0, 1);
-    assert_eq!(rt; header.round.number(), 1);
-    assert_eq!(rt; header.batches.len(), 0);
-    assert_eq!(rt; header.parents.len(), 3);
+    assert_eq!(rt; header.body.author.0, 1);
+    assert_eq!(rt; header.body.round.number(), 1);
+    assert_eq!(rt; header.body.batches.len(), 0);
+    assert_eq!(rt; header.body.parents.len(), 3);
     Ok(())
 }
 
@@ -101,6 +106,16 @@ fn tags_and_rounds(rt: HostRuntime) {
 }
 
 #[test]
+fn the_greatest_round_is_read_and_written_again(rt: HostRuntime) -> Result<(), Fail> {
+    let mut bytes = first_header();
+    bytes[ROUND..11].copy_from_slice(&[0, 1, 0, 0, 0, 0, 0, 0]);
+    let message = decode(rt.alloc(), &bytes)?;
+    let again = encode(rt.alloc(), &message)?;
+    assert_eq!(rt; again.as_slice(), bytes.as_slice());
+    Ok(())
+}
+
+#[test]
 fn lists_rise(rt: HostRuntime) {
     let mut twice = first_header();
     twice[SECOND_AUTHOR_END - 1] = 0;
@@ -143,4 +158,207 @@ fn counts_have_limits(rt: HostRuntime) {
     assert_eq!(rt; fault(rt.alloc(), &bytes), Some(WireError::TooMany));
     bytes[BATCH_COUNT] = 129;
     assert_eq!(rt; fault(rt.alloc(), &bytes), Some(WireError::TooMany));
+}
+
+fn digit(byte: u8) -> u8
+    ensures { result < 16 }
+{
+    match byte {
+        b'0'..=b'9' => byte - b'0',
+        b'a'..=b'f' => byte - b'a' + 10,
+        _ => 0,
+    }
+}
+
+fn bytes_of(alloc: Global, hex: &str) -> Result<Vec<u8>, Fail> {
+    let mut bytes = Vec::new(alloc);
+    for pair in hex.as_bytes().chunks_exact(2) {
+        bytes.push(digit(pair[0]) * 16 + digit(pair[1]))?;
+    }
+    Ok(bytes)
+}
+
+/// Messages of every kind, and bytes that are none, as another program made and judged them.
+#[test]
+fn cases_from_outside(rt: HostRuntime) -> Result<(), Fail> {
+    assert_eq!(rt; CASES.lines().count(), 500);
+    for line in CASES.lines() {
+        let Some((hex, expected)) = line.split_once('|') else {
+            return Err("a line has a bar".into());
+        };
+        let bytes = bytes_of(rt.alloc(), hex)?;
+        let answer = match decode(rt.alloc(), &bytes) {
+            Ok(message) => {
+                let again = encode(rt.alloc(), &message)?;
+                assert_eq!(rt; again.as_slice(), bytes.as_slice());
+                String::from_str(rt.alloc(), "Ok")?
+            }
+            Err(error) => format!(in rt.alloc(); "{error}")?,
+        };
+        assert_eq!(rt; answer.as_str(), expected, "{hex}");
+    }
+    Ok(())
+}
+
+/// A frame of 19 bytes: sender 0, and the coin 7 of wave 1.
+const FRAME: [u8; 23] = [
+    0, 0, 0, 19, 0, 0, 6, 0, 0, 0, 0, 0, 0, 0, 1, 0, 0, 0, 0, 0, 0, 0, 7,
+];
+
+/// Each of the 22 places between two bytes of the frame is a cut or none. So many ways want a compiled test.
+const WAYS: u32 = 1 << 22;
+
+/// Whether the frame, cut so, gives its body once and leaves nothing.
+fn is_one_body(alloc: Global, cuts: u32) -> Result<bool, Fail> {
+    let mut reader = FrameReader::new(alloc);
+    let mut piece = Vec::new(alloc);
+    let mut bodies = Vec::new(alloc);
+    for place in 0..FRAME.len() {
+        piece.push(FRAME[place])?;
+        if place == 22 || (cuts >> place) & 1 == 1 {
+            for body in reader.feed(&piece)? {
+                bodies.push(body)?;
+            }
+            piece.clear();
+        }
+    }
+    let is_one = matches!(bodies.as_slice(), [body] if body.as_slice() == &FRAME[4..]);
+    Ok(is_one && reader.is_empty())
+}
+
+#[test]
+fn a_frame_in_pieces_is_one_body(rt: HostRuntime) -> Result<(), Fail> {
+    one_split();
+    what_follows_is_trailing();
+    for cuts in 0..WAYS {
+        let is_one = is_one_body(rt.alloc(), cuts)?;
+        assert!(rt; is_one, "{cuts}");
+    }
+    let Message::Coin(coin) = decode(rt.alloc(), &FRAME[6..])? else {
+        return Err("it is a coin".into());
+    };
+    assert_eq!(rt; coin.wave.number(), 1);
+    assert_eq!(rt; coin.value, 7);
+    Ok(())
+}
+
+#[test]
+fn a_frame_has_a_greatest_length(rt: HostRuntime) -> Result<(), Fail> {
+    let mut reader = FrameReader::new(rt.alloc());
+    assert!(rt; reader.feed(&[0, 8, 0, 0])?.is_empty());
+    assert!(rt; !reader.is_empty());
+    let mut reader = FrameReader::new(rt.alloc());
+    // A whole frame before the length that is too great, in the same piece.
+    let refused = reader.feed(&[0, 0, 0, 1, 5, 0, 8, 0, 1]).err();
+    assert_eq!(rt; refused, Some(WireError::TooMany));
+    assert!(rt; reader.is_empty());
+    let bodies = reader.feed(&[0, 0, 0, 1, 5, 0, 0, 0, 0, 0])?;
+    assert_eq!(rt; bodies.len(), 2);
+    assert!(rt; !reader.is_empty());
+    Ok(())
+}
+
+/// 20 bytes that declare as many transactions as a batch may have, and then one more.
+#[test]
+fn a_declared_count_is_not_believed(rt: HostRuntime) {
+    let bytes = [
+        1, 0, 0, 0, 0, 0, 1, 0xe8, 0x46, 0, 0, 0, 2, 97, 98, 0, 0, 0, 0, 0,
+    ];
+    assert_eq!(rt; fault(rt.alloc(), &bytes), Some(WireError::Short));
+    let bytes = [1, 0, 0, 0, 0, 0, 1, 0xe8, 0x47];
+    assert_eq!(rt; fault(rt.alloc(), &bytes), Some(WireError::TooMany));
+}
+
+#[test]
+fn a_transaction_and_a_body_have_limits(rt: HostRuntime) -> Result<(), Fail> {
+    let mut bytes = Vec::new(rt.alloc());
+    bytes.extend_from_slice(&[1, 0, 0, 0, 0, 0, 0, 0, 8])?;
+    for _ in 0..7 {
+        bytes.extend_from_slice(&[0, 1, 0, 0])?;
+        bytes.resize(bytes.len() + 65_536, 0)?;
+    }
+    let front = bytes.len();
+    // The body has 458,788 bytes now; there is room for 41,208 behind a length.
+    bytes.extend_from_slice(&[0, 0, 0xa0, 0xf9])?;
+    assert_eq!(rt; fault(rt.alloc(), &bytes), Some(WireError::TooMany));
+    bytes.truncate(front);
+    bytes.extend_from_slice(&[0, 0, 0xa0, 0xf8])?;
+    assert_eq!(rt; fault(rt.alloc(), &bytes), Some(WireError::Short));
+    bytes.resize(500_001, 0)?;
+    assert_eq!(rt; fault(rt.alloc(), &bytes), None);
+    let long = [1, 0, 0, 0, 0, 0, 0, 0, 1, 0, 1, 0, 1];
+    assert_eq!(rt; fault(rt.alloc(), &long), Some(WireError::TooMany));
+    Ok(())
+}
+
+#[test]
+fn waves_and_votes_have_limits(rt: HostRuntime) {
+    let mut coin = [0; 17];
+    coin[0] = 6;
+    assert_eq!(rt; fault(rt.alloc(), &coin), Some(WireError::BadRound));
+    coin[3] = 0x80;
+    assert_eq!(rt; fault(rt.alloc(), &coin), Some(WireError::BadRound));
+    coin[1..9].copy_from_slice(&[0, 0, 0x7f, 0xff, 0xff, 0xff, 0xff, 0xff]);
+    assert_eq!(rt; fault(rt.alloc(), &coin), None);
+    // A certificate of a header with no batches and no parents.
+    let mut certificate = [0; 17];
+    certificate[0] = 5;
+    assert_eq!(rt; fault(rt.alloc(), &certificate), None);
+    certificate[16] = 31;
+    assert_eq!(rt; fault(rt.alloc(), &certificate), Some(WireError::Short));
+    certificate[16] = 32;
+    assert_eq!(rt; fault(rt.alloc(), &certificate), Some(WireError::TooMany));
+}
+
+// Entries of so many bytes with rising keys, whose second byte counts.
+fn push_entries(bytes: &mut Vec<u8>, count: u8, len: usize) -> Result<(), Fail> {
+    for key in 0..count {
+        bytes.extend_from_slice(&[0, key])?;
+        for _ in 0..len {
+            bytes.push(7)?;
+        }
+    }
+    Ok(())
+}
+
+/// A header body of member 0 in round 1 with 128 batches and 31 parents, behind a tag.
+fn greatest_body(alloc: Global, tag: u8) -> Result<Vec<u8>, Fail> {
+    let mut bytes = Vec::new(alloc);
+    bytes.extend_from_slice(&[tag, 0, 0, 0, 0, 0, 0, 0, 0, 0, 1, 0, 128])?;
+    push_entries(&mut bytes, 128, 32)?;
+    bytes.extend_from_slice(&[0, 31])?;
+    push_entries(&mut bytes, 31, 32)?;
+    Ok(bytes)
+}
+
+#[test]
+fn the_greatest_messages_are_read(rt: HostRuntime) -> Result<(), Fail> {
+    let mut header = greatest_body(rt.alloc(), 3)?;
+    header.extend_from_slice(&[7; 64])?;
+    let mut certificate = greatest_body(rt.alloc(), 5)?;
+    certificate.extend_from_slice(&[0, 31])?;
+    push_entries(&mut certificate, 31, 64)?;
+    // 124,998 empty transactions.
+    let mut batch = Vec::new(rt.alloc());
+    batch.extend_from_slice(&[1, 0, 0, 0, 0, 0, 1, 0xe8, 0x46])?;
+    batch.resize(500_001, 0)?;
+    for (bytes, len) in [(&header, 5_485), (&certificate, 7_469), (&batch, 500_001)] {
+        assert_eq!(rt; bytes.len(), len);
+        let message = decode(rt.alloc(), bytes)?;
+        let again = encode(rt.alloc(), &message)?;
+        assert!(rt; again.as_slice() == bytes.as_slice());
+    }
+    Ok(())
+}
+
+#[test]
+fn the_greatest_frame_is_one_body(rt: HostRuntime) -> Result<(), Fail> {
+    let mut stream = Vec::new(rt.alloc());
+    stream.extend_from_slice(&[0, 8, 0, 0])?;
+    stream.resize(524_292, 7)?;
+    let mut reader = FrameReader::new(rt.alloc());
+    let bodies = reader.feed(&stream)?;
+    assert!(rt; matches!(bodies.as_slice(), [body] if body.len() == 524_288));
+    assert!(rt; reader.is_empty());
+    Ok(())
 }

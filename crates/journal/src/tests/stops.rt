@@ -90,7 +90,7 @@ struct Told {
 // The disk after a group of the record `b` was to be appended to the first, and whether it was.
 fn after_append(alloc: Global, told: Told) -> Result<(MemDisk, bool), Fail> {
     let mut disk = disk_with(alloc, &ONE_GROUP)?;
-    disk.fail(told.kind, told.count);
+    disk.fail(told.kind, told.count)?;
     let (mut journal, _) = opened(alloc, disk)?;
     let records = vec![in alloc; Vec::from_slice(alloc, b"b")?]?;
     let group = Group::new(alloc, records)?.ok_or("it is a group")?;
@@ -98,24 +98,38 @@ fn after_append(alloc: Global, told: Told) -> Result<(MemDisk, bool), Fail> {
         Ok(synced) => synced.records() == 1,
         Err(_) => false,
     };
-    let mut disk = journal.into_disk();
-    disk.fail(told.kind, 0);
-    Ok((disk, is_done))
+    Ok((journal.into_disk(), is_done))
 }
 
-// The disk after it was to be opened with these bytes.
+// Makes the call that was told to fail and hasn't come. It has no effect.
+fn spend(rt: &impl Abort, disk: &mut MemDisk, told: Told) {
+    if told.count == 0 {
+        return;
+    }
+    let outcome = match told.kind {
+        CallKind::Read => disk.read_at(0, &mut []),
+        CallKind::Write => disk.write_at(0, &[]),
+        CallKind::Cut => disk.cut(0),
+        CallKind::Sync => disk.sync(),
+    };
+    assert!(rt; outcome.is_err(), "{told:?}");
+}
+
+// The disk after it was to be opened with these bytes. No call of it is told to fail any more.
 fn after_open(rt: &impl Abort, alloc: Global, file: &[u8], told: Told) -> Result<MemDisk, Fail> {
     let mut disk = disk_with(alloc, file)?;
-    disk.fail(told.kind, told.count);
-    let mut disk = match Journal::open(alloc, disk) {
-        Ok((journal, _records)) => journal.into_disk(),
+    disk.fail(told.kind, told.count)?;
+    match Journal::open(alloc, disk) {
+        Ok((journal, _records)) => {
+            let mut disk = journal.into_disk();
+            spend(rt, &mut disk, told);
+            Ok(disk)
+        }
         Err(Failed { error, disk }) => {
             assert_eq!(rt; error, JournalError::Device);
-            disk
+            Ok(disk)
         }
-    };
-    disk.fail(told.kind, 0);
-    Ok(disk)
+    }
 }
 
 #[test]

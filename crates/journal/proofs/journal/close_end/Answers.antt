@@ -130,3 +130,21 @@ returns-else-len-gate-clause-len g c =
     let file = g.D.Disk.content c.args.disk.now in
     let long : 2 ≤ length file = omega (arith, c.requires.len, c.if-len-lt2.false) in
     (repaired_whole file c.args.gate c.requires.found long (omega (arith, c.requires.len))).size
+
+pub returns-in_ok-sync-clause-content : goal.returns-in_ok-sync-clause-content
+returns-in_ok-sync-clause-content g c =
+    let file = g.D.Disk.content c.args.disk.now in
+    let short : length file < 2 = omega (arith, c.requires.len, c.if-len-lt2.true) in
+    (repaired_short file c.args.gate c.requires.found short _ (c.sync.ensures.content ∙ c.in_ok-write_at.ensures.content)).content
+
+pub returns-in_ok-sync-2-clause-content : goal.returns-in_ok-sync-2-clause-content
+returns-in_ok-sync-2-clause-content g c =
+    let file = g.D.Disk.content c.args.disk.now in
+    let long : 2 ≤ length file = omega (arith, c.requires.len, c.if-len-lt2.false) in
+    (repaired_cut file c.args.gate c.requires.found long _ (c.sync-then-len-gate.ensures.content ∙ c.in_ok-cut.ensures.content)).content
+
+pub returns-else-len-gate-clause-content : goal.returns-else-len-gate-clause-content
+returns-else-len-gate-clause-content g c =
+    let file = g.D.Disk.content c.args.disk.now in
+    let long : 2 ≤ length file = omega (arith, c.requires.len, c.if-len-lt2.false) in
+    (repaired_whole file c.args.gate c.requires.found long (omega (arith, c.requires.len))).content

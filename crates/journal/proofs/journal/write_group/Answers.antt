@@ -120,7 +120,7 @@ returns-clause-ends_closed g c =
     let bytes_are : c.deref.result.now ≡ group_bytes c.args.group = c.deref.ensures.value ∙ c.into_bytes-bytes.ensures.bytes in
     let staged : g.D.Disk.content c.write_at.new.self ≡ file ++ group_bytes c.args.group =
     staged_by file c.requires.ends_closed c.args.group fits c.args.len c.deref.result.now _ c.requires.len bytes_are c.in_ok-write_at.ensures.content in
-    let new_is = added file c.requires.ends_closed c.args.group fits c.args.len _ _ c.requires.len (c.sync.ensures.content ∙ staged) (c.sync-2.ensures.content ∙ c.in_ok-write_at-2.ensures.content) in
+    let new_is = added file c.requires.ends_closed c.args.group fits c.args.len _ _ _ (λ shut. omega arith) c.requires.len (c.sync.ensures.content ∙ staged) (c.sync-2.ensures.content ∙ c.in_ok-write_at-2.ensures.content) in
     new_is.ends_closed
 
 pub returns-clause-len : goal.returns-clause-len
@@ -130,7 +130,7 @@ returns-clause-len g c =
     let bytes_are : c.deref.result.now ≡ group_bytes c.args.group = c.deref.ensures.value ∙ c.into_bytes-bytes.ensures.bytes in
     let staged : g.D.Disk.content c.write_at.new.self ≡ file ++ group_bytes c.args.group =
     staged_by file c.requires.ends_closed c.args.group fits c.args.len c.deref.result.now _ c.requires.len bytes_are c.in_ok-write_at.ensures.content in
-    let new_is = added file c.requires.ends_closed c.args.group fits c.args.len _ _ c.requires.len (c.sync.ensures.content ∙ staged) (c.sync-2.ensures.content ∙ c.in_ok-write_at-2.ensures.content) in
+    let new_is = added file c.requires.ends_closed c.args.group fits c.args.len _ _ _ (λ shut. omega arith) c.requires.len (c.sync.ensures.content ∙ staged) (c.sync-2.ensures.content ∙ c.in_ok-write_at-2.ensures.content) in
     omega (arith, new_is.size, c.requires.len)
 
 pub returns-clause-records : goal.returns-clause-records
@@ -140,5 +140,15 @@ returns-clause-records g c =
     let bytes_are : c.deref.result.now ≡ group_bytes c.args.group = c.deref.ensures.value ∙ c.into_bytes-bytes.ensures.bytes in
     let staged : g.D.Disk.content c.write_at.new.self ≡ file ++ group_bytes c.args.group =
     staged_by file c.requires.ends_closed c.args.group fits c.args.len c.deref.result.now _ c.requires.len bytes_are c.in_ok-write_at.ensures.content in
-    let new_is = added file c.requires.ends_closed c.args.group fits c.args.len _ _ c.requires.len (c.sync.ensures.content ∙ staged) (c.sync-2.ensures.content ∙ c.in_ok-write_at-2.ensures.content) in
+    let new_is = added file c.requires.ends_closed c.args.group fits c.args.len _ _ _ (λ shut. omega arith) c.requires.len (c.sync.ensures.content ∙ staged) (c.sync-2.ensures.content ∙ c.in_ok-write_at-2.ensures.content) in
     new_is.records
+
+pub returns-clause-content : goal.returns-clause-content
+returns-clause-content g c =
+    let file = g.D.Disk.content c.args.disk.now in
+    let fits : FitsGroup c.args.group = c.into_bytes-bytes.ensures.fits in
+    let bytes_are : c.deref.result.now ≡ group_bytes c.args.group = c.deref.ensures.value ∙ c.into_bytes-bytes.ensures.bytes in
+    let staged : g.D.Disk.content c.write_at.new.self ≡ file ++ group_bytes c.args.group =
+    staged_by file c.requires.ends_closed c.args.group fits c.args.len c.deref.result.now _ c.requires.len bytes_are c.in_ok-write_at.ensures.content in
+    let new_is = added file c.requires.ends_closed c.args.group fits c.args.len _ _ _ (λ shut. omega arith) c.requires.len (c.sync.ensures.content ∙ staged) (c.sync-2.ensures.content ∙ c.in_ok-write_at-2.ensures.content) in
+    new_is.content

@@ -1,5 +1,5 @@
 use Rattle.std.proofs.Common.{◌≡◌, ◌-◌, ◌≤◌, length}
-use Rattle.wire.specs.Reading.{more_at, parent_at, parents_at}
+use Rattle.wire.specs.Reading.{more_at, parent_reference_at, parents_at}
 use Rattle.wire_read.proofs.lists.parents_of.Given as goal
 
 -- those that are still read, behind those so far, are all
@@ -7,5 +7,5 @@ abbrev pub invariant-loop : goal.invariant-loop
 invariant-loop l = record {
   limit : l.count ≤ 31;
   so_many : length l.parents ≡ l.counter;
-  so_far : more_at parent_at (l.count - l.counter) l.parents l.reader ≡ parents_at l.fn.reader;
+  so_far : more_at parent_reference_at (l.count - l.counter) l.parents l.reader ≡ parents_at l.fn.reader;
 }

@@ -1,14 +1,8 @@
--- Events, and their records in the journal.
+-- The records of events in the journal.
 use Rattle.std.specs.Prelude.{ℕ, List, ◌∷◌, ◌++◌}
 use Rattle.std.specs.Int.{w16, to_be_bytes}
-use Rattle.wire.specs.declared.keys.Author.{Author}
-use Rattle.wire.specs.declared.message.Message.{Message}
+use Rattle.wire.specs.Events.{Event}
 use Rattle.wire.specs.Spelling.{spelling}
-
--- a message that passed the checks, with its sender
-pub record Event : Type 0 where
-  pub sender : Author
-  pub message : Message
 
 -- the record of an event: its kind, the sender, the message
 abbrev pub record_of : Event → List ℕ

@@ -1,0 +1,63 @@
+-- Batches, and the bytes of their bodies. Numbers have their highest byte first.
+use Rattle.std.specs.Prelude.{◌≡◌, ℕ, zero, suc, ◌+◌, ◌≤◌, List, [], ◌∷◌, ◌++◌, length, take, drop, sum_by, All, Bool, nat_le}
+use Rattle.std.specs.List.{flat_map}
+use Rattle.std.specs.Int.{w16, w32, to_be_bytes, from_be_bytes}
+use Rattle.wire.specs.declared.keys.Author.{Author}
+use Rattle.wire.specs.Fields.{EachIsByte, IsNumber, IsAuthor}
+
+-- a batch, as contracts see it: an author's transactions of one worker, in their order
+pub record Contents : Type 0 where
+  pub author : Author
+  pub worker : ℕ
+  pub transactions : List (List ℕ)
+
+-- a transaction: its length, and its bytes
+abbrev pub transaction_bytes : List ℕ → List ℕ
+transaction_bytes transaction = to_be_bytes w32 (length transaction) ++ transaction
+
+-- the body of a batch: author, worker, and the transactions behind their count
+abbrev pub batch_body : Contents → List ℕ
+batch_body b =
+    to_be_bytes w16 b.author.0 ++ to_be_bytes w16 b.worker ++ to_be_bytes w32 (length b.transactions)
+    ++ flat_map transaction_bytes b.transactions
+
+-- how many bytes a body of these transactions has
+abbrev pub body_len : List (List ℕ) → ℕ
+body_len transactions = 8 + sum_by (λ t. 4 + length t) transactions
+
+-- a body of these transactions has room for one more of this length: it then has at most 500,000 bytes
+abbrev pub has_room : List (List ℕ) → ℕ → Bool
+has_room transactions len = nat_le (body_len transactions + (4 + len)) 500000
+
+-- a transaction has at most 65,536 bytes
+pub record IsTransaction (transaction : List ℕ) : Type 0 where
+  pub short : length transaction ≤ 65536
+  pub bytes : EachIsByte transaction
+
+-- a batch has an author, a worker, and as many transactions as a body of 500,000 bytes has room for, so at most 124,998
+pub record IsBatch (b : Contents) : Type 0 where
+  pub author : IsAuthor b.author
+  pub worker : IsNumber b.worker
+  pub each : All IsTransaction b.transactions
+  pub short : body_len b.transactions ≤ 500000
+
+-- so many transactions, each with its length before it
+unfoldable pub transactions_in : ℕ → List ℕ → List (List ℕ)
+transactions_in zero bytes = []
+transactions_in (suc n) bytes =
+    take (from_be_bytes w32 (take 4 bytes)) (drop 4 bytes)
+    ∷ transactions_in n (drop (from_be_bytes w32 (take 4 bytes)) (drop 4 bytes))
+
+-- ---- how the types keep a batch
+
+-- the batch of this author and worker whose body, from its ninth byte on, has so many transactions
+abbrev pub contents_of : Author → ℕ → ℕ → List ℕ → Contents
+contents_of author worker count body = record { author = author; worker = worker; transactions = transactions_in count (drop 8 body) }
+
+-- a body that grows: it is whole but for its count, which may be any four bytes
+pub record IsOpen (author : Author) (worker count : ℕ) (body : List ℕ) : Type 0 where
+  pub fits : IsBatch (contents_of author worker count body)
+  pub head : take 4 body ≡ to_be_bytes w16 author.0 ++ to_be_bytes w16 worker
+  pub counted : length (contents_of author worker count body).transactions ≡ count
+  pub rest : drop 8 body ≡ flat_map transaction_bytes (contents_of author worker count body).transactions
+  pub len : length body ≡ body_len (contents_of author worker count body).transactions

@@ -1,0 +1,39 @@
+-- The values that a field of fixed size may have.
+use Rattle.std.specs.Prelude.{◌≡◌, ℕ, ◌<◌, ◌≤◌, ◌^◌, List, length, All}
+use Rattle.wire.specs.declared.keys.Author.{Author}
+use Rattle.wire.specs.declared.keys.Digest.{Digest}
+use Rattle.wire.specs.declared.keys.Signature.{Signature}
+
+-- bytes are below 256
+abbrev pub EachIsByte : List ℕ → Type 0
+EachIsByte = All (λ byte. byte < 256)
+
+-- so many bytes
+pub record AreBytes (count : ℕ) (bytes : List ℕ) : Type 0 where
+  pub count_is : length bytes ≡ count
+  pub each : EachIsByte bytes
+
+-- a member's number, or a worker's, has two bytes
+abbrev pub IsNumber : ℕ → Type 0
+IsNumber n = n < 2 ^ 16
+
+-- a member is named by its number
+abbrev pub IsAuthor : Author → Type 0
+IsAuthor a = IsNumber a.0
+
+-- a digest has 32 bytes
+abbrev pub IsDigest : Digest → Type 0
+IsDigest d = AreBytes 32 d.0
+
+-- a signature has 64 bytes
+abbrev pub IsSignature : Signature → Type 0
+IsSignature s = AreBytes 64 s.0
+
+-- rounds go up to 2^48
+abbrev pub IsRound : ℕ → Type 0
+IsRound round = round ≤ 2 ^ 48
+
+-- waves go from 1 up to 2^47 - 1
+pub record IsWave (wave : ℕ) : Type 0 where
+  pub least : 0 < wave
+  pub limit : wave < 2 ^ 47

@@ -1,0 +1,59 @@
+-- The bytes of what a validator gives out: a receiver, and what it gets.
+use Rattle.std.specs.Prelude.{ℕ, ◌≤◌, List, ◌∷◌, ◌++◌, length, All}
+use Rattle.std.specs.List.{flat_map}
+use Rattle.std.specs.Int.{w16, w32, w64, to_be_bytes}
+use Rattle.wire.specs.declared.keys.Digest.{Digest}
+use Rattle.wire.specs.declared.message.Message.TheVariants as message
+use Rattle.wire.specs.declared.output.Output.{Output}
+use Rattle.wire.specs.declared.output.Output.TheVariants as output
+use Rattle.wire.specs.Fields.{IsDigest}
+use Rattle.wire.specs.Grammar.{IsMessage}
+use Rattle.wire.specs.Spelling.{spelling}
+
+-- who gets it: a member by its number, all members as FFFF, or the host as FFFE
+abbrev pub receiver_of : Output → ℕ
+receiver_of (output.Batch b) = 65535
+receiver_of (output.Ack to ack) = to.0
+receiver_of (output.Header h) = 65535
+receiver_of (output.Vote v) = v.author.0
+receiver_of (output.Certificate c) = 65535
+receiver_of (output.Order start digests) = 65534
+
+-- a digest: its bytes
+abbrev pub digest_bytes : Digest → List ℕ
+digest_bytes d = d.0
+
+-- the digests behind their count
+abbrev pub digests_bytes : List Digest → List ℕ
+digests_bytes digests = to_be_bytes w32 (length digests) ++ flat_map digest_bytes digests
+
+-- a piece of the order: behind the tag 7 the place of its first digest, and the digests
+abbrev pub order_bytes : ℕ → List Digest → List ℕ
+order_bytes start digests = 7 ∷ to_be_bytes w64 start ++ digests_bytes digests
+
+-- what it gets: a message, or a piece of the order
+abbrev pub content_of : Output → List ℕ
+content_of (output.Batch b) = spelling (message.Batch b)
+content_of (output.Ack to ack) = spelling (message.BatchAck ack)
+content_of (output.Header h) = spelling (message.Header h)
+content_of (output.Vote v) = spelling (message.Vote v)
+content_of (output.Certificate c) = spelling (message.Certificate c)
+content_of (output.Order start digests) = order_bytes start digests
+
+-- an output in bytes
+abbrev pub output_bytes : Output → List ℕ
+output_bytes o = to_be_bytes w16 (receiver_of o) ++ content_of o
+
+-- a piece of the order has at most 16,000 digests
+pub record AreOrdered (digests : List Digest) : Type 0 where
+  pub few : length digests ≤ 16000
+  pub each : All IsDigest digests
+
+-- what an output carries is a message, or a piece of the order
+abbrev pub IsOutput : Output → Type 0
+IsOutput (output.Batch b) = IsMessage (message.Batch b)
+IsOutput (output.Ack to ack) = IsMessage (message.BatchAck ack)
+IsOutput (output.Header h) = IsMessage (message.Header h)
+IsOutput (output.Vote v) = IsMessage (message.Vote v)
+IsOutput (output.Certificate c) = IsMessage (message.Certificate c)
+IsOutput (output.Order start digests) = AreOrdered digests

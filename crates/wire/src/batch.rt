@@ -1,0 +1,192 @@
+//! Batches of transactions.
+
+ghost use Rattle.std.specs.Prelude.{◌≡◌, ◌+◌, ◌≤◌, ◌++◌, [], ◌∷◌, length, IsTrue, ◌↔◌, MatchResult, IfOk, OnOk, OnErr, vec_len, vec_capacity};
+ghost use Rattle.wire.specs.Batches.{batch_body, body_len, has_room, IsBatch};
+
+use crate::keys::Author;
+use crate::limits::MAX_BATCH_BYTES;
+use crate::numbers::{four_bytes, two_bytes};
+use bytes::Bytes;
+use std::alloc::{AllocError, AllocFailed, Global};
+use std::marker::Model;
+
+/// Bytes of a body before its transactions: author, worker and count.
+const HEAD_BYTES: usize = 8;
+
+/// Where the count of a body begins.
+const COUNT_PLACE: usize = 4;
+
+/// Bytes of a transaction's length.
+const LENGTH_BYTES: usize = 4;
+
+/// Transactions that an author's worker gathered, in their order: at most `MAX_TRANSACTION_BYTES` each,
+/// and at most `MAX_BATCH_BYTES` in the body, which is what is sent, stored and digested.
+#[derive(Debug, Drop)]
+pub struct Batch {
+    author: Author,
+    worker: u16,
+    count: u32,
+    body: Bytes,
+}
+
+impl Model for Batch {
+    ghost use Rattle.std.specs.Prelude.{◌≡◌};
+    ghost use Rattle.wire.specs.Batches.{Contents, IsBatch, batch_body, contents_of};
+
+    ghost Value = { Contents };
+
+    ghost view = { λ b. contents_of b.author b.worker b.count b.body };
+
+    ghost invariant = { λ b. IsBatch (contents_of b.author b.worker b.count b.body) × (b.body ≡ batch_body (contents_of b.author b.worker b.count b.body)) };
+}
+
+impl Batch {
+    /// Whose it is.
+    pub fn author(&self) -> Author
+        ensures { result ≡ self.now.author }
+    {
+        self.author
+    }
+
+    /// The worker that gathered it, by its number.
+    pub fn worker(&self) -> u16
+        ensures { result ≡ self.now.worker }
+    {
+        self.worker
+    }
+
+    /// How many transactions it has, at most `MAX_TRANSACTIONS`.
+    pub fn len(&self) -> u32
+        ensures { result ≡ length self.now.transactions }
+    {
+        self.count
+    }
+
+    /// The same batch once more. The body isn't copied. `AllocError` where a growth was refused.
+    pub fn share(&self) -> Result<Batch, AllocError>
+        ensures { IfOk result (λ batch. batch ≡ self.now) }
+    {
+        Ok(Batch {
+            author: self.author,
+            worker: self.worker,
+            count: self.count,
+            body: self.body.clone()?,
+        })
+    }
+
+    /// Its body: author, worker, and the transactions behind their count.
+    pub fn body(&self) -> &[u8]
+        ensures value { result.now ≡ batch_body self.now }
+        ensures len { length result.now ≡ body_len self.now.transactions }
+        ensures limit { length result.now ≤ 500000 }
+        ensures fits { IsBatch self.now }
+    {
+        self.body.as_slice()
+    }
+}
+
+/// A batch that more transactions may be added to.
+#[derive(Debug, Drop)]
+pub struct OpenBatch {
+    author: Author,
+    worker: u16,
+    count: u32,
+    // The body, whose count is written when the batch is closed.
+    body: Vec<u8>,
+}
+
+impl Model for OpenBatch {
+    ghost use Rattle.wire.specs.Batches.{Contents, IsOpen, contents_of};
+
+    ghost Value = { Contents };
+
+    ghost view = { λ b. contents_of b.author b.worker b.count b.body.items };
+
+    ghost invariant = { λ b. IsOpen b.author b.worker b.count b.body.items };
+}
+
+impl OpenBatch {
+    /// A batch of no transactions. `AllocError` where a growth was refused.
+    pub fn new(alloc: Global, author: Author, worker: u16) -> Result<OpenBatch, AllocError>
+        ensures { IfOk result (λ batch. batch ≡ record { author = author; worker = worker; transactions = [] }) }
+    {
+        let mut body = Vec::with_capacity(alloc, HEAD_BYTES)?;
+        body.extend_from_slice(&two_bytes(author.0))?;
+        body.extend_from_slice(&two_bytes(worker))?;
+        body.extend_from_slice(&four_bytes(0))?;
+        Ok(OpenBatch {
+            author,
+            worker,
+            count: 0,
+            body,
+        })
+    }
+
+    /// Whether it has no transaction.
+    pub fn is_empty(&self) -> bool
+        ensures { IsTrue result ↔ (self.now.transactions ≡ []) }
+    {
+        self.count == 0
+    }
+
+    /// Whether its body has room for one more transaction of so many bytes.
+    pub fn has_room(&self, len: usize) -> bool
+        ensures { result ≡ has_room self.now.transactions len }
+    {
+        let room = MAX_BATCH_BYTES - self.body.len();
+        len <= room && room - len >= LENGTH_BYTES
+    }
+
+    /// Adds a transaction of at most `MAX_TRANSACTION_BYTES` at the end, where `has_room` says that it may.
+    /// `AllocError` where a growth was refused.
+    pub fn push(&mut self, transaction: &[u8]) -> Result<(), AllocError>
+        requires short { length transaction.now ≤ 65536 }
+        requires room { IsTrue (has_room self.old.transactions (length transaction.now)) }
+        ensures ok { OnOk result (self.new ≡ record self.old { transactions = self.old.transactions ++ transaction.now ∷ [] }) }
+        ensures err { OnErr result (self.new ≡ self.old) }
+    {
+        self.body.reserve(LENGTH_BYTES + transaction.len())?;
+        let len = four_bytes(transaction.len() as u32);
+        put_transaction(&mut self.body, &len, transaction);
+        self.count += 1;
+        Ok(())
+    }
+
+    /// The batch of these transactions. Where a growth is refused the open batch is handed back as it was.
+    pub fn close(self) -> Result<Batch, AllocFailed<OpenBatch>>
+        ensures { MatchResult result (λ batch. batch ≡ self) (λ failed. failed.value ≡ self) }
+    {
+        let OpenBatch {
+            author,
+            worker,
+            count,
+            mut body,
+        } = self;
+        body[COUNT_PLACE..HEAD_BYTES].copy_from_slice(&four_bytes(count));
+        match Bytes::from_vec(body) {
+            Ok(body) => Ok(Batch {
+                author,
+                worker,
+                count,
+                body,
+            }),
+            Err(failed) => Err(AllocFailed {
+                value: OpenBatch {
+                    author,
+                    worker,
+                    count,
+                    body: failed.value,
+                },
+            }),
+        }
+    }
+}
+
+// Puts a transaction with its length before it into a body that has room for both.
+fn put_transaction(body: &mut Vec<u8>, len: &[u8; 4], transaction: &[u8])
+    requires room { vec_len body.old + 4 + length transaction.now ≤ vec_capacity body.old }
+    ensures { body.new.items ≡ body.old.items ++ (len.now ++ transaction.now) }
+{
+    body.extend_from_slice(len).unwrap();
+    body.extend_from_slice(transaction).unwrap();
+}

@@ -1,0 +1,92 @@
+//! The votes of a certificate.
+
+ghost use Rattle.std.specs.Prelude.{◌≡◌, ◌<◌, ◌≤◌, ◌++◌, [], ◌∷◌, List, length, IsTrue, ◌↔◌, OnOk, OnErr};
+ghost use Rattle.wire.specs.References.{vote_follows, votes_rise};
+
+use crate::keys::{Author, Signature};
+use std::alloc::{AllocError, Global};
+use std::marker::Model;
+
+/// A member's vote in a certificate: its signature of the certificate digest.
+#[derive(Clone, Copy, Debug, PartialEq, Eq)]
+pub struct VoteEntry {
+    /// Who votes.
+    pub voter: Author,
+    /// Its signature of the certificate digest.
+    pub signature: Signature,
+}
+
+/// The votes of a certificate: at most `MAX_VOTES`, their voters rising strictly.
+#[derive(Debug, Drop)]
+pub struct VoteEntries {
+    list: Vec<VoteEntry>,
+}
+
+impl Model for VoteEntries {
+    ghost use Rattle.std.specs.Prelude.{List, IsTrue, length, ◌≤◌};
+    ghost use Rattle.wire.specs.declared.votes.VoteEntry.{VoteEntry};
+    ghost use Rattle.wire.specs.References.{votes_rise};
+
+    ghost Value = { List VoteEntry };
+
+    ghost view = { λ v. v.list.items };
+
+    ghost invariant = { λ v. (length v.list.items ≤ 31) × IsTrue (votes_rise v.list.items) };
+}
+
+impl VoteEntries {
+    /// No votes.
+    pub fn new(alloc: Global) -> VoteEntries
+        ensures { result ≡ [] }
+    {
+        VoteEntries {
+            list: Vec::new(alloc),
+        }
+    }
+
+    /// How many there are.
+    pub fn len(&self) -> usize
+        ensures value { result ≡ length self.now }
+        ensures limit { result ≤ 31 }
+    {
+        self.list.len()
+    }
+
+    /// Whether there is none.
+    pub fn is_empty(&self) -> bool
+        ensures { IsTrue result ↔ (self.now ≡ []) }
+    {
+        self.list.is_empty()
+    }
+
+    /// Whether a vote by this voter may come next: the last one's voter is less.
+    pub fn may_follow(&self, voter: Author) -> bool
+        ensures { result ≡ vote_follows self.now voter }
+    {
+        match self.list.last() {
+            None => true,
+            Some(last) => last.voter.0 < voter.0,
+        }
+    }
+
+    /// Adds a vote at the end, where there is room and `may_follow` says that it may. `AllocError` where a growth
+    /// was refused.
+    pub fn push(&mut self, vote: VoteEntry) -> Result<(), AllocError>
+        requires room { length self.old < 31 }
+        requires follows { IsTrue (vote_follows self.old vote.voter) }
+        ensures ok { OnOk result (self.new ≡ self.old ++ vote ∷ []) }
+        ensures err { OnErr result (self.new ≡ self.old) }
+    {
+        self.list.push(vote)?;
+        Ok(())
+    }
+
+    /// The votes, in their order.
+    pub fn as_slice(&self) -> &[VoteEntry]
+        ensures value { result.now ≡ self.now }
+        ensures limit { length self.now ≤ 31 }
+        ensures order { IsTrue (votes_rise self.now) }
+    {
+        &self.list
+    }
+}

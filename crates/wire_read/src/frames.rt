@@ -1,0 +1,125 @@
+//! Frames on a stream that comes in pieces.
+
+ghost use Rattle.std.specs.Prelude.{◌≡◌, ◌+◌, ◌≤◌, ◌++◌, [], List, ℕ, length, drop, IsTrue, ◌↔◌, ◌⊎◌, IfOk, IfErr, OnErr};
+ghost use Rattle.std.specs.Option.{MatchOption};
+ghost use Rattle.wire_read.specs.Frames.{IsFrameBody, IsPartial, IsTooLong, Splits, Breaks, bodies_bytes, frame};
+
+use std::alloc::Global;
+use std::marker::Model;
+use wire::{MAX_FRAME_BYTES, WireError};
+
+/// Bytes of a frame's length.
+const LENGTH_BYTES: usize = 4;
+
+/// Cuts a stream into the bodies of its frames. A frame is four bytes of length, the highest first, and
+/// that many bytes, at most `MAX_FRAME_BYTES`.
+#[derive(Debug, Drop)]
+pub struct FrameReader {
+    alloc: Global,
+    // What has come of the next frame.
+    held: Vec<u8>,
+}
+
+impl Model for FrameReader {
+    ghost use Rattle.std.specs.Prelude.{ℕ, List};
+    ghost use Rattle.wire_read.specs.Frames.{IsPartial};
+
+    ghost Value = { List ℕ };
+
+    ghost view = { λ reader. reader.held.items };
+
+    ghost invariant = { λ reader. IsPartial reader.held.items };
+}
+
+impl FrameReader {
+    /// A reader to which nothing has come.
+    pub fn new(alloc: Global) -> FrameReader
+        ensures { result ≡ [] }
+    {
+        FrameReader {
+            alloc,
+            held: Vec::new(alloc),
+        }
+    }
+
+    /// Whether nothing has come of the next frame.
+    pub fn is_empty(&self) -> bool
+        ensures { IsTrue result ↔ (self.now ≡ []) }
+    {
+        self.held.is_empty()
+    }
+
+    /// Takes the next piece of the stream and gives the bodies of the frames that are whole now, in their
+    /// order. `TooMany` where a length above the limit stands in a frame's place, `Memory` where a growth was
+    /// refused. A refusal leaves the reader as it was before the piece, and gives none of its frames.
+    pub fn feed(&mut self, piece: &[u8]) -> Result<Vec<Vec<u8>>, WireError>
+        // Where the stream so far is frames of the bodies before and what is held, with the piece it is
+        // frames of these and the new bodies, and what is held then.
+        ensures ok { IfOk result (λ bodies. (stream : List ℕ) (before : List (List ℕ)) → Splits stream before self.old → Splits (stream ++ piece.now) (before ++ bodies_bytes bodies.items) self.new) }
+        ensures too_many { IfErr result (λ e. (e ≡ WireError.Memory) ⊎ ((e ≡ WireError.TooMany) × ((stream : List ℕ) (before : List (List ℕ)) → Splits stream before self.old → Breaks (stream ++ piece.now)))) }
+        ensures never { IfOk result (λ _. Breaks (self.old ++ piece.now) → ⊥) }
+        ensures err { OnErr result (self.new ≡ self.old) }
+    {
+        let before = self.held.len();
+        self.held.extend_from_slice(piece)?;
+        match bodies_of(self.alloc, &self.held) {
+            Ok((bodies, taken)) => {
+                remove_front(&mut self.held, taken);
+                Ok(bodies)
+            }
+            Err(error) => {
+                self.held.truncate(before);
+                Err(error)
+            }
+        }
+    }
+}
+
+fn remove_front(bytes: &mut Vec<u8>, count: usize)
+    requires { count ≤ length bytes.old.items }
+    ensures { bytes.new.items ≡ drop count bytes.old.items }
+{
+    bytes.drain(..count);
+}
+
+// The bodies of the whole frames at the front, and how many bytes these frames have.
+fn bodies_of(alloc: Global, stream: &[u8]) -> Result<(Vec<Vec<u8>>, usize), WireError>
+    ensures within { IfOk result (λ found. found.1 ≤ length stream.now) }
+    ensures splits { IfOk result (λ found. Splits stream.now (bodies_bytes found.0.items) (drop found.1 stream.now)) }
+    ensures breaks { IfErr result (λ e. (e ≡ WireError.Memory) ⊎ ((e ≡ WireError.TooMany) × Breaks stream.now)) }
+{
+    let mut bodies = Vec::new(alloc);
+    let mut taken = 0;
+    while let Some(body) = body_at(&stream[taken..])? {
+        let mut copy = Vec::with_capacity(alloc, body.len())?;
+        copy.extend_from_slice(body)?;
+        bodies.push(copy)?;
+        taken += LENGTH_BYTES + body.len();
+    }
+    Ok((bodies, taken))
+}
+
+// The body of the frame at the front, or `None` where it isn't whole.
+fn body_at(bytes: &[u8]) -> Result<Option<&[u8]>, WireError>
+    ensures whole { IfOk result (λ found. MatchOption found (IsPartial bytes.now) (λ body. IsFrameBody body.now × (bytes.now ≡ frame body.now ++ drop (4 + length body.now) bytes.now))) }
+    ensures err { IfErr result (λ e. (e ≡ WireError.TooMany) × IsTooLong bytes.now) }
+{
+    let Some((field, rest)) = bytes.split_first_chunk::<LENGTH_BYTES>() else {
+        return Ok(None);
+    };
+    let len = u32::from_be_bytes(*field) as usize;
+    if len > MAX_FRAME_BYTES {
+        return Err(WireError::TooMany);
+    }
+    if rest.len() < len {
+        return Ok(None);
+    }
+    Ok(Some(&rest[..len]))
+}
+
+/// A stream is frames in one way, and never frames and broken at once: so what a reader gives doesn't
+/// depend on how the stream was cut into pieces.
+pub fn one_split()
+    ensures same { (stream : List ℕ) (a b : List (List ℕ)) (x y : List ℕ) → Splits stream a x → Splits stream b y → (a ≡ b) × (x ≡ y) }
+    ensures either { (stream : List ℕ) (a : List (List ℕ)) (x : List ℕ) → Splits stream a x → Breaks stream → ⊥ }
+{}
