@@ -1,0 +1,57 @@
+-- Which committee a file makes, or why none: the first refusal that applies.
+use Rattle.std.specs.Prelude.{Bool, not, ◌||◌, List, [], length, Option, Some, None, is_none, unwrap_or, Result, Ok, Err, if◌then◌else◌}
+use Rattle.std.specs.List.{list_any, filter_map}
+use Rattle.toml.specs.Data.{Data, Members}
+use Rattle.wire.specs.declared.keys.Key.{Key}
+use Rattle.committee.specs.declared.error.CommitteeError.{CommitteeError}
+use Rattle.committee.specs.declared.error.CommitteeError.TheVariants.{NotToml, BadSize, BadKey, RepeatedKey, BadLimit}
+use Rattle.committee.specs.Sizes.{is_size}
+use Rattle.committee.specs.Keys.{key_of, is_no_key, repeats}
+use Rattle.committee.specs.File.{Charter, members_in, depth_in, workers_in, batches_in}
+
+-- the elements of the list of members
+abbrev pub listed : Members → List Data
+listed file = unwrap_or (members_in file) []
+
+-- the keys of the members
+abbrev pub keys_in : Members → List Key
+keys_in file = filter_map key_of (listed file)
+
+-- there is no list of members, or it has no committee's length
+abbrev pub has_bad_size : Members → Bool
+has_bad_size file = is_none (members_in file) || not (is_size (length (listed file)))
+
+-- an element of the list is no key
+abbrev pub has_bad_key : Members → Bool
+has_bad_key file = list_any is_no_key (listed file)
+
+-- two keys are the same
+abbrev pub has_repeated_key : Members → Bool
+has_repeated_key file = repeats (keys_in file)
+
+-- a limit is no whole number within its bounds
+abbrev pub has_bad_limit : Members → Bool
+has_bad_limit file = is_none (depth_in file) || is_none (workers_in file) || is_none (batches_in file)
+
+-- the committee of a file that has no fault
+abbrev pub charter_in : Members → Charter
+charter_in file = record {
+  keys = keys_in file;
+  depth = unwrap_or (depth_in file) 0;
+  workers = unwrap_or (workers_in file) 0;
+  batches = unwrap_or (batches_in file) 0;
+}
+
+-- the first refusal that applies, or else the committee
+abbrev pub answer : Members → Result Charter CommitteeError
+answer file =
+    if has_bad_size file then Err BadSize
+    else if has_bad_key file then Err BadKey
+    else if has_repeated_key file then Err RepeatedKey
+    else if has_bad_limit file then Err BadLimit
+    else Ok (charter_in file)
+
+-- the answer to a text: that to the file which TOML reads from it, where there is one
+abbrev pub answer_to : Option Members → Result Charter CommitteeError
+answer_to None = Err NotToml
+answer_to (Some file) = answer file

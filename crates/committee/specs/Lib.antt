@@ -1,0 +1,5 @@
+pub mod Sizes
+pub mod Shared
+pub mod Keys
+pub mod File
+pub mod Answer

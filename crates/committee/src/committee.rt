@@ -1,0 +1,162 @@
+//! The committee.
+
+ghost use Rattle.std.specs.Prelude.{◌≡◌, ◌≢◌, ◌+◌, ◌*◌, ◌<◌, ◌≤◌, ◌↔◌, false, length, AllPairs, IsSome, IsErrOf, IfOk, IfErr, slice_get, option_copied};
+ghost use Rattle.toml.specs.Errors.{IsBlank};
+ghost use Rattle.toml.specs.Parse.{parse_document};
+ghost use Rattle.toml.specs.View.{table_view};
+ghost use Rattle.committee.specs.Answer.{has_bad_size, answer, answer_to};
+ghost use Rattle.committee.specs.Sizes.{dishonest_of, quorum_of, support_of};
+
+use crate::error::CommitteeError;
+use crate::keys::{keys_of, repeats};
+use crate::limits::{batches_in, depth_in, workers_in};
+use crate::members::{is_size, members_in};
+use std::alloc::Global;
+use std::marker::Model;
+use toml::Table;
+use wire::{Author, Key};
+
+/// A committee: 3 f + 1 members with f from 1 to 10, of which at most f may be dishonest, each with a key of
+/// its own, and the limits that all of them keep.
+#[derive(Debug, Drop)]
+pub struct Committee {
+    keys: Vec<Key>,
+    depth: u64,
+    workers: u16,
+    batches: u32,
+}
+
+impl Model for Committee {
+    ghost use Rattle.committee.specs.File.{Charter, IsCharter};
+
+    ghost Value = { Charter };
+
+    ghost view = { λ c. record { keys = c.keys.items; depth = c.depth; workers = c.workers; batches = c.batches } };
+
+    ghost invariant = { λ c. IsCharter (record { keys = c.keys.items; depth = c.depth; workers = c.workers; batches = c.batches }) };
+}
+
+impl Committee {
+    /// Reads a committee from the text of a TOML file: a list `members` of keys in 64 digits 0 to 9 and a to
+    /// f, and where they are there the whole numbers `depth` (2 to 1000 rounds, else 50), `workers` (1 to 16,
+    /// else 1) and `batches` (1 to 1048576, else 1048576). Other keys of the file are ignored.
+    ///
+    /// # Errors
+    /// The first that applies: `NotToml`, `BadSize`, `BadKey`, `RepeatedKey`, `BadLimit`; or `Memory`, where
+    /// a growth was refused, in place of any other answer. A text of white space and comments takes no memory.
+    pub fn read(alloc: Global, text: &str) -> Result<Committee, CommitteeError>
+        ensures ok { IfOk result (λ committee. answer_to (parse_document text.now) ≡ Ok committee) }
+        ensures refused { IfErr result (λ error. error ≢ CommitteeError.Memory → answer_to (parse_document text.now) ≡ Err error) }
+        ensures memory { IsErrOf result CommitteeError.Memory → ¬ IsBlank text.now }
+    {
+        match toml::table_from_str(alloc, text) {
+            Ok(table) => committee_in(alloc, &table),
+            Err(error) => {
+                if error.is_memory() {
+                    Err(CommitteeError::Memory)
+                } else {
+                    Err(CommitteeError::NotToml)
+                }
+            }
+        }
+    }
+
+    /// How many members there are: 3 f + 1. They are numbered from 0.
+    pub fn size(&self) -> u16
+        ensures value { result ≡ length self.now.keys }
+        ensures exact { result ≡ 3 * dishonest_of result + 1 }
+        ensures least { 4 ≤ result }
+        ensures greatest { result ≤ 31 }
+    {
+        self.keys.len() as u16
+    }
+
+    /// How many members are a quorum: 2 f + 1.
+    pub fn quorum(&self) -> u16
+        ensures { result ≡ quorum_of (length self.now.keys) }
+    {
+        2 * self.dishonest() + 1
+    }
+
+    /// How many members are support, so that an honest one is among them: f + 1.
+    pub fn support(&self) -> u16
+        ensures { result ≡ support_of (length self.now.keys) }
+    {
+        self.dishonest() + 1
+    }
+
+    /// The key of a member, or None for a number that is no member's.
+    pub fn key(&self, author: Author) -> Option<&Key>
+        ensures value { option_copied result ≡ slice_get self.now.keys author.0 }
+        ensures member { IsSome result ↔ (author.0 < length self.now.keys) }
+        ensures distinct { AllPairs (λ one other. one ≢ other) self.now.keys }
+    {
+        self.keys.get(author.0 as usize)
+    }
+
+    /// The depth, in rounds: how far below a leader a certificate may be to be ordered with it.
+    pub fn depth(&self) -> u64
+        ensures value { result ≡ self.now.depth }
+        ensures least { 2 ≤ result }
+        ensures greatest { result ≤ 1000 }
+    {
+        self.depth
+    }
+
+    /// How many workers each member has.
+    pub fn workers(&self) -> u16
+        ensures value { result ≡ self.now.workers }
+        ensures least { 1 ≤ result }
+        ensures greatest { result ≤ 16 }
+    {
+        self.workers
+    }
+
+    /// How many batches a member holds at most.
+    pub fn batches(&self) -> u32
+        ensures value { result ≡ self.now.batches }
+        ensures least { 1 ≤ result }
+        ensures greatest { result ≤ 1048576 }
+    {
+        self.batches
+    }
+
+    // How many members may be dishonest: f.
+    fn dishonest(&self) -> u16
+        ensures value { result ≡ dishonest_of (length self.now.keys) }
+        ensures small { result ≤ 10 }
+    {
+        (self.keys.len() as u16 - 1) / 3
+    }
+}
+
+fn committee_in(alloc: Global, table: &Table) -> Result<Committee, CommitteeError>
+    ensures ok { IfOk result (λ committee. answer (table_view table.now) ≡ Ok committee) }
+    ensures refused { IfErr result (λ error. error ≢ CommitteeError.Memory → answer (table_view table.now) ≡ Err error) }
+    ensures memory { IsErrOf result CommitteeError.Memory → has_bad_size (table_view table.now) ≡ false }
+{
+    let elements = match members_in(table) {
+        Some(elements) => elements,
+        None => return Err(CommitteeError::BadSize),
+    };
+    if !is_size(elements.len()) {
+        return Err(CommitteeError::BadSize);
+    }
+    let keys = keys_of(alloc, elements)?;
+    if repeats(&keys) {
+        return Err(CommitteeError::RepeatedKey);
+    }
+    let (Some(depth), Some(workers), Some(batches)) = (
+        depth_in(table),
+        workers_in(table),
+        batches_in(table),
+    ) else {
+        return Err(CommitteeError::BadLimit);
+    };
+    Ok(Committee {
+        keys,
+        depth,
+        workers: workers as u16,
+        batches: batches as u32,
+    })
+}

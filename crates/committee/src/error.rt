@@ -1,0 +1,38 @@
+//! Why a text is no committee file.
+
+ghost use Rattle.std.specs.Prelude.{◌≡◌};
+ghost use Rattle.committee.specs.declared.error.CommitteeError.TheVariants.{Memory};
+
+use std::alloc::AllocFailed;
+use thiserror::Error;
+
+/// Why a text is no committee file. Printed as its number and its name.
+#[derive(Clone, Copy, Debug, PartialEq, Eq, Error)]
+pub enum CommitteeError {
+    /// A growth was refused.
+    #[error("1 Memory")]
+    Memory,
+    /// The text is no TOML.
+    #[error("2 NotToml")]
+    NotToml,
+    /// There are no members, or not 3 f + 1 of them with f from 1 to 10.
+    #[error("3 BadSize")]
+    BadSize,
+    /// A member is no key of 64 digits 0 to 9 and a to f.
+    #[error("4 BadKey")]
+    BadKey,
+    /// Two members have the same key.
+    #[error("5 RepeatedKey")]
+    RepeatedKey,
+    /// A limit is no whole number within its bounds.
+    #[error("6 BadLimit")]
+    BadLimit,
+}
+
+impl<T: Drop> From<AllocFailed<T>> for CommitteeError {
+    ghost from_gives = { λ _ e. e ≡ Memory };
+
+    fn from(_: AllocFailed<T>) -> CommitteeError {
+        CommitteeError::Memory
+    }
+}

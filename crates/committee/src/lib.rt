@@ -1,0 +1,21 @@
+//! The committee: its members' keys and its limits, read from a TOML file, and how many members it takes
+//! to decide.
+#![tactic(auto)]
+
+mod committee;
+mod error;
+mod keys;
+mod laws;
+mod limits;
+mod members;
+
+pub use committee::Committee;
+pub use error::CommitteeError;
+pub use laws::{quorum_meets_support, quorums_overlap};
+pub use limits::{
+    DEFAULT_DEPTH, DEFAULT_HELD_BATCHES, DEFAULT_WORKERS, MAX_DEPTH, MAX_HELD_BATCHES, MAX_WORKERS,
+    MIN_DEPTH, MIN_HELD_BATCHES, MIN_WORKERS,
+};
+
+#[cfg(test)]
+mod tests;

@@ -1,0 +1,94 @@
+//! The limits of a committee.
+
+ghost use Rattle.std.specs.Prelude.{◌≡◌};
+ghost use Rattle.toml.specs.Data.{get_member};
+ghost use Rattle.toml.specs.View.{table_view};
+ghost use Rattle.committee.specs.File.{number_within, limit, depth_in, workers_in, batches_in};
+
+use toml::Table;
+
+/// The depth of a committee, in rounds, at least.
+pub const MIN_DEPTH: u64 = 2;
+
+/// The depth, in rounds, at most.
+pub const MAX_DEPTH: u64 = 1000;
+
+/// The depth, in rounds, where the file has none.
+pub const DEFAULT_DEPTH: u64 = 50;
+
+/// Workers of each member, at least.
+pub const MIN_WORKERS: u16 = 1;
+
+/// Workers of each member, at most.
+pub const MAX_WORKERS: u16 = 16;
+
+/// Workers of each member where the file has no number.
+pub const DEFAULT_WORKERS: u16 = 1;
+
+/// The least limit on the batches that a member holds.
+pub const MIN_HELD_BATCHES: u32 = 1;
+
+/// The greatest limit on the batches that a member holds.
+pub const MAX_HELD_BATCHES: u32 = 1_048_576;
+
+/// The limit on the batches that a member holds, where the file has none.
+pub const DEFAULT_HELD_BATCHES: u32 = 1_048_576;
+
+fn number_within(number: i64, least: u64, greatest: u64) -> Option<u64>
+    ensures { result ≡ number_within least greatest number }
+{
+    if number < 0 {
+        return None;
+    }
+    let number = number as u64;
+    if least <= number && number <= greatest {
+        Some(number)
+    } else {
+        None
+    }
+}
+
+fn limit(table: &Table, name: &str, least: u64, greatest: u64, default: u64) -> Option<u64>
+    ensures { result ≡ limit least greatest default (get_member name.now (table_view table.now)) }
+{
+    match table.get(name) {
+        Some(value) => match value.as_integer() {
+            Some(number) => number_within(number, least, greatest),
+            None => None,
+        },
+        None => Some(default),
+    }
+}
+
+/// The depth, or None where it is no whole number within its limits.
+pub(crate) fn depth_in(table: &Table) -> Option<u64>
+    ensures { result ≡ depth_in (table_view table.now) }
+{
+    limit(table, "depth", MIN_DEPTH, MAX_DEPTH, DEFAULT_DEPTH)
+}
+
+/// The number of workers, or None where it is no whole number within its limits.
+pub(crate) fn workers_in(table: &Table) -> Option<u64>
+    ensures { result ≡ workers_in (table_view table.now) }
+{
+    limit(
+        table,
+        "workers",
+        MIN_WORKERS as u64,
+        MAX_WORKERS as u64,
+        DEFAULT_WORKERS as u64,
+    )
+}
+
+/// The number of batches, or None where it is no whole number within its limits.
+pub(crate) fn batches_in(table: &Table) -> Option<u64>
+    ensures { result ≡ batches_in (table_view table.now) }
+{
+    limit(
+        table,
+        "batches",
+        MIN_HELD_BATCHES as u64,
+        MAX_HELD_BATCHES as u64,
+        DEFAULT_HELD_BATCHES as u64,
+    )
+}

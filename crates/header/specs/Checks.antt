@@ -1,0 +1,139 @@
+-- The tests of an incoming message, in their order, and which refusal each stands for.
+use Rattle.std.specs.Prelude.{Bool, true, false, ◌==◌, nat_lt, nat_le, ℕ, List, [], ◌∷◌, ◌++◌, length, Option, Some, None, slice_get, if◌then◌else◌}
+use Rattle.std.specs.List.{list_all}
+use Rattle.std.specs.Option.{option_map_or}
+use Rattle.committee.specs.File.{Charter}
+use Rattle.committee.specs.Sizes.{quorum_of}
+use Rattle.wire.specs.Batches.{Contents}
+use Rattle.wire.specs.Digests.{header_digest_of, certificate_digest_of}
+use Rattle.wire.specs.Events.{Event}
+use Rattle.wire.specs.declared.header.Certificate.{Certificate}
+use Rattle.wire.specs.declared.header.Header.{Header}
+use Rattle.wire.specs.declared.header.HeaderBody.{HeaderBody}
+use Rattle.wire.specs.declared.header.Vote.{Vote}
+use Rattle.wire.specs.declared.keys.Author.{Author}
+use Rattle.wire.specs.declared.keys.Digest.{Digest}
+use Rattle.wire.specs.declared.keys.Key.{Key}
+use Rattle.wire.specs.declared.keys.Signature.{Signature}
+use Rattle.wire.specs.declared.message.BatchAck.{BatchAck}
+use Rattle.wire.specs.declared.message.Message.{Message}
+use Rattle.wire.specs.declared.message.Message.TheVariants as message
+use Rattle.wire.specs.declared.votes.VoteEntry.{VoteEntry}
+use Rattle.header.specs.declared.error.CheckError.{CheckError}
+use Rattle.header.specs.declared.error.CheckError.TheVariants.{UnknownAuthor, BadSender, BadSignature, TooFewParents, TooManyParents, TooFewVotes, UnknownWorker}
+
+-- a test, and the refusal where it doesn't hold
+pub record Test : Type 0 where
+  pub holds : Bool
+  pub otherwise : CheckError
+
+-- a test as the tables below write it
+abbrev pub test : Bool → CheckError → Test
+test holds otherwise = record { holds = holds; otherwise = otherwise }
+
+-- the refusal of the first test that doesn't hold
+abbrev pub first_failing : List Test → Option CheckError
+first_failing [] = None
+first_failing (t ∷ rest) = if t.holds then first_failing rest else Some t.otherwise
+
+-- which signatures of a digest are taken as good for a key
+abbrev pub Accepts : Type 0
+Accepts = Key → Digest → Signature → Bool
+
+-- whatever the key, the digest and the signature
+abbrev pub accepts_all : Accepts
+accepts_all key digest signature = true
+
+-- a number is that of a member
+abbrev pub is_member : Charter → Author → Bool
+is_member charter author = nat_lt author.0 (length charter.keys)
+
+-- a number is that of a worker
+abbrev pub is_worker : Charter → ℕ → Bool
+is_worker charter worker = nat_lt worker charter.workers
+
+-- the signature of a digest is good for a member's key
+abbrev pub is_signed : Charter → Accepts → Author → Digest → Signature → Bool
+is_signed charter accepts signer digest signature =
+    option_map_or (λ key. accepts key digest signature) (slice_get charter.keys signer.0) false
+
+-- what the author of a header signs
+abbrev pub header_signed : HeaderBody → Digest
+header_signed body = record { 0 = header_digest_of body }
+
+-- what each voter for the header of this digest, round and author signs
+abbrev pub vote_signed : List ℕ → ℕ → Author → Digest
+vote_signed header round author = record { 0 = certificate_digest_of header round author.0 }
+
+-- of what a header and a certificate have in common
+abbrev pub body_tests : Charter → HeaderBody → List Test
+body_tests charter body =
+    test (nat_le (quorum_of (length charter.keys)) (length body.parents)) TooFewParents
+    ∷ test (nat_le (length body.parents) (length charter.keys)) TooManyParents
+    ∷ test (list_all (λ parent. is_member charter parent.author) body.parents) UnknownAuthor
+    ∷ test (list_all (λ batch. is_worker charter batch.worker) body.batches) UnknownWorker
+    ∷ []
+
+-- of a batch, from its author
+abbrev pub batch_tests : Charter → Author → Contents → List Test
+batch_tests charter sender batch =
+    test (is_member charter batch.author) UnknownAuthor
+    ∷ test (batch.author.0 == sender.0) BadSender
+    ∷ test (is_worker charter batch.worker) UnknownWorker
+    ∷ []
+
+-- of an acknowledgement, from whoever acknowledges
+abbrev pub ack_tests : Author → BatchAck → List Test
+ack_tests sender ack = test (ack.author.0 == sender.0) BadSender ∷ []
+
+-- of a header, from its author
+abbrev pub header_tests : Charter → Accepts → Author → Header → List Test
+header_tests charter accepts sender header =
+    test (is_member charter header.body.author) UnknownAuthor
+    ∷ test (header.body.author.0 == sender.0) BadSender
+    ∷ body_tests charter header.body
+    ++ test (is_signed charter accepts header.body.author (header_signed header.body) header.signature) BadSignature
+    ∷ []
+
+-- of a vote, from its voter
+abbrev pub vote_tests : Charter → Accepts → Author → Vote → List Test
+vote_tests charter accepts sender vote =
+    test (is_member charter vote.author) UnknownAuthor
+    ∷ test (is_member charter vote.voter) UnknownAuthor
+    ∷ test (vote.voter.0 == sender.0) BadSender
+    ∷ test (is_signed charter accepts vote.voter (vote_signed vote.header.0 vote.round vote.author) vote.signature) BadSignature
+    ∷ []
+
+-- of a certificate's votes, which all sign one digest. That all voters are members is tested before any
+-- signature
+abbrev pub votes_tests : Charter → Accepts → Digest → List VoteEntry → List Test
+votes_tests charter accepts digest votes =
+    test (nat_le (quorum_of (length charter.keys)) (length votes)) TooFewVotes
+    ∷ test (list_all (λ vote. is_member charter vote.voter) votes) UnknownAuthor
+    ∷ test (list_all (λ vote. is_signed charter accepts vote.voter digest vote.signature) votes) BadSignature
+    ∷ []
+
+-- a certificate may come from any member
+abbrev pub certificate_tests : Charter → Accepts → Certificate → List Test
+certificate_tests charter accepts certificate =
+    test (is_member charter certificate.header.author) UnknownAuthor
+    ∷ body_tests charter certificate.header
+    ++ votes_tests charter accepts (vote_signed (header_digest_of certificate.header) certificate.header.round certificate.header.author) certificate.votes
+
+-- behind the test of the sender, by the kind of the message
+abbrev pub message_tests : Charter → Accepts → Author → Message → List Test
+message_tests charter accepts sender (message.Batch batch) = batch_tests charter sender batch
+message_tests charter accepts sender (message.BatchAck ack) = ack_tests sender ack
+message_tests charter accepts sender (message.Header header) = header_tests charter accepts sender header
+message_tests charter accepts sender (message.Vote vote) = vote_tests charter accepts sender vote
+message_tests charter accepts sender (message.Certificate certificate) = certificate_tests charter accepts certificate
+message_tests charter accepts sender (message.Coin coin) = []
+
+-- all tests of a message from its sender
+abbrev pub tests_of : Charter → Accepts → Event → List Test
+tests_of charter accepts event =
+    test (is_member charter event.sender) UnknownAuthor ∷ message_tests charter accepts event.sender event.message
+
+-- why a message from its sender is refused, or None where it passes
+abbrev pub fault_of : Charter → Accepts → Event → Option CheckError
+fault_of charter accepts event = first_failing (tests_of charter accepts event)

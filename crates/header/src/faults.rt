@@ -1,0 +1,220 @@
+//! The tests of each kind of message, in their order: the first that fails is the answer.
+
+ghost use Rattle.std.specs.Prelude.{◌≡◌};
+ghost use Rattle.std.specs.List.{list_all};
+ghost use Rattle.std.specs.Result.{result_err};
+ghost use Rattle.wire.specs.Events.{Event};
+ghost use Rattle.header.specs.Checks.{first_failing, is_member, is_worker, is_signed, body_tests, batch_tests, ack_tests, header_tests, vote_tests, votes_tests, certificate_tests, message_tests, fault_of};
+
+use crate::error::CheckError;
+use committee::Committee;
+use sigface::Verify;
+use wire::{
+    Author, Batch, BatchAck, BatchReference, Certificate, Digest, Header, HeaderBody, Message,
+    ParentReference, Signature, Vote, VoteEntry, certificate_digest, header_digest,
+};
+
+fn is_member(committee: &Committee, author: Author) -> bool
+    ensures { result ≡ is_member committee.now author }
+{
+    author.0 < committee.size()
+}
+
+fn is_worker(committee: &Committee, worker: u16) -> bool
+    ensures { result ≡ is_worker committee.now worker }
+{
+    worker < committee.workers()
+}
+
+fn is_signed<V: Verify>(
+    committee: &Committee,
+    verifier: &V,
+    signer: Author,
+    digest: &Digest,
+    signature: &Signature,
+) -> bool
+    ensures { result ≡ is_signed committee.now (V.accepts verifier.now) signer digest.now signature.now }
+{
+    match committee.key(signer) {
+        Some(key) => verifier.verify(key, digest, signature),
+        None => false,
+    }
+}
+
+fn parents_are_members(committee: &Committee, parents: &[ParentReference]) -> bool
+    ensures { result ≡ list_all (λ parent. is_member committee.now parent.author) parents.now }
+{
+    parents
+        .iter()
+        .all(|parent| is_member(committee, parent.author))
+}
+
+fn workers_are_known(committee: &Committee, batches: &[BatchReference]) -> bool
+    ensures { result ≡ list_all (λ batch. is_worker committee.now batch.worker) batches.now }
+{
+    batches
+        .iter()
+        .all(|batch| is_worker(committee, batch.worker))
+}
+
+fn voters_are_members(committee: &Committee, votes: &[VoteEntry]) -> bool
+    ensures { result ≡ list_all (λ vote. is_member committee.now vote.voter) votes.now }
+{
+    votes.iter().all(|vote| is_member(committee, vote.voter))
+}
+
+fn votes_are_signed<V: Verify>(
+    committee: &Committee,
+    verifier: &V,
+    digest: &Digest,
+    votes: &[VoteEntry],
+) -> bool
+    ensures { result ≡ list_all (λ vote. is_signed committee.now (V.accepts verifier.now) vote.voter digest.now vote.signature) votes.now }
+{
+    votes.iter().all(|vote| is_signed(committee, verifier, vote.voter, digest, &vote.signature))
+}
+
+fn test_body(committee: &Committee, body: &HeaderBody) -> Result<(), CheckError>
+    ensures { result_err result ≡ first_failing (body_tests committee.now body.now) }
+{
+    let (parents, batches) = (body.parents.as_slice(), body.batches.as_slice());
+    if parents.len() < committee.quorum() as usize {
+        return Err(CheckError::TooFewParents);
+    }
+    if parents.len() > committee.size() as usize {
+        return Err(CheckError::TooManyParents);
+    }
+    if !parents_are_members(committee, parents) {
+        return Err(CheckError::UnknownAuthor);
+    }
+    if !workers_are_known(committee, batches) {
+        return Err(CheckError::UnknownWorker);
+    }
+    Ok(())
+}
+
+fn test_batch(committee: &Committee, sender: Author, batch: &Batch) -> Result<(), CheckError>
+    ensures { result_err result ≡ first_failing (batch_tests committee.now sender batch.now) }
+{
+    if !is_member(committee, batch.author()) {
+        return Err(CheckError::UnknownAuthor);
+    }
+    if batch.author() != sender {
+        return Err(CheckError::BadSender);
+    }
+    if !is_worker(committee, batch.worker()) {
+        return Err(CheckError::UnknownWorker);
+    }
+    Ok(())
+}
+
+fn test_ack(sender: Author, ack: &BatchAck) -> Result<(), CheckError>
+    ensures { result_err result ≡ first_failing (ack_tests sender ack.now) }
+{
+    if ack.author != sender {
+        return Err(CheckError::BadSender);
+    }
+    Ok(())
+}
+
+fn test_header<V: Verify>(
+    committee: &Committee,
+    verifier: &V,
+    sender: Author,
+    header: &Header,
+) -> Result<(), CheckError>
+    ensures { result_err result ≡ first_failing (header_tests committee.now (V.accepts verifier.now) sender header.now) }
+{
+    let author = header.body.author;
+    if !is_member(committee, author) {
+        return Err(CheckError::UnknownAuthor);
+    }
+    if author != sender {
+        return Err(CheckError::BadSender);
+    }
+    test_body(committee, &header.body)?;
+    let digest = header_digest(&header.body);
+    if !is_signed(committee, verifier, author, &digest, &header.signature) {
+        return Err(CheckError::BadSignature);
+    }
+    Ok(())
+}
+
+fn test_vote<V: Verify>(
+    committee: &Committee,
+    verifier: &V,
+    sender: Author,
+    vote: &Vote,
+) -> Result<(), CheckError>
+    ensures { result_err result ≡ first_failing (vote_tests committee.now (V.accepts verifier.now) sender vote.now) }
+{
+    if !is_member(committee, vote.author) || !is_member(committee, vote.voter) {
+        return Err(CheckError::UnknownAuthor);
+    }
+    if vote.voter != sender {
+        return Err(CheckError::BadSender);
+    }
+    let digest = certificate_digest(&vote.header, vote.round, vote.author);
+    if !is_signed(committee, verifier, vote.voter, &digest, &vote.signature) {
+        return Err(CheckError::BadSignature);
+    }
+    Ok(())
+}
+
+fn test_votes<V: Verify>(
+    committee: &Committee,
+    verifier: &V,
+    digest: &Digest,
+    votes: &[VoteEntry],
+) -> Result<(), CheckError>
+    ensures { result_err result ≡ first_failing (votes_tests committee.now (V.accepts verifier.now) digest.now votes.now) }
+{
+    if votes.len() < committee.quorum() as usize {
+        return Err(CheckError::TooFewVotes);
+    }
+    if !voters_are_members(committee, votes) {
+        return Err(CheckError::UnknownAuthor);
+    }
+    if !votes_are_signed(committee, verifier, digest, votes) {
+        return Err(CheckError::BadSignature);
+    }
+    Ok(())
+}
+
+fn test_certificate<V: Verify>(
+    committee: &Committee,
+    verifier: &V,
+    certificate: &Certificate,
+) -> Result<(), CheckError>
+    ensures { result_err result ≡ first_failing (certificate_tests committee.now (V.accepts verifier.now) certificate.now) }
+{
+    let header = &certificate.header;
+    if !is_member(committee, header.author) {
+        return Err(CheckError::UnknownAuthor);
+    }
+    test_body(committee, header)?;
+    let digest = certificate_digest(&header_digest(header), header.round, header.author);
+    test_votes(committee, verifier, &digest, certificate.votes.as_slice())
+}
+
+/// Tests a message from its sender: the first test that fails is the answer.
+pub(crate) fn test_message<V: Verify>(
+    committee: &Committee,
+    verifier: &V,
+    sender: Author,
+    message: &Message,
+) -> Result<(), CheckError>
+    ensures { result_err result ≡ fault_of committee.now (V.accepts verifier.now) (record { sender = sender; message = message.now }) }
+{
+    if !is_member(committee, sender) {
+        return Err(CheckError::UnknownAuthor);
+    }
+    match message {
+        Message::Batch(batch) => test_batch(committee, sender, batch),
+        Message::BatchAck(ack) => test_ack(sender, ack),
+        Message::Header(header) => test_header(committee, verifier, sender, header),
+        Message::Vote(vote) => test_vote(committee, verifier, sender, vote),
+        Message::Certificate(certificate) => test_certificate(committee, verifier, certificate),
+        Message::Coin(_) => Ok(()),
+    }
+}

@@ -1,0 +1,12 @@
+//! The tests that an incoming message has to pass before anything else sees it.
+#![tactic(auto)]
+
+mod checked;
+mod error;
+mod faults;
+
+pub use checked::{Checked, check, recheck};
+pub use error::CheckError;
+
+#[cfg(test)]
+mod tests;

@@ -1,0 +1,95 @@
+//! A signer and a verifier for tests. They are insecure: whoever knows the key can sign.
+
+ghost use Rattle.std.specs.Prelude.{◌≡◌, ◌↔◌, ◌∷◌, ◌++◌, IsTrue};
+ghost use Rattle.std.proofs.lemmas.Cmp.{nat_list_eq_equiv};
+ghost use Rattle.sha2.specs.Sha256.{sha256};
+ghost use Rattle.sigface.specs.Pair.{pair_signature, is_pair_signature};
+
+use crate::signature::{Sign, Verify};
+use sha2::{Digest as Hasher, Sha256};
+use std::marker::Model;
+use wire::{Digest, Key, Signature};
+
+/// What comes before the key and the digest in the first half of a signature: the letter S.
+const FIRST_LETTER: u8 = 0x53;
+
+/// What comes before them in the second half: the letter T.
+const SECOND_LETTER: u8 = 0x54;
+
+/// Signs by hashing the key with the digest. INSECURE, for tests alone: whoever knows the key can sign,
+/// and verifying takes the same key.
+#[derive(Clone, Copy, Debug, PartialEq, Eq)]
+pub struct HashSign {
+    key: Key,
+}
+
+impl Model for HashSign {
+    ghost use Rattle.wire.specs.declared.keys.Key.{Key};
+
+    ghost Value = { Key };
+
+    ghost view = { λ s. s.key };
+
+    ghost inverse = { λ k. record { key = k } };
+}
+
+impl HashSign {
+    /// The signer with this key.
+    pub fn new(key: Key) -> HashSign
+        ensures { result ≡ key }
+    {
+        HashSign { key }
+    }
+}
+
+/// Verifies the signatures of `HashSign`. INSECURE, for tests alone: whoever knows the key can sign.
+#[derive(Clone, Copy, Debug, PartialEq, Eq)]
+pub struct HashVerify;
+
+fn half(letter: u8, key: &Key, digest: &Digest) -> [u8; 32]
+    ensures { result ≡ sha256 (letter ∷ key.now.0 ++ digest.now.0) }
+{
+    let mut hasher = Sha256::new();
+    hasher.update([letter]);
+    hasher.update(key.0);
+    hasher.update(digest.0);
+    hasher.finalize()
+}
+
+fn signature_by(key: &Key, digest: &Digest) -> Signature
+    ensures { result ≡ pair_signature key.now digest.now }
+{
+    let mut bytes = [0; 64];
+    bytes[..32].copy_from_slice(&half(FIRST_LETTER, key, digest));
+    bytes[32..].copy_from_slice(&half(SECOND_LETTER, key, digest));
+    Signature(bytes)
+}
+
+impl Sign for HashSign {
+    ghost own_key = { λ s. s };
+
+    ghost signature_of = { λ s d. pair_signature s d };
+
+    ghost good = { is_pair_signature };
+
+    fn key(&self) -> Key {
+        self.key
+    }
+
+    fn sign(&self, digest: &Digest) -> Signature {
+        signature_by(&self.key, digest)
+    }
+
+    ghost good_for_key = { λ signer digest. nat_list_eq_equiv.refl (pair_signature signer digest).0 };
+}
+
+impl Verify for HashVerify {
+    ghost accepts = { λ _ k d s. is_pair_signature k d s };
+
+    fn verify(&self, key: &Key, digest: &Digest, signature: &Signature) -> bool
+        ensures value { result ≡ is_pair_signature key.now digest.now signature.now }
+        ensures exactly { IsTrue result ↔ (signature.now ≡ pair_signature key.now digest.now) }
+    {
+        signature_by(key, digest) == *signature
+    }
+}

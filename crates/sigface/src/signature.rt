@@ -1,0 +1,42 @@
+//! What signers and verifiers promise.
+
+ghost use Rattle.std.specs.Prelude.{◌≡◌, Bool, IsTrue};
+ghost use Rattle.wire.specs.declared.keys.Digest.{Digest};
+ghost use Rattle.wire.specs.declared.keys.Key.{Key};
+ghost use Rattle.wire.specs.declared.keys.Signature.{Signature};
+
+use wire::{Digest, Key, Signature};
+
+/// Tells good signatures from others. Each answer follows from the verifier, the key, the digest and the
+/// signature alone, so the same question always has the same answer.
+pub trait Verify {
+    /// Which signatures of a digest this verifier takes as good for a key.
+    ghost accepts: { Self → Key → Digest → Signature → Bool };
+
+    /// Whether the signature of the digest is good for the key.
+    fn verify(&self, key: &Key, digest: &Digest, signature: &Signature) -> bool
+        ensures { result ≡ accepts self.now key.now digest.now signature.now };
+}
+
+/// Signs digests with one key. The signature follows from the signer and the digest alone.
+pub trait Sign {
+    /// The key for which this signer's signatures are good.
+    ghost own_key: { Self → Key };
+
+    /// The signature that this signer gives to a digest.
+    ghost signature_of: { Self → Digest → Signature };
+
+    /// Which signatures of a digest are good for a key.
+    ghost good: { Key → Digest → Signature → Bool };
+
+    /// The key for which the signatures are good.
+    fn key(&self) -> Key
+        ensures { result ≡ own_key self.now };
+
+    /// Signs the digest.
+    fn sign(&self, digest: &Digest) -> Signature
+        ensures { result ≡ signature_of self.now digest.now };
+
+    /// Each signature is good for the signer's key.
+    ghost good_for_key: { (signer : Self) (digest : Digest) → IsTrue (good (own_key signer) digest (signature_of signer digest)) };
+}
