@@ -4,11 +4,11 @@ ghost use Rattle.std.specs.Prelude.{◌≡◌, ◌+◌, ◌≤◌, ◌^◌, leng
 ghost use Rattle.journal.specs.Format.{contents};
 ghost use Rattle.book.specs.Pending.{EachFits};
 
-use crate::checked::Checked;
 use crate::pending::{drop_front, first_group, push_record, record_of};
 use crate::queue::{Queued, enqueue};
 use crate::refusal::Refusal;
 use crate::validator::{Step, Validator};
+use header::Checked;
 use journal::{Group, Synced};
 use std::alloc::{AllocError, Global};
 use std::collections::VecDeque;

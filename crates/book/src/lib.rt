@@ -3,14 +3,12 @@
 #![tactic(auto)]
 
 mod book;
-mod checked;
 mod pending;
 mod queue;
 mod refusal;
 mod validator;
 
 pub use book::{Book, MAX_ACCEPTED, Receipt};
-pub use checked::Checked;
 pub use pending::EVENT_RECORD;
 pub use refusal::Refusal;
 pub use validator::{Admission, Step, Validator};

@@ -5,7 +5,7 @@ ghost use Rattle.journal.specs.Format.{contents};
 ghost use Rattle.book.specs.Record.{record_of as record_bytes};
 ghost use Rattle.book.specs.Pending.{EachFits, IsLongestBeginning};
 
-use crate::checked::Checked;
+use header::Checked;
 use journal::{Group, MAX_GROUP_BYTES, MAX_GROUP_RECORDS};
 use std::alloc::{AllocError, Global};
 use wire::encode;

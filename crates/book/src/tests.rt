@@ -1,12 +1,25 @@
 //! A validator's answers, and a book up to a fault.
 
+ghost use Rattle.std.specs.Prelude.{IsTrue};
+ghost use Rattle.book.specs.Admission.{IsKnownKind};
+
 use super::*;
+use committee::Committee;
+use header::{Checked, recheck};
 use std::alloc::Global;
 use std::test::Fail;
 use wire::{
     Author, BatchReference, BatchReferences, Digest, Header, HeaderBody, Message, ParentReference,
     ParentReferences, Round, Signature, genesis_digest,
 };
+
+/// Four members. The key of each is its number plus 1, 32 times.
+const FOUR: &str = "members = [
+    \"0101010101010101010101010101010101010101010101010101010101010101\",
+    \"0202020202020202020202020202020202020202020202020202020202020202\",
+    \"0303030303030303030303030303030303030303030303030303030303030303\",
+    \"0404040404040404040404040404040404040404040404040404040404040404\",
+]";
 
 /// The header of an author in a round over the genesis certificates from this member on.
 fn header(alloc: Global, author: u16, round: u64, first: u16) -> Result<Header, Fail> {
@@ -20,6 +33,10 @@ fn header(alloc: Global, author: u16, round: u64, first: u16) -> Result<Header, 
             })?;
         }
     }
+    over(alloc, author, round, parents)
+}
+
+fn over(alloc: Global, author: u16, round: u64, parents: ParentReferences) -> Result<Header, Fail> {
     Ok(Header {
         body: HeaderBody {
             author: Author(author),
@@ -31,11 +48,47 @@ fn header(alloc: Global, author: u16, round: u64, first: u16) -> Result<Header, 
     })
 }
 
-fn submit(book: &mut Book, header: Header) -> Result<Receipt, Refusal> {
-    if header.body.author == book.own() {
-        return Err(Refusal::NotOurs);
+/// A header of round 1 over certificates that nobody holds.
+fn foreign(alloc: Global, author: u16) -> Result<Header, Fail> {
+    let mut parents = ParentReferences::new(alloc);
+    for member in 0..3 {
+        let author = Author(member);
+        if parents.len() < 3 && parents.may_follow(author) {
+            let certificate = Digest([7; 32]);
+            parents.push(ParentReference {
+                author,
+                certificate,
+            })?;
+        }
     }
-    book.accept(Checked::new(header.body.author, Message::Header(header)))
+    over(alloc, author, 1, parents)
+}
+
+/// The header as an event, its signature not tested.
+fn event(alloc: Global, header: Header) -> Result<Checked, Fail> {
+    let committee = Committee::read(alloc, FOUR)?;
+    Ok(recheck(&committee, header.body.author, Message::Header(header))?)
+}
+
+fn is_from_peer(own: Author, event: &Checked) -> bool
+    ensures { IsTrue result → IsKnownKind own event.now }
+{
+    match event.message() {
+        Message::Header(header) => header.body.author != own,
+        _ => false,
+    }
+}
+
+fn submit(
+    alloc: Global,
+    book: &mut Book,
+    header: Header,
+) -> Result<Result<Receipt, Refusal>, Fail> {
+    let event = event(alloc, header)?;
+    if !is_from_peer(book.own(), &event) {
+        return Err("it is of another member".into());
+    }
+    Ok(book.accept(event))
 }
 
 #[test]
@@ -43,15 +96,15 @@ fn headers_are_answered_in_the_order_of_the_tests(rt: HostRuntime) -> Result<(),
     let alloc = rt.alloc();
     let mut book = Book::new(alloc, Validator::new(alloc, Author(0), 4));
     assert_eq!(rt;
-        submit(&mut book, header(alloc, 1, 0, 0)?),
+        submit(alloc, &mut book, header(alloc, 1, 0, 0)?)?,
         Err(Refusal::TooOld)
     );
     assert_eq!(rt;
-        submit(&mut book, header(alloc, 1, 1, 2)?),
+        submit(alloc, &mut book, foreign(alloc, 1)?)?,
         Err(Refusal::MissingParents)
     );
     assert_eq!(rt;
-        submit(&mut book, header(alloc, 1, 2, 0)?),
+        submit(alloc, &mut book, header(alloc, 1, 2, 0)?)?,
         Err(Refusal::MissingParents)
     );
     let mut with_batch = header(alloc, 1, 1, 0)?;
@@ -62,19 +115,25 @@ fn headers_are_answered_in_the_order_of_the_tests(rt: HostRuntime) -> Result<(),
             .batches
             .push(BatchReference { digest, worker: 0 })?;
     }
-    assert_eq!(rt; submit(&mut book, with_batch), Err(Refusal::MissingBatch));
+    assert_eq!(rt;
+        submit(alloc, &mut book, with_batch)?,
+        Err(Refusal::MissingBatch)
+    );
     let new = Receipt {
         ticket: 1,
         new: true,
     };
-    assert_eq!(rt; submit(&mut book, header(alloc, 1, 1, 0)?), Ok(new));
+    assert_eq!(rt; submit(alloc, &mut book, header(alloc, 1, 1, 0)?)?, Ok(new));
     let known = Receipt {
         ticket: 1,
         new: false,
     };
-    assert_eq!(rt; submit(&mut book, header(alloc, 1, 1, 0)?), Ok(known));
     assert_eq!(rt;
-        submit(&mut book, header(alloc, 1, 1, 1)?),
+        submit(alloc, &mut book, header(alloc, 1, 1, 0)?)?,
+        Ok(known)
+    );
+    assert_eq!(rt;
+        submit(alloc, &mut book, header(alloc, 1, 1, 1)?)?,
         Err(Refusal::Equivocation)
     );
     Ok(())
@@ -84,8 +143,8 @@ fn headers_are_answered_in_the_order_of_the_tests(rt: HostRuntime) -> Result<(),
 fn nothing_goes_out_before_it_is_settled_or_after_a_fault(rt: HostRuntime) -> Result<(), Fail> {
     let alloc = rt.alloc();
     let mut book = Book::new(alloc, Validator::new(alloc, Author(0), 4));
-    assert!(rt; submit(&mut book, header(alloc, 1, 1, 0)?).is_ok());
-    assert!(rt; submit(&mut book, header(alloc, 2, 1, 0)?).is_ok());
+    assert!(rt; submit(alloc, &mut book, header(alloc, 1, 1, 0)?)?.is_ok());
+    assert!(rt; submit(alloc, &mut book, header(alloc, 2, 1, 0)?)?.is_ok());
     assert!(rt; book.release().is_none());
     match book.take()? {
         None => assert!(rt; false, "two records are pending"),
@@ -103,7 +162,7 @@ fn nothing_goes_out_before_it_is_settled_or_after_a_fault(rt: HostRuntime) -> Re
     book.fail();
     assert!(rt; book.is_down());
     assert_eq!(rt;
-        submit(&mut book, header(alloc, 3, 1, 0)?),
+        submit(alloc, &mut book, header(alloc, 3, 1, 0)?)?,
         Err(Refusal::Down)
     );
     assert!(rt; book.release().is_none());
@@ -115,8 +174,8 @@ fn a_validator_answers_without_a_book(rt: HostRuntime) -> Result<(), Fail> {
     let alloc = rt.alloc();
     let mut validator = Validator::new(alloc, Author(0), 4);
     let proposed = header(alloc, 1, 1, 0)?;
-    assert!(rt; proposed.body.author != validator.own());
-    let event = Checked::new(proposed.body.author, Message::Header(proposed));
+    let event = event(alloc, proposed)?;
+    assert!(rt; is_from_peer(validator.own(), &event));
     assert_eq!(rt; event.sender(), Author(1));
     assert_eq!(rt; validator.admission(&event), Admission::New);
     assert!(rt; validator.is_new(&event));

@@ -6,8 +6,8 @@ ghost use Rattle.std.specs.FinMap as map;
 ghost use Rattle.book.specs.Admission.{Admits, AdmitsHeader, AdmitsVote, IsHeld, IsKnownKind, vote_for, outputs_for, with_header};
 ghost use Rattle.book.specs.Step.{admission_of, outputs_of, state_after};
 
-use crate::checked::Checked;
 use crate::refusal::Refusal;
+use header::Checked;
 use std::alloc::Global;
 use std::marker::Model;
 use votebook::VoteBook;

@@ -1,7 +1,7 @@
 //! The lines that the commands print.
 
-use crate::checks::CheckError;
 use book::Refusal;
+use header::CheckError;
 use std::fmt;
 use thiserror::Error;
 use wire::WireError;

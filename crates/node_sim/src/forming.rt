@@ -5,10 +5,11 @@ ghost use Rattle.std.specs.Prelude.{◌≤◌, length, vec_len};
 use crate::command::Form;
 use crate::ending::Ending;
 use crate::labels::Labels;
+use crate::settings::signature;
 use std::alloc::Global;
 use wire::{
     BatchReferences, Header, HeaderBody, MAX_PARENTS, ParentReference, ParentReferences, Round,
-    Signature, WireError,
+    WireError, header_digest,
 };
 
 /// Defines the header of a form. The first fault that reading its bytes would meet is answered, and defines
@@ -31,16 +32,14 @@ pub fn define(
         Err(WireError::Memory) => return Err(Ending::Memory),
         Err(error) => return Ok(Err(error)),
     };
-    let header = Header {
-        body: HeaderBody {
-            author: form.author,
-            round,
-            batches: BatchReferences::new(alloc),
-            parents,
-        },
-        signature: Signature([0; 64]),
+    let body = HeaderBody {
+        author: form.author,
+        round,
+        batches: BatchReferences::new(alloc),
+        parents,
     };
-    labels.define(form.label, header)?;
+    let signature = signature(form.author, &header_digest(&body));
+    labels.define(form.label, Header { body, signature })?;
     Ok(Ok(()))
 }
 

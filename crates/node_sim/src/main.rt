@@ -3,7 +3,6 @@
 #![tactic(auto)]
 
 mod answer;
-mod checks;
 mod command;
 mod ending;
 mod forming;

@@ -1,6 +1,7 @@
 //! The simulated node: its journal and its book.
 
-ghost use Rattle.std.specs.Prelude.{◌≡◌, ◌≢◌};
+ghost use Rattle.std.specs.Prelude.{◌≡◌};
+ghost use Rattle.book.specs.Admission.{IsKnownKind};
 ghost use Rattle.book.specs.Book.{standing};
 ghost use Rattle.node_sim.specs.declared.settings.TheConstants.{OWN};
 
@@ -11,10 +12,12 @@ use crate::labels::Labels;
 use crate::live::{Appended, LiveJournal};
 use crate::opening::{Opened, open};
 use crate::settings::OWN;
-use book::{Book, Checked};
+use book::Book;
+use committee::Committee;
 use diskmodel::{CallKind, MemDisk, StopDisk};
+use header::Checked;
 use std::alloc::{AllocError, Global};
-use wire::{Header, Message, Output};
+use wire::Output;
 
 /// What the bytes of a group hold that a stop came upon before their sync.
 const TORN_BYTE: u8 = 0xee;
@@ -51,8 +54,12 @@ pub struct Node {
 
 impl Node {
     /// The node after what is on a disk, and how many events that is.
-    pub fn open(alloc: Global, disk: MemDisk) -> Result<(Node, u64), Ending> {
-        match open(alloc, disk) {
+    pub fn open(
+        alloc: Global,
+        committee: &Committee,
+        disk: MemDisk,
+    ) -> Result<(Node, u64), Ending> {
+        match open(alloc, committee, disk) {
             Ok(
                 Opened {
                     journal,
@@ -68,11 +75,10 @@ impl Node {
         }
     }
 
-    /// Submits a checked header as from its author.
-    pub fn submit(&mut self, header: Header) -> Answer<'static>
-        requires { header.body.author ≢ OWN }
+    /// Submits a checked header of another member.
+    pub fn submit(&mut self, event: Checked) -> Answer<'static>
+        requires { IsKnownKind OWN event }
     {
-        let event = Checked::new(header.body.author, Message::Header(header));
         match self.book.accept(event) {
             Ok(receipt) if receipt.new => Answer::New(receipt.ticket),
             Ok(receipt) => Answer::Known(receipt.ticket),
@@ -146,7 +152,12 @@ impl Node {
     }
 
     /// Stops the machine and opens the node again; answers how many events were found.
-    pub fn stop(self, alloc: Global, stopping: Stopping) -> Result<(Node, u64), Ending> {
+    pub fn stop(
+        self,
+        alloc: Global,
+        committee: &Committee,
+        stopping: Stopping,
+    ) -> Result<(Node, u64), Ending> {
         let Node { store, book } = self;
         let mut disk = match stopping {
             Stopping::Lose => losing(alloc, store.into_disk())?,
@@ -155,7 +166,7 @@ impl Node {
             Stopping::Gate(byte) => interrupted(alloc, store, book, GATE_SYNC, byte)?,
         };
         disk.stop();
-        Node::open(alloc, disk)
+        Node::open(alloc, committee, disk)
     }
 }
 

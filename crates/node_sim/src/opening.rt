@@ -3,11 +3,12 @@
 ghost use Rattle.std.specs.Prelude.{◌≡◌, IfOk, IfSome};
 ghost use Rattle.book.specs.Admission.{IsKnownKind};
 
-use crate::checks::check;
 use crate::live::{Appended, LiveJournal};
-use crate::settings::{BATCHES, DEPTH, MEMBERS, OWN, WORKERS};
-use book::{Checked, EVENT_RECORD, Refusal, Step, Validator};
+use crate::settings::OWN;
+use book::{EVENT_RECORD, Refusal, Step, Validator};
+use committee::Committee;
 use diskmodel::Disk;
+use header::{Checked, recheck};
 use journal::{Failed, Group, JournalError, Record};
 use std::alloc::{AllocError, Global};
 use wire::numbers::two_bytes;
@@ -28,20 +29,24 @@ pub struct Opened<D: Disk> {
 }
 
 /// Opens the node on a disk. An empty journal gets the configuration.
-pub fn open<D: Disk>(alloc: Global, disk: D) -> Result<Opened<D>, Failed<JournalError, D>>
+pub fn open<D: Disk>(
+    alloc: Global,
+    committee: &Committee,
+    disk: D,
+) -> Result<Opened<D>, Failed<JournalError, D>>
     ensures { IfOk result (λ opened. opened.validator.own ≡ OWN) }
 {
     let (journal, records) = LiveJournal::open(alloc, disk)?;
     let Some((first, events)) = records.split_first() else {
-        let journal = write_configuration(alloc, journal)?;
-        let validator = Validator::new(alloc, OWN, MEMBERS);
+        let journal = write_configuration(alloc, committee, journal)?;
+        let validator = Validator::new(alloc, OWN, committee.size());
         return Ok(Opened {
             journal,
             validator,
             events: 0,
         });
     };
-    match replay(alloc, first, events) {
+    match replay(alloc, committee, first, events) {
         Ok(validator) => Ok(Opened {
             journal,
             validator,
@@ -56,9 +61,10 @@ pub fn open<D: Disk>(alloc: Global, disk: D) -> Result<Opened<D>, Failed<Journal
 
 fn write_configuration<D: Disk>(
     alloc: Global,
+    committee: &Committee,
     journal: LiveJournal<D>,
 ) -> Result<LiveJournal<D>, Failed<JournalError, D>> {
-    let group = match configuration_group(alloc) {
+    let group = match configuration_group(alloc, committee) {
         Ok(group) => group,
         Err(_) => {
             return Err(Failed {
@@ -83,9 +89,9 @@ fn write_configuration<D: Disk>(
     }
 }
 
-fn configuration_group(alloc: Global) -> Result<Group, AllocError> {
+fn configuration_group(alloc: Global, committee: &Committee) -> Result<Group, AllocError> {
     let mut records = Vec::new(alloc);
-    records.push(configuration(alloc)?)?;
+    records.push(configuration(alloc, committee)?)?;
     match Group::new(alloc, records)? {
         Some(group) => Ok(group),
         None => Err(AllocError),
@@ -93,29 +99,35 @@ fn configuration_group(alloc: Global) -> Result<Group, AllocError> {
 }
 
 // The configuration record: kind, version, own number, depth, workers, batches, members, and their keys.
-fn configuration(alloc: Global) -> Result<Vec<u8>, AllocError> {
+fn configuration(alloc: Global, committee: &Committee) -> Result<Vec<u8>, AllocError> {
     let mut record = Vec::new(alloc);
     record.extend_from_slice(&CONFIGURATION_FRONT)?;
     record.extend_from_slice(&two_bytes(OWN.0))?;
-    record.extend_from_slice(&two_bytes(DEPTH))?;
-    record.extend_from_slice(&two_bytes(WORKERS))?;
-    record.extend_from_slice(&BATCHES.to_be_bytes())?;
-    record.extend_from_slice(&two_bytes(MEMBERS))?;
-    for member in 0..MEMBERS {
-        // Member k has the key of 32 bytes k + 1.
-        record.extend_from_slice(&[member as u8 + 1; KEY_BYTES])?;
+    record.extend_from_slice(&two_bytes(committee.depth() as u16))?;
+    record.extend_from_slice(&two_bytes(committee.workers()))?;
+    record.extend_from_slice(&committee.batches().to_be_bytes())?;
+    record.extend_from_slice(&two_bytes(committee.size()))?;
+    for member in 0..committee.size() {
+        if let Some(key) = committee.key(Author(member)) {
+            record.extend_from_slice(&key.0)?;
+        }
     }
     Ok(record)
 }
 
 // The validator after the events of these records, of which the first is the configuration.
-fn replay(alloc: Global, first: &Record, events: &[Record]) -> Result<Validator, JournalError>
+fn replay(
+    alloc: Global,
+    committee: &Committee,
+    first: &Record,
+    events: &[Record],
+) -> Result<Validator, JournalError>
     ensures { IfOk result (λ validator. validator.own ≡ OWN) }
 {
-    check_configuration(alloc, first, events)?;
-    let mut validator = Validator::new(alloc, OWN, MEMBERS);
+    check_configuration(alloc, committee, first, events)?;
+    let mut validator = Validator::new(alloc, OWN, committee.size());
     for record in events {
-        replay_event(alloc, &mut validator, record)?;
+        replay_event(alloc, committee, &mut validator, record)?;
     }
     Ok(validator)
 }
@@ -123,6 +135,7 @@ fn replay(alloc: Global, first: &Record, events: &[Record]) -> Result<Validator,
 // The first record is this node's configuration, alone in its group.
 fn check_configuration(
     alloc: Global,
+    committee: &Committee,
     first: &Record,
     events: &[Record],
 ) -> Result<(), JournalError> {
@@ -130,7 +143,7 @@ fn check_configuration(
     if !has_shape(bytes) || events.iter().any(|record| record.gate == first.gate) {
         return Err(JournalError::Damaged(first.gate));
     }
-    if configuration(alloc)?.as_slice() != bytes {
+    if configuration(alloc, committee)?.as_slice() != bytes {
         return Err(JournalError::ConfigMismatch);
     }
     Ok(())
@@ -150,6 +163,7 @@ fn has_shape(bytes: &[u8]) -> bool {
 // Takes the event of a record, which has to be new.
 fn replay_event(
     alloc: Global,
+    committee: &Committee,
     validator: &mut Validator,
     record: &Record,
 ) -> Result<(), JournalError>
@@ -157,7 +171,7 @@ fn replay_event(
     ensures { validator.new.own ≡ OWN }
 {
     let damaged = JournalError::Damaged(record.gate);
-    let Some(event) = event_of(alloc, record.bytes.as_slice())? else {
+    let Some(event) = event_of(alloc, committee, record.bytes.as_slice())? else {
         return Err(damaged);
     };
     match validator.step(event) {
@@ -167,8 +181,13 @@ fn replay_event(
     }
 }
 
-// The event of a record: a header of another member that passes the checks.
-fn event_of(alloc: Global, bytes: &[u8]) -> Result<Option<Checked>, AllocError>
+// The event of a record: a header of another member that passes the checks. Its signature was tested before it
+// was recorded.
+fn event_of(
+    alloc: Global,
+    committee: &Committee,
+    bytes: &[u8],
+) -> Result<Option<Checked>, AllocError>
     ensures { IfOk result (λ found. IfSome found (IsKnownKind OWN)) }
 {
     let [EVENT_RECORD, high, low, message @ ..] = bytes else {
@@ -180,8 +199,8 @@ fn event_of(alloc: Global, bytes: &[u8]) -> Result<Option<Checked>, AllocError>
         Err(WireError::Memory) => return Err(AllocError),
         _ => return Ok(None),
     };
-    if header.body.author == OWN || check(sender, &header).is_err() {
+    if header.body.author == OWN {
         return Ok(None);
     }
-    Ok(Some(Checked::new(sender, Message::Header(header))))
+    Ok(recheck(committee, sender, Message::Header(header)).ok())
 }

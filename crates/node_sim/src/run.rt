@@ -1,14 +1,16 @@
 //! A script, line by line.
 
 use crate::answer::Answer;
-use crate::checks::check;
 use crate::command::{Command, parse};
 use crate::ending::Ending;
 use crate::forming::define;
 use crate::labels::Labels;
 use crate::node::Node;
-use crate::settings::OWN;
+use crate::settings::{OWN, read_committee};
+use committee::Committee;
 use diskmodel::MemDisk;
+use header::check;
+use sigface::HashVerify;
 use std::alloc::Global;
 use std::io::{BufRead, Write};
 use wire::{Header, Message, WireError};
@@ -47,7 +49,8 @@ pub(crate) fn play<R: BufRead, W: Write>(
     number: &mut u64,
 ) -> Result<Node, Ending> {
     let disk = MemDisk::new(alloc, Vec::new(alloc))?;
-    let (mut node, _) = Node::open(alloc, disk)?;
+    let committee = read_committee(alloc)?;
+    let (mut node, _) = Node::open(alloc, &committee, disk)?;
     let mut labels = Labels::new(alloc);
     let mut line = Vec::new(alloc);
     for count in 1..u64::MAX {
@@ -62,7 +65,7 @@ pub(crate) fn play<R: BufRead, W: Write>(
         let Some(command) = parse(&line) else {
             return Err(Ending::BadCommand);
         };
-        let (next, answer) = obey(alloc, node, &mut labels, command)?;
+        let (next, answer) = obey(alloc, &committee, node, &mut labels, command)?;
         node = next;
         tell(writer, answer)?;
     }
@@ -79,6 +82,7 @@ fn tell<W: Write>(writer: &mut W, answer: Answer<'_>) -> Result<(), Ending> {
 // Carries out a command.
 fn obey<'a>(
     alloc: Global,
+    committee: &Committee,
     mut node: Node,
     labels: &'a mut Labels,
     command: Command<'_>,
@@ -90,7 +94,7 @@ fn obey<'a>(
         },
         Command::Header(label) => {
             let answer = match header_of(alloc, labels, label)? {
-                Ok(header) => submit(&mut node, header)?,
+                Ok(header) => submit(committee, &mut node, header)?,
                 Err(error) => Answer::Unread(error),
             };
             Ok((node, answer))
@@ -107,7 +111,7 @@ fn obey<'a>(
             Ok((node, answer))
         }
         Command::Stop(stopping) => {
-            let (node, events) = node.stop(alloc, stopping)?;
+            let (node, events) = node.stop(alloc, committee, stopping)?;
             Ok((node, Answer::Reopened(events)))
         }
     }
@@ -130,12 +134,17 @@ fn header_of(
 }
 
 // Submits a header as from its author. There are no own headers yet.
-fn submit(node: &mut Node, header: Header) -> Result<Answer<'static>, Ending> {
-    if header.body.author == OWN {
+fn submit(
+    committee: &Committee,
+    node: &mut Node,
+    header: Header,
+) -> Result<Answer<'static>, Ending> {
+    let author = header.body.author;
+    if author == OWN {
         return Err(Ending::BadCommand);
     }
-    if let Err(error) = check(header.body.author, &header) {
-        return Ok(Answer::Unchecked(error));
+    match check(committee, &HashVerify, author, Message::Header(header)) {
+        Ok(event) => Ok(node.submit(event)),
+        Err(error) => Ok(Answer::Unchecked(error)),
     }
-    Ok(node.submit(header))
 }
