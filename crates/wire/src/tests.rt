@@ -3,6 +3,7 @@
 use super::*;
 use sha2::{Digest as Hasher, Sha256};
 use std::alloc::Global;
+use std::process::Abort;
 use std::test::Fail;
 
 /// The digests of the genesis certificates of the members 0 to 3.
@@ -18,109 +19,6 @@ const HEADER_DIGEST: &str = "3889f8ef0ee48c74f0b236e8ed067d3aba465c9d0bae8b21290
 
 const CERTIFICATE_DIGEST: &str = "60a2d2ba8bfcbfef22a634d95ad9d40feee27a80380474025ff037e6005967b7";
 
-fn hex(alloc: Global, bytes: &[u8]) -> Result<String, Fail> {
-    let mut text = String::new(alloc);
-    for byte in bytes {
-        write!(text, "{byte:02x}")?;
-    }
-    Ok(text)
-}
-
-fn first_header(alloc: Global) -> Result<Header, Fail> {
-    let mut parents = ParentReferences::new(alloc);
-    for member in 0..3 {
-        let author = Author(member);
-        let certificate = genesis_digest(author);
-        if parents.len() < MAX_PARENTS && parents.may_follow(author) {
-            parents.push(ParentReference {
-                author,
-                certificate,
-            })?;
-        }
-    }
-    Ok(Header {
-        body: HeaderBody {
-            author: Author(1),
-            round: Round::new(1)?,
-            batches: BatchReferences::new(alloc),
-            parents,
-        },
-        signature: Signature([0; 64]),
-    })
-}
-
-#[test]
-fn genesis_digests(rt: HostRuntime) -> Result<(), Fail> {
-    for (member, expected) in GENESIS.iter().enumerate() {
-        let digest = genesis_digest(Author(member as u16));
-        let text = hex(rt.alloc(), &digest.0)?;
-        assert_eq!(rt; text.as_str(), *expected);
-    }
-    Ok(())
-}
-
-#[test]
-fn a_header_has_181_bytes_and_its_digests(rt: HostRuntime) -> Result<(), Fail> {
-    let header = first_header(rt.alloc())?;
-    let body = &header.body;
-    let digest = header_digest(body);
-    let text = hex(rt.alloc(), &digest.0)?;
-    assert_eq!(rt; text.as_str(), HEADER_DIGEST);
-    let certificate = certificate_digest(&digest, body.round, body.author);
-    let text = hex(rt.alloc(), &certificate.0)?;
-    assert_eq!(rt; text.as_str(), CERTIFICATE_DIGEST);
-    let bytes = encode(rt.alloc(), &Message::Header(header))?;
-    assert_eq!(rt; bytes.len(), 181);
-    let text = hex(rt.alloc(), &bytes[..17])?;
-    assert_eq!(rt; text.as_str(), "0300010000000000000001000000030000");
-    Ok(())
-}
-
-#[test]
-fn a_vote_has_109_bytes(rt: HostRuntime) -> Result<(), Fail> {
-    let vote = Vote {
-        header: Digest([7; 32]),
-        round: Round::new(1)?,
-        author: Author(1),
-        voter: Author(0),
-        signature: Signature([0; 64]),
-    };
-    let bytes = encode(rt.alloc(), &Message::Vote(vote))?;
-    assert_eq!(rt; bytes.len(), 109);
-    let text = hex(rt.alloc(), &bytes[32..45])?;
-    assert_eq!(rt; text.as_str(), "07000000000000000100010000");
-    Ok(())
-}
-
-fn pushed(batch: &mut OpenBatch, transaction: &[u8]) -> Result<bool, Fail> {
-    if transaction.len() > MAX_TRANSACTION_BYTES || !batch.has_room(transaction.len()) {
-        return Ok(false);
-    }
-    batch.push(transaction)?;
-    Ok(true)
-}
-
-fn small_batch(alloc: Global) -> Result<Batch, Fail> {
-    let mut open = OpenBatch::new(alloc, Author(0), 0)?;
-    pushed(&mut open, b"ab")?;
-    Ok(open.close()?)
-}
-
-fn first_certificate(alloc: Global) -> Result<Certificate, Fail> {
-    let mut votes = VoteEntries::new(alloc);
-    for member in 0..3 {
-        let voter = Author(member);
-        if votes.len() < MAX_VOTES && votes.may_follow(voter) {
-            let signature = Signature([0; 64]);
-            votes.push(VoteEntry { voter, signature })?;
-        }
-    }
-    Ok(Certificate {
-        header: first_header(alloc)?.body,
-        votes,
-    })
-}
-
 const COIN: &str = "0600000000000000010000000000000007";
 
 const ACK: &str = "0200020707070707070707070707070707070707070707070707070707070707070707";
@@ -135,20 +33,241 @@ const BATCH: &str = "010000000000000001000000026162";
 
 const BATCH_DIGEST: &str = "3fdc652e3ebef0ddca6870974ecf1400fd6050691daa18698886f1b88ec42e77";
 
+// The helpers have no contracts, so that a test knows no more of a value than it asserts, and its check
+// is short.
+
+fn hex(alloc: Global, bytes: &[u8]) -> Result<String, Fail> {
+    let mut text = String::new(alloc);
+    for byte in bytes {
+        write!(text, "{byte:02x}")?;
+    }
+    Ok(text)
+}
+
+/// So many of the bytes from this place on.
+fn part(alloc: Global, bytes: &[u8], place: usize, count: usize) -> Result<String, Fail> {
+    let mut text = String::new(alloc);
+    for byte in bytes.iter().skip(place).take(count) {
+        write!(text, "{byte:02x}")?;
+    }
+    Ok(text)
+}
+
+fn same(rt: &impl Abort, text: &str, expected: &str) {
+    assert_eq!(rt; text, expected);
+}
+
+fn sha_256(text: &[u8]) -> Digest {
+    Digest(Sha256::digest(text))
+}
+
+fn message_bytes(alloc: Global, message: &Message) -> Result<Vec<u8>, Fail> {
+    Ok(encode(alloc, message)?)
+}
+
+fn output_bytes(alloc: Global, output: &Output) -> Result<Vec<u8>, Fail> {
+    Ok(encode_output(alloc, output)?)
+}
+
+fn message_hex(alloc: Global, message: &Message) -> Result<String, Fail> {
+    let bytes = message_bytes(alloc, message)?;
+    hex(alloc, &bytes)
+}
+
+fn output_hex(alloc: Global, output: &Output) -> Result<String, Fail> {
+    let bytes = output_bytes(alloc, output)?;
+    hex(alloc, &bytes)
+}
+
+fn digest_of(byte: u8) -> Digest {
+    Digest([byte; 32])
+}
+
+fn no_signature() -> Signature {
+    Signature([0; 64])
+}
+
+fn genesis_of(author: Author) -> Digest {
+    genesis_digest(author)
+}
+
+fn digest_of_batch(batch: &Batch) -> Digest {
+    batch_digest(batch)
+}
+
+fn digest_of_header(header: &HeaderBody) -> Digest {
+    header_digest(header)
+}
+
+fn digest_of_certificate(header: &HeaderBody) -> Digest {
+    certificate_digest(&header_digest(header), header.round, header.author)
+}
+
+fn add_parent(parents: &mut ParentReferences, author: Author) -> Result<(), Fail> {
+    if parents.len() < MAX_PARENTS && parents.may_follow(author) {
+        let certificate = genesis_of(author);
+        parents.push(ParentReference {
+            author,
+            certificate,
+        })?;
+    }
+    Ok(())
+}
+
+fn first_parents(alloc: Global) -> Result<ParentReferences, Fail> {
+    let mut parents = ParentReferences::new(alloc);
+    for member in 0..3 {
+        add_parent(&mut parents, Author(member))?;
+    }
+    Ok(parents)
+}
+
+fn first_body(alloc: Global) -> Result<HeaderBody, Fail> {
+    Ok(HeaderBody {
+        author: Author(1),
+        round: Round::new(1)?,
+        batches: BatchReferences::new(alloc),
+        parents: first_parents(alloc)?,
+    })
+}
+
+fn first_header(alloc: Global) -> Result<Header, Fail> {
+    Ok(Header {
+        body: first_body(alloc)?,
+        signature: no_signature(),
+    })
+}
+
+fn vote_for(author: u16) -> Result<Vote, Fail> {
+    Ok(Vote {
+        header: digest_of(7),
+        round: Round::new(1)?,
+        author: Author(author),
+        voter: Author(0),
+        signature: no_signature(),
+    })
+}
+
+fn add_vote(votes: &mut VoteEntries, voter: Author) -> Result<(), Fail> {
+    if votes.len() < MAX_VOTES && votes.may_follow(voter) {
+        let signature = no_signature();
+        votes.push(VoteEntry { voter, signature })?;
+    }
+    Ok(())
+}
+
+fn first_votes(alloc: Global) -> Result<VoteEntries, Fail> {
+    let mut votes = VoteEntries::new(alloc);
+    for member in 0..3 {
+        add_vote(&mut votes, Author(member))?;
+    }
+    Ok(votes)
+}
+
+fn first_certificate(alloc: Global) -> Result<Certificate, Fail> {
+    Ok(Certificate {
+        header: first_body(alloc)?,
+        votes: first_votes(alloc)?,
+    })
+}
+
+fn pushed(batch: &mut OpenBatch, transaction: &[u8]) -> Result<bool, Fail> {
+    if transaction.len() > MAX_TRANSACTION_BYTES {
+        return Ok(false);
+    }
+    if !batch.has_room(transaction.len()) {
+        return Ok(false);
+    }
+    batch.push(transaction)?;
+    Ok(true)
+}
+
+fn small_batch(alloc: Global) -> Result<Batch, Fail> {
+    let mut open = OpenBatch::new(alloc, Author(0), 0)?;
+    pushed(&mut open, b"ab")?;
+    Ok(open.close()?)
+}
+
 fn ack() -> BatchAck {
     BatchAck {
         author: Author(2),
-        batch: Digest([7; 32]),
+        batch: digest_of(7),
     }
+}
+
+fn add_batch(batches: &mut BatchReferences, byte: u8) -> Result<(), Fail> {
+    let digest = digest_of(byte);
+    if batches.len() < MAX_BATCHES && batches.may_follow(&digest) {
+        batches.push(BatchReference { digest, worker: 0 })?;
+    }
+    Ok(())
+}
+
+fn add_digest(digests: &mut OrderDigests, byte: u8) -> Result<(), Fail> {
+    if digests.has_room() {
+        digests.push(digest_of(byte))?;
+    }
+    Ok(())
+}
+
+fn round_number(number: u64) -> Result<u64, WireError> {
+    Ok(Round::new(number)?.number())
+}
+
+fn wave_number(number: u64) -> Result<u64, WireError> {
+    Ok(Wave::new(number)?.number())
+}
+
+fn printed(alloc: Global, error: WireError) -> Result<String, Fail> {
+    Ok(format!(in alloc; "{error}")?)
 }
 
 #[test]
 fn the_hash_is_sha_256(rt: HostRuntime) -> Result<(), Fail> {
-    let text = hex(rt.alloc(), &Sha256::digest(b"abc"))?;
-    assert_eq!(rt;
-        text.as_str(),
-        "ba7816bf8f01cfea414140de5dae2223b00361a396177a9cb410ff61f20015ad"
+    let text = hex(rt.alloc(), &sha_256(b"abc").0)?;
+    same(
+        &rt,
+        &text,
+        "ba7816bf8f01cfea414140de5dae2223b00361a396177a9cb410ff61f20015ad",
     );
+    Ok(())
+}
+
+#[test]
+fn genesis_digests(rt: HostRuntime) -> Result<(), Fail> {
+    for (member, expected) in GENESIS.iter().enumerate() {
+        let text = hex(rt.alloc(), &genesis_of(Author(member as u16)).0)?;
+        same(&rt, &text, expected);
+    }
+    Ok(())
+}
+
+#[test]
+fn a_header_has_its_digests(rt: HostRuntime) -> Result<(), Fail> {
+    let header = first_body(rt.alloc())?;
+    let text = hex(rt.alloc(), &digest_of_header(&header).0)?;
+    same(&rt, &text, HEADER_DIGEST);
+    let text = hex(rt.alloc(), &digest_of_certificate(&header).0)?;
+    same(&rt, &text, CERTIFICATE_DIGEST);
+    Ok(())
+}
+
+#[test]
+fn a_header_has_181_bytes(rt: HostRuntime) -> Result<(), Fail> {
+    let header = Message::Header(first_header(rt.alloc())?);
+    let bytes = message_bytes(rt.alloc(), &header)?;
+    assert_eq!(rt; bytes.len(), 181);
+    let text = part(rt.alloc(), &bytes, 0, 17)?;
+    same(&rt, &text, "0300010000000000000001000000030000");
+    Ok(())
+}
+
+#[test]
+fn a_vote_has_109_bytes(rt: HostRuntime) -> Result<(), Fail> {
+    let bytes = message_bytes(rt.alloc(), &Message::Vote(vote_for(1)?))?;
+    assert_eq!(rt; bytes.len(), 109);
+    let text = part(rt.alloc(), &bytes, 32, 13)?;
+    same(&rt, &text, "07000000000000000100010000");
     Ok(())
 }
 
@@ -158,83 +277,100 @@ fn a_batch_has_its_bytes_and_its_digest(rt: HostRuntime) -> Result<(), Fail> {
     assert_eq!(rt; batch.author().0, 0);
     assert_eq!(rt; batch.worker(), 0);
     assert_eq!(rt; batch.len(), 1);
-    let text = hex(rt.alloc(), &batch_digest(&batch.share()?).0)?;
-    assert_eq!(rt; text.as_str(), BATCH_DIGEST);
-    let text = hex(rt.alloc(), &encode(rt.alloc(), &Message::Batch(batch))?)?;
-    assert_eq!(rt; text.as_str(), BATCH);
+    let text = hex(rt.alloc(), &digest_of_batch(&batch.share()?).0)?;
+    same(&rt, &text, BATCH_DIGEST);
+    let text = message_hex(rt.alloc(), &Message::Batch(batch))?;
+    same(&rt, &text, BATCH);
     Ok(())
 }
 
 #[test]
 fn small_messages_have_their_bytes(rt: HostRuntime) -> Result<(), Fail> {
-    let text = hex(rt.alloc(), &encode(rt.alloc(), &Message::BatchAck(ack()))?)?;
-    assert_eq!(rt; text.as_str(), ACK);
+    let text = message_hex(rt.alloc(), &Message::BatchAck(ack()))?;
+    same(&rt, &text, ACK);
     let wave = Wave::new(1)?;
-    let coin = Message::Coin(Coin { wave, value: 7 });
-    let text = hex(rt.alloc(), &encode(rt.alloc(), &coin)?)?;
-    assert_eq!(rt; text.as_str(), COIN);
+    let text = message_hex(rt.alloc(), &Message::Coin(Coin { wave, value: 7 }))?;
+    same(&rt, &text, COIN);
     Ok(())
 }
 
 #[test]
-fn certificates_have_their_lengths(rt: HostRuntime) -> Result<(), Fail> {
+fn a_certificate_has_317_bytes(rt: HostRuntime) -> Result<(), Fail> {
     let certificate = first_certificate(rt.alloc())?;
     assert!(rt; !certificate.votes.is_empty());
     assert!(rt; !certificate.votes.may_follow(Author(2)));
-    let bytes = encode(rt.alloc(), &Message::Certificate(certificate))?;
+    let bytes = message_bytes(rt.alloc(), &Message::Certificate(certificate))?;
     assert_eq!(rt; bytes.len(), 317);
-    let genesis = Certificate::genesis(rt.alloc(), Author(3));
-    let body = &genesis.header;
-    let digest = certificate_digest(&header_digest(body), body.round, body.author);
-    let text = hex(rt.alloc(), &digest.0)?;
-    assert_eq!(rt; text.as_str(), GENESIS[3]);
-    let bytes = encode(rt.alloc(), &Message::Certificate(genesis))?;
-    let text = hex(rt.alloc(), &bytes)?;
-    assert_eq!(rt; text.as_str(), "0500030000000000000000000000000000");
     Ok(())
 }
 
 #[test]
-fn outputs_have_a_receiver(rt: HostRuntime) -> Result<(), Fail> {
+fn a_genesis_certificate_has_its_digest_and_its_bytes(rt: HostRuntime) -> Result<(), Fail> {
+    let genesis = Certificate::genesis(rt.alloc(), Author(3));
+    let text = hex(rt.alloc(), &digest_of_certificate(&genesis.header).0)?;
+    same(&rt, &text, GENESIS[3]);
+    let text = message_hex(rt.alloc(), &Message::Certificate(genesis))?;
+    same(&rt, &text, "0500030000000000000000000000000000");
+    Ok(())
+}
+
+/// How many bytes the output has, and the first four of them.
+fn output_front(alloc: Global, output: &Output) -> Result<(usize, String), Fail> {
+    let bytes = output_bytes(alloc, output)?;
+    Ok((bytes.len(), part(alloc, &bytes, 0, 4)?))
+}
+
+#[test]
+fn a_batch_goes_to_all(rt: HostRuntime) -> Result<(), Fail> {
+    let batch = small_batch(rt.alloc())?;
+    let (len, front) = output_front(rt.alloc(), &Output::Batch(batch))?;
+    assert_eq!(rt; len, 17);
+    same(&rt, &front, "ffff0100");
+    Ok(())
+}
+
+#[test]
+fn a_header_goes_to_all(rt: HostRuntime) -> Result<(), Fail> {
+    let header = first_header(rt.alloc())?;
+    let (len, front) = output_front(rt.alloc(), &Output::Header(header))?;
+    assert_eq!(rt; len, 183);
+    same(&rt, &front, "ffff0300");
+    Ok(())
+}
+
+#[test]
+fn a_certificate_goes_to_all(rt: HostRuntime) -> Result<(), Fail> {
+    let certificate = first_certificate(rt.alloc())?;
+    let (len, front) = output_front(rt.alloc(), &Output::Certificate(certificate))?;
+    assert_eq!(rt; len, 319);
+    same(&rt, &front, "ffff0500");
+    Ok(())
+}
+
+#[test]
+fn a_vote_goes_to_the_author(rt: HostRuntime) -> Result<(), Fail> {
+    let (len, front) = output_front(rt.alloc(), &Output::Vote(vote_for(3)?))?;
+    assert_eq!(rt; len, 111);
+    same(&rt, &front, "00030407");
+    Ok(())
+}
+
+#[test]
+fn an_acknowledgement_goes_to_the_author(rt: HostRuntime) -> Result<(), Fail> {
+    let to = Author(1);
+    let text = output_hex(rt.alloc(), &Output::Ack { to, ack: ack() })?;
+    same(&rt, &text, ACK_OUTPUT);
+    Ok(())
+}
+
+#[test]
+fn a_piece_of_the_order_goes_to_the_host(rt: HostRuntime) -> Result<(), Fail> {
     let mut digests = OrderDigests::new(rt.alloc());
     assert!(rt; digests.is_empty());
-    for byte in [7, 8] {
-        if digests.has_room() {
-            digests.push(Digest([byte; 32]))?;
-        }
-    }
-    let vote = Vote {
-        header: Digest([7; 32]),
-        round: Round::new(1)?,
-        author: Author(3),
-        voter: Author(0),
-        signature: Signature([0; 64]),
-    };
-    let cases = [
-        (Output::Batch(small_batch(rt.alloc())?), "ffff0100", 17),
-        (Output::Header(first_header(rt.alloc())?), "ffff0300", 183),
-        (Output::Vote(vote), "00030407", 111),
-        (
-            Output::Certificate(first_certificate(rt.alloc())?),
-            "ffff0500",
-            319,
-        ),
-    ];
-    for (output, front, len) in &cases {
-        let bytes = encode_output(rt.alloc(), output)?;
-        assert_eq!(rt; bytes.len(), *len);
-        let text = hex(rt.alloc(), &bytes[..4])?;
-        assert_eq!(rt; text.as_str(), *front);
-    }
-    let to = Author(1);
-    let text = hex(
-        rt.alloc(),
-        &encode_output(rt.alloc(), &Output::Ack { to, ack: ack() })?,
-    )?;
-    assert_eq!(rt; text.as_str(), ACK_OUTPUT);
-    let order = Output::Order { start: 3, digests };
-    let text = hex(rt.alloc(), &encode_output(rt.alloc(), &order)?)?;
-    assert_eq!(rt; text.as_str(), ORDER_OUTPUT);
+    add_digest(&mut digests, 7)?;
+    add_digest(&mut digests, 8)?;
+    let text = output_hex(rt.alloc(), &Output::Order { start: 3, digests })?;
+    same(&rt, &text, ORDER_OUTPUT);
     Ok(())
 }
 
@@ -242,12 +378,10 @@ fn outputs_have_a_receiver(rt: HostRuntime) -> Result<(), Fail> {
 fn pieces_of_the_order_have_a_limit(rt: HostRuntime) -> Result<(), Fail> {
     let mut digests = OrderDigests::new(rt.alloc());
     for _ in 0..16_001 {
-        if digests.has_room() {
-            digests.push(Digest([7; 32]))?;
-        }
+        add_digest(&mut digests, 7)?;
     }
     assert_eq!(rt; digests.len(), 16_000);
-    let bytes = encode_output(rt.alloc(), &Output::Order { start: 0, digests })?;
+    let bytes = output_bytes(rt.alloc(), &Output::Order { start: 0, digests })?;
     assert_eq!(rt; bytes.len(), 512_015);
     Ok(())
 }
@@ -275,34 +409,38 @@ fn batches_have_limits(rt: HostRuntime) -> Result<(), Fail> {
 }
 
 #[test]
-fn limits_and_order(rt: HostRuntime) -> Result<(), Fail> {
-    assert_eq!(rt; Round::new(1 << 48)?.number(), 281_474_976_710_656);
-    assert_eq!(rt; Round::new((1 << 48) + 1), Err(WireError::BadRound));
-    assert_eq!(rt; Wave::new((1 << 47) - 1)?.number(), 140_737_488_355_327);
-    assert_eq!(rt; Wave::new(1 << 47), Err(WireError::BadRound));
-    assert_eq!(rt; Wave::new(0), Err(WireError::BadRound));
+fn rounds_and_waves_have_limits(rt: HostRuntime) {
+    assert_eq!(rt; round_number(1 << 48), Ok(281_474_976_710_656));
+    assert_eq!(rt; round_number((1 << 48) + 1), Err(WireError::BadRound));
+    assert_eq!(rt; wave_number((1 << 47) - 1), Ok(140_737_488_355_327));
+    assert_eq!(rt; wave_number(1 << 47), Err(WireError::BadRound));
+    assert_eq!(rt; wave_number(0), Err(WireError::BadRound));
+}
+
+#[test]
+fn parents_rise(rt: HostRuntime) -> Result<(), Fail> {
     let header = first_header(rt.alloc())?;
     assert!(rt; header.body.parents.may_follow(Author(3)));
     assert!(rt; !header.body.parents.may_follow(Author(2)));
     assert!(rt; !header.body.parents.is_empty());
     assert_eq!(rt; header.body.batches.len(), 0);
+    Ok(())
+}
+
+#[test]
+fn batches_rise(rt: HostRuntime) -> Result<(), Fail> {
     let mut batches = BatchReferences::new(rt.alloc());
-    let batch = BatchReference {
-        digest: Digest([1; 32]),
-        worker: 0,
-    };
-    if batches.is_empty() && batches.may_follow(&batch.digest) && batches.len() < MAX_BATCHES {
-        batches.push(batch)?;
-    }
+    assert!(rt; batches.is_empty());
+    add_batch(&mut batches, 1)?;
     assert_eq!(rt; batches.len(), 1);
-    assert!(rt; !batches.may_follow(&Digest([1; 32])));
-    assert!(rt; batches.may_follow(&Digest([2; 32])));
+    assert!(rt; !batches.may_follow(&digest_of(1)));
+    assert!(rt; batches.may_follow(&digest_of(2)));
     Ok(())
 }
 
 #[test]
 fn refusals_print_their_number_and_name(rt: HostRuntime) -> Result<(), Fail> {
-    let all = [
+    for (error, expected) in [
         (WireError::Memory, "1 Memory"),
         (WireError::Short, "2 Short"),
         (WireError::Trailing, "3 Trailing"),
@@ -310,10 +448,9 @@ fn refusals_print_their_number_and_name(rt: HostRuntime) -> Result<(), Fail> {
         (WireError::NotCanonical, "5 NotCanonical"),
         (WireError::TooMany, "6 TooMany"),
         (WireError::BadRound, "7 BadRound"),
-    ];
-    for (error, expected) in all {
-        let text = format!(in rt.alloc(); "{error}")?;
-        assert_eq!(rt; text.as_str(), expected);
+    ] {
+        let text = printed(rt.alloc(), error)?;
+        same(&rt, &text, expected);
     }
     Ok(())
 }
