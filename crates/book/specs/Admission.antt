@@ -1,9 +1,10 @@
 -- What a validator answers an event, and its state after.
-use Rattle.std.specs.Prelude.{◌≡◌, ◌≢◌, ◌⊎◌, ℕ, ◌<◌, List, [], ◌∷◌, replicate, All, Some, None, refl}
+use Rattle.std.specs.Prelude.{◌≡◌, ◌≢◌, ◌⊎◌, ℕ, ◌<◌, List, [], ◌∷◌, All, Some, None, refl}
 use Rattle.std.specs.Coded.{Coded, code_by, coded×, coded_ℕ}
 use Rattle.std.specs.FinMap as map
 use Rattle.wire.specs.declared.keys.Author.{Author}
 use Rattle.wire.specs.declared.keys.Digest.{Digest}
+use Rattle.wire.specs.declared.keys.Signature.{Signature}
 use Rattle.wire.specs.declared.header.Header.{Header}
 use Rattle.wire.specs.declared.header.Vote.{Vote}
 use Rattle.wire.specs.declared.message.Message.{Message}
@@ -11,7 +12,7 @@ use Rattle.wire.specs.declared.message.Message.TheVariants as message
 use Rattle.wire.specs.declared.output.Output.{Output}
 use Rattle.wire.specs.declared.output.Output.TheVariants as output
 use Rattle.wire.specs.declared.references.ParentReference.{ParentReference}
-use Rattle.wire.specs.Digests.{header_digest_of, genesis_digest_of}
+use Rattle.wire.specs.Digests.{header_digest_of, certificate_digest_of, genesis_digest_of}
 use Rattle.votebook.specs.Slot.{slot_of, coded_slot, coded_digest}
 use Rattle.votebook.specs.Votes.{Votes, voted_in}
 use Rattle.book.specs.declared.refusal.Refusal.TheVariants.{Memory, Down, TooOld, MissingParents, MissingBatch, Equivocation, NotOurs, StoreFull}
@@ -19,7 +20,7 @@ use Rattle.book.specs.declared.validator.Admission.{Admission}
 use Rattle.book.specs.declared.validator.Admission.TheVariants.{New, Known, Refused}
 use Rattle.wire.specs.Events.{Event}
 
--- a validator: its number, the number of members, and the votes
+-- what a validator keeps: its number, the number of members, and the votes
 pub record State : Type 0 where
   pub own : Author
   pub members : ℕ
@@ -88,16 +89,24 @@ IsKnownKind own event = IsOfKind event.message
     IsOfKind (message.Vote vote) = Unit {0}
     IsOfKind _ = ⊥
 
--- this validator's vote for a header
-abbrev pub vote_for : Author → Header → Vote
-vote_for own header = record { header = digest_of header; round = header.body.round; author = header.body.author; voter = own; signature = record { 0 = replicate 64 0 } }
+-- which signature a validator gives to a digest
+abbrev pub Signs : Type 0
+Signs = Digest → Signature
+
+-- the digest of a header's certificate, which each vote for the header signs
+abbrev pub certificate_of : Header → Digest
+certificate_of header = record { 0 = certificate_digest_of (header_digest_of header.body) header.body.round header.body.author.0 }
+
+-- this validator's vote for a header, with its signature of the certificate's digest
+abbrev pub vote_for : Signs → Author → Header → Vote
+vote_for signs own header = record { header = digest_of header; round = header.body.round; author = header.body.author; voter = own; signature = signs (certificate_of header) }
 
 -- what is put out where an event is new or known: for a header the vote
-abbrev pub outputs_for : Author → Event → List Output
-outputs_for own event = outputs_of event.message
+abbrev pub outputs_for : Signs → Author → Event → List Output
+outputs_for signs own event = outputs_of event.message
   where
     outputs_of : Message → List Output
-    outputs_of (message.Header header) = output.Vote (vote_for own header) ∷ []
+    outputs_of (message.Header header) = output.Vote (vote_for signs own header) ∷ []
     outputs_of _ = []
 
 -- the state with the vote for a header

@@ -2,18 +2,21 @@
 use Rattle.std.specs.Prelude.{◌≡◌, ℕ, ◌+◌, ◌^◌, List, [], ◌∷◌, ◌++◌, Option, Some, None, Bool, true, nat_le, if◌then◌else◌}
 use Rattle.wire.specs.declared.output.Output.{Output}
 use Rattle.journal.specs.Format.{contents}
+use Rattle.sigface.specs.declared.signature.Sign.{Ghosts}
 use Rattle.book.specs.declared.book.Book.{Book}
 use Rattle.wire.specs.Events.{Event}
 use Rattle.book.specs.Record.{record_of}
 use Rattle.book.specs.declared.refusal.Refusal.{Refusal}
 use Rattle.book.specs.declared.refusal.Refusal.TheVariants.{Memory, Down, TooOld, MissingParents, MissingBatch, Equivocation, NotOurs, StoreFull}
 use Rattle.book.specs.declared.validator.Admission.TheVariants.{New, Refused}
-use Rattle.book.specs.Admission.{State, Admits, state_with, outputs_for}
+use Rattle.book.specs.Admission.{State, Admits, Signs, state_with, outputs_for}
 use Rattle.book.specs.Queue.{queue_of, ticketed}
 
 -- what a caller sees of a book
 pub record Standing : Type 0 where
-  -- the validator
+  -- which signatures the validator gives
+  pub signs : Signs
+  -- what the validator keeps
   pub validator : State
   -- the records that were accepted and not taken, oldest first
   pub pending : List (List ℕ)
@@ -25,9 +28,10 @@ pub record Standing : Type 0 where
   -- whether a device call failed
   pub down : Bool
 
-abbrev pub standing : Book → Standing
-standing book = record {
-  validator = book.validator;
+abbrev pub standing : {S : Type 0} {signing : Ghosts S} → Book S signing → Standing
+standing {signing} book = record {
+  signs = signing.signature_of book.validator.signer;
+  validator = book.validator.tables;
   pending = contents book.pending.items;
   queue = queue_of book.queue.items;
   accepted = book.accepted;
@@ -40,13 +44,13 @@ abbrev pub with_new : Standing → Event → Standing
 with_new book event = record book {
   validator = state_with book.validator event;
   pending = book.pending ++ record_of event ∷ [];
-  queue = book.queue ++ ticketed (book.accepted + 1) (outputs_for book.validator.own event);
+  queue = book.queue ++ ticketed (book.accepted + 1) (outputs_for book.signs book.validator.own event);
   accepted = book.accepted + 1;
 }
 
 -- after an event that was accepted before: its outputs wait for all that was accepted
 abbrev pub with_known : Standing → Event → Standing
-with_known book event = record book { queue = book.queue ++ ticketed book.accepted (outputs_for book.validator.own event) }
+with_known book event = record book { queue = book.queue ++ ticketed book.accepted (outputs_for book.signs book.validator.own event) }
 
 -- the first output, if all that it rests on is settled
 abbrev pub settled_head : ℕ → List (ℕ × Output) → Option Output

@@ -10,6 +10,7 @@ use crate::refusal::Refusal;
 use crate::validator::{Step, Validator};
 use header::Checked;
 use journal::{Group, Synced};
+use sigface::Sign;
 use std::alloc::{AllocError, Global};
 use std::collections::VecDeque;
 #[cfg(test)]
@@ -35,9 +36,9 @@ pub struct Receipt {
 /// The value under the lock. Since the run's start so many records were accepted and so many settled; between
 /// the two stand those that were taken, and those that are pending.
 #[derive(Drop)]
-pub struct Book {
+pub struct Book<S: Sign> {
     alloc: Global,
-    validator: Validator,
+    validator: Validator<S>,
     pending: Vec<Vec<u8>>,
     queue: VecDeque<Queued>,
     accepted: u64,
@@ -48,7 +49,7 @@ pub struct Book {
     ghost order: { settled + length pending.items ≤ accepted },
 }
 
-impl Book {
+impl<S: Sign> Book<S> {
     ghost use Rattle.std.specs.Prelude.{◌⊎◌, ◌∷◌, [], ◌++◌, ◌<◌, false, true, take, drop, IsTrue, IsNone, IsSome, IfOk, IfErr, IfSome, OnOk, OnErr, IsErrOf, MatchOption, MatchResult, ◌↔◌, is_some, if◌then◌else◌};
     ghost use Rattle.std.specs.FinMap as map;
     ghost use Rattle.book.specs.declared.validator.Admission.TheVariants.{New, Known};
@@ -57,8 +58,8 @@ impl Book {
     ghost use Rattle.book.specs.Pending.{IsLongestBeginning};
 
     /// A book over this validator that has accepted nothing.
-    pub fn new(alloc: Global, validator: Validator) -> Book
-        ensures { standing result ≡ record { validator = validator; pending = []; queue = []; accepted = 0; settled = 0; down = false } }
+    pub fn new(alloc: Global, validator: Validator<S>) -> Book<S>
+        ensures { standing result ≡ record { signs = S.signature_of validator.signer; validator = validator.tables; pending = []; queue = []; accepted = 0; settled = 0; down = false } }
     {
         Book {
             alloc,

@@ -5,12 +5,13 @@ ghost use Rattle.book.specs.Admission.{IsKnownKind};
 
 use super::*;
 use committee::Committee;
-use header::{Checked, recheck};
+use header::{CheckError, Checked, check, recheck};
+use sigface::{HashSign, HashVerify};
 use std::alloc::Global;
 use std::test::Fail;
 use wire::{
-    Author, BatchReference, BatchReferences, Digest, Header, HeaderBody, Message, ParentReference,
-    ParentReferences, Round, Signature, genesis_digest,
+    Author, BatchReference, BatchReferences, Digest, Header, HeaderBody, Key, Message, Output,
+    ParentReference, ParentReferences, Round, Signature, genesis_digest,
 };
 
 /// Four members. The key of each is its number plus 1, 32 times.
@@ -20,6 +21,11 @@ const FOUR: &str = "members = [
     \"0303030303030303030303030303030303030303030303030303030303030303\",
     \"0404040404040404040404040404040404040404040404040404040404040404\",
 ]";
+
+/// Member 0, with its key.
+fn validator(alloc: Global) -> Validator<HashSign> {
+    Validator::new(alloc, Author(0), 4, HashSign::new(Key([1; 32])))
+}
 
 /// The header of an author in a round over the genesis certificates from this member on.
 fn header(alloc: Global, author: u16, round: u64, first: u16) -> Result<Header, Fail> {
@@ -81,7 +87,7 @@ fn is_from_peer(own: Author, event: &Checked) -> bool
 
 fn submit(
     alloc: Global,
-    book: &mut Book,
+    book: &mut Book<HashSign>,
     header: Header,
 ) -> Result<Result<Receipt, Refusal>, Fail> {
     let event = event(alloc, header)?;
@@ -94,7 +100,7 @@ fn submit(
 #[test]
 fn headers_are_answered_in_the_order_of_the_tests(rt: HostRuntime) -> Result<(), Fail> {
     let alloc = rt.alloc();
-    let mut book = Book::new(alloc, Validator::new(alloc, Author(0), 4));
+    let mut book = Book::new(alloc, validator(alloc));
     assert_eq!(rt;
         submit(alloc, &mut book, header(alloc, 1, 0, 0)?)?,
         Err(Refusal::TooOld)
@@ -142,7 +148,7 @@ fn headers_are_answered_in_the_order_of_the_tests(rt: HostRuntime) -> Result<(),
 #[test]
 fn nothing_goes_out_before_it_is_settled_or_after_a_fault(rt: HostRuntime) -> Result<(), Fail> {
     let alloc = rt.alloc();
-    let mut book = Book::new(alloc, Validator::new(alloc, Author(0), 4));
+    let mut book = Book::new(alloc, validator(alloc));
     assert!(rt; submit(alloc, &mut book, header(alloc, 1, 1, 0)?)?.is_ok());
     assert!(rt; submit(alloc, &mut book, header(alloc, 2, 1, 0)?)?.is_ok());
     assert!(rt; book.release().is_none());
@@ -172,7 +178,7 @@ fn nothing_goes_out_before_it_is_settled_or_after_a_fault(rt: HostRuntime) -> Re
 #[test]
 fn a_validator_answers_without_a_book(rt: HostRuntime) -> Result<(), Fail> {
     let alloc = rt.alloc();
-    let mut validator = Validator::new(alloc, Author(0), 4);
+    let mut validator = validator(alloc);
     let proposed = header(alloc, 1, 1, 0)?;
     let event = event(alloc, proposed)?;
     assert!(rt; is_from_peer(validator.own(), &event));
@@ -180,5 +186,28 @@ fn a_validator_answers_without_a_book(rt: HostRuntime) -> Result<(), Fail> {
     assert_eq!(rt; validator.admission(&event), Admission::New);
     assert!(rt; validator.is_new(&event));
     assert!(rt; matches!(validator.step(event), Ok(Step::New(_))));
+    Ok(())
+}
+
+#[test]
+fn a_vote_is_signed_with_its_voters_key(rt: HostRuntime) -> Result<(), Fail> {
+    let alloc = rt.alloc();
+    let committee = Committee::read(alloc, FOUR)?;
+    let mut validator = validator(alloc);
+    let proposed = header(alloc, 1, 1, 0)?;
+    let event = event(alloc, proposed)?;
+    assert!(rt; is_from_peer(validator.own(), &event));
+    let Step::New(outputs) = validator.step(event)? else {
+        return Err("the header is new".into());
+    };
+    let [Output::Vote(vote)] = outputs.as_slice() else {
+        return Err("a vote is put out".into());
+    };
+    let good = check(&committee, &HashVerify, Author(0), Message::Vote(*vote));
+    assert!(rt; good.is_ok());
+    let mut changed = *vote;
+    changed.signature.0[63] ^= 1;
+    let bad = check(&committee, &HashVerify, Author(0), Message::Vote(changed));
+    assert_eq!(rt; bad.err(), Some(CheckError::BadSignature));
     Ok(())
 }

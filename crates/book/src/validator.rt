@@ -3,17 +3,18 @@
 ghost use Rattle.std.specs.Prelude.{◌≡◌, ◌⊎◌, ◌↔◌, [], ◌∷◌, All, IsTrue, IfOk, OnOk, OnErr, MatchResult, if◌then◌else◌};
 ghost use Rattle.std.specs.Bool.{OnTrue};
 ghost use Rattle.std.specs.FinMap as map;
-ghost use Rattle.book.specs.Admission.{Admits, AdmitsHeader, AdmitsVote, IsHeld, IsKnownKind, vote_for, outputs_for, with_header};
+ghost use Rattle.book.specs.Admission.{Admits, AdmitsHeader, AdmitsVote, IsHeld, IsKnownKind, digest_of, vote_for, outputs_for, with_header};
 ghost use Rattle.book.specs.Step.{admission_of, outputs_of, state_after};
 
 use crate::refusal::Refusal;
 use header::Checked;
-use std::alloc::Global;
+use sigface::Sign;
+use std::alloc::{AllocError, Global};
 use std::marker::Model;
 use votebook::VoteBook;
 use wire::{
-    Author, Header, Message, Output, ParentReference, Round, Signature, Vote, genesis_digest,
-    header_digest,
+    Author, Digest, Header, Message, Output, ParentReference, Round, Vote, certificate_digest,
+    genesis_digest, header_digest,
 };
 
 /// What a validator answers an event.
@@ -36,71 +37,80 @@ pub enum Step {
     Known(Vec<Output>),
 }
 
-/// One validator of a committee. For now it takes headers of other members, over the genesis certificates.
+/// One validator of a committee, with its signer. For now it takes headers of other members, over the genesis
+/// certificates.
 #[derive(Drop)]
-pub struct Validator {
+pub struct Validator<S: Sign> {
     alloc: Global,
+    signer: S,
+    tables: Tables,
+}
+
+/// What a validator keeps.
+#[derive(Drop)]
+struct Tables {
     own: Author,
     members: u16,
     votes: VoteBook,
 }
 
-impl Model for Validator {
+impl Model for Tables {
     ghost use Rattle.book.specs.Admission.{State, coded_state};
 
     ghost Value = { State };
 
     ghost coded = { coded_state };
 
-    ghost view = { λ v. record { own = v.own; members = v.members; votes = v.votes } };
+    ghost view = { λ t. record { own = t.own; members = t.members; votes = t.votes } };
 }
 
-impl Validator {
+impl<S: Sign> Validator<S> {
     /// The validator of this number, in a committee of so many members, that has taken no event.
-    pub fn new(alloc: Global, own: Author, members: u16) -> Validator
-        ensures { result ≡ record { own = own; members = members; votes = map.empty } }
+    pub fn new(alloc: Global, own: Author, members: u16, signer: S) -> Validator<S>
+        ensures signer { result.signer ≡ signer }
+        ensures tables { result.tables ≡ record { own = own; members = members; votes = map.empty } }
     {
         Validator {
             alloc,
-            own,
-            members,
-            votes: VoteBook::new(alloc),
+            signer,
+            tables: Tables::new(alloc, own, members),
         }
     }
 
     /// Its number.
     pub fn own(&self) -> Author
-        ensures { result ≡ self.now.own }
+        ensures { result ≡ self.now.tables.own }
     {
-        self.own
+        self.tables.own()
     }
 
     /// What an event is answered. It changes nothing.
     pub fn admission(&self, event: &Checked) -> Admission
-        requires { IsKnownKind self.now.own event.now }
-        ensures { Admits self.now event.now result }
+        requires { IsKnownKind self.now.tables.own event.now }
+        ensures { Admits self.now.tables event.now result }
     {
         match event.message() {
-            Message::Header(header) => self.header_admission(header),
-            Message::Vote(vote) => self.vote_admission(vote),
+            Message::Header(header) => self.tables.header_admission(header),
+            Message::Vote(vote) => self.tables.vote_admission(vote),
             _ => unreachable!(),
         }
     }
 
     /// Whether an event would be new.
     pub fn is_new(&self, event: &Checked) -> bool
-        requires { IsKnownKind self.now.own event.now }
-        ensures { IsTrue result ↔ Admits self.now event.now Admission.New }
+        requires { IsKnownKind self.now.tables.own event.now }
+        ensures { IsTrue result ↔ Admits self.now.tables event.now Admission.New }
     {
         matches!(self.admission(event), Admission::New)
     }
 
-    /// Takes an event. Only a new one changes the validator, and a refusal leaves it as it was.
+    /// Takes an event. Only a new one changes what the validator keeps, and a refusal leaves it as it was. The
+    /// signer stays.
     pub fn step(&mut self, event: Checked) -> Result<Step, Refusal>
-        requires { IsKnownKind self.old.own event }
-        ensures answer { MatchResult result (λ step. Admits self.old event (admission_of step)) (λ e. (e ≡ Refusal.Memory) ⊎ Admits self.old event (Admission.Refused e)) }
-        ensures outputs { IfOk result (λ step. outputs_of step ≡ outputs_for self.old.own event) }
-        ensures state { IfOk result (λ step. self.new ≡ state_after step self.old event) }
+        requires { IsKnownKind self.old.tables.own event }
+        ensures answer { MatchResult result (λ step. Admits self.old.tables event (admission_of step)) (λ e. (e ≡ Refusal.Memory) ⊎ Admits self.old.tables event (Admission.Refused e)) }
+        ensures outputs { IfOk result (λ step. outputs_of step ≡ outputs_for (S.signature_of self.old.signer) self.old.tables.own event) }
+        ensures state { IfOk result (λ step. self.new ≡ record self.old { tables = state_after step self.old.tables event }) }
         ensures err { OnErr result (self.new ≡ self.old) }
     {
         let admission = self.admission(&event);
@@ -115,22 +125,51 @@ impl Validator {
 
     // Takes a header that is new or known.
     fn take_header(&mut self, header: &Header, is_new: bool) -> Result<Step, Refusal>
-        requires new { OnTrue is_new (AdmitsHeader self.old header.now Admission.New) }
+        requires new { OnTrue is_new (AdmitsHeader self.old.tables header.now Admission.New) }
         ensures memory { MatchResult result (λ step. admission_of step ≡ (if is_new then Admission.New else Admission.Known)) (λ e. e ≡ Refusal.Memory) }
-        ensures outputs { IfOk result (λ step. outputs_of step ≡ Output.Vote (vote_for self.old.own header.now) ∷ []) }
-        ensures votes { OnOk result (self.new ≡ (if is_new then with_header self.old header.now else self.old)) }
+        ensures outputs { IfOk result (λ step. outputs_of step ≡ Output.Vote (vote_for (S.signature_of self.old.signer) self.old.tables.own header.now) ∷ []) }
+        ensures votes { OnOk result (self.new ≡ record self.old { tables = (if is_new then with_header self.old.tables header.now else self.old.tables) }) }
         ensures err { OnErr result (self.new ≡ self.old) }
     {
-        let vote = vote_on(self.own, header);
+        let vote = vote_on(&self.signer, self.own(), header);
         let digest = vote.header;
         let mut outputs = Vec::with_capacity(self.alloc, 1)?;
         outputs.push(Output::Vote(vote))?;
         if !is_new {
             return Ok(Step::Known(outputs));
         }
+        self.tables.keep(header, digest)?;
+        Ok(Step::New(outputs))
+    }
+}
+
+impl Tables {
+    fn new(alloc: Global, own: Author, members: u16) -> Tables
+        ensures { result ≡ record { own = own; members = members; votes = map.empty } }
+    {
+        Tables {
+            own,
+            members,
+            votes: VoteBook::new(alloc),
+        }
+    }
+
+    fn own(&self) -> Author
+        ensures { result ≡ self.now.own }
+    {
+        self.own
+    }
+
+    // Keeps the vote for a new header of this digest.
+    fn keep(&mut self, header: &Header, digest: Digest) -> Result<(), AllocError>
+        requires new { AdmitsHeader self.old header.now Admission.New }
+        requires digest { digest ≡ digest_of header.now }
+        ensures kept { OnOk result (self.new ≡ with_header self.old header.now) }
+        ensures err { OnErr result (self.new ≡ self.old) }
+    {
         self.votes
             .vote(header.body.author, header.body.round, digest)?;
-        Ok(Step::New(outputs))
+        Ok(())
     }
 
     fn header_admission(&self, header: &Header) -> Admission
@@ -174,16 +213,19 @@ fn all_held(members: u16, round: Round, parents: &[ParentReference]) -> bool
     true
 }
 
-// The vote of a validator for a header. Its signature is empty until there are signers.
-fn vote_on(own: Author, header: &Header) -> Vote
-    ensures { result ≡ vote_for own header.now }
+// The vote of the validator of this number for a header. It signs the certificate's digest, and not the header's.
+fn vote_on<S: Sign>(signer: &S, own: Author, header: &Header) -> Vote
+    ensures { result ≡ vote_for (S.signature_of signer.now) own header.now }
 {
+    let (round, author) = (header.body.round, header.body.author);
+    let digest = header_digest(&header.body);
+    let signed = certificate_digest(&digest, round, author);
     Vote {
-        header: header_digest(&header.body),
-        round: header.body.round,
-        author: header.body.author,
+        header: digest,
+        round,
+        author,
         voter: own,
-        signature: Signature([0; 64]),
+        signature: signer.sign(&signed),
     }
 }
 

@@ -5,7 +5,8 @@ ghost use Rattle.std.specs.Prelude.{◌≤◌, length, vec_len};
 use crate::command::Form;
 use crate::ending::Ending;
 use crate::labels::Labels;
-use crate::settings::signature;
+use crate::settings::signer;
+use sigface::Sign;
 use std::alloc::Global;
 use wire::{
     BatchReferences, Header, HeaderBody, MAX_PARENTS, ParentReference, ParentReferences, Round,
@@ -38,7 +39,7 @@ pub fn define(
         batches: BatchReferences::new(alloc),
         parents,
     };
-    let signature = signature(form.author, &header_digest(&body));
+    let signature = signer(form.author).sign(&header_digest(&body));
     labels.define(form.label, Header { body, signature })?;
     Ok(Ok(()))
 }

@@ -16,6 +16,7 @@ use book::Book;
 use committee::Committee;
 use diskmodel::{CallKind, MemDisk, StopDisk};
 use header::Checked;
+use sigface::HashSign;
 use std::alloc::{AllocError, Global};
 use wire::Output;
 
@@ -48,7 +49,7 @@ impl Store {
 #[derive(Drop)]
 pub struct Node {
     store: Store,
-    book: Book,
+    book: Book<HashSign>,
     ghost own: { (standing book).validator.own ≡ OWN },
 }
 
@@ -144,6 +145,12 @@ impl Node {
         }
     }
 
+    /// The next output that may go out, as it is.
+    #[cfg(test)]
+    pub fn release(&mut self) -> Option<Output> {
+        self.book.release()
+    }
+
     /// Gives the disk back.
     #[cfg(test)]
     pub fn into_disk(self) -> MemDisk {
@@ -182,7 +189,7 @@ fn losing(alloc: Global, mut disk: MemDisk) -> Result<MemDisk, AllocError> {
 fn interrupted(
     alloc: Global,
     store: Store,
-    mut book: Book,
+    mut book: Book<HashSign>,
     sync: u64,
     byte: u8,
 ) -> Result<MemDisk, Ending> {

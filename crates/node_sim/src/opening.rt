@@ -4,12 +4,13 @@ ghost use Rattle.std.specs.Prelude.{◌≡◌, IfOk, IfSome};
 ghost use Rattle.book.specs.Admission.{IsKnownKind};
 
 use crate::live::{Appended, LiveJournal};
-use crate::settings::OWN;
+use crate::settings::{OWN, signer};
 use book::{EVENT_RECORD, Refusal, Step, Validator};
 use committee::Committee;
 use diskmodel::Disk;
 use header::{Checked, recheck};
 use journal::{Failed, Group, JournalError, Record};
+use sigface::HashSign;
 use std::alloc::{AllocError, Global};
 use wire::numbers::two_bytes;
 use wire::{Author, Message, WireError};
@@ -24,7 +25,7 @@ const KEY_BYTES: usize = 32;
 /// A node's journal, the validator after its events, and how many these are.
 pub struct Opened<D: Disk> {
     pub journal: LiveJournal<D>,
-    pub validator: Validator,
+    pub validator: Validator<HashSign>,
     pub events: u64,
 }
 
@@ -34,12 +35,12 @@ pub fn open<D: Disk>(
     committee: &Committee,
     disk: D,
 ) -> Result<Opened<D>, Failed<JournalError, D>>
-    ensures { IfOk result (λ opened. opened.validator.own ≡ OWN) }
+    ensures { IfOk result (λ opened. opened.validator.tables.own ≡ OWN) }
 {
     let (journal, records) = LiveJournal::open(alloc, disk)?;
     let Some((first, events)) = records.split_first() else {
         let journal = write_configuration(alloc, committee, journal)?;
-        let validator = Validator::new(alloc, OWN, committee.size());
+        let validator = Validator::new(alloc, OWN, committee.size(), signer(OWN));
         return Ok(Opened {
             journal,
             validator,
@@ -121,11 +122,11 @@ fn replay(
     committee: &Committee,
     first: &Record,
     events: &[Record],
-) -> Result<Validator, JournalError>
-    ensures { IfOk result (λ validator. validator.own ≡ OWN) }
+) -> Result<Validator<HashSign>, JournalError>
+    ensures { IfOk result (λ validator. validator.tables.own ≡ OWN) }
 {
     check_configuration(alloc, committee, first, events)?;
-    let mut validator = Validator::new(alloc, OWN, committee.size());
+    let mut validator = Validator::new(alloc, OWN, committee.size(), signer(OWN));
     for record in events {
         replay_event(alloc, committee, &mut validator, record)?;
     }
@@ -164,11 +165,11 @@ fn has_shape(bytes: &[u8]) -> bool {
 fn replay_event(
     alloc: Global,
     committee: &Committee,
-    validator: &mut Validator,
+    validator: &mut Validator<HashSign>,
     record: &Record,
 ) -> Result<(), JournalError>
-    requires { validator.old.own ≡ OWN }
-    ensures { validator.new.own ≡ OWN }
+    requires { validator.old.tables.own ≡ OWN }
+    ensures { validator.new.tables.own ≡ OWN }
 {
     let damaged = JournalError::Damaged(record.gate);
     let Some(event) = event_of(alloc, committee, record.bytes.as_slice())? else {

@@ -2,9 +2,9 @@
 
 use crate::ending::Ending;
 use committee::Committee;
-use sigface::{HashSign, Sign};
+use sigface::HashSign;
 use std::alloc::Global;
-use wire::{Author, Digest, Key, Signature};
+use wire::{Author, Key};
 
 /// The member that the simulator runs.
 pub const OWN: Author = Author(0);
@@ -29,8 +29,8 @@ pub fn read_committee(alloc: Global) -> Result<Committee, Ending> {
     Committee::read(alloc, FILE).map_err(|_| Ending::Memory)
 }
 
-/// The signature of a member, or of another number that a script names, by its key of the file's form.
-pub fn signature(author: Author, digest: &Digest) -> Signature {
+/// The signer of a member, or of another number that a script names, with its key of the file's form.
+pub fn signer(author: Author) -> HashSign {
     let [_, low] = author.0.to_be_bytes();
-    HashSign::new(Key([low.wrapping_add(1); 32])).sign(digest)
+    HashSign::new(Key([low.wrapping_add(1); 32]))
 }

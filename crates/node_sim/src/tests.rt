@@ -1,8 +1,12 @@
 //! The worked scripts, and scripts that are refused.
 
 use super::run::{play, run};
+use super::settings::{OWN, read_committee};
+use header::check;
+use sigface::HashVerify;
 use std::alloc::Global;
 use std::test::Fail;
+use wire::{Message, Output};
 
 /// Scripts and what they print.
 const SCRIPTS: [(&str, &str); 6] = [
@@ -313,5 +317,21 @@ fn the_journal_has_its_lengths(rt: HostRuntime) -> Result<(), Fail> {
     assert_eq!(rt; journal_length(alloc, "")?, 152);
     assert_eq!(rt; journal_length(alloc, SCRIPTS[0].0)?, 345);
     assert_eq!(rt; journal_length(alloc, SCRIPTS[4].0)?, 152);
+    Ok(())
+}
+
+#[test]
+fn a_vote_that_goes_out_passes_the_checks(rt: HostRuntime) -> Result<(), Fail> {
+    let alloc = rt.alloc();
+    let mut printed = Vec::new(alloc);
+    let mut reader = "form h1 1 1 g0,g1,g2 -\nheader h1\nflush\n".as_bytes();
+    let mut number = 0;
+    let mut node = play(alloc, &mut reader, &mut printed, &mut number)?;
+    let output = node.release();
+    let Some(Output::Vote(vote)) = &output else {
+        return Err("a vote goes out".into());
+    };
+    let committee = read_committee(alloc)?;
+    assert!(rt; check(&committee, &HashVerify, OWN, Message::Vote(*vote)).is_ok());
     Ok(())
 }

@@ -4,4 +4,4 @@ use Rattle.node_sim.proofs.opening.replay.Given as goal
 
 -- the validator is this node's
 abbrev pub invariant-loop-record : goal.invariant-loop-record
-invariant-loop-record l = l.validator.own ≡ OWN
+invariant-loop-record l = l.validator.tables.own ≡ OWN

@@ -4,7 +4,7 @@ use Rattle.book.proofs.book.Book.accept.Goals as goal
 use Rattle.book.proofs.book.Book.accept.Goals.{else-self-eq-MAX_ACCEPTED-via-then-self-eq-MAX_ACCEPTED+else-is_new, else-self-eq-MAX_ACCEPTED-via-else-self-eq-MAX_ACCEPTED}
 
 pub invariant_of-self-in-New-clause-few : goal.invariant_of-self-in-New-clause-few
-invariant_of-self-in-New-clause-few c =
+invariant_of-self-in-New-clause-few g c =
     elim c.else-self-eq-MAX_ACCEPTED.branch [
       | else-self-eq-MAX_ACCEPTED-via-then-self-eq-MAX_ACCEPTED+else-is_new w ↦
           let new = rw c.in-New.is at c.in_ok-outputs.ensures.answer in
@@ -14,4 +14,4 @@ invariant_of-self-in-New-clause-few c =
     ]
 
 pub invariant_of-self-in-New-clause-each_fits : goal.invariant_of-self-in-New-clause-each_fits
-invariant_of-self-in-New-clause-each_fits c = each-push c.args.self.now.pending.items c.in_ok-record.record c.push_record.new.records.items c.args.self.now.each_fits c.in_ok-record.ensures.fits (rw c.in_ok-reserve.ensures.items at c.push_record.ensures)
+invariant_of-self-in-New-clause-each_fits g c = each-push c.args.self.now.pending.items c.in_ok-record.record c.push_record.new.records.items c.args.self.now.each_fits c.in_ok-record.ensures.fits (rw c.in_ok-reserve.ensures.items at c.push_record.ensures)

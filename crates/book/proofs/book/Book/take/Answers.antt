@@ -6,10 +6,10 @@ use Rattle.book.proofs.Each.{each-drop}
 use Rattle.book.proofs.book.Book.take.Goals as goal
 
 pub invariant_of-self-clause-each_fits : goal.invariant_of-self-clause-each_fits
-invariant_of-self-clause-each_fits c = each-drop c.args.self.now.pending.items c.drop_front.new.records.items _ c.args.self.now.each_fits c.drop_front.ensures
+invariant_of-self-clause-each_fits g c = each-drop c.args.self.now.pending.items c.drop_front.new.records.items _ c.args.self.now.each_fits c.drop_front.ensures
 
 pub returns-clause-group : goal.returns-clause-group
-returns-clause-group c =
+returns-clause-group g c =
     let pending = c.args.self.now.pending.items in
     let group = c.in_ok-group.group in
     let longest = rw c.deref.ensures.value at c.in_ok-group.ensures.longest in

@@ -1,5 +1,5 @@
 use Rattle.std.proofs.Common.{◌≡◌, ◌∙◌, sym, arith, true, false}
-use Rattle.book.proofs.validator.Validator.header_admission.Goals as goal
+use Rattle.book.proofs.validator.Tables.header_admission.Goals as goal
 
 pub returns-in-None-2 : goal.returns-in-None-2
 returns-in-None-2 c =
