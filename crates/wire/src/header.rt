@@ -1,15 +1,15 @@
 //! Headers, the votes on them, and their certificates.
 
-ghost use Rattle.std.specs.Prelude.{◌≡◌, []};
+ghost use Rattle.std.specs.Prelude.{◌≡◌, [], IfOk};
 
 use crate::keys::{Author, Digest, Signature};
 use crate::references::{BatchReferences, ParentReferences};
 use crate::round::Round;
 use crate::votes::VoteEntries;
-use std::alloc::Global;
+use std::alloc::{AllocError, Global};
 
 /// What an author proposes in a round: batches to order, on top of certificates of the round before.
-#[derive(Debug, Drop)]
+#[derive(Clone, Debug, Drop)]
 pub struct HeaderBody {
     /// Who proposes.
     pub author: Author,
@@ -22,7 +22,7 @@ pub struct HeaderBody {
 }
 
 /// A proposal with its author's signature of the header digest.
-#[derive(Debug, Drop)]
+#[derive(Clone, Debug, Drop)]
 pub struct Header {
     /// What is proposed.
     pub body: HeaderBody,
@@ -46,7 +46,7 @@ pub struct Vote {
 }
 
 /// A header with the votes that make it part of the ledger. Its digest doesn't depend on the votes.
-#[derive(Debug, Drop)]
+#[derive(Clone, Debug, Drop)]
 pub struct Certificate {
     /// The header, without its signature.
     pub header: HeaderBody,
@@ -54,7 +54,32 @@ pub struct Certificate {
     pub votes: VoteEntries,
 }
 
+impl HeaderBody {
+    /// The same body once more. `AllocError` where a growth was refused.
+    pub fn try_clone(&self) -> Result<HeaderBody, AllocError>
+        ensures { IfOk result (λ body. body ≡ self.now) }
+    {
+        self.clone()
+    }
+}
+
+impl Header {
+    /// The same header once more. `AllocError` where a growth was refused.
+    pub fn try_clone(&self) -> Result<Header, AllocError>
+        ensures { IfOk result (λ header. header ≡ self.now) }
+    {
+        self.clone()
+    }
+}
+
 impl Certificate {
+    /// The same certificate once more. `AllocError` where a growth was refused.
+    pub fn try_clone(&self) -> Result<Certificate, AllocError>
+        ensures { IfOk result (λ certificate. certificate ≡ self.now) }
+    {
+        self.clone()
+    }
+
     /// The genesis certificate of an author: round 0, no batches, no parents, no votes.
     pub fn genesis(alloc: Global, author: Author) -> Certificate
         ensures author { result.header.author ≡ author }

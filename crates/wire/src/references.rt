@@ -26,7 +26,7 @@ pub struct ParentReference {
 }
 
 /// The batches of a header: at most `MAX_BATCHES`, their digests rising strictly.
-#[derive(Debug, Drop)]
+#[derive(Clone, Debug, Drop)]
 pub struct BatchReferences {
     list: Vec<BatchReference>,
 }
@@ -101,7 +101,7 @@ impl BatchReferences {
 }
 
 /// The parents of a header: at most `MAX_PARENTS`, their authors rising strictly.
-#[derive(Debug, Drop)]
+#[derive(Clone, Debug, Drop)]
 pub struct ParentReferences {
     list: Vec<ParentReference>,
 }

@@ -17,7 +17,7 @@ pub struct VoteEntry {
 }
 
 /// The votes of a certificate: at most `MAX_VOTES`, their voters rising strictly.
-#[derive(Debug, Drop)]
+#[derive(Clone, Debug, Drop)]
 pub struct VoteEntries {
     list: Vec<VoteEntry>,
 }

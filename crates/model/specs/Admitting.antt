@@ -1,0 +1,179 @@
+-- Admission: what a node answers an event, and what it gives out for it. Of the tests the first that applies decides.
+use Rattle.std.specs.Prelude.{ℕ, ◌+◌, ◌-◌, ◌*◌, ◌/◌, ◌==◌, ◌&&◌, ◌||◌, not, nat_le, Bool, true, false, List, [], ◌∷◌, ◌++◌, map, length, take, drop, Option, Some, None, is_some, slice_get, if◌then◌else◌}
+use Rattle.std.specs.List.{list_all, range_with_len}
+use Rattle.std.specs.Option.{option_map_or, option_to_list}
+use Rattle.std.specs.Str.{bytes_eq}
+use Rattle.wire.specs.Batches.{Contents, batch_body}
+use Rattle.wire.specs.Events.{Event}
+use Rattle.wire.specs.Spelling.{header_body}
+use Rattle.wire.specs.declared.header.Certificate.{Certificate}
+use Rattle.wire.specs.declared.header.Header.{Header}
+use Rattle.wire.specs.declared.header.Vote.{Vote}
+use Rattle.wire.specs.declared.keys.Author.{Author}
+use Rattle.wire.specs.declared.keys.Digest.{Digest}
+use Rattle.wire.specs.declared.message.BatchAck.{BatchAck}
+use Rattle.wire.specs.declared.message.Coin.{Coin}
+use Rattle.wire.specs.declared.message.Message.{Message}
+use Rattle.wire.specs.declared.message.Message.TheVariants as message
+use Rattle.wire.specs.declared.output.Output.{Output}
+use Rattle.wire.specs.declared.output.Output.TheVariants as output
+use Rattle.wire.specs.declared.references.BatchReference.{BatchReference}
+use Rattle.model.specs.Histories.{History, batches, coins}
+use Rattle.model.specs.Holdings.{batch_digest, batch_at, has_own_batch, has_acked, is_available, header_at, vote_for, vote_on, completed, slots, order, floor, is_low, is_full, all_held}
+use Rattle.model.specs.Nodes.{Node}
+use Rattle.model.specs.Slots.{same_digest, header_digest, certificate_digest}
+use Rattle.model.specs.declared.admission.Admission.{Admission}
+use Rattle.model.specs.declared.admission.Admission.TheVariants.{New, Known, Refused}
+use Rattle.model.specs.declared.refusal.Refusal.TheVariants.{TooOld, MissingParents, MissingBatch, Equivocation, CertConflict, DigestClash, AlreadyProposed, NotOurs, CoinOutOfTurn, CoinEarly, CoinConflict, StoreFull}
+
+-- an author is the node itself
+abbrev pub is_own : Node → Author → Bool
+is_own node author = author.0 == node.own.0
+
+-- ---- what is given out
+
+-- an own batch goes to all, and of another one its author learns that it is held
+abbrev pub batch_outputs : Node → Contents → List Output
+batch_outputs node batch =
+    (if is_own node batch.author then output.Batch batch
+    else output.Ack batch.author (record { author = node.own; batch = batch_digest batch })) ∷ []
+
+-- an own header goes to all, and the author of another one gets the vote for it
+abbrev pub header_outputs : Node → Header → List Output
+header_outputs node header =
+    (if is_own node header.body.author then output.Header header else output.Vote (vote_for node header.body)) ∷ []
+
+-- the piece of this number, from 0 on, of a list that follows so many digests of the order
+abbrev pub piece_at : ℕ → List Digest → ℕ → Output
+piece_at start digests piece = output.Order (start + 16000 * piece) (take 16000 (drop (16000 * piece) digests))
+
+-- the list in pieces of 16,000 digests, but for the last one
+abbrev pub pieces : ℕ → List Digest → List Output
+pieces start digests = map (piece_at start digests) (range_with_len 0 ((length digests + 15999) / 16000))
+
+-- what an event adds to the order
+abbrev pub order_outputs : Node → History → Event → List Output
+order_outputs node history event =
+    pieces (length (order node history)) (drop (length (order node history)) (order node (history ++ event ∷ [])))
+
+-- ---- the answers
+
+-- to a batch
+abbrev pub batch_answer : Node → History → Contents → Admission
+batch_answer node history batch = on (batch_at history (batch_digest batch))
+  where
+    on : Option Contents → Admission
+    on (Some held) = if bytes_eq (batch_body held) (batch_body batch) then Known (batch_outputs node held) else Refused DigestClash
+    on None = if nat_le node.charter.batches (length (batches history)) then Refused StoreFull else New (batch_outputs node batch)
+
+-- to an acknowledgement
+abbrev pub ack_answer : Node → History → BatchAck → Admission
+ack_answer node history ack =
+    if not (has_own_batch node history ack.batch) then Refused NotOurs
+    else if is_own node ack.author || has_acked history ack.batch ack.author.0 then Known []
+    else New []
+
+-- a header may name a batch: it is held with that worker, and for an own header it is available
+abbrev pub may_name : Node → History → Header → BatchReference → Bool
+may_name node history header named =
+    option_map_or (λ batch. batch.worker == named.worker) (batch_at history named.digest) false
+    && (not (is_own node header.body.author) || is_available node history named.digest)
+
+-- to a header
+abbrev pub header_answer : Node → History → Header → Admission
+header_answer node history header =
+    if is_low (floor node history) header.body.round then Refused TooOld
+    else on (header_at history header.body.round header.body.author.0)
+  where
+    on : Option Header → Admission
+    on (Some held) =
+        if same_digest (header_digest held.body) (header_digest header.body) then Known (header_outputs node held)
+        else if is_own node header.body.author then Refused AlreadyProposed
+        else Refused Equivocation
+    on None =
+        if not (all_held (slots node history) (floor node history) header.body) then Refused MissingParents
+        else if not (list_all (may_name node history header) header.body.batches) then Refused MissingBatch
+        else New (header_outputs node header)
+
+-- to a vote
+abbrev pub vote_answer : Node → History → Event → Vote → Admission
+vote_answer node history event vote =
+    if not (is_own node vote.author) then Refused NotOurs
+    else if is_low (floor node history) vote.round then Refused TooOld
+    else on (header_at history vote.round node.own.0) (slots node history vote.round node.own.0)
+  where
+    on : Option Header → Option Certificate → Admission
+    on None slot = Refused NotOurs
+    on (Some header) (Some held) =
+        if not (same_digest (header_digest header.body) vote.header) then Refused NotOurs
+        else if same_digest (header_digest held.header) vote.header then Known (output.Certificate held ∷ [])
+        else Refused CertConflict
+    on (Some header) None =
+        if not (same_digest (header_digest header.body) vote.header) then Refused NotOurs
+        else if is_some (vote_on node history header.body vote.voter.0) then Known []
+        else New (map output.Certificate (option_to_list (completed node (history ++ event ∷ []) header)) ++ order_outputs node history event)
+
+-- to a certificate
+abbrev pub certificate_answer : Node → History → Event → Certificate → Admission
+certificate_answer node history event certificate =
+    if is_low (floor node history) certificate.header.round then Refused TooOld
+    else on (slots node history certificate.header.round certificate.header.author.0)
+  where
+    on : Option Certificate → Admission
+    on (Some held) =
+        if not (same_digest (certificate_digest held.header) (certificate_digest certificate.header)) then Refused CertConflict
+        else if bytes_eq (header_body held.header) (header_body certificate.header) then Known []
+        else Refused DigestClash
+    on None =
+        if all_held (slots node history) (floor node history) certificate.header then New (order_outputs node history event)
+        else Refused MissingParents
+
+-- to a coin
+abbrev pub coin_answer : Node → History → Event → Coin → Admission
+coin_answer node history event coin =
+    if not (is_own node event.sender) then Refused NotOurs else on (slice_get (coins history) (coin.wave - 1))
+  where
+    on : Option ℕ → Admission
+    on (Some taken) = if taken == coin.value then Known [] else Refused CoinConflict
+    on None =
+        if not (coin.wave == length (coins history) + 1) then Refused CoinOutOfTurn
+        else if not (is_full node (slots node history) (2 * coin.wave + 1)) then Refused CoinEarly
+        else New (order_outputs node history event)
+
+-- to an event
+abbrev pub admit : Node → History → Event → Admission
+admit node history event = on event.message
+  where
+    on : Message → Admission
+    on (message.Batch batch) = batch_answer node history batch
+    on (message.BatchAck ack) = ack_answer node history ack
+    on (message.Header header) = header_answer node history header
+    on (message.Vote vote) = vote_answer node history event vote
+    on (message.Certificate certificate) = certificate_answer node history event certificate
+    on (message.Coin coin) = coin_answer node history event coin
+
+-- ---- runs
+
+-- an event is new
+abbrev pub is_new : Admission → Bool
+is_new (New outputs) = true
+is_new (Known outputs) = false
+is_new (Refused refusal) = false
+
+-- the history after an event: a new one is added, and no other
+abbrev pub history_after : Node → History → Event → History
+history_after node history event = if is_new (admit node history event) then history ++ event ∷ [] else history
+
+-- the answers to events one after the other
+abbrev pub answers : Node → History → List Event → List Admission
+answers node history [] = []
+answers node history (event ∷ events) = admit node history event ∷ answers node (history_after node history event) events
+
+-- events that are each new, after a history
+abbrev pub each_new : Node → History → List Event → Bool
+each_new node history [] = true
+each_new node history (event ∷ events) = is_new (admit node history event) && each_new node (history ++ event ∷ []) events
+
+-- a history is legal: each event is new at those before it
+abbrev pub is_legal : Node → History → Bool
+is_legal node history = each_new node [] history

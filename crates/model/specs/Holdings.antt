@@ -1,0 +1,137 @@
+-- What a history holds: batches and whether they are available, votes, certificates, the order and the rounds.
+use Rattle.std.specs.Prelude.{ℕ, ◌+◌, ◌-◌, ◌==◌, ◌&&◌, ◌||◌, nat_le, nat_lt, max, Bool, false, List, [], ◌++◌, map, fold, length, filter, filter_map, find, count_by, Option, Some, None, option_map, if◌then◌else◌}
+use Rattle.std.specs.List.{list_any, list_all}
+use Rattle.std.specs.Option.{option_map_or}
+use Rattle.wire.specs.Batches.{Contents}
+use Rattle.wire.specs.Digests.{batch_digest_of}
+use Rattle.wire.specs.declared.header.Certificate.{Certificate}
+use Rattle.wire.specs.declared.header.Header.{Header}
+use Rattle.wire.specs.declared.header.HeaderBody.{HeaderBody}
+use Rattle.wire.specs.declared.header.Vote.{Vote}
+use Rattle.wire.specs.declared.keys.Digest.{Digest}
+use Rattle.wire.specs.declared.references.ParentReference.{ParentReference}
+use Rattle.wire.specs.declared.votes.VoteEntry.{VoteEntry}
+use Rattle.model.specs.Histories.{History, batches, acks, headers, votes, received, coins}
+use Rattle.model.specs.Nodes.{Node, size_of, quorum, numbers}
+use Rattle.model.specs.Ordering.{order_by, floor_by}
+use Rattle.model.specs.Slots.{Slots, same_digest, header_digest, certificate_digest, is_of_slot, slots_of, round_of}
+
+-- ---- batches
+
+-- the digest of a batch
+abbrev pub batch_digest : Contents → Digest
+batch_digest batch = record { 0 = batch_digest_of batch }
+
+-- the batch of a digest, if it is held
+abbrev pub batch_at : History → Digest → Option Contents
+batch_at history digest = find (λ batch. same_digest (batch_digest batch) digest) (batches history)
+
+-- the node has an own batch of this digest
+abbrev pub has_own_batch : Node → History → Digest → Bool
+has_own_batch node history digest = option_map_or (λ batch. batch.author.0 == node.own.0) (batch_at history digest) false
+
+-- a member has acknowledged the batch of this digest
+abbrev pub has_acked : History → Digest → ℕ → Bool
+has_acked history digest member = list_any (λ ack. same_digest ack.batch digest && (ack.author.0 == member)) (acks history)
+
+-- an own batch is available: with the node itself, a quorum of members hold it
+abbrev pub is_available : Node → History → Digest → Bool
+is_available node history digest =
+    has_own_batch node history digest
+    && nat_le (quorum node) (count_by (λ member. (member == node.own.0) || has_acked history digest member) (numbers (size_of node)))
+
+-- ---- votes
+
+-- the header that an author and round have a vote for
+abbrev pub header_at : History → ℕ → ℕ → Option Header
+header_at history round author = find (λ header. is_of_slot round author header.body) (headers history)
+
+-- its digest
+abbrev pub voted : History → ℕ → ℕ → Option Digest
+voted history round author = option_map (λ header. header_digest header.body) (header_at history round author)
+
+-- a vote is one on this header by this member
+abbrev pub is_vote_on : HeaderBody → ℕ → Vote → Bool
+is_vote_on header voter vote =
+    is_of_slot vote.round vote.author.0 header && (same_digest vote.header (header_digest header) && (vote.voter.0 == voter))
+
+-- the node's own vote for a header: it signs the certificate's digest
+abbrev pub vote_for : Node → HeaderBody → Vote
+vote_for node header = record {
+  header = header_digest header;
+  round = header.round;
+  author = header.author;
+  voter = node.own;
+  signature = node.sign (certificate_digest header);
+}
+
+-- a member's vote on an own header, if it was counted; the node's own counts from the beginning
+abbrev pub vote_on : Node → History → HeaderBody → ℕ → Option Vote
+vote_on node history header voter = if voter == node.own.0 then Some (vote_for node header) else find (is_vote_on header voter) (votes history)
+
+-- a vote as a certificate has it
+abbrev pub entry_of : Vote → VoteEntry
+entry_of vote = record { voter = vote.voter; signature = vote.signature }
+
+-- the same as a certificate has it
+abbrev pub entry_on : Node → History → HeaderBody → ℕ → Option VoteEntry
+entry_on node history header voter = option_map entry_of (vote_on node history header voter)
+
+-- the votes on an own header, rising by voter
+abbrev pub votes_on : Node → History → HeaderBody → List VoteEntry
+votes_on node history header = filter_map (entry_on node history header) (numbers (size_of node))
+
+-- ---- certificates
+
+-- the genesis certificate of an author
+abbrev pub genesis : ℕ → Certificate
+genesis author = record { header = record { author = record { 0 = author }; round = 0; batches = []; parents = [] }; votes = [] }
+
+-- the certificate of an own header, if its votes are a quorum
+abbrev pub completed : Node → History → Header → Option Certificate
+completed node history header =
+    if (header.body.author.0 == node.own.0) && nat_le (quorum node) (length (votes_on node history header.body))
+    then Some (record { header = header.body; votes = votes_on node history header.body }) else None
+
+-- all certificates: those of the genesis, those received, and the own ones
+abbrev pub certificates : Node → History → List Certificate
+certificates node history =
+    map genesis (numbers (size_of node)) ++ received history ++ filter_map (completed node history) (headers history)
+
+-- what each slot holds
+abbrev pub slots : Node → History → Slots
+slots node history = slots_of (certificates node history)
+
+-- ---- the order and the rounds
+
+abbrev pub order : Node → History → List Digest
+order node history = order_by (size_of node) node.charter.depth (slots node history) (coins history)
+
+abbrev pub floor : Node → History → ℕ
+floor node history = floor_by (size_of node) node.charter.depth (slots node history) (coins history)
+
+-- a round is low: it is the genesis, or at or below a floor above 0
+abbrev pub is_low : ℕ → ℕ → Bool
+is_low floor round = (round == 0) || (nat_lt 0 floor && nat_le round floor)
+
+-- a quorum of authors has certificates of a round
+abbrev pub is_full : Node → Slots → ℕ → Bool
+is_full node slots round = nat_le (quorum node) (length (round_of (size_of node) slots round))
+
+-- 1 plus the greatest round of which a quorum of authors has certificates
+abbrev pub round_by : Node → List Certificate → ℕ
+round_by node certificates = 1 + fold max 0 (filter (is_full node (slots_of certificates)) (map (λ c. c.header.round) certificates))
+
+-- the node's round
+abbrev pub round : Node → History → ℕ
+round node history = round_by node (certificates node history)
+
+-- a parent of a header of this round is held: its certificate is there, or its round is at or below a floor above 0
+abbrev pub is_held : Slots → ℕ → ℕ → ParentReference → Bool
+is_held slots floor round parent =
+    option_map_or (λ c. same_digest (certificate_digest c.header) parent.certificate) (slots (round - 1) parent.author.0) false
+    || (nat_lt 0 floor && nat_le (round - 1) floor)
+
+-- all parents of a header are held
+abbrev pub all_held : Slots → ℕ → HeaderBody → Bool
+all_held slots floor header = list_all (is_held slots floor header.round) header.parents

@@ -1,0 +1,31 @@
+-- Laws that tie the definitions together. None of them is proved yet.
+use Rattle.std.specs.Prelude.{◌≡◌, List, ◌++◌, IsTrue, Contains}
+use Rattle.committee.specs.File.{IsCharter}
+use Rattle.wire.specs.declared.header.Certificate.{Certificate}
+use Rattle.wire.specs.declared.header.Header.{Header}
+use Rattle.model.specs.Admitting.{is_legal}
+use Rattle.model.specs.Histories.{History, headers}
+use Rattle.model.specs.Holdings.{certificates, order}
+use Rattle.model.specs.Nodes.{Node}
+
+-- one list is a beginning of another
+pub record Begins {X : Type 0} (one other : List X) : Type 0 where
+  pub rest : List X
+  pub parts : other ≡ one ++ rest
+
+-- a legal history has one vote an author and round
+abbrev pub OneVote : Type 0
+OneVote = (node : Node) (history : History) (one other : Header) → IsTrue (is_legal node history)
+    → Contains (headers history) one → Contains (headers history) other
+    → one.body.author ≡ other.body.author → one.body.round ≡ other.body.round → one ≡ other
+
+-- a legal history has one certificate a slot
+abbrev pub OneCertificate : Type 0
+OneCertificate = (node : Node) (history : History) (one other : Certificate) → IsCharter node.charter → IsTrue (is_legal node history)
+    → Contains (certificates node history) one → Contains (certificates node history) other
+    → one.header.author ≡ other.header.author → one.header.round ≡ other.header.round → one ≡ other
+
+-- the order only grows at its end
+abbrev pub OrderGrows : Type 0
+OrderGrows = (node : Node) (history more : History) → IsCharter node.charter → IsTrue (is_legal node (history ++ more))
+    → Begins (order node history) (order node (history ++ more))

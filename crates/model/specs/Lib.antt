@@ -1,0 +1,9 @@
+pub mod Nodes
+pub mod Histories
+pub mod Slots
+pub mod Holdings
+pub mod Ordering
+pub mod Admitting
+pub mod Proposing
+pub mod Giving
+pub mod Laws

@@ -1,0 +1,31 @@
+-- The node whose history it is, and what its committee fixes.
+use Rattle.std.specs.Prelude.{ℕ, List, length}
+use Rattle.std.specs.List.{range_with_len}
+use Rattle.committee.specs.File.{Charter}
+use Rattle.committee.specs.Sizes.{quorum_of}
+use Rattle.wire.specs.declared.keys.Author.{Author}
+use Rattle.wire.specs.declared.keys.Digest.{Digest}
+use Rattle.wire.specs.declared.keys.Signature.{Signature}
+use Rattle.model.specs.declared.node.Node as declared
+
+-- a node: its own number, its committee, and the signature that it gives to a digest
+pub record Node : Type 0 where
+  pub own : Author
+  pub charter : Charter
+  pub sign : Digest → Signature
+
+-- how many members its committee has
+abbrev pub size_of : Node → ℕ
+size_of node = length node.charter.keys
+
+-- how many of them are a quorum
+abbrev pub quorum : Node → ℕ
+quorum node = quorum_of (size_of node)
+
+-- the numbers of n members
+abbrev pub numbers : ℕ → List ℕ
+numbers n = range_with_len 0 n
+
+-- the node that a value of the type `Node` is, with the signatures that its signer gives
+abbrev pub seen : {S : Type 0} → (S → Digest → Signature) → declared.Node S → Node
+seen signature_of node = record { own = node.own; charter = node.committee; sign = signature_of node.signer }

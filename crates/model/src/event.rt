@@ -1,0 +1,21 @@
+//! What comes in.
+
+use std::marker::Model;
+use wire::{Author, Message};
+
+/// A message with its sender.
+#[derive(Debug, Drop)]
+pub struct Event {
+    /// Who sent it.
+    pub sender: Author,
+    /// What was sent.
+    pub message: Message,
+}
+
+impl Model for Event {
+    ghost use Rattle.wire.specs.Events as events;
+
+    ghost Value = { events.Event };
+
+    ghost view = { λ e. record { sender = e.sender; message = e.message } };
+}

@@ -1,0 +1,21 @@
+//! The definitions of histories, of the order and of admission, and a plain, slow program for each that
+//! computes. The programs take no part in the node: later bodies are compared with them.
+#![tactic(auto)]
+
+mod admission;
+pub mod certificates;
+mod event;
+pub mod histories;
+pub mod holdings;
+mod node;
+pub mod ordering;
+mod refusal;
+pub mod slots;
+
+pub use admission::{Admission, Outputs};
+pub use event::Event;
+pub use node::Node;
+pub use refusal::Refusal;
+
+#[cfg(test)]
+mod tests;

@@ -1,0 +1,45 @@
+//! Whose history it is.
+
+ghost use Rattle.std.specs.Prelude.{◌≡◌, ◌<◌, ◌≤◌};
+ghost use Rattle.model.specs.Nodes.{seen, quorum, size_of};
+ghost use Rattle.model.specs.Admitting.{is_own};
+
+use committee::Committee;
+use sigface::Sign;
+use wire::Author;
+
+/// A node of a committee: its number, the committee and its signer.
+#[derive(Drop)]
+pub struct Node<S: Sign> {
+    /// Its number.
+    pub own: Author,
+    /// The committee.
+    pub committee: Committee,
+    /// What signs for it.
+    pub signer: S,
+}
+
+impl<S: Sign> Node<S> {
+    /// How many members its committee has.
+    pub fn size(&self) -> u16
+        ensures value { result ≡ size_of (seen S.signature_of self.now) }
+        ensures least { 0 < result }
+        ensures greatest { result ≤ 31 }
+    {
+        self.committee.size()
+    }
+
+    /// How many of them are a quorum.
+    pub fn quorum(&self) -> usize
+        ensures { result ≡ quorum (seen S.signature_of self.now) }
+    {
+        self.committee.quorum() as usize
+    }
+
+    /// An author is the node itself.
+    pub fn is_own(&self, author: Author) -> bool
+        ensures { result ≡ is_own (seen S.signature_of self.now) author }
+    {
+        author == self.own
+    }
+}
