@@ -1,11 +1,15 @@
 -- Admission: what a node answers an event, and what it gives out for it. Of the tests the first that applies decides.
-use Rattle.std.specs.Prelude.{ℕ, ◌+◌, ◌-◌, ◌*◌, ◌/◌, ◌==◌, ◌&&◌, ◌||◌, not, nat_le, Bool, true, false, List, [], ◌∷◌, ◌++◌, map, length, take, drop, Option, Some, None, is_some, slice_get, if◌then◌else◌}
+use Rattle.std.specs.Prelude.{◌≡◌, ℕ, ◌+◌, ◌-◌, ◌*◌, ◌/◌, ◌==◌, ◌&&◌, ◌||◌, not, nat_le, Bool, true, false, List, [], ◌∷◌, ◌++◌, map, length, take, drop, Option, Some, None, is_some, slice_get, All, IsTrue, if◌then◌else◌}
 use Rattle.std.specs.List.{list_all, range_with_len}
 use Rattle.std.specs.Option.{option_map_or, option_to_list}
 use Rattle.std.specs.Str.{bytes_eq}
 use Rattle.wire.specs.Batches.{Contents, batch_body}
 use Rattle.wire.specs.Events.{Event}
-use Rattle.wire.specs.Spelling.{header_body}
+use Rattle.wire.specs.Grammar.{IsMessage}
+use Rattle.header.specs.Checks.{fault_of, accepts_all}
+use Rattle.std.specs.Cmp.Lexicographic.{pointwise}
+use Rattle.wire.specs.declared.header.HeaderBody.{HeaderBody}
+use Rattle.wire.specs.declared.references.ParentReference.{ParentReference}
 use Rattle.wire.specs.declared.header.Certificate.{Certificate}
 use Rattle.wire.specs.declared.header.Header.{Header}
 use Rattle.wire.specs.declared.header.Vote.{Vote}
@@ -20,7 +24,7 @@ use Rattle.wire.specs.declared.output.Output.TheVariants as output
 use Rattle.wire.specs.declared.references.BatchReference.{BatchReference}
 use Rattle.model.specs.Histories.{History, batches, coins}
 use Rattle.model.specs.Holdings.{batch_digest, batch_at, has_own_batch, has_acked, is_available, header_at, vote_for, vote_on, completed, slots, order, floor, is_low, is_full, all_held}
-use Rattle.model.specs.Nodes.{Node}
+use Rattle.model.specs.Nodes.{Node, IsNode}
 use Rattle.model.specs.Slots.{same_digest, header_digest, certificate_digest}
 use Rattle.model.specs.declared.admission.Admission.{Admission}
 use Rattle.model.specs.declared.admission.Admission.TheVariants.{New, Known, Refused}
@@ -58,12 +62,17 @@ order_outputs node history event =
 
 -- ---- the answers
 
+-- to a batch whose digest this one has
+abbrev pub held_batch_answer : Node → Contents → Contents → Admission
+held_batch_answer node held batch =
+    if bytes_eq (batch_body held) (batch_body batch) then Known (batch_outputs node held) else Refused DigestClash
+
 -- to a batch
 abbrev pub batch_answer : Node → History → Contents → Admission
 batch_answer node history batch = on (batch_at history (batch_digest batch))
   where
     on : Option Contents → Admission
-    on (Some held) = if bytes_eq (batch_body held) (batch_body batch) then Known (batch_outputs node held) else Refused DigestClash
+    on (Some held) = held_batch_answer node held batch
     on None = if nat_le node.charter.batches (length (batches history)) then Refused StoreFull else New (batch_outputs node batch)
 
 -- to an acknowledgement
@@ -95,23 +104,50 @@ header_answer node history header =
         else if not (list_all (may_name node history header) header.body.batches) then Refused MissingBatch
         else New (header_outputs node header)
 
+-- what a new vote on an own header gives out: the certificate, if it completes one, and what that adds to the order
+abbrev pub vote_outputs : Node → History → Event → Header → List Output
+vote_outputs node history event header =
+    map output.Certificate (option_to_list (completed node (history ++ event ∷ []) header)) ++ order_outputs node history event
+
+-- to a vote on an own header by this member, where no certificate of that round is held
+abbrev pub counted_answer : Node → History → Event → Header → ℕ → Admission
+counted_answer node history event header voter =
+    if is_some (vote_on node history header.body voter) then Known [] else New (vote_outputs node history event header)
+
+-- to a vote, where this own certificate of its round is held
+abbrev pub held_answer : Certificate → Vote → Admission
+held_answer held vote =
+    if same_digest (header_digest held.header) vote.header then Known (output.Certificate held ∷ []) else Refused CertConflict
+
 -- to a vote
 abbrev pub vote_answer : Node → History → Event → Vote → Admission
 vote_answer node history event vote =
     if not (is_own node vote.author) then Refused NotOurs
     else if is_low (floor node history) vote.round then Refused TooOld
-    else on (header_at history vote.round node.own.0) (slots node history vote.round node.own.0)
+    else on (header_at history vote.round node.own.0)
   where
-    on : Option Header → Option Certificate → Admission
-    on None slot = Refused NotOurs
-    on (Some header) (Some held) =
-        if not (same_digest (header_digest header.body) vote.header) then Refused NotOurs
-        else if same_digest (header_digest held.header) vote.header then Known (output.Certificate held ∷ [])
-        else Refused CertConflict
-    on (Some header) None =
-        if not (same_digest (header_digest header.body) vote.header) then Refused NotOurs
-        else if is_some (vote_on node history header.body vote.voter.0) then Known []
-        else New (map output.Certificate (option_to_list (completed node (history ++ event ∷ []) header)) ++ order_outputs node history event)
+    on_slot : Header → Option Certificate → Admission
+    on_slot header None = counted_answer node history event header vote.voter.0
+    on_slot header (Some held) = held_answer held vote
+
+    on : Option Header → Admission
+    on None = Refused NotOurs
+    on (Some header) =
+        if same_digest (header_digest header.body) vote.header then on_slot header (slots node history vote.round node.own.0)
+        else Refused NotOurs
+
+-- two headers name the same batches and parents
+abbrev pub same_batch : BatchReference → BatchReference → Bool
+same_batch one other = same_digest one.digest other.digest && (one.worker == other.worker)
+
+abbrev pub same_parent : ParentReference → ParentReference → Bool
+same_parent one other = (one.author.0 == other.author.0) && same_digest one.certificate other.certificate
+
+-- two headers are the same
+abbrev pub same_header : HeaderBody → HeaderBody → Bool
+same_header one other =
+    ((one.author.0 == other.author.0) && (one.round == other.round))
+    && (pointwise same_batch one.batches other.batches && pointwise same_parent one.parents other.parents)
 
 -- to a certificate
 abbrev pub certificate_answer : Node → History → Event → Certificate → Admission
@@ -122,7 +158,7 @@ certificate_answer node history event certificate =
     on : Option Certificate → Admission
     on (Some held) =
         if not (same_digest (certificate_digest held.header) (certificate_digest certificate.header)) then Refused CertConflict
-        else if bytes_eq (header_body held.header) (header_body certificate.header) then Known []
+        else if same_header held.header certificate.header then Known []
         else Refused DigestClash
     on None =
         if all_held (slots node history) (floor node history) certificate.header then New (order_outputs node history event)
@@ -174,6 +210,13 @@ abbrev pub each_new : Node → History → List Event → Bool
 each_new node history [] = true
 each_new node history (event ∷ events) = is_new (admit node history event) && each_new node (history ++ event ∷ []) events
 
--- a history is legal: each event is new at those before it
-abbrev pub is_legal : Node → History → Bool
-is_legal node history = each_new node [] history
+-- an event as the node takes it: a message within all limits that passed the checks, whatever its signatures
+pub record IsTaken (node : Node) (event : Event) : Type 0 where
+  pub message : IsMessage event.message
+  pub passed : fault_of node.charter accepts_all event ≡ None
+
+-- a history is legal: the node took each event, and it was new at those before it
+pub record IsLegal (node : Node) (history : History) : Type 0 where
+  pub sound : IsNode node
+  pub taken : All (IsTaken node) history
+  pub new : IsTrue (each_new node [] history)

@@ -1,5 +1,5 @@
 -- What may be given out at a history, and what of a history a node keeps.
-use Rattle.std.specs.Prelude.{◌≡◌, ◌≢◌, ℕ, ◌==◌, ◌&&◌, not, nat_le, List, ◌++◌, length, map, filter, Some, Contains}
+use Rattle.std.specs.Prelude.{◌≡◌, ◌≢◌, ℕ, nat_lt, Bool, List, ◌++◌, length, Option, Some, None, Contains, option_and_then, if◌then◌else◌}
 use Rattle.wire.specs.Batches.{Contents}
 use Rattle.wire.specs.declared.header.Certificate.{Certificate}
 use Rattle.wire.specs.declared.header.Header.{Header}
@@ -9,11 +9,11 @@ use Rattle.wire.specs.declared.keys.Digest.{Digest}
 use Rattle.wire.specs.declared.message.BatchAck.{BatchAck}
 use Rattle.wire.specs.declared.output.Output.{Output}
 use Rattle.wire.specs.declared.output.Output.TheVariants as output
-use Rattle.model.specs.Histories.{History, batches, acks, headers, votes, coins}
-use Rattle.model.specs.Holdings.{batch_digest, voted, vote_for, certificates, order, floor, is_low}
+use Rattle.model.specs.Histories.{History, batches, headers, coins}
+use Rattle.model.specs.Holdings.{header_at, has_acked, vote_on, slots, batch_digest, voted, vote_for, certificates, order, floor, is_low}
 use Rattle.model.specs.Nodes.{Node}
 use Rattle.model.specs.Proposing.{was_named}
-use Rattle.model.specs.Slots.{header_digest}
+use Rattle.model.specs.Slots.{Slots, header_digest}
 
 -- an own batch
 pub record GivesBatch (node : Node) (history : History) (batch : Contents) : Type 0 where
@@ -66,30 +66,31 @@ MayGive node history (output.Order start digests) = GivesOrder node history star
 pub record Kept : Type 0 where
   -- all batches, who acknowledged them, and which of them own headers named
   pub batches : List Contents
-  pub acks : List BatchAck
-  pub named : List Contents
+  pub acked : Digest → ℕ → Bool
+  pub named : Digest → Bool
   -- of the rounds that aren't low the votes, the own headers and the votes on them
-  pub voted : List (ℕ × ℕ × Digest)
-  pub own_headers : List Header
-  pub counted : List Vote
+  pub votes : ℕ → ℕ → Option Digest
+  pub own_headers : ℕ → Option Header
+  pub counted : ℕ → ℕ → Option Vote
   -- the certificates of rounds at or above the floor
-  pub certificates : List Certificate
+  pub slots : Slots
   pub coins : List ℕ
   pub order : List Digest
 
--- a vote, by round and author
-abbrev pub vote_of : Header → ℕ × ℕ × Digest
-vote_of header = (header.body.round, header.body.author.0, header_digest header.body)
+-- of a round that isn't low
+abbrev pub unless_low : {X : Type 0} → Node → History → ℕ → Option X → Option X
+unless_low node history round found = if is_low (floor node history) round then None else found
 
 abbrev pub kept : Node → History → Kept
 kept node history = record {
   batches = batches history;
-  acks = acks history;
-  named = filter (λ batch. was_named node history (batch_digest batch)) (batches history);
-  voted = map vote_of (filter (λ header. not (is_low (floor node history) header.body.round)) (headers history));
-  own_headers = filter (λ header. not (is_low (floor node history) header.body.round) && (header.body.author.0 == node.own.0)) (headers history);
-  counted = filter (λ vote. not (is_low (floor node history) vote.round)) (votes history);
-  certificates = filter (λ c. nat_le (floor node history) c.header.round) (certificates node history);
+  acked = has_acked history;
+  named = was_named node history;
+  votes = λ round author. unless_low node history round (voted history round author);
+  own_headers = λ round. unless_low node history round (header_at history round node.own.0);
+  counted = λ round voter.
+      unless_low node history round (option_and_then (λ header. vote_on node history header.body voter) (header_at history round node.own.0));
+  slots = λ round author. if nat_lt round (floor node history) then None else slots node history round author;
   coins = coins history;
   order = order node history;
 }

@@ -50,11 +50,11 @@ acks history = filter_map (λ event. as_ack event.message) history
 abbrev pub headers : History → List Header
 headers history = filter_map (λ event. as_header event.message) history
 
--- the votes of other members
+-- the votes on own headers
 abbrev pub votes : History → List Vote
 votes history = filter_map (λ event. as_vote event.message) history
 
--- the certificates that others completed
+-- the certificates that came in
 abbrev pub received : History → List Certificate
 received history = filter_map (λ event. as_certificate event.message) history
 

@@ -1,7 +1,7 @@
 -- The node whose history it is, and what its committee fixes.
-use Rattle.std.specs.Prelude.{ℕ, List, length}
+use Rattle.std.specs.Prelude.{ℕ, ◌<◌, List, length}
 use Rattle.std.specs.List.{range_with_len}
-use Rattle.committee.specs.File.{Charter}
+use Rattle.committee.specs.File.{Charter, IsCharter}
 use Rattle.committee.specs.Sizes.{quorum_of}
 use Rattle.wire.specs.declared.keys.Author.{Author}
 use Rattle.wire.specs.declared.keys.Digest.{Digest}
@@ -13,6 +13,11 @@ pub record Node : Type 0 where
   pub own : Author
   pub charter : Charter
   pub sign : Digest → Signature
+
+-- what holds of each node: it is a member of its committee
+pub record IsNode (node : Node) : Type 0 where
+  pub charter : IsCharter node.charter
+  pub member : node.own.0 < length node.charter.keys
 
 -- how many members its committee has
 abbrev pub size_of : Node → ℕ

@@ -75,6 +75,6 @@ committed n slots coins = option_map_or (chain n slots coins) (top n slots coins
 abbrev pub order_by : ℕ → ℕ → Slots → List ℕ → List Digest
 order_by n depth slots coins = map (λ c. certificate_digest c.header) (segments n depth slots None (committed n slots coins))
 
--- the floor: so far below the last committed leader is what is never ordered any more
+-- the floor: the depth below the round of the last committed leader, or 0
 abbrev pub floor_by : ℕ → ℕ → Slots → List ℕ → ℕ
 floor_by n depth slots coins = option_map_or (λ wave. (2 * wave - 1) - depth) (top n slots coins) 0

@@ -1,6 +1,7 @@
 //! What an event is answered.
 
 ghost use Rattle.std.specs.Prelude.{◌≡◌, ◌++◌, ◌∷◌, [], OnOk, OnErr};
+ghost use Rattle.model.specs.Admitting.{is_new};
 
 use crate::refusal::Refusal;
 use std::alloc::{AllocError, Global};
@@ -58,4 +59,13 @@ pub enum Admission {
     Known(Outputs),
     /// It is refused, and changes nothing.
     Refused(Refusal),
+}
+
+impl Admission {
+    /// Whether it is New.
+    pub fn is_new(&self) -> bool
+        ensures { result ≡ is_new self.now }
+    {
+        matches!(self, Admission::New(_))
+    }
 }

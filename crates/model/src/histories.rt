@@ -46,7 +46,7 @@ pub fn headers(alloc: Global, history: &[Event]) -> Result<Vec<Header>, AllocErr
     Ok(found)
 }
 
-/// The votes of other members.
+/// The votes on own headers.
 pub fn votes(alloc: Global, history: &[Event]) -> Result<Vec<Vote>, AllocError>
     ensures { IfOk result (λ found. found.items ≡ votes history.now) }
 {
@@ -59,7 +59,7 @@ pub fn votes(alloc: Global, history: &[Event]) -> Result<Vec<Vote>, AllocError>
     Ok(found)
 }
 
-/// The certificates that others completed.
+/// The certificates that came in.
 pub fn received(alloc: Global, history: &[Event]) -> Result<Vec<Certificate>, AllocError>
     ensures { IfOk result (λ found. found.items ≡ received history.now) }
 {

@@ -3,12 +3,14 @@
 #![tactic(auto)]
 
 mod admission;
+pub mod admitting;
 pub mod certificates;
 mod event;
 pub mod histories;
 pub mod holdings;
 mod node;
 pub mod ordering;
+pub mod outputs;
 mod refusal;
 pub mod slots;
 

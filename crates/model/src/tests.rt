@@ -1,6 +1,7 @@
 //! Small ledgers, and what they hold.
 
 use super::*;
+use crate::admitting::answers;
 use crate::certificates::{certificates, floor, order, round_by, votes_on};
 use crate::histories::{acks, batches, coins, headers, received, votes};
 use crate::holdings::{
@@ -13,9 +14,9 @@ use sigface::{HashSign, Sign};
 use std::alloc::Global;
 use std::test::Fail;
 use wire::{
-    Author, BatchAck, BatchReferences, Certificate, Coin, Digest, Header, HeaderBody, Key,
-    MAX_PARENTS, Message, OpenBatch, ParentReference, ParentReferences, Round, VoteEntries, Wave,
-    batch_digest, header_digest,
+    Author, BatchAck, BatchReference, BatchReferences, Certificate, Coin, Digest, Header,
+    HeaderBody, Key, MAX_PARENTS, MAX_TRANSACTION_BYTES, Message, OpenBatch, Output,
+    ParentReference, ParentReferences, Round, VoteEntries, Wave, batch_digest, header_digest,
 };
 
 /// Four members. The key of each is its number plus 1, 32 times.
@@ -389,5 +390,315 @@ fn paths_lead_down_by_parents(rt: HostRuntime) -> Result<(), Fail> {
     assert!(rt; reaches(alloc, size, &held, third, first)?);
     assert!(rt; !reaches(alloc, size, &held, second, first)?);
     assert!(rt; !reaches(alloc, size, &held, first, third)?);
+    Ok(())
+}
+
+// ---- what events are answered
+
+fn tell_output(
+    alloc: Global,
+    text: &mut String,
+    held: &[Certificate],
+    output: &Output,
+) -> Result<(), Fail> {
+    match output {
+        Output::Batch(_) => write!(text, " batch")?,
+        Output::Ack { to, ack } => write!(text, " ack {} {}", to.0, ack.author.0)?,
+        Output::Header(_) => write!(text, " header")?,
+        Output::Vote(vote) => write!(text, " vote {} {}", vote.author.0, vote.voter.0)?,
+        Output::Certificate(certificate) => {
+            write!(text, " certificate")?;
+            for entry in certificate.votes.as_slice() {
+                write!(text, " {}", entry.voter.0)?;
+            }
+        }
+        Output::Order { start, digests } => {
+            let slots = shown(alloc, held, digests.as_slice())?;
+            write!(text, " order {start} {slots}")?;
+        }
+    }
+    Ok(())
+}
+
+fn tell_outputs(
+    alloc: Global,
+    text: &mut String,
+    held: &[Certificate],
+    outputs: &Outputs,
+) -> Result<(), Fail> {
+    for output in outputs.as_slice() {
+        tell_output(alloc, text, held, output)?;
+    }
+    Ok(())
+}
+
+fn tell(
+    alloc: Global,
+    text: &mut String,
+    held: &[Certificate],
+    answer: &Admission,
+) -> Result<(), Fail> {
+    match answer {
+        Admission::New(outputs) => {
+            write!(text, "new")?;
+            tell_outputs(alloc, text, held, outputs)?;
+        }
+        Admission::Known(outputs) => {
+            write!(text, "known")?;
+            tell_outputs(alloc, text, held, outputs)?;
+        }
+        Admission::Refused(refusal) => write!(text, "refused {refusal}")?,
+    }
+    writeln!(text, "")?;
+    Ok(())
+}
+
+/// The answers to events behind the first ones, one a line.
+fn told(
+    alloc: Global,
+    node: &Node<HashSign>,
+    events: Vec<Event>,
+    skipped: usize,
+) -> Result<String, Fail> {
+    let held = certificates(alloc, node, &events)?;
+    let mut text = String::new(alloc);
+    let answers = answers(alloc, node, events)?;
+    for answer in answers.iter().skip(skipped) {
+        tell(alloc, &mut text, &held, answer)?;
+    }
+    Ok(text)
+}
+
+/// Adds a header of round 1 over the genesis certificates of some members, as from its author.
+fn add_header(
+    alloc: Global,
+    node: &Node<HashSign>,
+    events: &mut Vec<Event>,
+    author: u16,
+    parents: &[u16],
+    batch: Option<Digest>,
+) -> Result<(), Fail> {
+    let held = certificates(alloc, node, &[])?;
+    let mut body = body(alloc, &held, 1, author, parents)?;
+    if let Some(digest) = batch {
+        if body.batches.is_empty() && body.batches.may_follow(&digest) {
+            body.batches.push(BatchReference { digest, worker: 0 })?;
+        }
+    }
+    let signature = node.signer.sign(&header_digest(&body));
+    events.push(Event {
+        sender: Author(author),
+        message: Message::Header(Header { body, signature }),
+    })?;
+    Ok(())
+}
+
+#[test]
+fn a_header_gets_one_vote(rt: HostRuntime) -> Result<(), Fail> {
+    let alloc = rt.alloc();
+    let node = node(alloc, "50")?;
+    let mut events = Vec::new(alloc);
+    add_header(alloc, &node, &mut events, 1, &[0, 1, 2], None)?;
+    add_header(alloc, &node, &mut events, 1, &[0, 1, 2], None)?;
+    add_header(alloc, &node, &mut events, 1, &[1, 2, 3], None)?;
+    let text = told(alloc, &node, events, 0)?;
+    assert_eq!(rt;
+        text.as_str(),
+        "new vote 1 0\nknown vote 1 0\nrefused 6 Equivocation\n"
+    );
+    Ok(())
+}
+
+/// Adds the vote of a member on the first header among the events.
+fn add_vote(node: &Node<HashSign>, events: &mut Vec<Event>, voter: u16) -> Result<(), Fail> {
+    let mut vote = match header_at(events, 1, 0) {
+        None => return Err("there is no own header".into()),
+        Some(header) => vote_for(node, &header.body),
+    };
+    vote.voter = Author(voter);
+    events.push(Event {
+        sender: Author(voter),
+        message: Message::Vote(vote),
+    })?;
+    Ok(())
+}
+
+#[test]
+fn votes_of_a_quorum_complete_a_certificate(rt: HostRuntime) -> Result<(), Fail> {
+    let alloc = rt.alloc();
+    let node = node(alloc, "50")?;
+    let mut events = Vec::new(alloc);
+    add_header(alloc, &node, &mut events, 0, &[0, 1, 2], None)?;
+    for voter in [1, 1, 2, 3] {
+        add_vote(&node, &mut events, voter)?;
+    }
+    let text = told(alloc, &node, events, 0)?;
+    assert_eq!(rt;
+        text.as_str(),
+        "new header\nnew\nknown\nnew certificate 0 1 2\nknown certificate 0 1 2\n"
+    );
+    Ok(())
+}
+
+#[test]
+fn coins_come_in_turn_and_not_early(rt: HostRuntime) -> Result<(), Fail> {
+    let alloc = rt.alloc();
+    let node = node(alloc, "50")?;
+    let mut events = Vec::new(alloc);
+    let layers = [
+        (1, &[0, 1, 2][..], &[0, 1, 2][..]),
+        (2, &[0, 1, 2][..], &[0, 1, 2][..]),
+        (3, &[0, 1][..], &[0, 1, 2][..]),
+    ];
+    add_layers(alloc, &node, &mut events, &layers)?;
+    add_coin(&mut events, 1, 1)?;
+    add_layer(alloc, &node, &mut events, &(3, &[2], &[0, 1, 2]))?;
+    add_coin(&mut events, 1, 1)?;
+    add_coin(&mut events, 1, 5)?;
+    add_coin(&mut events, 3, 0)?;
+    let text = told(alloc, &node, events, 8)?;
+    assert_eq!(rt;
+        text.as_str(),
+        "refused 12 CoinEarly\nnew\nnew order 0 c11 \nrefused 13 CoinConflict\nrefused 11 CoinOutOfTurn\n"
+    );
+    Ok(())
+}
+
+#[test]
+fn the_order_goes_out_where_it_grows(rt: HostRuntime) -> Result<(), Fail> {
+    let alloc = rt.alloc();
+    let node = node(alloc, "50")?;
+    let mut events = Vec::new(alloc);
+    add_layers(alloc, &node, &mut events, &ONE_SUPPORTER)?;
+    add_coin(&mut events, 1, 1)?;
+    add_layer(alloc, &node, &mut events, &(2, &[3], &[1, 2, 3]))?;
+    let text = told(alloc, &node, events, 10)?;
+    assert_eq!(rt; text.as_str(), "new\nnew order 0 c11 \n");
+    let mut events = Vec::new(alloc);
+    add_layers(alloc, &node, &mut events, &NO_SUPPORTER)?;
+    add_coin(&mut events, 1, 1)?;
+    add_layers(alloc, &node, &mut events, &SECOND_WAVE)?;
+    add_coin(&mut events, 2, 0)?;
+    add_layer(alloc, &node, &mut events, &(2, &[3], &[1, 2, 3]))?;
+    let text = told(alloc, &node, events, 17)?;
+    assert_eq!(rt;
+        text.as_str(),
+        "new order 0 c10 c12 c13 c20 c21 c22 c30 \nnew\n"
+    );
+    Ok(())
+}
+
+#[test]
+fn low_rounds_are_refused(rt: HostRuntime) -> Result<(), Fail> {
+    let alloc = rt.alloc();
+    let node = node(alloc, "2")?;
+    let mut events = Vec::new(alloc);
+    let (three, two) = THREE_MEMBERS.split_at(3);
+    add_layers(alloc, &node, &mut events, three)?;
+    add_coin(&mut events, 1, 0)?;
+    add_layers(alloc, &node, &mut events, two)?;
+    add_coin(&mut events, 2, 0)?;
+    add_layers(alloc, &node, &mut events, &LATE)?;
+    add_coin(&mut events, 3, 3)?;
+    add_layer(alloc, &node, &mut events, &(2, &[3], &[0, 1, 2]))?;
+    let held = certificates(alloc, &node, &events)?;
+    let body = body(alloc, &held, 3, 3, &[1, 2, 3])?;
+    let signature = node.signer.sign(&header_digest(&body));
+    events.push(Event {
+        sender: Author(3),
+        message: Message::Header(Header { body, signature }),
+    })?;
+    let text = told(alloc, &node, events, 27)?;
+    assert_eq!(rt;
+        text.as_str(),
+        "new order 7 c31 c32 c33 c41 c42 c43 c53 \nrefused 3 TooOld\nrefused 3 TooOld\n"
+    );
+    Ok(())
+}
+
+/// Adds a batch of one transaction, as from its author.
+fn add_batch(
+    alloc: Global,
+    events: &mut Vec<Event>,
+    author: u16,
+    transaction: &[u8],
+) -> Result<Digest, Fail> {
+    let mut open = OpenBatch::new(alloc, Author(author), 0)?;
+    if transaction.len() <= MAX_TRANSACTION_BYTES && open.has_room(transaction.len()) {
+        open.push(transaction)?;
+    }
+    let batch = open.close()?;
+    let digest = batch_digest(&batch);
+    events.push(Event {
+        sender: Author(author),
+        message: Message::Batch(batch),
+    })?;
+    Ok(digest)
+}
+
+fn add_ack(events: &mut Vec<Event>, digest: Digest, member: u16) -> Result<(), Fail> {
+    let author = Author(member);
+    let ack = BatchAck {
+        author,
+        batch: digest,
+    };
+    events.push(Event {
+        sender: author,
+        message: Message::BatchAck(ack),
+    })?;
+    Ok(())
+}
+
+#[test]
+fn a_header_may_name_a_batch_that_is_held(rt: HostRuntime) -> Result<(), Fail> {
+    let alloc = rt.alloc();
+    let node = node(alloc, "50")?;
+    let mut packed = Vec::new(alloc);
+    let digest = add_batch(alloc, &mut packed, 1, b"ab")?;
+    let mut events = Vec::new(alloc);
+    add_header(alloc, &node, &mut events, 1, &[0, 1, 2], Some(digest))?;
+    add_batch(alloc, &mut events, 1, b"ab")?;
+    add_ack(&mut events, digest, 2)?;
+    add_header(alloc, &node, &mut events, 1, &[0, 1, 2], Some(digest))?;
+    let text = told(alloc, &node, events, 0)?;
+    assert_eq!(rt;
+        text.as_str(),
+        "refused 5 MissingBatch\nnew ack 1 0\nrefused 10 NotOurs\nnew vote 1 0\n"
+    );
+    Ok(())
+}
+
+#[test]
+fn an_own_header_may_name_a_batch_that_is_available(rt: HostRuntime) -> Result<(), Fail> {
+    let alloc = rt.alloc();
+    let node = node(alloc, "50")?;
+    let mut events = Vec::new(alloc);
+    let digest = add_batch(alloc, &mut events, 0, b"ab")?;
+    add_ack(&mut events, digest, 1)?;
+    add_header(alloc, &node, &mut events, 0, &[0, 1, 2], Some(digest))?;
+    add_ack(&mut events, digest, 2)?;
+    add_header(alloc, &node, &mut events, 0, &[0, 1, 2], Some(digest))?;
+    add_header(alloc, &node, &mut events, 0, &[1, 2, 3], None)?;
+    let text = told(alloc, &node, events, 0)?;
+    assert_eq!(rt;
+        text.as_str(),
+        "new batch\nnew\nrefused 5 MissingBatch\nnew\nnew header\nrefused 9 AlreadyProposed\n"
+    );
+    Ok(())
+}
+
+#[test]
+fn a_full_store_takes_no_other_batch(rt: HostRuntime) -> Result<(), Fail> {
+    let alloc = rt.alloc();
+    let node = node(alloc, "50\nbatches = 1")?;
+    let mut events = Vec::new(alloc);
+    add_batch(alloc, &mut events, 0, b"ab")?;
+    add_batch(alloc, &mut events, 0, b"cd")?;
+    add_batch(alloc, &mut events, 0, b"ab")?;
+    let text = told(alloc, &node, events, 0)?;
+    assert_eq!(rt;
+        text.as_str(),
+        "new batch\nrefused 14 StoreFull\nknown batch\n"
+    );
     Ok(())
 }
