@@ -1,66 +1,37 @@
 -- What may be given out at a history, and what of a history a node keeps.
-use Rattle.std.specs.Prelude.{◌≡◌, ◌≢◌, ℕ, nat_lt, Bool, List, ◌++◌, length, Option, Some, None, Contains, option_and_then, if◌then◌else◌}
+use Rattle.std.specs.Prelude.{◌≡◌, ℕ, ◌&&◌, nat_lt, Bool, false, List, ◌++◌, map, flat_map, filter, length, take, drop, Option, None, Contains, option_and_then, if◌then◌else◌}
+use Rattle.std.specs.Option.{option_map_or}
 use Rattle.wire.specs.Batches.{Contents}
 use Rattle.wire.specs.declared.header.Certificate.{Certificate}
 use Rattle.wire.specs.declared.header.Header.{Header}
 use Rattle.wire.specs.declared.header.Vote.{Vote}
-use Rattle.wire.specs.declared.keys.Author.{Author}
 use Rattle.wire.specs.declared.keys.Digest.{Digest}
-use Rattle.wire.specs.declared.message.BatchAck.{BatchAck}
 use Rattle.wire.specs.declared.output.Output.{Output}
 use Rattle.wire.specs.declared.output.Output.TheVariants as output
+use Rattle.model.specs.Admitting.{is_own, batch_outputs, header_outputs}
 use Rattle.model.specs.Histories.{History, batches, headers, coins}
-use Rattle.model.specs.Holdings.{header_at, has_acked, vote_on, slots, batch_digest, voted, vote_for, certificates, order, floor, is_low}
+use Rattle.model.specs.Holdings.{header_at, has_acked, vote_on, slots, voted, certificates, order, floor, is_low}
 use Rattle.model.specs.Nodes.{Node}
 use Rattle.model.specs.Proposing.{was_named}
-use Rattle.model.specs.Slots.{Slots, header_digest}
+use Rattle.model.specs.Slots.{Slots, same_digest, header_digest}
 
--- an own batch
-pub record GivesBatch (node : Node) (history : History) (batch : Contents) : Type 0 where
-  pub held : Contains (batches history) batch
-  pub own : batch.author ≡ node.own
+-- an own certificate is one of the header that has the node's vote
+abbrev pub is_given : Node → History → Certificate → Bool
+is_given node history certificate =
+    is_own node certificate.header.author
+    && option_map_or (same_digest (header_digest certificate.header)) (voted history certificate.header.round node.own.0) false
 
--- that a batch of another member is held
-pub record GivesAck (node : Node) (history : History) (to : Author) (ack : BatchAck) : Type 0 where
-  pub batch : Contents
-  pub held : Contains (batches history) batch
-  pub other : batch.author ≢ node.own
-  pub author : to ≡ batch.author
-  pub says : ack ≡ record { author = node.own; batch = batch_digest batch }
+-- what each batch and each header puts out, and the own certificates
+abbrev pub given : Node → History → List Output
+given node history =
+    flat_map (batch_outputs node) (batches history)
+    ++ flat_map (header_outputs node) (headers history)
+    ++ map output.Certificate (filter (is_given node history) (certificates node history))
 
--- an own header
-pub record GivesHeader (node : Node) (history : History) (header : Header) : Type 0 where
-  pub held : Contains (headers history) header
-  pub own : header.body.author ≡ node.own
-
--- the vote for a header of another member
-pub record GivesVote (node : Node) (history : History) (vote : Vote) : Type 0 where
-  pub header : Header
-  pub held : Contains (headers history) header
-  pub other : header.body.author ≢ node.own
-  pub says : vote ≡ vote_for node header.body
-
--- the certificate of an own header that has the node's vote
-pub record GivesCertificate (node : Node) (history : History) (certificate : Certificate) : Type 0 where
-  pub held : Contains (certificates node history) certificate
-  pub own : certificate.header.author ≡ node.own
-  pub voted : voted history certificate.header.round node.own.0 ≡ Some (header_digest certificate.header)
-
--- digests that stand in the order from this place on
-pub record GivesOrder (node : Node) (history : History) (start : ℕ) (digests : List Digest) : Type 0 where
-  pub before : List Digest
-  pub after : List Digest
-  pub place : length before ≡ start
-  pub stands : order node history ≡ before ++ digests ++ after
-
--- what may be given out
+-- what may be given out: that, and the digests that stand in the order from a place on
 abbrev pub MayGive : Node → History → Output → Type 0
-MayGive node history (output.Batch batch) = GivesBatch node history batch
-MayGive node history (output.Ack to ack) = GivesAck node history to ack
-MayGive node history (output.Header header) = GivesHeader node history header
-MayGive node history (output.Vote vote) = GivesVote node history vote
-MayGive node history (output.Certificate certificate) = GivesCertificate node history certificate
-MayGive node history (output.Order start digests) = GivesOrder node history start digests
+MayGive node history (output.Order start digests) = digests ≡ take (length digests) (drop start (order node history))
+MayGive node history other = Contains (given node history) other
 
 -- what is kept of a history
 pub record Kept : Type 0 where
