@@ -1,3 +1,12 @@
+pub mod Alike
+pub mod Given
+pub mod InSlots
 pub mod Lasts
+pub mod Legal
+pub mod Lists
+pub mod NewEvents
+pub mod OneMore
 pub mod Ranges
+pub mod SlotsGrow
 pub mod Voters
+pub mod Votes

@@ -1,18 +1,19 @@
--- Laws that tie the definitions together. None of them is proved yet.
-use Rattle.std.specs.Prelude.{◌≡◌, List, ◌++◌, Contains}
+-- What holds of legal histories.
+use Rattle.std.specs.Prelude.{◌≡◌, ℕ, Option, Some, None, List, [], ◌∷◌, ◌++◌, Contains, option_and_then}
+use Rattle.std.specs.Option.{option_or, option_to_list}
+use Rattle.wire.specs.Events.{Event}
 use Rattle.wire.specs.declared.header.Certificate.{Certificate}
 use Rattle.wire.specs.declared.header.Header.{Header}
+use Rattle.wire.specs.declared.keys.Digest.{Digest}
+use Rattle.wire.specs.declared.message.Message.{Message}
+use Rattle.wire.specs.declared.message.Message.TheVariants as message
 use Rattle.wire.specs.declared.output.Output.{Output}
-use Rattle.model.specs.Admitting.{IsLegal}
-use Rattle.model.specs.Giving.{MayGive}
-use Rattle.model.specs.Histories.{History, headers}
-use Rattle.model.specs.Holdings.{certificates, order}
+use Rattle.model.specs.Admitting.{admit, IsTaken, IsLegal}
+use Rattle.model.specs.Giving.{given, MayGive}
+use Rattle.model.specs.Histories.{History, batches, acks, headers, votes, received, coins, as_batch, as_ack, as_header, as_vote, as_certificate, as_coin}
+use Rattle.model.specs.Holdings.{header_at, has_acked, voted, vote_on, completed, certificates, slots, order}
 use Rattle.model.specs.Nodes.{Node}
-
--- one list is a beginning of another
-pub record Begins {X : Type 0} (one other : List X) : Type 0 where
-  pub rest : List X
-  pub parts : other ≡ one ++ rest
+use Rattle.model.specs.Slots.{slots_of}
 
 -- a legal history has one vote an author and round
 abbrev pub OneVote : Type 0
@@ -26,12 +27,67 @@ OneCertificate = (node : Node) (history : History) (one other : Certificate) →
     → Contains (certificates node history) one → Contains (certificates node history) other
     → one.header.author ≡ other.header.author → one.header.round ≡ other.header.round → one ≡ other
 
--- the order only grows at its end
+-- of each kind a history with one more event has what it had, and what the event is
+pub record IsOneMore (history : History) (event : Event) : Type 0 where
+  pub of_batches : batches (history ++ event ∷ []) ≡ batches history ++ option_to_list (as_batch event.message)
+  pub of_acks : acks (history ++ event ∷ []) ≡ acks history ++ option_to_list (as_ack event.message)
+  pub of_headers : headers (history ++ event ∷ []) ≡ headers history ++ option_to_list (as_header event.message)
+  pub of_votes : votes (history ++ event ∷ []) ≡ votes history ++ option_to_list (as_vote event.message)
+  pub of_received : received (history ++ event ∷ []) ≡ received history ++ option_to_list (as_certificate event.message)
+  pub of_coins : coins (history ++ event ∷ []) ≡ coins history ++ option_to_list (as_coin event.message)
+
+abbrev pub OneMore : Type 0
+OneMore = (history : History) (event : Event) → IsOneMore history event
+
+-- the certificate that a new event adds: the one that came in, or that of the own header that a vote completes
+abbrev pub added : Node → History → Event → Option Certificate
+added node history event = on event.message
+  where
+    on : Message → Option Certificate
+    on (message.Certificate certificate) = Some certificate
+    on (message.Vote vote) = option_and_then (completed node (history ++ event ∷ [])) (header_at history vote.round node.own.0)
+    on _ = None
+
+-- a legal history with one more event has the slots that it had, and in a slot that held nothing what the event adds
+abbrev pub SlotsGrow : Type 0
+SlotsGrow = (node : Node) (history : History) (event : Event) → IsLegal node (history ++ event ∷ []) → (round author : ℕ)
+    → slots node (history ++ event ∷ []) round author
+    ≡ option_or (slots node history round author) (slots_of (option_to_list (added node history event)) round author)
+
+-- what admission reads of a history is the same in both: the batches and who acknowledged them, the votes, the own
+-- headers and the votes on them, the certificates and the coins
+pub record AreAlike (node : Node) (one other : History) : Type 0 where
+  pub same_batches : batches one ≡ batches other
+  pub same_acks : (digest : Digest) (member : ℕ) → has_acked one digest member ≡ has_acked other digest member
+  pub same_votes : (round author : ℕ) → voted one round author ≡ voted other round author
+  pub same_headers : (round : ℕ) → header_at one round node.own.0 ≡ header_at other round node.own.0
+  pub same_counted : (round voter : ℕ) (header : Header) → header_at one round node.own.0 ≡ Some header
+      → vote_on node one header.body voter ≡ vote_on node other header.body voter
+  pub same_slots : (round author : ℕ) → slots node one round author ≡ slots node other round author
+  pub same_coins : coins one ≡ coins other
+
+-- two legal histories that are so answer each event alike
+abbrev pub AnswersAlike : Type 0
+AnswersAlike = (node : Node) (one other : History) (event : Event) → IsLegal node one → IsLegal node other → IsTaken node event
+    → AreAlike node one other → admit node one event ≡ admit node other event
+
+-- one list is a beginning of another
+pub record Begins {X : Type 0} (one other : List X) : Type 0 where
+  pub rest : List X
+  pub parts : other ≡ one ++ rest
+
+-- the order only grows at its end: this isn't proved yet
 abbrev pub OrderGrows : Type 0
 OrderGrows = (node : Node) (history more : History) → IsLegal node (history ++ more)
     → Begins (order node history) (order node (history ++ more))
 
--- what may be given out stays so
+-- what may be given out stays so, but for the order
+abbrev pub GivenStays : Type 0
+GivenStays = (node : Node) (history more : History) (output : Output) → IsLegal node (history ++ more)
+    → Contains (given node history) output → Contains (given node (history ++ more)) output
+
+-- and with it where the order has only grown at its end
 abbrev pub GivenGrows : Type 0
 GivenGrows = (node : Node) (history more : History) (output : Output) → IsLegal node (history ++ more)
+    → Begins (order node history) (order node (history ++ more))
     → MayGive node history output → MayGive node (history ++ more) output

@@ -8,6 +8,7 @@ pub mod certificates;
 mod event;
 pub mod histories;
 pub mod holdings;
+pub mod laws;
 mod node;
 pub mod ordering;
 pub mod outputs;

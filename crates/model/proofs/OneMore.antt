@@ -1,0 +1,15 @@
+-- What a history has of each kind behind one more event.
+use Rattle.model.specs.Histories.{as_batch, as_ack, as_header, as_vote, as_certificate, as_coin}
+use Rattle.model.specs.Laws.{OneMore}
+use Rattle.model.proofs.Lists.{filter_map-push}
+
+pub one_more : OneMore
+one_more history event =
+    record {
+      of_batches = filter_map-push (λ e. as_batch e.message) history event;
+      of_acks = filter_map-push (λ e. as_ack e.message) history event;
+      of_headers = filter_map-push (λ e. as_header e.message) history event;
+      of_votes = filter_map-push (λ e. as_vote e.message) history event;
+      of_received = filter_map-push (λ e. as_certificate e.message) history event;
+      of_coins = filter_map-push (λ e. as_coin e.message) history event;
+    }

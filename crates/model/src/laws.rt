@@ -1,0 +1,37 @@
+//! What holds of legal histories, proved of the definitions: each is what a function without a body ensures.
+
+ghost use Rattle.model.specs.Laws.{OneVote, OneCertificate, OneMore, SlotsGrow, AnswersAlike, GivenStays, GivenGrows};
+
+/// A legal history has one vote an author and round.
+pub fn one_vote()
+    ensures { OneVote }
+{}
+
+/// A legal history has one certificate a slot.
+pub fn one_certificate()
+    ensures { OneCertificate }
+{}
+
+/// A history with one more event has of each kind what it had, and what the event is.
+pub fn one_more()
+    ensures { OneMore }
+{}
+
+/// A legal history with one more event has the slots that it had, and in a slot that held nothing the
+/// certificate that the event adds.
+pub fn slots_grow()
+    ensures { SlotsGrow }
+{}
+
+/// Two legal histories with the same batches, acknowledgements, votes, own headers with the votes on them,
+/// certificates and coins answer each event alike.
+pub fn answers_alike()
+    ensures { AnswersAlike }
+{}
+
+/// What may be given out at a legal history may be given out at each that it begins: the order too, where it
+/// has only grown at its end.
+pub fn given_grows()
+    ensures stays { GivenStays }
+    ensures grows { GivenGrows }
+{}
