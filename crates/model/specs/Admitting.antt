@@ -3,29 +3,17 @@ use Rattle.std.specs.Prelude.{◌≡◌, ℕ, ◌+◌, ◌-◌, ◌*◌, ◌/◌
 use Rattle.std.specs.List.{list_all, range_with_len}
 use Rattle.std.specs.Option.{option_map_or, option_to_list}
 use Rattle.std.specs.Str.{bytes_eq}
-use Rattle.wire.specs.Batches.{Contents, batch_body}
-use Rattle.wire.specs.Events.{Event}
+use Rattle.wire.specs.Batches.{batch_body}
 use Rattle.wire.specs.Grammar.{IsMessage}
 use Rattle.header.specs.Checks.{fault_of, accepts_all}
 use Rattle.std.specs.Cmp.Lexicographic.{pointwise}
-use Rattle.wire.specs.declared.header.HeaderBody.{HeaderBody}
-use Rattle.wire.specs.declared.references.ParentReference.{ParentReference}
-use Rattle.wire.specs.declared.header.Certificate.{Certificate}
-use Rattle.wire.specs.declared.header.Header.{Header}
-use Rattle.wire.specs.declared.header.Vote.{Vote}
-use Rattle.wire.specs.declared.keys.Author.{Author}
-use Rattle.wire.specs.declared.keys.Digest.{Digest}
-use Rattle.wire.specs.declared.message.BatchAck.{BatchAck}
-use Rattle.wire.specs.declared.message.Coin.{Coin}
-use Rattle.wire.specs.declared.message.Message.{Message}
 use Rattle.wire.specs.declared.message.Message.TheVariants as message
-use Rattle.wire.specs.declared.output.Output.{Output}
 use Rattle.wire.specs.declared.output.Output.TheVariants as output
-use Rattle.wire.specs.declared.references.BatchReference.{BatchReference}
 use Rattle.model.specs.Histories.{History, batches, coins}
 use Rattle.model.specs.Holdings.{batch_digest, batch_at, has_own_batch, has_acked, is_available, header_at, vote_for, vote_on, completed, slots, order, floor, is_low, is_full, all_held}
 use Rattle.model.specs.Nodes.{Node, IsNode}
 use Rattle.model.specs.Slots.{same_digest, header_digest, certificate_digest}
+use Rattle.model.specs.Words.{Author, BatchAck, BatchReference, Certificate, Coin, Contents, Digest, Event, Header, HeaderBody, Message, Output, ParentReference, Vote}
 use Rattle.model.specs.declared.admission.Admission.{Admission}
 use Rattle.model.specs.declared.admission.Admission.TheVariants.{New, Known, Refused}
 use Rattle.model.specs.declared.refusal.Refusal.TheVariants.{TooOld, MissingParents, MissingBatch, Equivocation, CertConflict, DigestClash, AlreadyProposed, NotOurs, CoinOutOfTurn, CoinEarly, CoinConflict, StoreFull}

@@ -1,12 +1,6 @@
 -- What may be given out at a history, and what of a history a node keeps.
 use Rattle.std.specs.Prelude.{◌≡◌, ℕ, ◌&&◌, nat_lt, Bool, false, List, ◌++◌, map, flat_map, filter, length, take, drop, Option, None, Contains, option_and_then, if◌then◌else◌}
 use Rattle.std.specs.Option.{option_map_or}
-use Rattle.wire.specs.Batches.{Contents}
-use Rattle.wire.specs.declared.header.Certificate.{Certificate}
-use Rattle.wire.specs.declared.header.Header.{Header}
-use Rattle.wire.specs.declared.header.Vote.{Vote}
-use Rattle.wire.specs.declared.keys.Digest.{Digest}
-use Rattle.wire.specs.declared.output.Output.{Output}
 use Rattle.wire.specs.declared.output.Output.TheVariants as output
 use Rattle.model.specs.Admitting.{is_own, batch_outputs, header_outputs}
 use Rattle.model.specs.Histories.{History, batches, headers, coins}
@@ -14,6 +8,7 @@ use Rattle.model.specs.Holdings.{header_at, has_acked, vote_on, slots, voted, ce
 use Rattle.model.specs.Nodes.{Node}
 use Rattle.model.specs.Proposing.{was_named}
 use Rattle.model.specs.Slots.{Slots, same_digest, header_digest}
+use Rattle.model.specs.Words.{Certificate, Contents, Digest, Header, Output, Vote}
 
 -- an own certificate is one of the header that has the node's vote
 abbrev pub is_given : Node → History → Certificate → Bool

@@ -1,13 +1,7 @@
 -- A history: the events of a node, the oldest first, and what it has of each kind.
 use Rattle.std.specs.Prelude.{ℕ, List, filter_map, Option, Some, None}
-use Rattle.wire.specs.Batches.{Contents}
-use Rattle.wire.specs.Events.{Event}
-use Rattle.wire.specs.declared.header.Certificate.{Certificate}
-use Rattle.wire.specs.declared.header.Header.{Header}
-use Rattle.wire.specs.declared.header.Vote.{Vote}
-use Rattle.wire.specs.declared.message.BatchAck.{BatchAck}
-use Rattle.wire.specs.declared.message.Message.{Message}
 use Rattle.wire.specs.declared.message.Message.TheVariants as message
+use Rattle.model.specs.Words.{BatchAck, Certificate, Contents, Event, Header, Message, Vote}
 
 -- a list of events
 abbrev pub History : Type 0

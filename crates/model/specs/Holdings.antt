@@ -2,19 +2,12 @@
 use Rattle.std.specs.Prelude.{ℕ, ◌+◌, ◌-◌, ◌==◌, ◌&&◌, ◌||◌, nat_le, nat_lt, max, Bool, false, List, [], ◌++◌, map, fold, length, filter, filter_map, find, count_by, Option, Some, None, option_map, if◌then◌else◌}
 use Rattle.std.specs.List.{list_any, list_all}
 use Rattle.std.specs.Option.{option_map_or}
-use Rattle.wire.specs.Batches.{Contents}
 use Rattle.wire.specs.Digests.{batch_digest_of}
-use Rattle.wire.specs.declared.header.Certificate.{Certificate}
-use Rattle.wire.specs.declared.header.Header.{Header}
-use Rattle.wire.specs.declared.header.HeaderBody.{HeaderBody}
-use Rattle.wire.specs.declared.header.Vote.{Vote}
-use Rattle.wire.specs.declared.keys.Digest.{Digest}
-use Rattle.wire.specs.declared.references.ParentReference.{ParentReference}
-use Rattle.wire.specs.declared.votes.VoteEntry.{VoteEntry}
 use Rattle.model.specs.Histories.{History, batches, acks, headers, votes, received, coins}
 use Rattle.model.specs.Nodes.{Node, size_of, quorum, numbers}
 use Rattle.model.specs.Ordering.{order_by, floor_by}
 use Rattle.model.specs.Slots.{Slots, same_digest, header_digest, certificate_digest, is_of_slot, slots_of, round_of}
+use Rattle.model.specs.Words.{Certificate, Contents, Digest, Header, HeaderBody, ParentReference, Vote, VoteEntry}
 
 -- ---- batches
 

@@ -1,19 +1,14 @@
 -- What holds of legal histories.
 use Rattle.std.specs.Prelude.{◌≡◌, ℕ, Option, Some, None, List, [], ◌∷◌, ◌++◌, Contains, option_and_then}
 use Rattle.std.specs.Option.{option_or, option_to_list}
-use Rattle.wire.specs.Events.{Event}
-use Rattle.wire.specs.declared.header.Certificate.{Certificate}
-use Rattle.wire.specs.declared.header.Header.{Header}
-use Rattle.wire.specs.declared.keys.Digest.{Digest}
-use Rattle.wire.specs.declared.message.Message.{Message}
 use Rattle.wire.specs.declared.message.Message.TheVariants as message
-use Rattle.wire.specs.declared.output.Output.{Output}
 use Rattle.model.specs.Admitting.{admit, IsTaken, IsLegal}
 use Rattle.model.specs.Giving.{given, MayGive}
 use Rattle.model.specs.Histories.{History, batches, acks, headers, votes, received, coins, as_batch, as_ack, as_header, as_vote, as_certificate, as_coin}
 use Rattle.model.specs.Holdings.{header_at, has_acked, voted, vote_on, completed, certificates, slots, order}
 use Rattle.model.specs.Nodes.{Node}
 use Rattle.model.specs.Slots.{slots_of}
+use Rattle.model.specs.Words.{Certificate, Digest, Event, Header, Message, Output}
 
 -- a legal history has one vote an author and round
 abbrev pub OneVote : Type 0

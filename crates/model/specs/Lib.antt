@@ -1,3 +1,4 @@
+pub mod Words
 pub mod Nodes
 pub mod Histories
 pub mod Slots

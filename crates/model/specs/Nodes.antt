@@ -3,9 +3,7 @@ use Rattle.std.specs.Prelude.{ℕ, ◌<◌, List, length}
 use Rattle.std.specs.List.{range_with_len}
 use Rattle.committee.specs.File.{Charter, IsCharter}
 use Rattle.committee.specs.Sizes.{quorum_of}
-use Rattle.wire.specs.declared.keys.Author.{Author}
-use Rattle.wire.specs.declared.keys.Digest.{Digest}
-use Rattle.wire.specs.declared.keys.Signature.{Signature}
+use Rattle.model.specs.Words.{Author, Digest, Signature}
 use Rattle.model.specs.declared.node.Node as declared
 
 -- a node: its own number, its committee, and the signature that it gives to a digest

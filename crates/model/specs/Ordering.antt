@@ -3,9 +3,8 @@ use Rattle.std.specs.Prelude.{ℕ, zero, suc, ◌+◌, ◌-◌, ◌*◌, ◌%◌
 use Rattle.std.specs.List.{range_with_len}
 use Rattle.std.specs.Option.{option_map_or}
 use Rattle.committee.specs.Sizes.{support_of}
-use Rattle.wire.specs.declared.header.Certificate.{Certificate}
-use Rattle.wire.specs.declared.keys.Digest.{Digest}
 use Rattle.model.specs.Slots.{Slots, certificate_digest, round_of, is_parent, reaches}
+use Rattle.model.specs.Words.{Certificate, Digest}
 
 -- the leader of a wave, counted from 1: the certificate of the wave's first round by the author that the coin chooses
 abbrev pub leader : ℕ → Slots → List ℕ → ℕ → Option Certificate

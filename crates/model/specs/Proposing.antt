@@ -1,18 +1,12 @@
 -- What a node proposes.
 use Rattle.std.specs.Prelude.{◌-◌, ◌^◌, ◌==◌, ◌&&◌, ◌||◌, not, nat_lt, Bool, List, [], ◌∷◌, map, take, filter_map, fold, Option, Some, None, is_some, if◌then◌else◌}
 use Rattle.std.specs.List.{list_any}
-use Rattle.wire.specs.Batches.{Contents}
 use Rattle.wire.specs.References.{digest_before}
-use Rattle.wire.specs.declared.header.Certificate.{Certificate}
-use Rattle.wire.specs.declared.header.Header.{Header}
-use Rattle.wire.specs.declared.header.HeaderBody.{HeaderBody}
-use Rattle.wire.specs.declared.keys.Digest.{Digest}
-use Rattle.wire.specs.declared.references.BatchReference.{BatchReference}
-use Rattle.wire.specs.declared.references.ParentReference.{ParentReference}
 use Rattle.model.specs.Histories.{History, batches, headers}
 use Rattle.model.specs.Holdings.{batch_digest, is_available, header_at, slots, round}
 use Rattle.model.specs.Nodes.{Node, size_of}
 use Rattle.model.specs.Slots.{same_digest, header_digest, certificate_digest, round_of}
+use Rattle.model.specs.Words.{BatchReference, Certificate, Contents, Digest, Header, HeaderBody, ParentReference}
 
 -- an own header has named the batch of this digest
 abbrev pub was_named : Node → History → Digest → Bool

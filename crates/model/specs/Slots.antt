@@ -3,11 +3,8 @@ use Rattle.std.specs.Prelude.{ℕ, zero, suc, ◌+◌, ◌-◌, ◌==◌, ◌&&�
 use Rattle.std.specs.List.{list_any}
 use Rattle.std.specs.Str.{bytes_eq}
 use Rattle.wire.specs.Digests.{header_digest_of, certificate_digest_of}
-use Rattle.wire.specs.declared.header.Certificate.{Certificate}
-use Rattle.wire.specs.declared.header.HeaderBody.{HeaderBody}
-use Rattle.wire.specs.declared.keys.Digest.{Digest}
-use Rattle.wire.specs.declared.references.ParentReference.{ParentReference}
 use Rattle.model.specs.Nodes.{numbers}
+use Rattle.model.specs.Words.{Certificate, Digest, HeaderBody, ParentReference}
 
 -- what each slot holds, by round and author
 abbrev pub Slots : Type 0
