@@ -184,7 +184,11 @@ same_piece digests one more start is =
 
 pub given_grows : GivenGrows
 given_grows node history more (output.Order start digests) legal grown may =
-    subst (λ l. digests ≡ take (length digests) (drop start l)) (sym grown.parts) (same_piece digests (order node history) grown.rest start may)
+    record {
+      some = may.some;
+      few = may.few;
+      stands = subst (λ l. digests ≡ take (length digests) (drop start l)) (sym grown.parts) (same_piece digests (order node history) grown.rest start may.stands);
+    }
 given_grows node history more (output.Batch batch) legal grown may = given_stays node history more (output.Batch batch) legal may
 given_grows node history more (output.Ack to ack) legal grown may = given_stays node history more (output.Ack to ack) legal may
 given_grows node history more (output.Header header) legal grown may = given_stays node history more (output.Header header) legal may

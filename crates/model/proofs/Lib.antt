@@ -1,11 +1,14 @@
 pub mod Alike
 pub mod Given
 pub mod InSlots
+pub mod Items
 pub mod Lasts
 pub mod Legal
 pub mod Lists
 pub mod NewEvents
 pub mod OneMore
+pub mod Parents
+pub mod Placing
 pub mod Ranges
 pub mod SlotsGrow
 pub mod Voters

@@ -19,9 +19,9 @@ filter_map-push make xs x =
     filter_map-append make xs (x ∷ [])
     ∙ ap (λ l. filter_map make xs ++ l) (elim (make x) as (λ o. cons_option o [] ≡ option_to_list o) [ Some y ↦ refl | None ↦ refl ])
 
--- what is found in a list with one more at its end
-pub find-push : {X : Type 0} (test : X → Bool) (xs : List X) (x : X) → find test (xs ++ x ∷ []) ≡ option_or (find test xs) (cond (test x) (Some x) None)
-find-push test xs x = find-append test xs (x ∷ [])
+-- what is found in what is made of a list with one more at its end
+pub found-push : {X Y : Type 0} (make : X → Option Y) (test : Y → Bool) (xs : List X) (x : X) → find test (filter_map make (xs ++ x ∷ [])) ≡ option_or (find test (filter_map make xs)) (find test (option_to_list (make x)))
+found-push make test xs x = ap (find test) (filter_map-push make xs x) ∙ find-append test (filter_map make xs) (option_to_list (make x))
 
 -- an element of a list is its first one or one of the others
 pub Contains-nothing : {X : Type 0} (x : X) → Contains [] x → ⊥

@@ -1,7 +1,11 @@
 -- What a history has of each kind behind one more event.
 use Rattle.model.specs.Histories.{as_batch, as_ack, as_header, as_vote, as_certificate, as_coin}
+use Rattle.model.specs.Holdings.{batch_digest}
 use Rattle.model.specs.Laws.{OneMore}
-use Rattle.model.proofs.Lists.{filter_map-push}
+use Rattle.model.specs.Slots.{same_digest}
+use Rattle.model.proofs.Lists.{filter_map-push, found-push}
+use Rattle.model.proofs.SlotsGrow.{vote_on-push}
+use Rattle.model.proofs.Votes.{header_at-push}
 
 pub one_more : OneMore
 one_more history event =
@@ -12,4 +16,7 @@ one_more history event =
       of_votes = filter_map-push (λ e. as_vote e.message) history event;
       of_received = filter_map-push (λ e. as_certificate e.message) history event;
       of_coins = filter_map-push (λ e. as_coin e.message) history event;
+      batch_found = λ digest. found-push (λ e. as_batch e.message) (λ batch. same_digest (batch_digest batch) digest) history event;
+      header_found = λ round author. header_at-push history event round author;
+      vote_found = λ node header voter. vote_on-push node history event header voter;
     }

@@ -97,7 +97,7 @@ abbrev pub vote_outputs : Node → History → Event → Header → List Output
 vote_outputs node history event header =
     map output.Certificate (option_to_list (completed node (history ++ event ∷ []) header)) ++ order_outputs node history event
 
--- to a vote on an own header by this member, where no certificate of that round is held
+-- to a vote on an own header by this member, where no own certificate of that round is held
 abbrev pub counted_answer : Node → History → Event → Header → ℕ → Admission
 counted_answer node history event header voter =
     if is_some (vote_on node history header.body voter) then Known [] else New (vote_outputs node history event header)
@@ -124,10 +124,11 @@ vote_answer node history event vote =
         if same_digest (header_digest header.body) vote.header then on_slot header (slots node history vote.round node.own.0)
         else Refused NotOurs
 
--- two headers name the same batches and parents
+-- two references name the same batch and worker
 abbrev pub same_batch : BatchReference → BatchReference → Bool
 same_batch one other = same_digest one.digest other.digest && (one.worker == other.worker)
 
+-- two references name the same certificate
 abbrev pub same_parent : ParentReference → ParentReference → Bool
 same_parent one other = (one.author.0 == other.author.0) && same_digest one.certificate other.certificate
 

@@ -1,5 +1,5 @@
 -- What may be given out at a history, and what of a history a node keeps.
-use Rattle.std.specs.Prelude.{◌≡◌, ℕ, ◌&&◌, nat_lt, Bool, false, List, ◌++◌, map, flat_map, filter, length, take, drop, Option, None, Contains, option_and_then, if◌then◌else◌}
+use Rattle.std.specs.Prelude.{◌≡◌, ◌<◌, ◌≤◌, ℕ, ◌&&◌, nat_lt, Bool, false, List, ◌++◌, map, flat_map, filter, length, take, drop, Option, None, Contains, option_and_then, if◌then◌else◌}
 use Rattle.std.specs.Option.{option_map_or}
 use Rattle.wire.specs.declared.output.Output.TheVariants as output
 use Rattle.model.specs.Admitting.{is_own, batch_outputs, header_outputs}
@@ -10,22 +10,28 @@ use Rattle.model.specs.Proposing.{was_named}
 use Rattle.model.specs.Slots.{Slots, same_digest, header_digest}
 use Rattle.model.specs.Words.{Certificate, Contents, Digest, Header, Output, Vote}
 
--- an own certificate is one of the header that has the node's vote
+-- a certificate may be given out: it is an own one, of the header that has the node's vote
 abbrev pub is_given : Node → History → Certificate → Bool
 is_given node history certificate =
     is_own node certificate.header.author
     && option_map_or (same_digest (header_digest certificate.header)) (voted history certificate.header.round node.own.0) false
 
--- what each batch and each header puts out, and the own certificates
+-- what each batch and each header puts out, and the own certificates of headers that have the node's vote
 abbrev pub given : Node → History → List Output
 given node history =
     flat_map (batch_outputs node) (batches history)
     ++ flat_map (header_outputs node) (headers history)
     ++ map output.Certificate (filter (is_given node history) (certificates node history))
 
--- what may be given out: that, and the digests that stand in the order from a place on
+-- digests are a piece of an order: 1 to 16,000 that stand there from a place on
+pub record IsPiece (order : List Digest) (start : ℕ) (digests : List Digest) : Type 0 where
+  pub some : 0 < length digests
+  pub few : length digests ≤ 16000
+  pub stands : digests ≡ take (length digests) (drop start order)
+
+-- what may be given out: that, and each piece of the order
 abbrev pub MayGive : Node → History → Output → Type 0
-MayGive node history (output.Order start digests) = digests ≡ take (length digests) (drop start (order node history))
+MayGive node history (output.Order start digests) = IsPiece (order node history) start digests
 MayGive node history other = Contains (given node history) other
 
 -- what is kept of a history

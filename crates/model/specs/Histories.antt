@@ -44,7 +44,7 @@ acks history = filter_map (λ event. as_ack event.message) history
 abbrev pub headers : History → List Header
 headers history = filter_map (λ event. as_header event.message) history
 
--- the votes on own headers
+-- the votes that came in, which in a legal history are on own headers
 abbrev pub votes : History → List Vote
 votes history = filter_map (λ event. as_vote event.message) history
 

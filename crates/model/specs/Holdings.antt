@@ -66,7 +66,7 @@ vote_on node history header voter = if voter == node.own.0 then Some (vote_for n
 abbrev pub entry_of : Vote → VoteEntry
 entry_of vote = record { voter = vote.voter; signature = vote.signature }
 
--- the same as a certificate has it
+-- a member's counted vote, as a certificate has it
 abbrev pub entry_on : Node → History → HeaderBody → ℕ → Option VoteEntry
 entry_on node history header voter = option_map entry_of (vote_on node history header voter)
 

@@ -1,14 +1,14 @@
--- What holds of legal histories.
-use Rattle.std.specs.Prelude.{◌≡◌, ℕ, Option, Some, None, List, [], ◌∷◌, ◌++◌, Contains, option_and_then}
+-- What is said of histories, mostly of legal ones.
+use Rattle.std.specs.Prelude.{◌≡◌, ℕ, Option, Some, None, List, [], ◌∷◌, ◌++◌, Contains, find, option_and_then}
 use Rattle.std.specs.Option.{option_or, option_to_list}
 use Rattle.wire.specs.declared.message.Message.TheVariants as message
 use Rattle.model.specs.Admitting.{admit, IsTaken, IsLegal}
 use Rattle.model.specs.Giving.{given, MayGive}
 use Rattle.model.specs.Histories.{History, batches, acks, headers, votes, received, coins, as_batch, as_ack, as_header, as_vote, as_certificate, as_coin}
-use Rattle.model.specs.Holdings.{header_at, has_acked, voted, vote_on, completed, certificates, slots, order}
+use Rattle.model.specs.Holdings.{batch_digest, batch_at, is_vote_on, header_at, has_acked, voted, vote_on, completed, certificates, slots, order}
 use Rattle.model.specs.Nodes.{Node}
-use Rattle.model.specs.Slots.{slots_of}
-use Rattle.model.specs.Words.{Certificate, Digest, Event, Header, Message, Output}
+use Rattle.model.specs.Slots.{same_digest, is_of_slot, slots_of}
+use Rattle.model.specs.Words.{Certificate, Digest, Event, Header, HeaderBody, Message, Output}
 
 -- a legal history has one vote an author and round
 abbrev pub OneVote : Type 0
@@ -22,7 +22,8 @@ OneCertificate = (node : Node) (history : History) (one other : Certificate) →
     → Contains (certificates node history) one → Contains (certificates node history) other
     → one.header.author ≡ other.header.author → one.header.round ≡ other.header.round → one ≡ other
 
--- of each kind a history with one more event has what it had, and what the event is
+-- of each kind a history with one more event has what it had, and what the event is; a look-up finds what it found,
+-- and what the event is where it found nothing
 pub record IsOneMore (history : History) (event : Event) : Type 0 where
   pub of_batches : batches (history ++ event ∷ []) ≡ batches history ++ option_to_list (as_batch event.message)
   pub of_acks : acks (history ++ event ∷ []) ≡ acks history ++ option_to_list (as_ack event.message)
@@ -30,6 +31,12 @@ pub record IsOneMore (history : History) (event : Event) : Type 0 where
   pub of_votes : votes (history ++ event ∷ []) ≡ votes history ++ option_to_list (as_vote event.message)
   pub of_received : received (history ++ event ∷ []) ≡ received history ++ option_to_list (as_certificate event.message)
   pub of_coins : coins (history ++ event ∷ []) ≡ coins history ++ option_to_list (as_coin event.message)
+  pub batch_found : (digest : Digest) → batch_at (history ++ event ∷ []) digest
+      ≡ option_or (batch_at history digest) (find (λ batch. same_digest (batch_digest batch) digest) (option_to_list (as_batch event.message)))
+  pub header_found : (round author : ℕ) → header_at (history ++ event ∷ []) round author
+      ≡ option_or (header_at history round author) (find (λ header. is_of_slot round author header.body) (option_to_list (as_header event.message)))
+  pub vote_found : (node : Node) (header : HeaderBody) (voter : ℕ) → vote_on node (history ++ event ∷ []) header voter
+      ≡ option_or (vote_on node history header voter) (find (is_vote_on header voter) (option_to_list (as_vote event.message)))
 
 abbrev pub OneMore : Type 0
 OneMore = (history : History) (event : Event) → IsOneMore history event
@@ -81,7 +88,7 @@ abbrev pub GivenStays : Type 0
 GivenStays = (node : Node) (history more : History) (output : Output) → IsLegal node (history ++ more)
     → Contains (given node history) output → Contains (given node (history ++ more)) output
 
--- and with it where the order has only grown at its end
+-- what may be given out stays so, the order too, where the order has only grown at its end
 abbrev pub GivenGrows : Type 0
 GivenGrows = (node : Node) (history more : History) (output : Output) → IsLegal node (history ++ more)
     → Begins (order node history) (order node (history ++ more))

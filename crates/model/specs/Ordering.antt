@@ -20,7 +20,7 @@ has_support n slots certificate =
 abbrev pub is_committed : ℕ → Slots → List ℕ → ℕ → Bool
 is_committed n slots coins wave = option_map_or (has_support n slots) (leader n slots coins wave) false
 
--- the greatest committed wave up to one
+-- the greatest committed wave up to a given one
 abbrev pub top_to : ℕ → Slots → List ℕ → ℕ → Option ℕ
 top_to n slots coins zero = None
 top_to n slots coins (suc wave) = if is_committed n slots coins (suc wave) then Some (suc wave) else top_to n slots coins wave
@@ -29,8 +29,8 @@ top_to n slots coins (suc wave) = if is_committed n slots coins (suc wave) then 
 abbrev pub top : ℕ → Slots → List ℕ → Option ℕ
 top n slots coins = top_to n slots coins (length coins)
 
--- the leaders that are committed with one, the oldest first, from the waves up to one: the leader of the greatest
--- wave that is reached, with those that are committed with it in its turn
+-- a leader behind those that are committed with it, the oldest first, of the waves up to a given one: the chain of the
+-- newest leader among them that it reaches, and then itself
 abbrev pub chain_to : ℕ → Slots → List ℕ → ℕ → Certificate → List Certificate
 chain_to n slots coins zero last = last ∷ []
 chain_to n slots coins (suc wave) last =

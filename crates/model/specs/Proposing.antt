@@ -13,16 +13,23 @@ abbrev pub was_named : Node → History → Digest → Bool
 was_named node history digest =
     list_any (λ header. (header.body.author.0 == node.own.0) && list_any (λ named. same_digest named.digest digest) header.body.batches) (headers history)
 
+-- an own batch may be named: it is available, and no own header has named it
+abbrev pub is_nameable : Node → History → Contents → Bool
+is_nameable node history batch =
+    (batch.author.0 == node.own.0) && (is_available node history (batch_digest batch) && not (was_named node history (batch_digest batch)))
+
 -- an own batch that may be named, as a header names it
 abbrev pub to_name : Node → History → Contents → Option BatchReference
 to_name node history batch =
-    if (batch.author.0 == node.own.0) && (is_available node history (batch_digest batch) && not (was_named node history (batch_digest batch)))
-    then Some (record { digest = batch_digest batch; worker = batch.worker }) else None
+    if is_nameable node history batch then Some (record { digest = batch_digest batch; worker = batch.worker }) else None
 
--- a batch put in its place among others that rise by digest
+-- a batch put in its place among others that rise by digest, once
 abbrev pub placed : List BatchReference → BatchReference → List BatchReference
 placed [] batch = batch ∷ []
-placed (first ∷ rest) batch = if digest_before batch.digest first.digest then batch ∷ first ∷ rest else first ∷ placed rest batch
+placed (first ∷ rest) batch =
+    if digest_before batch.digest first.digest then batch ∷ first ∷ rest
+    else if same_digest first.digest batch.digest then first ∷ rest
+    else first ∷ placed rest batch
 
 -- the batches that may be named, rising by digest
 abbrev pub nameable : Node → History → List BatchReference
@@ -41,8 +48,12 @@ proposal node history = record {
   parents = map as_parent (round_of (size_of node) (slots node history) (round node history - 1));
 }
 
+-- a header with the node's signature
+abbrev pub signed : Node → HeaderBody → Header
+signed node body = record { body = body; signature = node.sign (header_digest body) }
+
 -- the header that the node proposes: none where its round has one, or is past the greatest round
 abbrev pub propose : Node → History → Option Header
 propose node history =
     if is_some (header_at history (round node history) node.own.0) || nat_lt (2 ^ 48) (round node history) then None
-    else Some (record { body = proposal node history; signature = node.sign (header_digest (proposal node history)) })
+    else Some (signed node (proposal node history))

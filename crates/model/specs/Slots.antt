@@ -44,7 +44,7 @@ abbrev pub is_parent : Certificate → Certificate → Bool
 is_parent parent child =
     (parent.header.round + 1 == child.header.round) && list_any (is_named parent) child.header.parents
 
--- a path of so many steps, each to a parent, leads from one certificate to another
+-- a path of so many steps, each to a parent, leads from one certificate to another; without steps they are of one slot
 abbrev pub has_path : ℕ → Slots → ℕ → Certificate → Certificate → Bool
 has_path n slots zero start end = is_of_slot start.header.round start.header.author.0 end.header
 has_path n slots (suc steps) start end =

@@ -42,6 +42,15 @@ impl Outputs {
         Ok(())
     }
 
+    /// Adds other outputs at the end. `AllocError` where a growth was refused.
+    pub fn append(&mut self, mut others: Outputs) -> Result<(), AllocError>
+        ensures ok { OnOk result (self.new ≡ self.old ++ others) }
+        ensures err { OnErr result (self.new ≡ self.old) }
+    {
+        self.list.append(&mut others.list)?;
+        Ok(())
+    }
+
     /// The outputs, in their order.
     pub fn as_slice(&self) -> &[Output]
         ensures { result.now ≡ self.now }

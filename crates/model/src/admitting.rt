@@ -346,7 +346,7 @@ pub fn admit<S: Sign>(
 
 /// What the last of some events is answered, at the history of those before it.
 #[tactic(auto, using(crate::proofs::Lasts::same_last))]
-fn admit_last<S: Sign>(
+pub fn admit_last<S: Sign>(
     alloc: Global,
     node: &Node<S>,
     events: &[Event],

@@ -187,3 +187,11 @@ pub fn round_by<S: Sign>(
     }
     Ok(1 + greatest)
 }
+
+/// The node's round.
+pub fn round<S: Sign>(alloc: Global, node: &Node<S>, history: &[Event]) -> Result<u64, AllocError>
+    ensures { IfOk result (λ round. round ≡ holdings.round (seen S.signature_of node.now) history.now) }
+{
+    let certificates = certificates(alloc, node, history)?;
+    round_by(alloc, node, &certificates)
+}

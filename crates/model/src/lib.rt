@@ -6,12 +6,15 @@ mod admission;
 pub mod admitting;
 pub mod certificates;
 mod event;
+pub mod giving;
 pub mod histories;
 pub mod holdings;
+pub mod keeping;
 pub mod laws;
 mod node;
 pub mod ordering;
 pub mod outputs;
+pub mod proposing;
 mod refusal;
 pub mod slots;
 
@@ -20,5 +23,9 @@ pub use event::Event;
 pub use node::Node;
 pub use refusal::Refusal;
 
+#[cfg(test)]
+mod giving_tests;
+#[cfg(test)]
+mod random_tests;
 #[cfg(test)]
 mod tests;

@@ -29,7 +29,7 @@ const FOUR: &str = "members = [
 ";
 
 /// Member 0 of the four, with this depth.
-fn node(alloc: Global, depth: &str) -> Result<Node<HashSign>, Fail> {
+pub(crate) fn node(alloc: Global, depth: &str) -> Result<Node<HashSign>, Fail> {
     let text = format!(in alloc; "{FOUR}depth = {depth}")?;
     Ok(Node {
         own: Author(0),
@@ -39,10 +39,10 @@ fn node(alloc: Global, depth: &str) -> Result<Node<HashSign>, Fail> {
 }
 
 /// The certificates of a round by some authors, over those of the round before by others.
-type Layer = (u64, &'static [u16], &'static [u16]);
+pub(crate) type Layer = (u64, &'static [u16], &'static [u16]);
 
 /// The body of a header over held certificates.
-fn body(
+pub(crate) fn body(
     alloc: Global,
     held: &[Certificate],
     round: u64,
@@ -71,7 +71,7 @@ fn body(
 }
 
 /// Adds the certificates of a layer, as from member 1.
-fn add_layer(
+pub(crate) fn add_layer(
     alloc: Global,
     node: &Node<HashSign>,
     history: &mut Vec<Event>,
@@ -90,7 +90,7 @@ fn add_layer(
     Ok(())
 }
 
-fn add_layers(
+pub(crate) fn add_layers(
     alloc: Global,
     node: &Node<HashSign>,
     history: &mut Vec<Event>,
@@ -102,7 +102,7 @@ fn add_layers(
     Ok(())
 }
 
-fn add_coin(history: &mut Vec<Event>, wave: u64, value: u64) -> Result<(), Fail> {
+pub(crate) fn add_coin(history: &mut Vec<Event>, wave: u64, value: u64) -> Result<(), Fail> {
     let wave = Wave::new(wave)?;
     history.push(Event {
         sender: Author(0),
@@ -196,7 +196,7 @@ fn a_wave_that_is_skipped_is_never_ordered_by_itself(rt: HostRuntime) -> Result<
 }
 
 /// Two waves of three members.
-const THREE_MEMBERS: [Layer; 5] = [
+pub(crate) const THREE_MEMBERS: [Layer; 5] = [
     (1, &[0, 1, 2], &[0, 1, 2]),
     (2, &[0, 1, 2], &[0, 1, 2]),
     (3, &[0, 1, 2], &[0, 1, 2]),
@@ -299,7 +299,7 @@ fn a_quorum_of_votes_is_a_certificate(rt: HostRuntime) -> Result<(), Fail> {
 }
 
 /// An own batch, and acknowledgements of it.
-fn add_batch_and_acks(
+pub(crate) fn add_batch_and_acks(
     alloc: Global,
     history: &mut Vec<Event>,
     members: &[u16],
@@ -420,7 +420,7 @@ fn tell_output(
     Ok(())
 }
 
-fn tell_outputs(
+pub(crate) fn tell_outputs(
     alloc: Global,
     text: &mut String,
     held: &[Certificate],
@@ -454,7 +454,7 @@ fn tell(
 }
 
 /// The answers to events behind the first ones, one a line.
-fn told(
+pub(crate) fn told(
     alloc: Global,
     node: &Node<HashSign>,
     events: Vec<Event>,
@@ -470,7 +470,7 @@ fn told(
 }
 
 /// Adds a header of round 1 over the genesis certificates of some members, as from its author.
-fn add_header(
+pub(crate) fn add_header(
     alloc: Global,
     node: &Node<HashSign>,
     events: &mut Vec<Event>,
@@ -510,7 +510,11 @@ fn a_header_gets_one_vote(rt: HostRuntime) -> Result<(), Fail> {
 }
 
 /// Adds the vote of a member on the first header among the events.
-fn add_vote(node: &Node<HashSign>, events: &mut Vec<Event>, voter: u16) -> Result<(), Fail> {
+pub(crate) fn add_vote(
+    node: &Node<HashSign>,
+    events: &mut Vec<Event>,
+    voter: u16,
+) -> Result<(), Fail> {
     let mut vote = match header_at(events, 1, 0) {
         None => return Err("there is no own header".into()),
         Some(header) => vote_for(node, &header.body),
@@ -617,7 +621,7 @@ fn low_rounds_are_refused(rt: HostRuntime) -> Result<(), Fail> {
 }
 
 /// Adds a batch of one transaction, as from its author.
-fn add_batch(
+pub(crate) fn add_batch(
     alloc: Global,
     events: &mut Vec<Event>,
     author: u16,
@@ -636,7 +640,7 @@ fn add_batch(
     Ok(digest)
 }
 
-fn add_ack(events: &mut Vec<Event>, digest: Digest, member: u16) -> Result<(), Fail> {
+pub(crate) fn add_ack(events: &mut Vec<Event>, digest: Digest, member: u16) -> Result<(), Fail> {
     let author = Author(member);
     let ack = BatchAck {
         author,
