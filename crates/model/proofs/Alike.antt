@@ -67,9 +67,9 @@ available_alike node one other alike digest =
 may_name_alike : (node : Node) (one other : History) → AreAlike node one other → (header : Header) → may_name node one header ≡ may_name node other header
 may_name_alike node one other alike header =
     fun_ext (λ named.
-        ap (λ l. option_map_or (λ batch. batch.worker == named.worker) (held_in l named.digest) false && (not (is_own node header.body.author) || is_available node one named.digest)) alike.same_batches
-        ∙ ap (λ b. option_map_or (λ batch. batch.worker == named.worker) (held_in (batches other) named.digest) false && (not (is_own node header.body.author) || b))
-        (available_alike node one other alike named.digest))
+    ap (λ l. option_map_or (λ batch. batch.worker == named.worker) (held_in l named.digest) false && (not (is_own node header.body.author) || is_available node one named.digest)) alike.same_batches
+    ∙ ap (λ b. option_map_or (λ batch. batch.worker == named.worker) (held_in (batches other) named.digest) false && (not (is_own node header.body.author) || b))
+    (available_alike node one other alike named.digest))
 
 -- ---- answers, over what they read
 
@@ -136,25 +136,25 @@ header_on_alike node one other alike header held named =
           let same : header_at one round author ≡ header_at other round author = ap (header_at one round) is ∙ alike.same_headers round ∙ ap (header_at other round) (sym is) in
           ap (header_on node header held named) same
       | inr foreign ↦ elim (given_or_none (header_at one round author)) [
-          | inl found ↦ elim (given_or_none (header_at other round author)) [
-              | inl also ↦
-                  let digest : header_digest found.0.body ≡ header_digest also.0.body =
-                      same_Some _ _ (sym (ap (option_map digest_of) found.1) ∙ alike.same_votes round author ∙ ap (option_map digest_of) also.1) in
-                  let place = slot_is round author found.0.body (found_passes (λ h. is_of_slot round author h.body) (headers one) found.0 found.1).0 in
-                  let place' = slot_is round author also.0.body (found_passes (λ h. is_of_slot round author h.body) (headers other) also.0 also.1).0 in
-                  let outputs = foreign_outputs node found.0 also.0 (ap (λ a. a == node.own.0) place.1 ∙ foreign) (ap (λ a. a == node.own.0) place'.1 ∙ foreign)
-                      (one_vote_for node found.0.body also.0.body (place.0 ∙ sym place'.0) (place.1 ∙ sym place'.1) digest) in
-                  ap (header_on node header held named) found.1
-                  ∙ ap (λ d. voted_answer node header d (header_outputs node found.0)) digest
-                  ∙ ap (voted_answer node header (header_digest also.0.body)) outputs
-                  ∙ sym (ap (header_on node header held named) also.1)
-              | inr none ↦ absurd (none-some (header_digest found.0.body) (sym (ap (option_map digest_of) none) ∙ sym (alike.same_votes round author) ∙ ap (option_map digest_of) found.1))
-            ]
-          | inr none ↦ elim (given_or_none (header_at other round author)) [
-              | inl also ↦ absurd (none-some (header_digest also.0.body) (sym (ap (option_map digest_of) none) ∙ alike.same_votes round author ∙ ap (option_map digest_of) also.1))
-              | inr nothing ↦ ap (header_on node header held named) (none ∙ sym nothing)
-            ]
+        | inl found ↦ elim (given_or_none (header_at other round author)) [
+          | inl also ↦
+              let digest : header_digest found.0.body ≡ header_digest also.0.body =
+              same_Some _ _ (sym (ap (option_map digest_of) found.1) ∙ alike.same_votes round author ∙ ap (option_map digest_of) also.1) in
+              let place = slot_is round author found.0.body (found_passes (λ h. is_of_slot round author h.body) (headers one) found.0 found.1).0 in
+              let place' = slot_is round author also.0.body (found_passes (λ h. is_of_slot round author h.body) (headers other) also.0 also.1).0 in
+              let outputs = foreign_outputs node found.0 also.0 (ap (λ a. a == node.own.0) place.1 ∙ foreign) (ap (λ a. a == node.own.0) place'.1 ∙ foreign)
+              (one_vote_for node found.0.body also.0.body (place.0 ∙ sym place'.0) (place.1 ∙ sym place'.1) digest) in
+              ap (header_on node header held named) found.1
+              ∙ ap (λ d. voted_answer node header d (header_outputs node found.0)) digest
+              ∙ ap (voted_answer node header (header_digest also.0.body)) outputs
+              ∙ sym (ap (header_on node header held named) also.1)
+          | inr none ↦ absurd (none-some (header_digest found.0.body) (sym (ap (option_map digest_of) none) ∙ sym (alike.same_votes round author) ∙ ap (option_map digest_of) found.1))
         ]
+        | inr none ↦ elim (given_or_none (header_at other round author)) [
+          | inl also ↦ absurd (none-some (header_digest also.0.body) (sym (ap (option_map digest_of) none) ∙ alike.same_votes round author ∙ ap (option_map digest_of) also.1))
+          | inr nothing ↦ ap (header_on node header held named) (none ∙ sym nothing)
+        ]
+      ]
     ]
 
 header_alike : (node : Node) (one other : History) → AreAlike node one other → (header : Header) → header_answer node one header ≡ header_answer node other header
@@ -176,11 +176,11 @@ order_longer : (node : Node) (one other : History) (event : Event) → AreAlike 
 order_longer node one other event alike legal also adds =
     let coins_same : coins (one ++ event ∷ []) ≡ coins (other ++ event ∷ []) = lists_of one event ∙ ap (λ l. l ++ option_to_list (as_coin event.message)) alike.same_coins ∙ sym (lists_of other event) in
     let slots_same : slots node (one ++ event ∷ []) ≡ slots node (other ++ event ∷ []) =
-        fun_ext (λ round. fun_ext (λ author.
-            slots_grow node one event legal round author
-            ∙ ap (λ o. option_or o (slots_of (option_to_list (added node one event)) round author)) (alike.same_slots round author)
-            ∙ ap (λ a. option_or (slots node other round author) (slots_of (option_to_list a) round author)) adds
-            ∙ sym (slots_grow node other event also round author))) in
+    fun_ext (λ round. fun_ext (λ author.
+    slots_grow node one event legal round author
+    ∙ ap (λ o. option_or o (slots_of (option_to_list (added node one event)) round author)) (alike.same_slots round author)
+    ∙ ap (λ a. option_or (slots node other round author) (slots_of (option_to_list a) round author)) adds
+    ∙ sym (slots_grow node other event also round author))) in
     ap (λ s. order_by (size_of node) node.charter.depth s (coins (one ++ event ∷ []))) slots_same
     ∙ ap (order_by (size_of node) node.charter.depth (slots node (other ++ event ∷ []))) coins_same
 
@@ -214,7 +214,7 @@ by_outputs : (node : Node) (one other : History) (event : Event) → IsLegal nod
     → (IsLegal node (one ++ event ∷ []) → IsLegal node (other ++ event ∷ []) → outputs ≡ others) → admit node one event ≡ admit node other event
 by_outputs node one other event legal also taken answer by outputs others is is' same =
     is ∙ by.only_new outputs others (λ new.
-        same (legal-push node one event legal taken (ap is_new is ∙ new)) (legal-push node other event also taken (ap is_new is' ∙ by.same_new others outputs ∙ new))) ∙ sym is'
+    same (legal-push node one event legal taken (ap is_new is ∙ new)) (legal-push node other event also taken (ap is_new is' ∙ by.same_new others outputs ∙ new))) ∙ sym is'
 
 -- ---- certificates
 
@@ -307,9 +307,9 @@ completed_alike : (node : Node) (one other : History) (event : Event) → AreAli
 completed_alike node one other event alike round header held =
     ap (λ (make : ℕ → Option VoteEntry). with_votes node header (filter_map make (numbers (size_of node))))
     (fun_ext (λ voter. ap (option_map entry_of)
-        (vote_on-push node one event header.body voter
-        ∙ ap (λ o. option_or o (find (is_vote_on header.body voter) (option_to_list (as_vote event.message)))) (alike.same_counted round voter header held)
-        ∙ sym (vote_on-push node other event header.body voter))))
+    (vote_on-push node one event header.body voter
+    ∙ ap (λ o. option_or o (find (is_vote_on header.body voter) (option_to_list (as_vote event.message)))) (alike.same_counted round voter header held)
+    ∙ sym (vote_on-push node other event header.body voter))))
 
 vote_alike : (node : Node) (one other : History) (sender : Author) (vote : Vote) → IsLegal node one → IsLegal node other
     → IsTaken node (record { sender = sender; message = message.Vote vote }) → AreAlike node one other
@@ -321,9 +321,9 @@ vote_alike node one other sender vote legal also taken alike =
     let slot : History → Option Certificate = λ h. slots node h vote.round node.own.0 in
     let found : History → Option Header = λ h. header_at h vote.round node.own.0 in
     let parts : admit node one event ≡ vote_by node vote (counted one) (outputs one) (floor node other) (slot other) (found other) =
-        ap (λ f. vote_by node vote (counted one) (outputs one) f (slot one) (found one)) (floor_alike node one other alike)
-        ∙ ap (λ s. vote_by node vote (counted one) (outputs one) (floor node other) s (found one)) (alike.same_slots vote.round node.own.0)
-        ∙ ap (vote_by node vote (counted one) (outputs one) (floor node other) (slot other)) (alike.same_headers vote.round) in
+    ap (λ f. vote_by node vote (counted one) (outputs one) f (slot one) (found one)) (floor_alike node one other alike)
+    ∙ ap (λ s. vote_by node vote (counted one) (outputs one) (floor node other) s (found one)) (alike.same_slots vote.round node.own.0)
+    ∙ ap (vote_by node vote (counted one) (outputs one) (floor node other) (slot other)) (alike.same_headers vote.round) in
     elim (given_or_none (found other)) [
       | inr none ↦
           parts ∙ ap (vote_by node vote (counted one) (outputs one) (floor node other) (slot other)) none
@@ -332,9 +332,9 @@ vote_alike node one other sender vote legal also taken alike =
           let header = held.0 in
           let held_one : found one ≡ Some header = alike.same_headers vote.round ∙ held.1 in
           let adds : added node one event ≡ added node other event =
-              ap (option_and_then (completed node (one ++ event ∷ []))) held_one
-              ∙ completed_alike node one other event alike vote.round header held_one
-              ∙ sym (ap (option_and_then (completed node (other ++ event ∷ []))) held.1) in
+          ap (option_and_then (completed node (one ++ event ∷ []))) held_one
+          ∙ completed_alike node one other event alike vote.round header held_one
+          ∙ sym (ap (option_and_then (completed node (other ++ event ∷ []))) held.1) in
           by_outputs node one other event legal also taken (vote_with node vote (floor node other) header (slot other) (counted other header))
           (vote_outputs_only (is_own node vote.author) (is_low (floor node other) vote.round) (same_digest (header_digest header.body) vote.header) vote (slot other) (counted other header))
           (outputs one header) (outputs other header)
@@ -342,8 +342,8 @@ vote_alike node one other sender vote legal also taken alike =
           ∙ ap (λ c. vote_with node vote (floor node other) header (slot other) (is_some c) (outputs one header)) (alike.same_counted vote.round vote.voter.0 header held_one))
           (ap (vote_by node vote (counted other) (outputs other) (floor node other) (slot other)) held.1)
           (λ longer also_longer.
-              ap (λ c. map (λ d. output.Certificate d) (option_to_list c) ++ order_outputs node one event) (completed_alike node one other event alike vote.round header held_one)
-              ∙ ap (λ o. map (λ d. output.Certificate d) (option_to_list (completed node (other ++ event ∷ []) header)) ++ o) (outputs_alike node one other event alike longer also_longer adds))
+          ap (λ c. map (λ d. output.Certificate d) (option_to_list c) ++ order_outputs node one event) (completed_alike node one other event alike vote.round header held_one)
+          ∙ ap (λ o. map (λ d. output.Certificate d) (option_to_list (completed node (other ++ event ∷ []) header)) ++ o) (outputs_alike node one other event alike longer also_longer adds))
     ]
 
 -- ---- all of them

@@ -15,7 +15,7 @@ use Rattle.wire.specs.declared.message.Message.{Message}
 use Rattle.wire.specs.declared.message.Message.TheVariants as message
 use Rattle.wire.specs.declared.output.Output.{Output}
 use Rattle.wire.specs.declared.output.Output.TheVariants as output
-use Rattle.model.specs.Admitting.{IsLegal, is_own, batch_outputs, header_outputs}
+use Rattle.model.specs.Admitting.{is_own, batch_outputs, header_outputs}
 use Rattle.model.specs.Giving.{is_given, given}
 use Rattle.model.specs.Histories.{History, batches, headers, received, as_batch, as_header, as_certificate}
 use Rattle.model.specs.Holdings.{header_at, voted, completed, certificates, genesis, order}
@@ -42,10 +42,10 @@ completed_stays node history sender (message.Vote vote) adds header certificate 
           let of = completed-header node history header certificate made in
           let first = map genesis (numbers (size_of node)) in
           let inside' : Contains (certificates node history) certificate =
-              Contains-append_right (first ++ received history) (filter_map (completed node history) (headers history)) certificate
-              (Contains-makes (completed node history) (headers history) header certificate inside made) in
+          Contains-append_right (first ++ received history) (filter_map (completed node history) (headers history)) certificate
+          (Contains-makes (completed node history) (headers history) header certificate inside made) in
           let in_slot : is_of_slot vote.round node.own.0 certificate.header ≡ true =
-              ap (is_of_slot vote.round node.own.0) of ∙ ap (λ a. is_of_slot vote.round a header.body) (sym own) ∙ on in
+          ap (is_of_slot vote.round node.own.0) of ∙ ap (λ a. is_of_slot vote.round a header.body) (sym own) ∙ on in
           absurd (nothing_found (λ c. is_of_slot vote.round node.own.0 c.header) (certificates node history) certificate new.free inside' in_slot)
       | inr other ↦ completed-other node history sender vote header other ∙ made
     ]
@@ -69,12 +69,12 @@ certificate_stays node history event certificate adds inside =
     let own = filter_map (completed node later) (headers later) in
     elim (Contains-append_cases (first ++ received history) (filter_map (completed node history) (headers history)) certificate inside) [
       | inl front ↦ elim (Contains-append_cases first (received history) certificate front) [
-          | inl genesis ↦ Contains-append_left (first ++ received later) own certificate (Contains-append_left first (received later) certificate genesis)
-          | inr came ↦
-              let more = Contains-append_left (received history) (option_to_list (as_certificate event.message)) certificate came in
-              let came' = subst (λ l. Contains l certificate) (sym (filter_map-push (λ e. as_certificate e.message) history event)) more in
-              Contains-append_left (first ++ received later) own certificate (Contains-append_right first (received later) certificate came')
-        ]
+        | inl genesis ↦ Contains-append_left (first ++ received later) own certificate (Contains-append_left first (received later) certificate genesis)
+        | inr came ↦
+            let more = Contains-append_left (received history) (option_to_list (as_certificate event.message)) certificate came in
+            let came' = subst (λ l. Contains l certificate) (sym (filter_map-push (λ e. as_certificate e.message) history event)) more in
+            Contains-append_left (first ++ received later) own certificate (Contains-append_right first (received later) certificate came')
+      ]
       | inr made ↦
           let found = Contains-made (completed node history) (headers history) certificate made in
           let more = Contains-append_left (headers history) (option_to_list (as_header event.message)) found.0 found.1 in
@@ -84,7 +84,7 @@ certificate_stays node history event certificate adds inside =
     ]
 
 -- and each header that has a vote
-header_stays : (history : History) (event : Event) (round author : ℕ) (header : Header) → header_at history round author ≡ Some header
+pub header_stays : (history : History) (event : Event) (round author : ℕ) (header : Header) → header_at history round author ≡ Some header
     → header_at (history ++ event ∷ []) round author ≡ Some header
 header_stays history event round author header held = header_at-push history event round author ∙ rw held refl
 
@@ -118,18 +118,18 @@ picked_of form test (x ∷ xs) y inside =
           let found = picked_of form test xs y inside' in (found.0, Contains-later x xs found.0 found.1, found.2, found.3)
     ]
 
-picks : {X Y : Type 0} (form : X → Y) (test : X → Bool) (xs : List X) (x : X) → Contains xs x → test x ≡ true → Contains (map form (filter test xs)) (form x)
+pub picks : {X Y : Type 0} (form : X → Y) (test : X → Bool) (xs : List X) (x : X) → Contains xs x → test x ≡ true → Contains (map form (filter test xs)) (form x)
 picks form test [] x inside passes = absurd (Contains-nothing x inside)
 picks form test (z ∷ xs) x inside passes =
     elim (cases_Bool (test z)) [
       | inl here ↦ elim (Contains-cases z xs x inside) [
-          | inl same ↦ rw here (subst (λ w. Contains (form z ∷ map form (filter test xs)) (form w)) same (Contains-first (map form (filter test xs)) (form z)))
-          | inr rest ↦ rw here (Contains-later (form z) (map form (filter test xs)) (form x) (picks form test xs x rest passes))
-        ]
+        | inl same ↦ rw here (subst (λ w. Contains (form z ∷ map form (filter test xs)) (form w)) same (Contains-first (map form (filter test xs)) (form z)))
+        | inr rest ↦ rw here (Contains-later (form z) (map form (filter test xs)) (form x) (picks form test xs x rest passes))
+      ]
       | inr other ↦ elim (Contains-cases z xs x inside) [
-          | inl same ↦ absurd (true≢false (sym passes ∙ ap test (sym same) ∙ other))
-          | inr rest ↦ rw other (picks form test xs x rest passes)
-        ]
+        | inl same ↦ absurd (true≢false (sym passes ∙ ap test (sym same) ∙ other))
+        | inr rest ↦ rw other (picks form test xs x rest passes)
+      ]
     ]
 
 -- what is given for each element stays given for a longer list
@@ -149,19 +149,19 @@ given_push node o history event adds inside =
     let own_later = map (λ c. output.Certificate c) (filter (is_given node later) (certificates node later)) in
     elim (Contains-append_cases (for_batches ++ for_headers) own o inside) [
       | inl front ↦ elim (Contains-append_cases for_batches for_headers o front) [
-          | inl batch ↦
-              let more = given_longer (batch_outputs node) (batches history) (option_to_list (as_batch event.message)) o batch in
-              let now = subst (λ l. Contains (flat_map (batch_outputs node) l) o) (sym (filter_map-push (λ e. as_batch e.message) history event)) more in
-              Contains-append_left (batches_later ++ headers_later) own_later o (Contains-append_left batches_later headers_later o now)
-          | inr header ↦
-              let more = given_longer (header_outputs node) (headers history) (option_to_list (as_header event.message)) o header in
-              let now = subst (λ l. Contains (flat_map (header_outputs node) l) o) (sym (filter_map-push (λ e. as_header e.message) history event)) more in
-              Contains-append_left (batches_later ++ headers_later) own_later o (Contains-append_right batches_later headers_later o now)
-        ]
+        | inl batch ↦
+            let more = given_longer (batch_outputs node) (batches history) (option_to_list (as_batch event.message)) o batch in
+            let now = subst (λ l. Contains (flat_map (batch_outputs node) l) o) (sym (filter_map-push (λ e. as_batch e.message) history event)) more in
+            Contains-append_left (batches_later ++ headers_later) own_later o (Contains-append_left batches_later headers_later o now)
+        | inr header ↦
+            let more = given_longer (header_outputs node) (headers history) (option_to_list (as_header event.message)) o header in
+            let now = subst (λ l. Contains (flat_map (header_outputs node) l) o) (sym (filter_map-push (λ e. as_header e.message) history event)) more in
+            Contains-append_left (batches_later ++ headers_later) own_later o (Contains-append_right batches_later headers_later o now)
+      ]
       | inr made ↦
           let found = picked_of (λ c. output.Certificate c) (is_given node history) (certificates node history) o made in
           let now = picks (λ c. output.Certificate c) (is_given node later) (certificates node later) found.0
-              (certificate_stays node history event found.0 adds found.1) (is_given-stays node history event found.0 found.2) in
+          (certificate_stays node history event found.0 adds found.1) (is_given-stays node history event found.0 found.2) in
           Contains-append_right (batches_later ++ headers_later) own_later o (subst (λ p. Contains own_later p) found.3 now)
     ]
 
@@ -172,7 +172,7 @@ given_stays node history more o legal = legal-grows node (λ h. Contains (given 
 same_piece : (digests one more : List Digest) (start : ℕ) → digests ≡ take (length digests) (drop start one) → digests ≡ take (length digests) (drop start (one ++ more))
 same_piece digests one more start is =
     let long : length digests ≡ min (length digests) (length one - start) =
-        ap length is ∙ length-take (length digests) (drop start one) ∙ ap (min (length digests)) (length-drop start one) in
+    ap length is ∙ length-take (length digests) (drop start one) ∙ ap (min (length digests)) (length-drop start one) in
     elim (cases_lt (length one) start) [
       | inl past ↦
           let none : length digests ≡ 0 = omega (arith, long, past) in

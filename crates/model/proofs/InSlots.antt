@@ -62,34 +62,34 @@ made_more node history sender (message.Header new) adds certificate header insid
     elim (Contains-append_cases (headers history) (new ∷ []) header inside) [
       | inl old ↦ inl (made_before node history header certificate old before)
       | inr here ↦ elim (Contains-push_cases [] new header here) [
-          | inl none ↦ absurd (Contains-nothing header none)
-          | inr same ↦
-              let unvoted = new_header-unvoted node history new adds.new in
-              let incomplete = unvoted-incomplete node history new (many node adds.legal.sound) (λ voter. each_headed node history adds.legal new.body voter unvoted) in
-              absurd (none-some certificate (sym incomplete ∙ ap (completed node history) same ∙ before))
-        ]
+        | inl none ↦ absurd (Contains-nothing header none)
+        | inr same ↦
+            let unvoted = new_header-unvoted node history new adds.new in
+            let incomplete = unvoted-incomplete node history new (many node adds.legal.sound) (λ voter. each_headed node history adds.legal new.body voter unvoted) in
+            absurd (none-some certificate (sym incomplete ∙ ap (completed node history) same ∙ before))
+      ]
     ]
 made_more node history sender (message.Vote vote) adds certificate header inside made =
     let event : Event = record { sender = sender; message = message.Vote vote } in
     elim (Contains-append_cases (headers history) [] header inside) [
       | inr none ↦ absurd (Contains-nothing header none)
       | inl old ↦ elim (cases_Bool (is_of_slot vote.round vote.author.0 header.body)) [
-          | inr other ↦ inl (made_before node history header certificate old (sym (completed-other node history sender vote header other) ∙ made))
-          | inl on ↦
-              let new = new_vote node history event vote adds.new in
-              let place = slot_is vote.round vote.author.0 header.body on in
-              let own = eqb-true vote.author.0 node.own.0 new.own in
-              let same_header : Some header ≡ Some new.header =
-                  sym (one_header node history adds.legal header old) ∙ ap (λ r. header_at history r header.body.author.0) place.0
-                  ∙ ap (header_at history vote.round) (place.1 ∙ own) ∙ new.held in
-              let same : header ≡ new.header = same_Some header new.header same_header in
-              let of = completed-header node (history ++ event ∷ []) header certificate made in
-              inr (record {
-                is = ap (option_and_then (completed node (history ++ event ∷ []))) new.held ∙ ap (completed node (history ++ event ∷ [])) (sym same) ∙ made;
-                free = ap (λ (h : HeaderBody). slots node history h.round h.author.0) of ∙ ap (λ r. slots node history r header.body.author.0) place.0
-                    ∙ ap (slots node history vote.round) (place.1 ∙ own) ∙ new.free;
-              })
-        ]
+        | inr other ↦ inl (made_before node history header certificate old (sym (completed-other node history sender vote header other) ∙ made))
+        | inl on ↦
+            let new = new_vote node history event vote adds.new in
+            let place = slot_is vote.round vote.author.0 header.body on in
+            let own = eqb-true vote.author.0 node.own.0 new.own in
+            let same_header : Some header ≡ Some new.header =
+            sym (one_header node history adds.legal header old) ∙ ap (λ r. header_at history r header.body.author.0) place.0
+            ∙ ap (header_at history vote.round) (place.1 ∙ own) ∙ new.held in
+            let same : header ≡ new.header = same_Some header new.header same_header in
+            let of = completed-header node (history ++ event ∷ []) header certificate made in
+            inr (record {
+              is = ap (option_and_then (completed node (history ++ event ∷ []))) new.held ∙ ap (completed node (history ++ event ∷ [])) (sym same) ∙ made;
+              free = ap (λ (h : HeaderBody). slots node history h.round h.author.0) of ∙ ap (λ r. slots node history r header.body.author.0) place.0
+                  ∙ ap (slots node history vote.round) (place.1 ∙ own) ∙ new.free;
+            })
+      ]
     ]
 made_more node history sender (message.Certificate received) adds certificate header inside made =
     inl (made_same node history (record { sender = sender; message = message.Certificate received }) refl refl certificate header inside made)
@@ -123,14 +123,14 @@ certificate_more node history event certificate adds inside =
     let later = history ++ event ∷ [] in
     elim (Contains-append_cases (first ++ received later) (filter_map (completed node later) (headers later)) certificate inside) [
       | inl front ↦ elim (Contains-append_cases first (received later) certificate front) [
-          | inl genesis ↦ inl (Contains-append_left (first ++ received history) own certificate (Contains-append_left first (received history) certificate genesis))
-          | inr came ↦
-              let came' = subst (λ l. Contains l certificate) (filter_map-push (λ e. as_certificate e.message) history event) came in
-              elim (Contains-append_cases (received history) (option_to_list (as_certificate event.message)) certificate came') [
-                | inl before ↦ inl (Contains-append_left (first ++ received history) own certificate (Contains-append_right first (received history) certificate before))
-                | inr new ↦ inr (received_more node history event.sender event.message adds certificate new)
-              ]
-        ]
+        | inl genesis ↦ inl (Contains-append_left (first ++ received history) own certificate (Contains-append_left first (received history) certificate genesis))
+        | inr came ↦
+            let came' = subst (λ l. Contains l certificate) (filter_map-push (λ e. as_certificate e.message) history event) came in
+            elim (Contains-append_cases (received history) (option_to_list (as_certificate event.message)) certificate came') [
+              | inl before ↦ inl (Contains-append_left (first ++ received history) own certificate (Contains-append_right first (received history) certificate before))
+              | inr new ↦ inr (received_more node history event.sender event.message adds certificate new)
+            ]
+      ]
       | inr made ↦
           let found = Contains-made (completed node later) (headers later) certificate made in
           let inside' = subst (λ l. Contains l found.0) (filter_map-push (λ e. as_header e.message) history event) found.1 in
@@ -160,12 +160,12 @@ genesis_found (author ∷ authors) certificate inside =
           let place = slot_is certificate.header.round certificate.header.author.0 (genesis author).header here in
           rw here (ap (λ c. Some c) (ap genesis place.1 ∙ sym (genesis_is (author ∷ authors) certificate inside)))
       | inr other ↦ elim (Contains-cases (genesis author) (map genesis authors) certificate inside) [
-          | inl same ↦
-              let here : is_of_slot certificate.header.round certificate.header.author.0 (genesis author).header ≡ true =
-                  ap (λ (c : Certificate). is_of_slot certificate.header.round certificate.header.author.0 c.header) same ∙ of_its_slot certificate.header in
-              rw here (ap (λ c. Some c) same)
-          | inr rest ↦ rw other (genesis_found authors certificate rest)
-        ]
+        | inl same ↦
+            let here : is_of_slot certificate.header.round certificate.header.author.0 (genesis author).header ≡ true =
+            ap (λ (c : Certificate). is_of_slot certificate.header.round certificate.header.author.0 c.header) same ∙ of_its_slot certificate.header in
+            rw here (ap (λ c. Some c) same)
+        | inr rest ↦ rw other (genesis_found authors certificate rest)
+      ]
     ]
 
 nothing_yet : (node : Node) → AreInSlots node []

@@ -9,6 +9,7 @@ pub mod NewEvents
 pub mod OneMore
 pub mod Parents
 pub mod Placing
+pub mod PutOut
 pub mod Ranges
 pub mod SlotsGrow
 pub mod Voters

@@ -1,5 +1,5 @@
 -- Lists, and what is found in them.
-use Rattle.std.proofs.Common.{◌≡◌, Bool, true, cond, List, [], ◌∷◌, ◌++◌, Option, Some, None, ◌⊎◌, inl, inr, refl, ap, sym, ◌∙◌, subst, arith}
+use Rattle.std.proofs.Common.{◌≡◌, Bool, true, List, [], ◌∷◌, ◌++◌, Option, Some, None, ◌⊎◌, inl, inr, refl, ap, sym, ◌∙◌, subst, arith}
 use Rattle.std.specs.Prelude.{find, Contains}
 use Rattle.std.specs.List.{filter_map, cons_option}
 use Rattle.std.specs.Option.{option_or, option_to_list}
@@ -47,9 +47,9 @@ nothing_found test (y ∷ xs) x none inside passes =
     elim (cases_Bool (test y)) [
       | inl here ↦ let bad = rw here at none in absurd cc
       | inr here ↦ elim (Contains-cases y xs x inside) [
-          | inl same ↦ absurd (true≢false (sym passes ∙ ap test (sym same) ∙ here))
-          | inr rest ↦ let later = rw here at none in nothing_found test xs x later rest passes
-        ]
+        | inl same ↦ absurd (true≢false (sym passes ∙ ap test (sym same) ∙ here))
+        | inr rest ↦ let later = rw here at none in nothing_found test xs x later rest passes
+      ]
     ]
 
 -- what is found passes, and is of the list

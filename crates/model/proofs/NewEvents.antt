@@ -31,7 +31,6 @@ pub record IsNewVote (node : Node) (history : History) (vote : Vote) : Type 0 wh
   pub free : slots node history vote.round node.own.0 ≡ None
   pub uncounted : vote_on node history header.body vote.voter.0 ≡ None
 
-
 new_vote-own : (node : Node) (history : History) (event : Event) (vote : Vote) → is_new (vote_answer node history event vote) ≡ true → is_own node vote.author ≡ true
 new_vote-own node history event vote h = grind (arith, h, common_steps)
 
@@ -54,12 +53,12 @@ pub new_vote : (node : Node) (history : History) (event : Event) (vote : Vote) �
 new_vote node history event vote h =
     elim (given_or_none (header_at history vote.round node.own.0)) [
       | inl found ↦ record {
-          own = new_vote-own node history event vote h;
-          header = found.0;
-          held = found.1;
-          same = new_vote-same node history event vote found.0 found.1 h;
-          free = new_vote-free node history event vote found.0 found.1 h;
-          uncounted = new_vote-uncounted node history event vote found.0 found.1 h;
-        }
+        own = new_vote-own node history event vote h;
+        header = found.0;
+        held = found.1;
+        same = new_vote-same node history event vote found.0 found.1 h;
+        free = new_vote-free node history event vote found.0 found.1 h;
+        uncounted = new_vote-uncounted node history event vote found.0 found.1 h;
+      }
       | inr none ↦ absurd (new_vote-headed node history event vote none h)
     ]

@@ -103,7 +103,7 @@ pub unvoted-incomplete : (node : Node) (history : History) (header : Header) →
     → completed node history header ≡ None
 unvoted-incomplete node history header many none =
     let few = few_made (entry_on node history header.body) node.own.0
-        (λ voter other. let gone = none voter in rw (other, gone) refl) 0 (size_of node) in
+    (λ voter other. let gone = none voter in rw (other, gone) refl) 0 (size_of node) in
     elim (cases_Bool ((header.body.author.0 == node.own.0) && nat_le (quorum node) (length (votes_on node history header.body)))) [
       | inl is ↦
           let parts = and_parts (header.body.author.0 == node.own.0) (nat_le (quorum node) (length (votes_on node history header.body))) is in
@@ -122,24 +122,24 @@ found_made make of round author (header ∷ rest) one =
     let later = found_made make of round author rest (λ h g inside also. one h g (Contains-later header rest h inside) (Contains-later header rest g also)) in
     elim (cases_Bool (is_of_slot round author header.body)) [
       | inl here ↦ elim (given_or_none (make header)) [
-          | inl made ↦
-              let passes : is_of_slot round author made.0.header ≡ true = ap (is_of_slot round author) (of header made.0 made.1) ∙ here in
-              rw (here, made.1) (rw passes refl)
-          | inr none ↦
-              rw (here, none) (later ∙ elim (given_or_none (find (λ h. is_of_slot round author h.body) rest)) [
-                | inl found ↦
-                    let facts = found_passes (λ h. is_of_slot round author h.body) rest found.0 found.1 in
-                    let same : found.0 ≡ header = one found.0 header (Contains-later header rest found.0 facts.1) (Contains-first rest header) facts.0 here in
-                    ap (option_and_then make) found.1 ∙ ap make same ∙ none
-                | inr nothing ↦ ap (option_and_then make) nothing
-              ])
-        ]
+        | inl made ↦
+            let passes : is_of_slot round author made.0.header ≡ true = ap (is_of_slot round author) (of header made.0 made.1) ∙ here in
+            rw (here, made.1) (rw passes refl)
+        | inr none ↦
+            rw (here, none) (later ∙ elim (given_or_none (find (λ h. is_of_slot round author h.body) rest)) [
+              | inl found ↦
+                  let facts = found_passes (λ h. is_of_slot round author h.body) rest found.0 found.1 in
+                  let same : found.0 ≡ header = one found.0 header (Contains-later header rest found.0 facts.1) (Contains-first rest header) facts.0 here in
+                  ap (option_and_then make) found.1 ∙ ap make same ∙ none
+              | inr nothing ↦ ap (option_and_then make) nothing
+            ])
+      ]
       | inr other ↦ elim (given_or_none (make header)) [
-          | inl made ↦
-              let passes : is_of_slot round author made.0.header ≡ false = ap (is_of_slot round author) (of header made.0 made.1) ∙ other in
-              rw (other, made.1) (rw passes later)
-          | inr none ↦ rw (other, none) later
-        ]
+        | inl made ↦
+            let passes : is_of_slot round author made.0.header ≡ false = ap (is_of_slot round author) (of header made.0 made.1) ∙ other in
+            rw (other, made.1) (rw passes later)
+        | inr none ↦ rw (other, none) later
+      ]
     ]
 
 -- the certificate of the own header of a slot
@@ -156,11 +156,11 @@ slots-parts node history round author only =
     let at : Certificate → Bool = λ c. is_of_slot round author c.header in
     let own = filter_map (completed node history) (headers history) in
     let one : (h g : Header) → Contains (headers history) h → Contains (headers history) g → is_of_slot round author h.body ≡ true → is_of_slot round author g.body ≡ true → h ≡ g =
-        λ h g inside also on also_on.
-            let place = slot_is round author h.body on in
-            let other = slot_is round author g.body also_on in
-            same_Some h g (sym (only h inside) ∙ ap (λ r. header_at history r h.body.author.0) (place.0 ∙ sym other.0)
-            ∙ ap (header_at history g.body.round) (place.1 ∙ sym other.1) ∙ only g also) in
+    λ h g inside also on also_on.
+    let place = slot_is round author h.body on in
+    let other = slot_is round author g.body also_on in
+    same_Some h g (sym (only h inside) ∙ ap (λ r. header_at history r h.body.author.0) (place.0 ∙ sym other.0)
+    ∙ ap (header_at history g.body.round) (place.1 ∙ sym other.1) ∙ only g also) in
     find-append at (map genesis (numbers (size_of node)) ++ received history) own
     ∙ ap (λ o. option_or o (find at own)) (find-append at (map genesis (numbers (size_of node))) (received history))
     ∙ or_assoc (first_at node round author) (slots_of (received history) round author) (find at own)
@@ -179,7 +179,7 @@ own_at-same : (node : Node) (history : History) (event : Event) (round author : 
     → own_at node (history ++ event ∷ []) round author ≡ own_at node history round author
 own_at-same node history event round author no_header no_vote =
     let headed : header_at (history ++ event ∷ []) round author ≡ header_at history round author =
-        header_at-push history event round author ∙ rw no_header (or_none (header_at history round author)) in
+    header_at-push history event round author ∙ rw no_header (or_none (header_at history round author)) in
     ap (option_and_then (completed node (history ++ event ∷ []))) headed
     ∙ ap (λ (make : Header → Option Certificate). option_and_then make (header_at history round author))
     (fun_ext (λ header. completed-same node history event header (λ voter. rw no_vote refl)))
@@ -192,7 +192,7 @@ free_parts one two three h = let first = neither one (option_or two three) h in 
 slot_more : (node : Node) (history : History) (event : Event) (round author : ℕ) → IsOnly history → IsOnly (history ++ event ∷ [])
     → (add : Option Certificate)
     → option_or (first_at node round author) (option_or (option_or (slots_of (received history) round author) (slots_of (option_to_list (as_certificate event.message)) round author)) (own_at node (history ++ event ∷ []) round author))
-      ≡ option_or (option_or (first_at node round author) (option_or (slots_of (received history) round author) (own_at node history round author))) add
+    ≡ option_or (option_or (first_at node round author) (option_or (slots_of (received history) round author) (own_at node history round author))) add
     → slots node (history ++ event ∷ []) round author ≡ option_or (slots node history round author) add
 slot_more node history event round author before after add h =
     slots-parts node (history ++ event ∷ []) round author after
@@ -225,7 +225,7 @@ header_at-unvoted : (node : Node) (history : History) (event : Event) (header : 
     → own_at node (history ++ event ∷ []) round author ≡ own_at node history round author
 header_at-unvoted node history event header round author is no_vote unvoted incomplete =
     let later : header_at (history ++ event ∷ []) round author ≡ option_or (header_at history round author) (cond (is_of_slot round author header.body) (Some header) None) =
-        header_at-push history event round author ∙ rw is refl in
+    header_at-push history event round author ∙ rw is refl in
     ap (λ (make : Header → Option Certificate). option_and_then make (header_at (history ++ event ∷ []) round author))
     (fun_ext (λ h. completed-same node history event h (λ voter. rw no_vote refl)))
     ∙ ap (option_and_then (completed node history)) later
@@ -233,7 +233,7 @@ header_at-unvoted node history event header round author is no_vote unvoted inco
       | inl here ↦
           let place = slot_is round author header.body here in
           let none : header_at history round author ≡ None =
-              ap (λ r. header_at history r author) (sym place.0) ∙ ap (header_at history header.body.round) (sym place.1) ∙ unvoted in
+          ap (λ r. header_at history r author) (sym place.0) ∙ ap (header_at history header.body.round) (sym place.1) ∙ unvoted in
           rw (here, none) incomplete
       | inr other ↦ rw other (ap (option_and_then (completed node history)) (or_none (header_at history round author)))
     ]
@@ -331,15 +331,15 @@ slots_more node history sender (message.Vote vote) adds before after round autho
           let same_round : round ≡ vote.round = sym place.0 ∙ own_slot.0 in
           let same_author : author ≡ node.own.0 = sym place.1 ∙ own_slot.1 in
           let headed : header_at (history ++ event ∷ []) round author ≡ Some new.header =
-              header_at-push history event round author ∙ or_none (header_at history round author)
-              ∙ ap (λ r. header_at history r author) same_round ∙ ap (header_at history vote.round) same_author ∙ new.held in
+          header_at-push history event round author ∙ or_none (header_at history round author)
+          ∙ ap (λ r. header_at history r author) same_round ∙ ap (header_at history vote.round) same_author ∙ new.held in
           let free : slots node history round author ≡ None = ap (λ r. slots node history r author) same_round ∙ ap (slots node history vote.round) same_author ∙ new.free in
           made_in _ _ _ _ _ (ap (option_and_then makes) headed
           ∙ sym (ap (λ o. slots_of (option_to_list o) round author) adding ∙ in_its_slot node (history ++ event ∷ []) new.header round author here))
           (sym (slots-parts node history round author before) ∙ free)
       | inr other ↦
           let nothing : slots_of (option_to_list (added node history event)) round author ≡ None =
-              ap (λ o. slots_of (option_to_list o) round author) adding ∙ in_another node (history ++ event ∷ []) new.header round author other in
+          ap (λ o. slots_of (option_to_list o) round author) adding ∙ in_another node (history ++ event ∷ []) new.header round author other in
           rw nothing (unchanged _ _ _ _ (own_at-other node history sender vote round author
           (λ h held. vote_elsewhere vote node.own.0 round author new.header.body (eqb-true _ _ new.own) own_slot.0 own_slot.1 other h.body
           (found_passes (λ g. is_of_slot round author g.body) (headers history) h held).0)))
@@ -352,7 +352,7 @@ slots_more node history sender (message.Certificate certificate) adds before aft
       | inl here ↦
           let place = slot_is round author certificate.header here in
           let free : slots node history round author ≡ None =
-              ap (λ r. slots node history r author) (sym place.0) ∙ ap (slots node history certificate.header.round) (sym place.1) ∙ new_certificate-free node history event certificate adds.new in
+          ap (λ r. slots node history r author) (sym place.0) ∙ ap (slots node history certificate.header.round) (sym place.1) ∙ new_certificate-free node history event certificate adds.new in
           put_in _ _ _ _ _ same (sym (slots-parts node history round author before) ∙ free)
       | inr other ↦ rw other (unchanged _ _ _ _ same)
     ])

@@ -50,7 +50,7 @@ only_more node history sender (message.Header new) fresh only header inside =
       | inr same ↦
           let unvoted = new_header-unvoted node history new fresh in
           let here : option_or (header_at history new.body.round new.body.author.0) (find (λ h. is_of_slot new.body.round new.body.author.0 h.body) (new ∷ [])) ≡ Some new =
-              rw (unvoted, of_its_slot new.body) refl in
+          rw (unvoted, of_its_slot new.body) refl in
           subst (λ h. option_or (header_at history h.body.round h.body.author.0) (find (λ g. is_of_slot h.body.round h.body.author.0 g.body) (new ∷ [])) ≡ Some h) same here
     ]
 only_more node history sender (message.Batch batch) fresh only header inside = absurd (Contains-nothing header inside)

@@ -1,5 +1,5 @@
 -- What is said of histories, mostly of legal ones.
-use Rattle.std.specs.Prelude.{◌≡◌, ℕ, Option, Some, None, List, [], ◌∷◌, ◌++◌, Contains, find, option_and_then}
+use Rattle.std.specs.Prelude.{◌≡◌, ℕ, Option, Some, None, List, [], ◌∷◌, ◌++◌, All, Contains, find, option_and_then, ⊤}
 use Rattle.std.specs.Option.{option_or, option_to_list}
 use Rattle.wire.specs.declared.message.Message.TheVariants as message
 use Rattle.model.specs.Admitting.{admit, IsTaken, IsLegal}
@@ -8,6 +8,8 @@ use Rattle.model.specs.Histories.{History, batches, acks, headers, votes, receiv
 use Rattle.model.specs.Holdings.{batch_digest, batch_at, is_vote_on, header_at, has_acked, voted, vote_on, completed, certificates, slots, order}
 use Rattle.model.specs.Nodes.{Node}
 use Rattle.model.specs.Slots.{same_digest, is_of_slot, slots_of}
+use Rattle.model.specs.declared.admission.Admission.{Admission}
+use Rattle.model.specs.declared.admission.Admission.TheVariants.{New, Known, Refused}
 use Rattle.model.specs.Words.{Certificate, Digest, Event, Header, HeaderBody, Message, Output}
 
 -- a legal history has one vote an author and round
@@ -72,6 +74,16 @@ pub record AreAlike (node : Node) (one other : History) : Type 0 where
 abbrev pub AnswersAlike : Type 0
 AnswersAlike = (node : Node) (one other : History) (event : Event) → IsLegal node one → IsLegal node other → IsTaken node event
     → AreAlike node one other → admit node one event ≡ admit node other event
+
+-- what an answer puts out may be given out: at the history with the event where it is new, and else at the history
+abbrev pub PutsOutGiven : Node → History → Event → Admission → Type 0
+PutsOutGiven node history event (New outputs) = All (MayGive node (history ++ event ∷ [])) outputs
+PutsOutGiven node history event (Known outputs) = All (MayGive node history) outputs
+PutsOutGiven node history event (Refused refusal) = ⊤
+
+-- and so are all answers, at legal histories or not
+abbrev pub OutputsGiven : Type 0
+OutputsGiven = (node : Node) (history : History) (event : Event) → PutsOutGiven node history event (admit node history event)
 
 -- one list is a beginning of another
 pub record Begins {X : Type 0} (one other : List X) : Type 0 where

@@ -380,3 +380,21 @@ pub fn answers<S: Sign>(
     }
     Ok(found)
 }
+
+/// Whether events are each new at those before them.
+pub fn each_new<S: Sign>(
+    alloc: Global,
+    node: &Node<S>,
+    events: Vec<Event>,
+) -> Result<bool, AllocError>
+    ensures { IfOk result (λ found. found ≡ admitting.each_new (seen S.signature_of node.now) [] events.items) }
+{
+    let mut history = Vec::new(alloc);
+    for event in events {
+        history.push(event)?;
+        if !admit_last(alloc, node, &history)?.is_new() {
+            return Ok(false);
+        }
+    }
+    Ok(true)
+}

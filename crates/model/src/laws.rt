@@ -1,6 +1,6 @@
 //! What holds of legal histories, proved of the definitions: each is what a function without a body ensures.
 
-ghost use Rattle.model.specs.Laws.{OneVote, OneCertificate, OneMore, SlotsGrow, AnswersAlike, GivenStays, GivenGrows};
+ghost use Rattle.model.specs.Laws.{OneVote, OneCertificate, OneMore, SlotsGrow, AnswersAlike, OutputsGiven, GivenStays, GivenGrows};
 
 /// A legal history has one vote an author and round.
 pub fn one_vote()
@@ -27,6 +27,11 @@ pub fn slots_grow()
 /// certificates and coins answer each event alike.
 pub fn answers_alike()
     ensures { AnswersAlike }
+{}
+
+/// What a new event puts out may be given out at the history with it, and what a known one puts out at the history.
+pub fn outputs_given()
+    ensures { OutputsGiven }
 {}
 
 /// What may be given out at a legal history may be given out at each that it begins: the order too, where it

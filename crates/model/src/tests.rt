@@ -1,11 +1,14 @@
 //! Small ledgers, and what they hold.
 
 use super::*;
-use crate::admitting::answers;
+use crate::admitting::{answers, each_new};
 use crate::certificates::{certificates, floor, order, round_by, votes_on};
 use crate::histories::{acks, batches, coins, headers, received, votes};
 use crate::holdings::{
     all_held, has_acked, header_at, is_available, is_full, is_low, vote_for, vote_on, voted,
+};
+use crate::laws::{
+    answers_alike, given_grows, one_certificate, one_more, one_vote, outputs_given, slots_grow,
 };
 use crate::ordering::{committed, leader, top};
 use crate::slots::{digest_of, is_parent, reaches, slot};
@@ -506,6 +509,28 @@ fn a_header_gets_one_vote(rt: HostRuntime) -> Result<(), Fail> {
         text.as_str(),
         "new vote 1 0\nknown vote 1 0\nrefused 6 Equivocation\n"
     );
+    Ok(())
+}
+
+#[test]
+fn events_are_each_new_or_not(rt: HostRuntime) -> Result<(), Fail> {
+    let alloc = rt.alloc();
+    let node = node(alloc, "50")?;
+    let mut events = Vec::new(alloc);
+    add_header(alloc, &node, &mut events, 1, &[0, 1, 2], None)?;
+    add_header(alloc, &node, &mut events, 2, &[0, 1, 2], None)?;
+    assert!(rt; each_new(alloc, &node, events)?);
+    let mut events = Vec::new(alloc);
+    add_header(alloc, &node, &mut events, 1, &[0, 1, 2], None)?;
+    add_header(alloc, &node, &mut events, 1, &[0, 1, 2], None)?;
+    assert!(rt; !each_new(alloc, &node, events)?);
+    one_vote();
+    one_certificate();
+    one_more();
+    slots_grow();
+    answers_alike();
+    outputs_given();
+    given_grows();
     Ok(())
 }
 
