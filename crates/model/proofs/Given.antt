@@ -15,11 +15,11 @@ use Rattle.wire.specs.declared.message.Message.{Message}
 use Rattle.wire.specs.declared.message.Message.TheVariants as message
 use Rattle.wire.specs.declared.output.Output.{Output}
 use Rattle.wire.specs.declared.output.Output.TheVariants as output
-use Rattle.model.specs.Admitting.{is_own, batch_outputs, header_outputs}
+use Rattle.model.specs.Admitting.{IsLegal, is_own, batch_outputs, header_outputs}
 use Rattle.model.specs.Giving.{is_given, given}
 use Rattle.model.specs.Histories.{History, batches, headers, received, as_batch, as_header, as_certificate}
 use Rattle.model.specs.Holdings.{header_at, voted, completed, certificates, genesis, order}
-use Rattle.model.specs.Laws.{GivenStays, GivenGrows}
+use Rattle.model.specs.Laws.{OrderGrows, GivenGrows}
 use Rattle.model.specs.Nodes.{Node, size_of, numbers}
 use Rattle.model.specs.Slots.{is_of_slot, same_digest, header_digest}
 use Rattle.model.proofs.Legal.{Adds, legal-grows}
@@ -165,7 +165,7 @@ given_push node o history event adds inside =
           Contains-append_right (batches_later ++ headers_later) own_later o (subst (λ p. Contains own_later p) found.3 now)
     ]
 
-pub given_stays : GivenStays
+given_stays : (node : Node) (history more : History) (output : Output) → IsLegal node (history ++ more) → Contains (given node history) output → Contains (given node (history ++ more)) output
 given_stays node history more o legal = legal-grows node (λ h. Contains (given node h) o) (given_push node o) history more legal
 
 -- a piece of a list is one of each list that it begins
@@ -182,15 +182,16 @@ same_piece digests one more start is =
           is ∙ sym (take-append-le (length digests) (drop start one) more few) ∙ ap (take (length digests)) (sym (drop-append-le start one more within))
     ]
 
-pub given_grows : GivenGrows
-given_grows node history more (output.Order start digests) legal grown may =
+pub given_grows : OrderGrows → GivenGrows
+given_grows grows node history more (output.Order start digests) legal may =
+    let grown = grows node history more legal in
     record {
       some = may.some;
       few = may.few;
       stands = subst (λ l. digests ≡ take (length digests) (drop start l)) (sym grown.parts) (same_piece digests (order node history) grown.rest start may.stands);
     }
-given_grows node history more (output.Batch batch) legal grown may = given_stays node history more (output.Batch batch) legal may
-given_grows node history more (output.Ack to ack) legal grown may = given_stays node history more (output.Ack to ack) legal may
-given_grows node history more (output.Header header) legal grown may = given_stays node history more (output.Header header) legal may
-given_grows node history more (output.Vote vote) legal grown may = given_stays node history more (output.Vote vote) legal may
-given_grows node history more (output.Certificate certificate) legal grown may = given_stays node history more (output.Certificate certificate) legal may
+given_grows grows node history more (output.Batch batch) legal may = given_stays node history more (output.Batch batch) legal may
+given_grows grows node history more (output.Ack to ack) legal may = given_stays node history more (output.Ack to ack) legal may
+given_grows grows node history more (output.Header header) legal may = given_stays node history more (output.Header header) legal may
+given_grows grows node history more (output.Vote vote) legal may = given_stays node history more (output.Vote vote) legal may
+given_grows grows node history more (output.Certificate certificate) legal may = given_stays node history more (output.Certificate certificate) legal may

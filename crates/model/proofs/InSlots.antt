@@ -143,7 +143,7 @@ AreInSlots node history = (certificate : Certificate) → Contains (certificates
     → slots node history certificate.header.round certificate.header.author.0 ≡ Some certificate
 
 -- so are those of the genesis
-genesis_is : (authors : List ℕ) (certificate : Certificate) → Contains (map genesis authors) certificate → certificate ≡ genesis certificate.header.author.0
+pub genesis_is : (authors : List ℕ) (certificate : Certificate) → Contains (map genesis authors) certificate → certificate ≡ genesis certificate.header.author.0
 genesis_is [] certificate inside = absurd (Contains-nothing certificate inside)
 genesis_is (author ∷ authors) certificate inside =
     elim (Contains-cases (genesis author) (map genesis authors) certificate inside) [

@@ -1,12 +1,17 @@
 pub mod Alike
+pub mod Closed
 pub mod Given
+pub mod Growing
 pub mod InSlots
 pub mod Items
 pub mod Lasts
 pub mod Legal
 pub mod Lists
+pub mod Meeting
 pub mod NewEvents
 pub mod OneMore
+pub mod OrderGrows
+pub mod OrderLonger
 pub mod Parents
 pub mod Placing
 pub mod PutOut

@@ -3,7 +3,7 @@ use Rattle.std.specs.Prelude.{◌≡◌, ℕ, Option, Some, None, List, [], ◌�
 use Rattle.std.specs.Option.{option_or, option_to_list}
 use Rattle.wire.specs.declared.message.Message.TheVariants as message
 use Rattle.model.specs.Admitting.{admit, IsTaken, IsLegal}
-use Rattle.model.specs.Giving.{given, MayGive}
+use Rattle.model.specs.Giving.{MayGive}
 use Rattle.model.specs.Histories.{History, batches, acks, headers, votes, received, coins, as_batch, as_ack, as_header, as_vote, as_certificate, as_coin}
 use Rattle.model.specs.Holdings.{batch_digest, batch_at, is_vote_on, header_at, has_acked, voted, vote_on, completed, certificates, slots, order}
 use Rattle.model.specs.Nodes.{Node}
@@ -90,18 +90,12 @@ pub record Begins {X : Type 0} (one other : List X) : Type 0 where
   pub rest : List X
   pub parts : other ≡ one ++ rest
 
--- the order only grows at its end: this isn't proved yet
+-- the order of a legal history begins that of each history that it begins
 abbrev pub OrderGrows : Type 0
 OrderGrows = (node : Node) (history more : History) → IsLegal node (history ++ more)
     → Begins (order node history) (order node (history ++ more))
 
--- what may be given out stays so, but for the order
-abbrev pub GivenStays : Type 0
-GivenStays = (node : Node) (history more : History) (output : Output) → IsLegal node (history ++ more)
-    → Contains (given node history) output → Contains (given node (history ++ more)) output
-
--- what may be given out stays so, the order too, where the order has only grown at its end
+-- what may be given out at a legal history may be given out at each that it begins
 abbrev pub GivenGrows : Type 0
 GivenGrows = (node : Node) (history more : History) (output : Output) → IsLegal node (history ++ more)
-    → Begins (order node history) (order node (history ++ more))
     → MayGive node history output → MayGive node (history ++ more) output

@@ -1,6 +1,6 @@
 //! What holds of legal histories, proved of the definitions: each is what a function without a body ensures.
 
-ghost use Rattle.model.specs.Laws.{OneVote, OneCertificate, OneMore, SlotsGrow, AnswersAlike, OutputsGiven, GivenStays, GivenGrows};
+ghost use Rattle.model.specs.Laws.{OneVote, OneCertificate, OneMore, SlotsGrow, AnswersAlike, OutputsGiven, OrderGrows, GivenGrows};
 
 /// A legal history has one vote an author and round.
 pub fn one_vote()
@@ -34,9 +34,12 @@ pub fn outputs_given()
     ensures { OutputsGiven }
 {}
 
-/// What may be given out at a legal history may be given out at each that it begins: the order too, where it
-/// has only grown at its end.
+/// The order of a legal history begins that of each history that it begins.
+pub fn order_grows()
+    ensures { OrderGrows }
+{}
+
+/// What may be given out at a legal history may be given out at each that it begins.
 pub fn given_grows()
-    ensures stays { GivenStays }
-    ensures grows { GivenGrows }
+    ensures { GivenGrows }
 {}

@@ -8,7 +8,8 @@ use crate::holdings::{
     all_held, has_acked, header_at, is_available, is_full, is_low, vote_for, vote_on, voted,
 };
 use crate::laws::{
-    answers_alike, given_grows, one_certificate, one_more, one_vote, outputs_given, slots_grow,
+    answers_alike, given_grows, one_certificate, one_more, one_vote, order_grows, outputs_given,
+    slots_grow,
 };
 use crate::ordering::{committed, leader, top};
 use crate::slots::{digest_of, is_parent, reaches, slot};
@@ -530,6 +531,7 @@ fn events_are_each_new_or_not(rt: HostRuntime) -> Result<(), Fail> {
     slots_grow();
     answers_alike();
     outputs_given();
+    order_grows();
     given_grows();
     Ok(())
 }

@@ -1,0 +1,248 @@
+-- The order of slots begins that of slots which extend them.
+use Rattle.std.proofs.Common.{◌≡◌, ℕ, zero, suc, ◌+◌, ◌-◌, ◌*◌, ◌%◌, ◌<◌, ◌≤◌, true, List, [], ◌∷◌, ◌++◌, map, length, Some, None, inl, inr, refl, ap, sym, ◌∙◌, subst, arith}
+use Rattle.std.specs.Prelude.{Contains, slice_get}
+use Rattle.std.specs.Option.{option_map_or}
+use Rattle.std.proofs.lemmas.Bool.{cases_Bool, cases_lt, true≢false}
+use Rattle.std.proofs.lemmas.Option.{same_Some, none-some}
+use Rattle.std.proofs.lemmas.List.{append_assoc, append-nil, length-append, map-append}
+use Rattle.std.proofs.lemmas.Nat.{mod_below}
+use Rattle.std.proofs.lemmas.List.Elements.{Contains-push_cases}
+use Rattle.committee.specs.Shared.{QuorumMeetsSupport}
+use Rattle.model.specs.Laws.{Begins}
+use Rattle.model.specs.Ordering.{leader, has_support, is_committed, top_to, top, chain_to, chain, segments, committed, order_by}
+use Rattle.model.specs.Slots.{Slots, certificate_digest, reaches}
+use Rattle.model.specs.Words.{Certificate, Digest}
+use Rattle.model.proofs.Growing.{AreInPlace, Extends, IsIn, segments_same, segments-append, leader_kept, leader_in, chain_same, committed_kept}
+use Rattle.model.proofs.Lists.{given_or_none, Contains-nothing}
+use Rattle.model.proofs.Meeting.{AreRooted, reaches_leader}
+use Rattle.model.proofs.Votes.{slot_is}
+
+-- ---- the greatest committed wave
+
+-- it is committed, and within
+pub record IsTop (n : ℕ) (slots : Slots) (coins : List ℕ) (most wave : ℕ) : Type 0 where
+  pub some : 0 < wave
+  pub within : wave ≤ most
+  pub is : is_committed n slots coins wave ≡ true
+
+pub is_top_of : (n : ℕ) (slots : Slots) (coins : List ℕ) (most wave : ℕ) → top_to n slots coins most ≡ Some wave → IsTop n slots coins most wave
+is_top_of n slots coins zero wave found = absurd cc
+is_top_of n slots coins (suc most) wave found =
+    elim (cases_Bool (is_committed n slots coins (suc most))) [
+      | inl here ↦
+          let found' = rw here at found in
+          let same : suc most ≡ wave = same_Some (suc most) wave found' in
+          record { some = omega (arith, same); within = omega (arith, same); is = subst (λ w. is_committed n slots coins w ≡ true) same here }
+      | inr other ↦
+          let found' = rw other at found in
+          let lower = is_top_of n slots coins most wave found' in
+          record { some = lower.some; within = omega (arith, lower.within); is = lower.is }
+    ]
+
+-- where a wave is committed, the greatest one is no lower
+top_above : (n : ℕ) (slots : Slots) (coins : List ℕ) (most wave : ℕ) → 0 < wave → wave ≤ most → is_committed n slots coins wave ≡ true
+    → (greatest : ℕ) × (top_to n slots coins most ≡ Some greatest) × (wave ≤ greatest)
+top_above n slots coins zero wave some within is = absurd (omega (arith, some, within))
+top_above n slots coins (suc most) wave some within is =
+    elim (cases_Bool (is_committed n slots coins (suc most))) [
+      | inl here ↦ (suc most, rw here refl, within)
+      | inr other ↦ elim (cases_lt most wave) [
+        | inl last ↦
+            let same : wave ≡ suc most = omega (arith, last, within) in
+            absurd (true≢false (sym is ∙ ap (is_committed n slots coins) same ∙ other))
+        | inr lower ↦ let found = top_above n slots coins most wave some lower is in (found.0, rw other found.1, found.2)
+      ]
+    ]
+
+-- a committed wave has a leader with support
+committed_leader : (n : ℕ) (slots : Slots) (coins : List ℕ) (wave : ℕ) → is_committed n slots coins wave ≡ true
+    → (c : Certificate) × (leader n slots coins wave ≡ Some c) × (has_support n slots c ≡ true)
+committed_leader n slots coins wave is =
+    elim (given_or_none (leader n slots coins wave)) [
+      | inl found ↦ let supported = rw found.1 at is in (found.0, found.1, supported)
+      | inr none ↦ let nothing = rw none at is in absurd cc
+    ]
+
+-- the leader of a wave has its first round, and a member as its author
+pub leader_place : (n : ℕ) (slots : Slots) (coins : List ℕ) (wave : ℕ) (c : Certificate) → 0 < n → AreInPlace slots → leader n slots coins (suc wave) ≡ Some c
+    → (c.header.round ≡ 2 * wave + 1) × (c.header.author.0 < n)
+leader_place n slots coins wave c some placed is =
+    elim (given_or_none (slice_get coins wave)) [
+      | inl coin ↦
+          let held = rw coin.1 at is in
+          let place = slot_is (2 * wave + 1) (coin.0 % n) c.header (placed (2 * wave + 1) (coin.0 % n) c held) in
+          (place.0, subst (λ a. a < n) (sym place.1) (mod_below coin.0 n some))
+      | inr none ↦ let nothing = rw none at is in absurd cc
+    ]
+
+-- ---- the chain
+
+-- it ends with its leader
+chain_ends : (n : ℕ) (slots : Slots) (coins : List ℕ) (wave : ℕ) (last : Certificate) → (front : List Certificate) × (chain_to n slots coins wave last ≡ front ++ last ∷ [])
+chain_ends n slots coins zero last = ([], refl)
+chain_ends n slots coins (suc wave) last =
+    elim (given_or_none (leader n slots coins (suc wave))) [
+      | inl earlier ↦ elim (cases_Bool (reaches n slots last earlier.0)) [
+        | inl reached ↦ (chain_to n slots coins wave earlier.0, rw (earlier.1, reached) refl)
+        | inr missed ↦ let lower = chain_ends n slots coins wave last in (lower.0, rw (earlier.1, missed) lower.1)
+      ]
+      | inr none ↦ let lower = chain_ends n slots coins wave last in (lower.0, rw none lower.1)
+    ]
+
+-- its leaders are held
+chain_held : (n : ℕ) (slots : Slots) (coins : List ℕ) → AreInPlace slots → (wave : ℕ) (last c : Certificate) → IsIn slots last → Contains (chain_to n slots coins wave last) c → IsIn slots c
+chain_held n slots coins placed zero last c held inside =
+    elim (Contains-push_cases [] last c inside) [ inl none ↦ absurd (Contains-nothing c none) | inr same ↦ subst (IsIn slots) same held ]
+chain_held n slots coins placed (suc wave) last c held inside =
+    elim (given_or_none (leader n slots coins (suc wave))) [
+      | inl earlier ↦ elim (cases_Bool (reaches n slots last earlier.0)) [
+        | inl reached ↦
+            let inside' = rw (earlier.1, reached) at inside in
+            elim (Contains-push_cases (chain_to n slots coins wave earlier.0) last c inside') [
+              | inl before ↦ chain_held n slots coins placed wave earlier.0 c (leader_in n slots coins (suc wave) earlier.0 placed earlier.1) before
+              | inr same ↦ subst (IsIn slots) same held
+            ]
+        | inr missed ↦ let inside' = rw (earlier.1, missed) at inside in chain_held n slots coins placed wave last c held inside'
+      ]
+      | inr none ↦ let inside' = rw none at inside in chain_held n slots coins placed wave last c held inside'
+    ]
+
+-- what is given of a committee, of slots that extend others, and of coins
+pub record IsLonger (n : ℕ) (before after : Slots) (coins : List ℕ) : Type 0 where
+  pub f : ℕ
+  pub size : n ≡ 3 * f + 1
+  pub meets : QuorumMeetsSupport
+  pub ext : Extends before after
+  -- what stands above a leader that was committed names a quorum that is held
+  pub rooted : (wave : ℕ) (c : Certificate) → top n before coins ≡ Some wave → leader n before coins wave ≡ Some c → AreRooted n after (c.header.round + 1)
+
+-- a leader that was committed is reached from all that stands above it
+reached_from : (n : ℕ) (before after : Slots) → (coins : List ℕ) → IsLonger n before after coins → (wave : ℕ) (last c : Certificate) → top n before coins ≡ Some (suc wave) → leader n before coins (suc wave) ≡ Some last
+    → has_support n after last ≡ true → IsIn after c → last.header.round + 2 ≤ c.header.round → reaches n after c last ≡ true
+reached_from n before after coins longer wave last c is_top is_last supported held above =
+    let size = longer.size in
+    let held_last = leader_in n before coins (suc wave) last longer.ext.placed_before is_last in
+    reaches_leader n longer.f after longer.size longer.meets longer.ext.placed_after last (longer.ext.kept last.header.round last.header.author.0 last held_last)
+    (leader_place n before coins wave last (omega (arith, size)) longer.ext.placed_before is_last).1 supported (longer.rooted (suc wave) last is_top is_last) c held above
+
+-- behind the chain of a committed leader come only others
+chain_longer : (n : ℕ) (before after : Slots) → (coins : List ℕ) → IsLonger n before after coins → (more : List ℕ) (wave : ℕ) (last : Certificate) → top n before coins ≡ Some (suc wave) → leader n before coins (suc wave) ≡ Some last
+    → has_support n after last ≡ true → suc wave ≤ length coins
+    → (higher : ℕ) (c : Certificate) → wave < higher → IsIn after c → last.header.round + 2 ≤ c.header.round
+    → (rest : List Certificate) × (chain_to n after (coins ++ more) higher c ≡ chain_to n before coins wave last ++ rest)
+chain_longer n before after coins longer more wave last is_top is_last supported within zero c less held above = absurd (omega (arith, less))
+chain_longer n before after coins longer more wave last is_top is_last supported within (suc higher) c less held above =
+    let held_last = leader_in n before coins (suc wave) last longer.ext.placed_before is_last in
+    let size = longer.size in
+    elim (cases_lt wave higher) [
+      | inr lowest ↦
+          let same : higher ≡ wave = omega (arith, lowest, less) in
+          let also : leader n after (coins ++ more) (suc higher) ≡ Some last =
+          ap (λ w. leader n after (coins ++ more) (suc w)) same ∙ leader_kept n before after longer.ext coins more (suc wave) last is_last in
+          let reached = reached_from n before after coins longer wave last c is_top is_last supported held above in
+          let under : chain_to n after (coins ++ more) higher last ≡ chain_to n before coins wave last =
+          ap (λ w. chain_to n after (coins ++ more) w last) same ∙ chain_same n before after longer.ext coins more wave last (omega (arith, within)) held_last in
+          (c ∷ [], rw (also, reached) (ap (λ l. l ++ c ∷ []) under))
+      | inl below ↦
+          let lower = chain_longer n before after coins longer more wave last is_top is_last supported within higher c below held above in
+          elim (given_or_none (leader n after (coins ++ more) (suc higher))) [
+            | inr none ↦ (lower.0, rw none lower.1)
+            | inl earlier ↦ elim (cases_Bool (reaches n after c earlier.0)) [
+              | inr missed ↦ (lower.0, rw (earlier.1, missed) lower.1)
+              | inl reached ↦
+                  let place = leader_place n after (coins ++ more) higher earlier.0 (omega (arith, size)) longer.ext.placed_after earlier.1 in
+                  let place' = leader_place n before coins wave last (omega (arith, size)) longer.ext.placed_before is_last in
+                  let held_earlier = leader_in n after (coins ++ more) (suc higher) earlier.0 longer.ext.placed_after earlier.1 in
+                  let under = chain_longer n before after coins longer more wave last is_top is_last supported within higher earlier.0 below held_earlier
+                  (omega (arith, place.0, place'.0, below)) in
+                  (under.0 ++ c ∷ [], rw (earlier.1, reached) (ap (λ l. l ++ c ∷ []) under.1 ∙ append_assoc (chain_to n before coins wave last) under.0 (c ∷ [])))
+            ]
+          ]
+    ]
+
+-- ---- the order
+
+-- the leaders that were committed, with what they order, come first
+committed_longer : (n : ℕ) (before after : Slots) → (coins : List ℕ) → IsLonger n before after coins → (more : List ℕ) (wave : ℕ) (last : Certificate) → top n before coins ≡ Some (suc wave) → leader n before coins (suc wave) ≡ Some last
+    → (rest : List Certificate) × (committed n after (coins ++ more) ≡ chain_to n before coins wave last ++ rest)
+committed_longer n before after coins longer more wave last is_top is_last =
+    let facts = is_top_of n before coins (length coins) (suc wave) is_top in
+    let within = facts.within in
+    let long = length-append coins more in
+    let stays = committed_kept n before after longer.ext coins more (suc wave) facts.is in
+    let above = top_above n after (coins ++ more) (length (coins ++ more)) (suc wave) facts.some (omega (arith, within, long)) stays in
+    let facts' = is_top_of n after (coins ++ more) (length (coins ++ more)) above.0 above.1 in
+    let found = committed_leader n after (coins ++ more) above.0 facts'.is in
+    let supported = (committed_leader n after (coins ++ more) (suc wave) stays) in
+    let also = leader_kept n before after longer.ext coins more (suc wave) last is_last in
+    let same_last : supported.0 ≡ last = same_Some supported.0 last (sym supported.1 ∙ also) in
+    let support : has_support n after last ≡ true = ap (has_support n after) (sym same_last) ∙ supported.2 in
+    let is_committed_chain : committed n after (coins ++ more) ≡ chain_to n after (coins ++ more) (above.0 - 1) found.0 =
+    ap (λ o. option_map_or (chain n after (coins ++ more)) o []) above.1 ∙ ap (λ o. option_map_or (chain_to n after (coins ++ more) (above.0 - 1)) o []) found.1 in
+    elim (cases_lt (suc wave) above.0) [
+      | inr lowest ↦
+          let not_lower = above.2 in
+          let same : above.0 ≡ suc wave = omega (arith, lowest, not_lower) in
+          let is_same : found.0 ≡ last = same_Some found.0 last (sym found.1 ∙ ap (leader n after (coins ++ more)) same ∙ also) in
+          let lower : above.0 - 1 ≡ wave = omega (arith, same) in (
+            [],
+            is_committed_chain ∙ ap (λ w. chain_to n after (coins ++ more) w found.0) lower ∙ ap (chain_to n after (coins ++ more) wave) is_same
+                ∙ chain_same n before after longer.ext coins more wave last (omega (arith, within)) (leader_in n before coins (suc wave) last longer.ext.placed_before is_last)
+                ∙ sym (append-nil (chain_to n before coins wave last)),
+          )
+      | inl higher ↦
+          let size = longer.size in
+          let next : above.0 ≡ suc (above.0 - 1) = omega (arith, higher) in
+          let found' : leader n after (coins ++ more) (suc (above.0 - 1)) ≡ Some found.0 = ap (leader n after (coins ++ more)) (sym next) ∙ found.1 in
+          let place = leader_place n after (coins ++ more) (above.0 - 1) found.0 (omega (arith, size)) longer.ext.placed_after found' in
+          let place' = leader_place n before coins wave last (omega (arith, size)) longer.ext.placed_before is_last in
+          let held = leader_in n after (coins ++ more) above.0 found.0 longer.ext.placed_after found.1 in
+          let longer_chain = chain_longer n before after coins longer more wave last is_top is_last support within (above.0 - 1) found.0 (omega (arith, higher)) held
+          (omega (arith, place.0, place'.0, higher)) in
+          (longer_chain.0, is_committed_chain ∙ longer_chain.1)
+    ]
+
+pub order_longer : (n depth : ℕ) (before after : Slots) (coins : List ℕ) → IsLonger n before after coins → (more : List ℕ) → Begins (order_by n depth before coins) (order_by n depth after (coins ++ more))
+order_longer n depth before after coins longer more =
+    let digests : List Certificate → List Digest = map (λ c. certificate_digest c.header) in
+    let later = order_by n depth after (coins ++ more) in
+    elim (given_or_none (top n before coins)) [
+      | inr none ↦
+          let nothing : order_by n depth before coins ≡ [] = ap (λ o. digests (segments n depth before None (option_map_or (chain n before coins) o []))) none in
+          record { rest = later; parts = ap (λ l. l ++ later) (sym nothing) }
+      | inl found ↦
+          let facts = is_top_of n before coins (length coins) found.0 found.1 in
+          let some = facts.some in
+          let wave = found.0 - 1 in
+          let next : found.0 ≡ suc wave = omega (arith, some) in
+          let at_top : top n before coins ≡ Some (suc wave) = found.1 ∙ ap (λ w. Some w) next in
+          let lead = committed_leader n before coins found.0 facts.is in
+          let last = lead.0 in
+          let is_last : leader n before coins (suc wave) ≡ Some last = ap (leader n before coins) (sym next) ∙ lead.1 in
+          let base = chain_to n before coins wave last in
+          let was : committed n before coins ≡ base =
+          ap (λ o. option_map_or (chain n before coins) o []) found.1 ∙ ap (λ o. option_map_or (chain_to n before coins wave) o []) lead.1 in
+          let grown = committed_longer n before after coins longer more wave last at_top is_last in
+          let ends = chain_ends n before coins wave last in
+          let held = leader_in n before coins (suc wave) last longer.ext.placed_before is_last in
+          let same : segments n depth after None base ≡ segments n depth before None base =
+          segments_same n depth before after longer.ext None base (λ c is. absurd (none-some c is)) (λ c inside. chain_held n before coins longer.ext.placed_before wave last c held inside) in
+          let rest = digests (segments n depth after (Some last) grown.0) in
+          let split : segments n depth after None (base ++ grown.0) ≡ segments n depth after None base ++ segments n depth after (Some last) grown.0 =
+          ap (λ l. segments n depth after None (l ++ grown.0)) ends.1 ∙ segments-append n depth after None ends.0 last grown.0
+          ∙ ap (λ l. segments n depth after None l ++ segments n depth after (Some last) grown.0) (sym ends.1) in
+          let before_is : order_by n depth before coins ≡ digests (segments n depth before None base) = ap (λ l. digests (segments n depth before None l)) was in
+          let after_is : later ≡ digests (segments n depth before None base) ++ rest =
+          ap (λ l. digests (segments n depth after None l)) grown.1 ∙ ap digests split
+          ∙ map-append (λ c. certificate_digest c.header) (segments n depth after None base) (segments n depth after (Some last) grown.0)
+          ∙ ap (λ l. digests l ++ rest) same in
+          record { rest = rest; parts = after_is ∙ ap (λ l. l ++ rest) (sym before_is) }
+    ]
+
+-- the greatest committed wave of coins doesn't go down
+pub top_grows : (n : ℕ) (before after : Slots) → Extends before after → (coins more : List ℕ) (wave : ℕ) → top n before coins ≡ Some wave → (greatest : ℕ) × (top n after (coins ++ more) ≡ Some greatest) × (wave ≤ greatest)
+top_grows n before after ext coins more wave found =
+    let facts = is_top_of n before coins (length coins) wave found in
+    let within = facts.within in
+    let long = length-append coins more in
+    top_above n after (coins ++ more) (length (coins ++ more)) wave facts.some (omega (arith, within, long)) (committed_kept n before after ext coins more wave facts.is)
