@@ -41,7 +41,7 @@ new_header-held : (node : Node) (history : History) (header : Header) → is_new
     → all_held (slots node history) (floor node history) header.body ≡ true
 new_header-held node history header h = grind (arith, h, common_steps)
 
-new_vote-high : (node : Node) (history : History) (event : Event) (vote : Vote) → is_new (vote_answer node history event vote) ≡ true → is_low (floor node history) vote.round ≡ false
+pub new_vote-high : (node : Node) (history : History) (event : Event) (vote : Vote) → is_new (vote_answer node history event vote) ≡ true → is_low (floor node history) vote.round ≡ false
 new_vote-high node history event vote h = grind (arith, h, common_steps)
 
 -- what holds of all of a list holds of each
@@ -51,7 +51,7 @@ all_to test (y ∷ xs) x all inside =
     let parts = and_parts (test y) (list_all test xs) all in
     elim (Contains-cases y xs x inside) [ inl same ↦ ap test (sym same) ∙ parts.0 | inr rest ↦ all_to test xs x parts.1 rest ]
 
-or_right : (a b : Bool) → b ≡ true → (a || b) ≡ true
+pub or_right : (a b : Bool) → b ≡ true → (a || b) ≡ true
 or_right true b h = refl
 or_right false b h = h
 
@@ -162,7 +162,7 @@ extends node history event closed adds =
 pub coins_later : (history : History) (event : Event) → coins (history ++ event ∷ []) ≡ coins history ++ option_to_list (as_coin event.message)
 coins_later history event = filter_map-push (λ e. as_coin e.message) history event
 
-floor_grows : (node : Node) (history : History) (event : Event) → Extends (slots node history) (slots node (history ++ event ∷ [])) → floor node history ≤ floor node (history ++ event ∷ [])
+pub floor_grows : (node : Node) (history : History) (event : Event) → Extends (slots node history) (slots node (history ++ event ∷ [])) → floor node history ≤ floor node (history ++ event ∷ [])
 floor_grows node history event ext =
     let n = size_of node in
     let depth = node.charter.depth in

@@ -38,7 +38,7 @@ is_in slots round author c placed held =
 -- ---- lists that are made of slots
 
 -- a test of what is held passes alike where what is new fails it
-any_same : {X : Type 0} (before after : ℕ → Option X) (test other : X → Bool) (authors : List ℕ)
+pub any_same : {X : Type 0} (before after : ℕ → Option X) (test other : X → Bool) (authors : List ℕ)
     → ((a : ℕ) (x : X) → before a ≡ Some x → (after a ≡ Some x) × (other x ≡ test x))
     → ((a : ℕ) (x : X) → before a ≡ None → after a ≡ Some x → other x ≡ false)
     → list_any other (filter_map after authors) ≡ list_any test (filter_map before authors)
@@ -54,7 +54,7 @@ any_same before after test other (a ∷ authors) old new =
     ]
 
 -- and picks alike
-picked_same : {X : Type 0} (before after : ℕ → Option X) (test other : X → Bool) (authors : List ℕ)
+pub picked_same : {X : Type 0} (before after : ℕ → Option X) (test other : X → Bool) (authors : List ℕ)
     → ((a : ℕ) (x : X) → before a ≡ Some x → (after a ≡ Some x) × (other x ≡ test x))
     → ((a : ℕ) (x : X) → before a ≡ None → after a ≡ Some x → other x ≡ false)
     → filter other (filter_map after authors) ≡ filter test (filter_map before authors)
@@ -91,7 +91,7 @@ picked_more before after test (a ∷ authors) old =
       ]
     ]
 
-counted_more : {X : Type 0} (before after : ℕ → Option X) (test : X → Bool) (authors : List ℕ)
+pub counted_more : {X : Type 0} (before after : ℕ → Option X) (test : X → Bool) (authors : List ℕ)
     → ((a : ℕ) (x : X) → before a ≡ Some x → after a ≡ Some x)
     → count_by test (filter_map before authors) ≤ count_by test (filter_map after authors)
 counted_more before after test authors old =
@@ -109,7 +109,7 @@ none_passes held test (a ∷ authors) fails =
 
 -- ---- paths
 
-and_false : (b : Bool) → (b && false) ≡ false
+pub and_false : (b : Bool) → (b && false) ≡ false
 and_false true = refl
 and_false false = refl
 

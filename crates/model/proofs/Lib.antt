@@ -1,9 +1,11 @@
 pub mod Alike
 pub mod Closed
+pub mod FromRounds
 pub mod Given
 pub mod Growing
 pub mod InSlots
 pub mod Items
+pub mod KeptLater
 pub mod Lasts
 pub mod Legal
 pub mod Lists
@@ -16,6 +18,7 @@ pub mod Parents
 pub mod Placing
 pub mod PutOut
 pub mod Ranges
+pub mod SameKept
 pub mod SlotsGrow
 pub mod Voters
 pub mod Votes

@@ -60,12 +60,12 @@ picked_was test (y ∷ xs) x inside =
     ]
 
 -- a list that isn't empty has an element
-some_element : {X : Type 0} (xs : List X) → 0 < length xs → (x : X) × Contains xs x
+pub some_element : {X : Type 0} (xs : List X) → 0 < length xs → (x : X) × Contains xs x
 some_element [] some = absurd (omega (arith, some))
 some_element (x ∷ xs) some = (x, Contains-first xs x)
 
 -- what an element is mapped to comes from one
-mapped_from : {X Y : Type 0} (f : X → Y) (xs : List X) (y : Y) → Contains (map f xs) y → (x : X) × Contains xs x × (f x ≡ y)
+pub mapped_from : {X Y : Type 0} (f : X → Y) (xs : List X) (y : Y) → Contains (map f xs) y → (x : X) × Contains xs x × (f x ≡ y)
 mapped_from f [] y inside = absurd (Contains-nothing y inside)
 mapped_from f (x ∷ xs) y inside =
     elim (Contains-cases (f x) (map f xs) y inside) [
@@ -74,7 +74,7 @@ mapped_from f (x ∷ xs) y inside =
     ]
 
 -- each of n numbers is among them
-number_in : (from count k : ℕ) → from ≤ k → k < from + count → Contains (range_with_len from count) k
+pub number_in : (from count k : ℕ) → from ≤ k → k < from + count → Contains (range_with_len from count) k
 number_in from zero k least most = absurd (omega (arith, least, most))
 number_in from (suc count) k least most =
     elim (cases_Bool (nat_eq from k)) [

@@ -180,7 +180,7 @@ parent_held node history event adds round p held high =
     ]
 
 -- a committee has members
-members_some : (node : Node) → IsNode node → 0 < size_of node
+pub members_some : (node : Node) → IsNode node → 0 < size_of node
 members_some node sound = let member = sound.member in omega (arith, member)
 
 -- the floor lies at least two rounds below the last committed leader
@@ -223,33 +223,37 @@ rooted_at node history event adds wave last is_top is_last round author c held a
 
 -- ---- the order
 
-step : (node : Node) (history : History) (event : Event) → QuorumMeetsSupport → Adds node history event → Begins (order node history) (order node (history ++ event ∷ []))
-step node history event law adds =
+-- a quorum meets all that are enough for support
+pub quorum_meets : QuorumMeetsSupport
+quorum_meets n f quorum support size members enough members' enough' = omega (arith, overlap n quorum support members members')
+
+-- what one more event makes longer
+pub longer : (node : Node) (history : History) (event : Event) → Adds node history event → IsLonger (size_of node) (slots node history) (slots node (history ++ event ∷ [])) (coins history)
+longer node history event adds =
     let n = size_of node in
-    let more = option_to_list (as_coin event.message) in
     let f = dishonest_of n in
-    let size = eqb-true _ _ (and_parts (n == 3 * f + 1) (nat_le 1 f && nat_le f 10) adds.legal.sound.charter.size).0 in
-    let longer : IsLonger n (slots node history) (slots node (history ++ event ∷ [])) (coins history) = record {
+    record {
       f = f;
-      size = size;
-      meets = law;
+      size = eqb-true _ _ (and_parts (n == 3 * f + 1) (nat_le 1 f && nat_le f 10) adds.legal.sound.charter.size).0;
+      meets = quorum_meets;
       ext = extends node history event (closed node history adds.legal) adds;
       rooted = rooted_at node history event adds;
-    } in
-    let grown = order_longer n node.charter.depth (slots node history) (slots node (history ++ event ∷ [])) (coins history) longer more in
+    }
+
+step : (node : Node) (history : History) (event : Event) → Adds node history event → Begins (order node history) (order node (history ++ event ∷ []))
+step node history event adds =
+    let n = size_of node in
+    let more = option_to_list (as_coin event.message) in
+    let grown = order_longer n node.charter.depth (slots node history) (slots node (history ++ event ∷ [])) (coins history) (longer node history event adds) more in
     record {
       rest = grown.rest;
       parts = ap (order_by n node.charter.depth (slots node (history ++ event ∷ []))) (coins_later history event) ∙ grown.parts;
     }
 
--- a quorum meets all that are enough for support
-quorum_meets : QuorumMeetsSupport
-quorum_meets n f quorum support size members enough members' enough' = omega (arith, overlap n quorum support members members')
-
 pub order_grows : OrderGrows
 order_grows node history more legal =
     legal-grows node (λ later. Begins (order node history) (order node later))
     (λ later event adds so_far.
-    let next = step node later event quorum_meets adds in
+    let next = step node later event adds in
     record { rest = so_far.rest ++ next.rest; parts = next.parts ∙ ap (λ l. l ++ next.rest) so_far.parts ∙ append_assoc (order node history) so_far.rest next.rest })
     history more legal (record { rest = []; parts = sym (append-nil (order node history)) })

@@ -1,8 +1,8 @@
 -- The order of slots begins that of slots which extend them.
 use Rattle.std.proofs.Common.{◌≡◌, ℕ, zero, suc, ◌+◌, ◌-◌, ◌*◌, ◌%◌, ◌<◌, ◌≤◌, true, List, [], ◌∷◌, ◌++◌, map, length, Some, None, inl, inr, refl, ap, sym, ◌∙◌, subst, arith}
-use Rattle.std.specs.Prelude.{Contains, slice_get}
+use Rattle.std.specs.Prelude.{Contains, Option, slice_get, nat_le, false, if◌then◌else◌}
 use Rattle.std.specs.Option.{option_map_or}
-use Rattle.std.proofs.lemmas.Bool.{cases_Bool, cases_lt, true≢false}
+use Rattle.std.proofs.lemmas.Bool.{cases_Bool, cases_lt, le-leb, true≢false}
 use Rattle.std.proofs.lemmas.Option.{same_Some, none-some}
 use Rattle.std.proofs.lemmas.List.{append_assoc, append-nil, length-append, map-append}
 use Rattle.std.proofs.lemmas.Nat.{mod_below}
@@ -40,7 +40,7 @@ is_top_of n slots coins (suc most) wave found =
     ]
 
 -- where a wave is committed, the greatest one is no lower
-top_above : (n : ℕ) (slots : Slots) (coins : List ℕ) (most wave : ℕ) → 0 < wave → wave ≤ most → is_committed n slots coins wave ≡ true
+pub top_above : (n : ℕ) (slots : Slots) (coins : List ℕ) (most wave : ℕ) → 0 < wave → wave ≤ most → is_committed n slots coins wave ≡ true
     → (greatest : ℕ) × (top_to n slots coins most ≡ Some greatest) × (wave ≤ greatest)
 top_above n slots coins zero wave some within is = absurd (omega (arith, some, within))
 top_above n slots coins (suc most) wave some within is =
@@ -55,13 +55,23 @@ top_above n slots coins (suc most) wave some within is =
     ]
 
 -- a committed wave has a leader with support
-committed_leader : (n : ℕ) (slots : Slots) (coins : List ℕ) (wave : ℕ) → is_committed n slots coins wave ≡ true
+pub committed_leader : (n : ℕ) (slots : Slots) (coins : List ℕ) (wave : ℕ) → is_committed n slots coins wave ≡ true
     → (c : Certificate) × (leader n slots coins wave ≡ Some c) × (has_support n slots c ≡ true)
 committed_leader n slots coins wave is =
     elim (given_or_none (leader n slots coins wave)) [
       | inl found ↦ let supported = rw found.1 at is in (found.0, found.1, supported)
       | inr none ↦ let nothing = rw none at is in absurd cc
     ]
+
+-- the greatest committed wave isn't 0, and has a leader
+pub top_leader : (n : ℕ) (slots : Slots) (coins : List ℕ) (wave : ℕ) → top n slots coins ≡ Some wave
+    → (last : Certificate) × (top n slots coins ≡ Some (suc (wave - 1))) × (leader n slots coins (suc (wave - 1)) ≡ Some last)
+top_leader n slots coins wave found =
+    let facts = is_top_of n slots coins (length coins) wave found in
+    let some = facts.some in
+    let next : wave ≡ suc (wave - 1) = omega (arith, some) in
+    let lead = committed_leader n slots coins wave facts.is in
+    (lead.0, found ∙ ap (λ w. Some w) next, ap (leader n slots coins) (sym next) ∙ lead.1)
 
 -- the leader of a wave has its first round, and a member as its author
 pub leader_place : (n : ℕ) (slots : Slots) (coins : List ℕ) (wave : ℕ) (c : Certificate) → 0 < n → AreInPlace slots → leader n slots coins (suc wave) ≡ Some c
@@ -107,6 +117,26 @@ chain_held n slots coins placed (suc wave) last c held inside =
       | inr none ↦ let inside' = rw none at inside in chain_held n slots coins placed wave last c held inside'
     ]
 
+-- a leader behind those of the waves above a given one that are committed with it, the oldest first
+abbrev pub above_to : ℕ → Slots → List ℕ → ℕ → ℕ → Certificate → List Certificate
+above_to n slots coins base zero last = last ∷ []
+above_to n slots coins base (suc wave) last =
+    if nat_le (suc wave) base then last ∷ []
+    else option_map_or (λ earlier. if reaches n slots last earlier then above_to n slots coins base wave earlier ++ last ∷ [] else above_to n slots coins base wave last)
+    (leader n slots coins (suc wave)) (above_to n slots coins base wave last)
+
+-- the leaders above a given wave that are committed with that of another
+abbrev pub newer_at : ℕ → Slots → List ℕ → ℕ → ℕ → List Certificate
+newer_at n slots coins base wave = if nat_le wave base then [] else option_map_or (above_to n slots coins base (wave - 1)) (leader n slots coins wave) []
+
+-- and those that are committed at all
+abbrev pub newer : ℕ → Slots → List ℕ → ℕ → List Certificate
+newer n slots coins base = option_map_or (newer_at n slots coins base) (top n slots coins) []
+
+-- what they order
+abbrev pub since : ℕ → ℕ → Slots → List ℕ → ℕ → Option Certificate → List Digest
+since n depth slots coins base previous = map (λ c. certificate_digest c.header) (segments n depth slots previous (newer n slots coins base))
+
 -- what is given of a committee, of slots that extend others, and of coins
 pub record IsLonger (n : ℕ) (before after : Slots) (coins : List ℕ) : Type 0 where
   pub f : ℕ
@@ -125,11 +155,11 @@ reached_from n before after coins longer wave last c is_top is_last supported he
     reaches_leader n longer.f after longer.size longer.meets longer.ext.placed_after last (longer.ext.kept last.header.round last.header.author.0 last held_last)
     (leader_place n before coins wave last (omega (arith, size)) longer.ext.placed_before is_last).1 supported (longer.rooted (suc wave) last is_top is_last) c held above
 
--- behind the chain of a committed leader come only others
+-- behind the chain of a committed leader come only leaders of later waves
 chain_longer : (n : ℕ) (before after : Slots) → (coins : List ℕ) → IsLonger n before after coins → (more : List ℕ) (wave : ℕ) (last : Certificate) → top n before coins ≡ Some (suc wave) → leader n before coins (suc wave) ≡ Some last
     → has_support n after last ≡ true → suc wave ≤ length coins
     → (higher : ℕ) (c : Certificate) → wave < higher → IsIn after c → last.header.round + 2 ≤ c.header.round
-    → (rest : List Certificate) × (chain_to n after (coins ++ more) higher c ≡ chain_to n before coins wave last ++ rest)
+    → chain_to n after (coins ++ more) higher c ≡ chain_to n before coins wave last ++ above_to n after (coins ++ more) (suc wave) higher c
 chain_longer n before after coins longer more wave last is_top is_last supported within zero c less held above = absurd (omega (arith, less))
 chain_longer n before after coins longer more wave last is_top is_last supported within (suc higher) c less held above =
     let held_last = leader_in n before coins (suc wave) last longer.ext.placed_before is_last in
@@ -137,25 +167,28 @@ chain_longer n before after coins longer more wave last is_top is_last supported
     elim (cases_lt wave higher) [
       | inr lowest ↦
           let same : higher ≡ wave = omega (arith, lowest, less) in
+          let old : nat_le (suc higher) (suc wave) ≡ true = le-leb _ _ (omega (arith, lowest)) in
           let also : leader n after (coins ++ more) (suc higher) ≡ Some last =
           ap (λ w. leader n after (coins ++ more) (suc w)) same ∙ leader_kept n before after longer.ext coins more (suc wave) last is_last in
           let reached = reached_from n before after coins longer wave last c is_top is_last supported held above in
           let under : chain_to n after (coins ++ more) higher last ≡ chain_to n before coins wave last =
           ap (λ w. chain_to n after (coins ++ more) w last) same ∙ chain_same n before after longer.ext coins more wave last (omega (arith, within)) held_last in
-          (c ∷ [], rw (also, reached) (ap (λ l. l ++ c ∷ []) under))
+          rw (old, also, reached) (ap (λ l. l ++ c ∷ []) under)
       | inl below ↦
+          let young : nat_le (suc higher) (suc wave) ≡ false = grind (arith, below) in
           let lower = chain_longer n before after coins longer more wave last is_top is_last supported within higher c below held above in
           elim (given_or_none (leader n after (coins ++ more) (suc higher))) [
-            | inr none ↦ (lower.0, rw none lower.1)
+            | inr none ↦ rw (young, none) lower
             | inl earlier ↦ elim (cases_Bool (reaches n after c earlier.0)) [
-              | inr missed ↦ (lower.0, rw (earlier.1, missed) lower.1)
+              | inr missed ↦ rw (young, earlier.1, missed) lower
               | inl reached ↦
                   let place = leader_place n after (coins ++ more) higher earlier.0 (omega (arith, size)) longer.ext.placed_after earlier.1 in
                   let place' = leader_place n before coins wave last (omega (arith, size)) longer.ext.placed_before is_last in
                   let held_earlier = leader_in n after (coins ++ more) (suc higher) earlier.0 longer.ext.placed_after earlier.1 in
                   let under = chain_longer n before after coins longer more wave last is_top is_last supported within higher earlier.0 below held_earlier
                   (omega (arith, place.0, place'.0, below)) in
-                  (under.0 ++ c ∷ [], rw (earlier.1, reached) (ap (λ l. l ++ c ∷ []) under.1 ∙ append_assoc (chain_to n before coins wave last) under.0 (c ∷ [])))
+                  rw (young, earlier.1, reached)
+                  (ap (λ l. l ++ c ∷ []) under ∙ append_assoc (chain_to n before coins wave last) (above_to n after (coins ++ more) (suc wave) higher earlier.0) (c ∷ []))
             ]
           ]
     ]
@@ -164,7 +197,7 @@ chain_longer n before after coins longer more wave last is_top is_last supported
 
 -- the leaders that were committed, with what they order, come first
 committed_longer : (n : ℕ) (before after : Slots) → (coins : List ℕ) → IsLonger n before after coins → (more : List ℕ) (wave : ℕ) (last : Certificate) → top n before coins ≡ Some (suc wave) → leader n before coins (suc wave) ≡ Some last
-    → (rest : List Certificate) × (committed n after (coins ++ more) ≡ chain_to n before coins wave last ++ rest)
+    → committed n after (coins ++ more) ≡ chain_to n before coins wave last ++ newer n after (coins ++ more) (suc wave)
 committed_longer n before after coins longer more wave last is_top is_last =
     let facts = is_top_of n before coins (length coins) (suc wave) is_top in
     let within = facts.within in
@@ -179,17 +212,20 @@ committed_longer n before after coins longer more wave last is_top is_last =
     let support : has_support n after last ≡ true = ap (has_support n after) (sym same_last) ∙ supported.2 in
     let is_committed_chain : committed n after (coins ++ more) ≡ chain_to n after (coins ++ more) (above.0 - 1) found.0 =
     ap (λ o. option_map_or (chain n after (coins ++ more)) o []) above.1 ∙ ap (λ o. option_map_or (chain_to n after (coins ++ more) (above.0 - 1)) o []) found.1 in
+    let is_newer : newer n after (coins ++ more) (suc wave) ≡ newer_at n after (coins ++ more) (suc wave) above.0 =
+    ap (λ o. option_map_or (newer_at n after (coins ++ more) (suc wave)) o []) above.1 in
+    let base = chain_to n before coins wave last in
     elim (cases_lt (suc wave) above.0) [
       | inr lowest ↦
           let not_lower = above.2 in
           let same : above.0 ≡ suc wave = omega (arith, lowest, not_lower) in
           let is_same : found.0 ≡ last = same_Some found.0 last (sym found.1 ∙ ap (leader n after (coins ++ more)) same ∙ also) in
-          let lower : above.0 - 1 ≡ wave = omega (arith, same) in (
-            [],
-            is_committed_chain ∙ ap (λ w. chain_to n after (coins ++ more) w found.0) lower ∙ ap (chain_to n after (coins ++ more) wave) is_same
-                ∙ chain_same n before after longer.ext coins more wave last (omega (arith, within)) (leader_in n before coins (suc wave) last longer.ext.placed_before is_last)
-                ∙ sym (append-nil (chain_to n before coins wave last)),
-          )
+          let lower : above.0 - 1 ≡ wave = omega (arith, same) in
+          let old : nat_le above.0 (suc wave) ≡ true = le-leb _ _ lowest in
+          let none : newer_at n after (coins ++ more) (suc wave) above.0 ≡ [] = rw old refl in
+          is_committed_chain ∙ ap (λ w. chain_to n after (coins ++ more) w found.0) lower ∙ ap (chain_to n after (coins ++ more) wave) is_same
+          ∙ chain_same n before after longer.ext coins more wave last (omega (arith, within)) (leader_in n before coins (suc wave) last longer.ext.placed_before is_last)
+          ∙ sym (append-nil base) ∙ ap (λ l. base ++ l) (sym (is_newer ∙ none))
       | inl higher ↦
           let size = longer.size in
           let next : above.0 ≡ suc (above.0 - 1) = omega (arith, higher) in
@@ -197,46 +233,52 @@ committed_longer n before after coins longer more wave last is_top is_last =
           let place = leader_place n after (coins ++ more) (above.0 - 1) found.0 (omega (arith, size)) longer.ext.placed_after found' in
           let place' = leader_place n before coins wave last (omega (arith, size)) longer.ext.placed_before is_last in
           let held = leader_in n after (coins ++ more) above.0 found.0 longer.ext.placed_after found.1 in
-          let longer_chain = chain_longer n before after coins longer more wave last is_top is_last support within (above.0 - 1) found.0 (omega (arith, higher)) held
+          let young : nat_le above.0 (suc wave) ≡ false = grind (arith, higher) in
+          let some : newer_at n after (coins ++ more) (suc wave) above.0 ≡ above_to n after (coins ++ more) (suc wave) (above.0 - 1) found.0 =
+          rw young (ap (λ o. option_map_or (above_to n after (coins ++ more) (suc wave) (above.0 - 1)) o []) found.1) in
+          let chains = chain_longer n before after coins longer more wave last is_top is_last support within (above.0 - 1) found.0 (omega (arith, higher)) held
           (omega (arith, place.0, place'.0, higher)) in
-          (longer_chain.0, is_committed_chain ∙ longer_chain.1)
+          is_committed_chain ∙ chains ∙ ap (λ l. base ++ l) (sym (is_newer ∙ some))
     ]
+
+-- so the order with more is the order, and then what the newer leaders order
+pub order_since : (n depth : ℕ) (before after : Slots) (coins : List ℕ) → IsLonger n before after coins → (more : List ℕ) (wave : ℕ) (last : Certificate) → top n before coins ≡ Some (suc wave) → leader n before coins (suc wave) ≡ Some last
+    → order_by n depth after (coins ++ more) ≡ order_by n depth before coins ++ since n depth after (coins ++ more) (suc wave) (Some last)
+order_since n depth before after coins longer more wave last at_top is_last =
+    let digests : List Certificate → List Digest = map (λ c. certificate_digest c.header) in
+    let base = chain_to n before coins wave last in
+    let below : suc wave - 1 ≡ wave = omega arith in
+    let was : committed n before coins ≡ base =
+    ap (λ o. option_map_or (chain n before coins) o []) at_top ∙ ap (λ w. option_map_or (chain_to n before coins w) (leader n before coins (suc wave)) []) below
+    ∙ ap (λ o. option_map_or (chain_to n before coins wave) o []) is_last in
+    let grown = committed_longer n before after coins longer more wave last at_top is_last in
+    let new = newer n after (coins ++ more) (suc wave) in
+    let ends = chain_ends n before coins wave last in
+    let held = leader_in n before coins (suc wave) last longer.ext.placed_before is_last in
+    let same : segments n depth after None base ≡ segments n depth before None base =
+    segments_same n depth before after longer.ext None base (λ c is. absurd (none-some c is)) (λ c inside. chain_held n before coins longer.ext.placed_before wave last c held inside) in
+    let rest = since n depth after (coins ++ more) (suc wave) (Some last) in
+    let split : segments n depth after None (base ++ new) ≡ segments n depth after None base ++ segments n depth after (Some last) new =
+    ap (λ l. segments n depth after None (l ++ new)) ends.1 ∙ segments-append n depth after None ends.0 last new
+    ∙ ap (λ l. segments n depth after None l ++ segments n depth after (Some last) new) (sym ends.1) in
+    let before_is : order_by n depth before coins ≡ digests (segments n depth before None base) = ap (λ l. digests (segments n depth before None l)) was in
+    ap (λ l. digests (segments n depth after None l)) grown ∙ ap digests split
+    ∙ map-append (λ c. certificate_digest c.header) (segments n depth after None base) (segments n depth after (Some last) new)
+    ∙ ap (λ l. digests l ++ rest) same ∙ ap (λ l. l ++ rest) (sym before_is)
 
 pub order_longer : (n depth : ℕ) (before after : Slots) (coins : List ℕ) → IsLonger n before after coins → (more : List ℕ) → Begins (order_by n depth before coins) (order_by n depth after (coins ++ more))
 order_longer n depth before after coins longer more =
-    let digests : List Certificate → List Digest = map (λ c. certificate_digest c.header) in
     let later = order_by n depth after (coins ++ more) in
     elim (given_or_none (top n before coins)) [
       | inr none ↦
-          let nothing : order_by n depth before coins ≡ [] = ap (λ o. digests (segments n depth before None (option_map_or (chain n before coins) o []))) none in
+          let nothing : order_by n depth before coins ≡ [] = ap (λ o. map (λ c. certificate_digest c.header) (segments n depth before None (option_map_or (chain n before coins) o []))) none in
           record { rest = later; parts = ap (λ l. l ++ later) (sym nothing) }
       | inl found ↦
-          let facts = is_top_of n before coins (length coins) found.0 found.1 in
-          let some = facts.some in
-          let wave = found.0 - 1 in
-          let next : found.0 ≡ suc wave = omega (arith, some) in
-          let at_top : top n before coins ≡ Some (suc wave) = found.1 ∙ ap (λ w. Some w) next in
-          let lead = committed_leader n before coins found.0 facts.is in
-          let last = lead.0 in
-          let is_last : leader n before coins (suc wave) ≡ Some last = ap (leader n before coins) (sym next) ∙ lead.1 in
-          let base = chain_to n before coins wave last in
-          let was : committed n before coins ≡ base =
-          ap (λ o. option_map_or (chain n before coins) o []) found.1 ∙ ap (λ o. option_map_or (chain_to n before coins wave) o []) lead.1 in
-          let grown = committed_longer n before after coins longer more wave last at_top is_last in
-          let ends = chain_ends n before coins wave last in
-          let held = leader_in n before coins (suc wave) last longer.ext.placed_before is_last in
-          let same : segments n depth after None base ≡ segments n depth before None base =
-          segments_same n depth before after longer.ext None base (λ c is. absurd (none-some c is)) (λ c inside. chain_held n before coins longer.ext.placed_before wave last c held inside) in
-          let rest = digests (segments n depth after (Some last) grown.0) in
-          let split : segments n depth after None (base ++ grown.0) ≡ segments n depth after None base ++ segments n depth after (Some last) grown.0 =
-          ap (λ l. segments n depth after None (l ++ grown.0)) ends.1 ∙ segments-append n depth after None ends.0 last grown.0
-          ∙ ap (λ l. segments n depth after None l ++ segments n depth after (Some last) grown.0) (sym ends.1) in
-          let before_is : order_by n depth before coins ≡ digests (segments n depth before None base) = ap (λ l. digests (segments n depth before None l)) was in
-          let after_is : later ≡ digests (segments n depth before None base) ++ rest =
-          ap (λ l. digests (segments n depth after None l)) grown.1 ∙ ap digests split
-          ∙ map-append (λ c. certificate_digest c.header) (segments n depth after None base) (segments n depth after (Some last) grown.0)
-          ∙ ap (λ l. digests l ++ rest) same in
-          record { rest = rest; parts = after_is ∙ ap (λ l. l ++ rest) (sym before_is) }
+          let last = top_leader n before coins found.0 found.1 in
+          record {
+            rest = since n depth after (coins ++ more) (suc (found.0 - 1)) (Some last.0);
+            parts = order_since n depth before after coins longer more (found.0 - 1) last.0 last.1 last.2;
+          }
     ]
 
 -- the greatest committed wave of coins doesn't go down

@@ -1,10 +1,10 @@
 -- What may be given out at a history, and what of a history a node keeps.
-use Rattle.std.specs.Prelude.{◌≡◌, ◌<◌, ◌≤◌, ℕ, ◌&&◌, nat_lt, Bool, false, List, ◌++◌, map, flat_map, filter, length, take, drop, Option, None, Contains, option_and_then, if◌then◌else◌}
+use Rattle.std.specs.Prelude.{◌≡◌, ◌<◌, ◌≤◌, ℕ, ◌&&◌, nat_lt, Bool, false, List, ◌++◌, map, flat_map, filter, length, take, drop, Option, None, Contains, if◌then◌else◌}
 use Rattle.std.specs.Option.{option_map_or}
 use Rattle.wire.specs.declared.output.Output.TheVariants as output
 use Rattle.model.specs.Admitting.{is_own, batch_outputs, header_outputs}
 use Rattle.model.specs.Histories.{History, batches, headers, coins}
-use Rattle.model.specs.Holdings.{header_at, has_acked, vote_on, slots, voted, certificates, order, floor, is_low}
+use Rattle.model.specs.Holdings.{header_at, has_acked, counted, slots, voted, certificates, order, floor, is_low}
 use Rattle.model.specs.Nodes.{Node}
 use Rattle.model.specs.Proposing.{was_named}
 use Rattle.model.specs.Slots.{Slots, same_digest, header_digest}
@@ -60,8 +60,7 @@ kept node history = record {
   named = was_named node history;
   votes = λ round author. unless_low node history round (voted history round author);
   own_headers = λ round. unless_low node history round (header_at history round node.own.0);
-  counted = λ round voter.
-      unless_low node history round (option_and_then (λ header. vote_on node history header.body voter) (header_at history round node.own.0));
+  counted = λ round voter. unless_low node history round (counted node history round voter);
   slots = λ round author. if nat_lt round (floor node history) then None else slots node history round author;
   coins = coins history;
   order = order node history;

@@ -1,5 +1,5 @@
 -- What a history holds: batches and whether they are available, votes, certificates, the order and the rounds.
-use Rattle.std.specs.Prelude.{ℕ, ◌+◌, ◌-◌, ◌==◌, ◌&&◌, ◌||◌, nat_le, nat_lt, max, Bool, false, List, [], ◌++◌, map, fold, length, filter, filter_map, find, count_by, Option, Some, None, option_map, if◌then◌else◌}
+use Rattle.std.specs.Prelude.{ℕ, ◌+◌, ◌-◌, ◌==◌, ◌&&◌, ◌||◌, nat_le, nat_lt, max, Bool, false, List, [], ◌++◌, map, fold, length, filter, filter_map, find, count_by, Option, Some, None, option_map, option_and_then, if◌then◌else◌}
 use Rattle.std.specs.List.{list_any, list_all}
 use Rattle.std.specs.Option.{option_map_or}
 use Rattle.wire.specs.Digests.{batch_digest_of}
@@ -46,7 +46,7 @@ voted history round author = option_map (λ header. header_digest header.body) (
 -- a vote is one on this header by this member
 abbrev pub is_vote_on : HeaderBody → ℕ → Vote → Bool
 is_vote_on header voter vote =
-    is_of_slot vote.round vote.author.0 header && (same_digest vote.header (header_digest header) && (vote.voter.0 == voter))
+    is_of_slot vote.round vote.author.0 header && ((vote.voter.0 == voter) && same_digest vote.header (header_digest header))
 
 -- the node's own vote for a header: it signs the certificate's digest
 abbrev pub vote_for : Node → HeaderBody → Vote
@@ -61,6 +61,10 @@ vote_for node header = record {
 -- a member's vote on an own header, if it was counted; the node's own counts from the beginning
 abbrev pub vote_on : Node → History → HeaderBody → ℕ → Option Vote
 vote_on node history header voter = if voter == node.own.0 then Some (vote_for node header) else find (is_vote_on header voter) (votes history)
+
+-- a member's counted vote on the own header of a round
+abbrev pub counted : Node → History → ℕ → ℕ → Option Vote
+counted node history round voter = option_and_then (λ header. vote_on node history header.body voter) (header_at history round node.own.0)
 
 -- a vote as a certificate has it
 abbrev pub entry_of : Vote → VoteEntry

@@ -3,9 +3,9 @@ use Rattle.std.specs.Prelude.{◌≡◌, ℕ, Option, Some, None, List, [], ◌�
 use Rattle.std.specs.Option.{option_or, option_to_list}
 use Rattle.wire.specs.declared.message.Message.TheVariants as message
 use Rattle.model.specs.Admitting.{admit, IsTaken, IsLegal}
-use Rattle.model.specs.Giving.{MayGive}
+use Rattle.model.specs.Giving.{MayGive, kept}
 use Rattle.model.specs.Histories.{History, batches, acks, headers, votes, received, coins, as_batch, as_ack, as_header, as_vote, as_certificate, as_coin}
-use Rattle.model.specs.Holdings.{batch_digest, batch_at, is_vote_on, header_at, has_acked, voted, vote_on, completed, certificates, slots, order}
+use Rattle.model.specs.Holdings.{batch_digest, batch_at, is_vote_on, header_at, has_acked, voted, vote_on, counted, completed, certificates, slots, order}
 use Rattle.model.specs.Nodes.{Node}
 use Rattle.model.specs.Slots.{same_digest, is_of_slot, slots_of}
 use Rattle.model.specs.declared.admission.Admission.{Admission}
@@ -65,8 +65,7 @@ pub record AreAlike (node : Node) (one other : History) : Type 0 where
   pub same_acks : (digest : Digest) (member : ℕ) → has_acked one digest member ≡ has_acked other digest member
   pub same_votes : (round author : ℕ) → voted one round author ≡ voted other round author
   pub same_headers : (round : ℕ) → header_at one round node.own.0 ≡ header_at other round node.own.0
-  pub same_counted : (round voter : ℕ) (header : Header) → header_at one round node.own.0 ≡ Some header
-      → vote_on node one header.body voter ≡ vote_on node other header.body voter
+  pub same_counted : (round voter : ℕ) → counted node one round voter ≡ counted node other round voter
   pub same_slots : (round author : ℕ) → slots node one round author ≡ slots node other round author
   pub same_coins : coins one ≡ coins other
 
@@ -74,6 +73,16 @@ pub record AreAlike (node : Node) (one other : History) : Type 0 where
 abbrev pub AnswersAlike : Type 0
 AnswersAlike = (node : Node) (one other : History) (event : Event) → IsLegal node one → IsLegal node other → IsTaken node event
     → AreAlike node one other → admit node one event ≡ admit node other event
+
+-- and so do two that keep the same
+abbrev pub KeptDecides : Type 0
+KeptDecides = (node : Node) (one other : History) (event : Event) → IsLegal node one → IsLegal node other → IsTaken node event
+    → kept node one ≡ kept node other → admit node one event ≡ admit node other event
+
+-- behind an event that is new at both they keep the same again
+abbrev pub KeptFollows : Type 0
+KeptFollows = (node : Node) (one other : History) (event : Event) → IsLegal node (one ++ event ∷ []) → IsLegal node (other ++ event ∷ [])
+    → kept node one ≡ kept node other → kept node (one ++ event ∷ []) ≡ kept node (other ++ event ∷ [])
 
 -- what an answer puts out may be given out: at the history with the event where it is new, and else at the history
 abbrev pub PutsOutGiven : Node → History → Event → Admission → Type 0

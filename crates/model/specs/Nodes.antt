@@ -30,5 +30,5 @@ abbrev pub numbers : ℕ → List ℕ
 numbers n = range_with_len 0 n
 
 -- the node that a value of the type `Node` is, with the signatures that its signer gives
-abbrev pub seen : {S : Type 0} → (S → Digest → Signature) → declared.Node S → Node
-seen signature_of node = record { own = node.own; charter = node.committee; sign = signature_of node.signer }
+abbrev pub node_of : {S : Type 0} → (S → Digest → Signature) → declared.Node S → Node
+node_of signature_of node = record { own = node.own; charter = node.committee; sign = signature_of node.signer }

@@ -4,7 +4,7 @@ ghost use Rattle.std.specs.Prelude.{◌≡◌, ◌<◌, ◌++◌, ◌∷◌, [],
 ghost use Rattle.std.specs.Str.{bytes_eq};
 ghost use Rattle.std.specs.List.{list_all};
 ghost use Rattle.model.specs.Admitting as admitting;
-ghost use Rattle.model.specs.Nodes.{seen};
+ghost use Rattle.model.specs.Nodes.{node_of};
 ghost use Rattle.wire.specs.Batches.{batch_body};
 ghost use Rattle.wire.specs.Events as incoming;
 
@@ -40,7 +40,7 @@ fn held_batch_answer<S: Sign>(
     held: &Batch,
     batch: &Batch,
 ) -> Result<Admission, AllocError>
-    ensures { IfOk result (λ answer. answer ≡ admitting.held_batch_answer (seen S.signature_of node.now) held.now batch.now) }
+    ensures { IfOk result (λ answer. answer ≡ admitting.held_batch_answer (node_of S.signature_of node.now) held.now batch.now) }
 {
     if same_body(held, batch) {
         return Ok(Admission::Known(batch_outputs(alloc, node, held)?));
@@ -55,7 +55,7 @@ pub fn batch_answer<S: Sign>(
     history: &[Event],
     batch: &Batch,
 ) -> Result<Admission, AllocError>
-    ensures { IfOk result (λ answer. answer ≡ admitting.batch_answer (seen S.signature_of node.now) history.now batch.now) }
+    ensures { IfOk result (λ answer. answer ≡ admitting.batch_answer (node_of S.signature_of node.now) history.now batch.now) }
 {
     if let Some(held) = batch_at(history, &batch_digest(batch)) {
         return held_batch_answer(alloc, node, held, batch);
@@ -73,7 +73,7 @@ pub fn ack_answer<S: Sign>(
     history: &[Event],
     ack: &BatchAck,
 ) -> Admission
-    ensures { result ≡ admitting.ack_answer (seen S.signature_of node.now) history.now ack.now }
+    ensures { result ≡ admitting.ack_answer (node_of S.signature_of node.now) history.now ack.now }
 {
     if !has_own_batch(node, history, &ack.batch) {
         return Admission::Refused(Refusal::NotOurs);
@@ -91,7 +91,7 @@ pub fn may_name<S: Sign>(
     header: &Header,
     named: &BatchReference,
 ) -> bool
-    ensures { result ≡ admitting.may_name (seen S.signature_of node.now) history.now header.now named.now }
+    ensures { result ≡ admitting.may_name (node_of S.signature_of node.now) history.now header.now named.now }
 {
     match batch_at(history, &named.digest) {
         Some(batch) if batch.worker() == named.worker => {
@@ -107,7 +107,7 @@ fn may_name_all<S: Sign>(
     header: &Header,
     named: &[BatchReference],
 ) -> bool
-    ensures { result ≡ list_all (admitting.may_name (seen S.signature_of node.now) history.now header.now) named.now }
+    ensures { result ≡ list_all (admitting.may_name (node_of S.signature_of node.now) history.now header.now) named.now }
 {
     named
         .iter()
@@ -121,7 +121,7 @@ pub fn header_answer<S: Sign>(
     history: &[Event],
     header: &Header,
 ) -> Result<Admission, AllocError>
-    ensures { IfOk result (λ answer. answer ≡ admitting.header_answer (seen S.signature_of node.now) history.now header.now) }
+    ensures { IfOk result (λ answer. answer ≡ admitting.header_answer (node_of S.signature_of node.now) history.now header.now) }
 {
     let floor = floor(alloc, node, history)?;
     let body = &header.body;
@@ -155,7 +155,7 @@ fn order_outputs<S: Sign>(
     events: &[Event],
 ) -> Result<Outputs, AllocError>
     requires { events.now ≡ history.now ++ event.now ∷ [] }
-    ensures { IfOk result (λ outputs. outputs ≡ admitting.order_outputs (seen S.signature_of node.now) history.now event.now) }
+    ensures { IfOk result (λ outputs. outputs ≡ admitting.order_outputs (node_of S.signature_of node.now) history.now event.now) }
 {
     let mut outputs = Outputs::new(alloc);
     push_order(alloc, node, &mut outputs, history, event, events)?;
@@ -172,7 +172,7 @@ fn vote_outputs<S: Sign>(
     header: &Header,
 ) -> Result<Outputs, AllocError>
     requires { events.now ≡ history.now ++ event.now ∷ [] }
-    ensures { IfOk result (λ outputs. outputs ≡ admitting.vote_outputs (seen S.signature_of node.now) history.now event.now header.now) }
+    ensures { IfOk result (λ outputs. outputs ≡ admitting.vote_outputs (node_of S.signature_of node.now) history.now event.now header.now) }
 {
     let mut outputs = Outputs::new(alloc);
     if let Some(certificate) = completed(alloc, node, events, header)? {
@@ -193,7 +193,7 @@ fn counted_answer<S: Sign>(
     voter: u16,
 ) -> Result<Admission, AllocError>
     requires { events.now ≡ history.now ++ event.now ∷ [] }
-    ensures { IfOk result (λ answer. answer ≡ admitting.counted_answer (seen S.signature_of node.now) history.now event.now header.now voter) }
+    ensures { IfOk result (λ answer. answer ≡ admitting.counted_answer (node_of S.signature_of node.now) history.now event.now header.now voter) }
 {
     if vote_on(node, history, &header.body, voter).is_some() {
         return Ok(Admission::Known(Outputs::new(alloc)));
@@ -223,7 +223,7 @@ pub fn vote_answer<S: Sign>(
     vote: &Vote,
 ) -> Result<Admission, AllocError>
     requires { events.now ≡ history.now ++ event.now ∷ [] }
-    ensures { IfOk result (λ answer. answer ≡ admitting.vote_answer (seen S.signature_of node.now) history.now event.now vote.now) }
+    ensures { IfOk result (λ answer. answer ≡ admitting.vote_answer (node_of S.signature_of node.now) history.now event.now vote.now) }
 {
     if !node.is_own(vote.author) {
         return Ok(Admission::Refused(Refusal::NotOurs));
@@ -265,7 +265,7 @@ pub fn certificate_answer<S: Sign>(
     certificate: &Certificate,
 ) -> Result<Admission, AllocError>
     requires { events.now ≡ history.now ++ event.now ∷ [] }
-    ensures { IfOk result (λ answer. answer ≡ admitting.certificate_answer (seen S.signature_of node.now) history.now event.now certificate.now) }
+    ensures { IfOk result (λ answer. answer ≡ admitting.certificate_answer (node_of S.signature_of node.now) history.now event.now certificate.now) }
 {
     let floor = floor(alloc, node, history)?;
     let header = &certificate.header;
@@ -298,7 +298,7 @@ pub fn coin_answer<S: Sign>(
     coin: &Coin,
 ) -> Result<Admission, AllocError>
     requires { events.now ≡ history.now ++ event.now ∷ [] }
-    ensures { IfOk result (λ answer. answer ≡ admitting.coin_answer (seen S.signature_of node.now) history.now event.now coin.now) }
+    ensures { IfOk result (λ answer. answer ≡ admitting.coin_answer (node_of S.signature_of node.now) history.now event.now coin.now) }
 {
     if !node.is_own(event.sender) {
         return Ok(Admission::Refused(Refusal::NotOurs));
@@ -330,7 +330,7 @@ pub fn admit<S: Sign>(
     events: &[Event],
 ) -> Result<Admission, AllocError>
     requires { events.now ≡ history.now ++ event.now ∷ [] }
-    ensures { IfOk result (λ answer. answer ≡ admitting.admit (seen S.signature_of node.now) history.now event.now) }
+    ensures { IfOk result (λ answer. answer ≡ admitting.admit (node_of S.signature_of node.now) history.now event.now) }
 {
     match &event.message {
         Message::Batch(batch) => batch_answer(alloc, node, history, batch),
@@ -352,7 +352,7 @@ pub fn admit_last<S: Sign>(
     events: &[Event],
 ) -> Result<Admission, AllocError>
     requires { 0 < length events.now }
-    ensures { (history : List incoming.Event) (event : incoming.Event) → events.now ≡ history ++ event ∷ [] → IfOk result (λ answer. answer ≡ admitting.admit (seen S.signature_of node.now) history event) }
+    ensures { (history : List incoming.Event) (event : incoming.Event) → events.now ≡ history ++ event ∷ [] → IfOk result (λ answer. answer ≡ admitting.admit (node_of S.signature_of node.now) history event) }
 {
     match events.split_last() {
         None => unreachable!(),
@@ -366,7 +366,7 @@ pub fn answers<S: Sign>(
     node: &Node<S>,
     events: Vec<Event>,
 ) -> Result<Vec<Admission>, AllocError>
-    ensures { IfOk result (λ found. found.items ≡ admitting.answers (seen S.signature_of node.now) [] events.items) }
+    ensures { IfOk result (λ found. found.items ≡ admitting.answers (node_of S.signature_of node.now) [] events.items) }
 {
     let mut history = Vec::new(alloc);
     let mut found = Vec::new(alloc);
@@ -387,7 +387,7 @@ pub fn each_new<S: Sign>(
     node: &Node<S>,
     events: Vec<Event>,
 ) -> Result<bool, AllocError>
-    ensures { IfOk result (λ found. found ≡ admitting.each_new (seen S.signature_of node.now) [] events.items) }
+    ensures { IfOk result (λ found. found ≡ admitting.each_new (node_of S.signature_of node.now) [] events.items) }
 {
     let mut history = Vec::new(alloc);
     for event in events {

@@ -3,7 +3,7 @@
 ghost use Rattle.std.specs.Prelude.{◌≡◌, ◌≤◌, IfOk, IfSome, filter_map, map};
 ghost use Rattle.model.specs.Histories.{headers};
 ghost use Rattle.model.specs.Holdings as holdings;
-ghost use Rattle.model.specs.Nodes.{seen, numbers};
+ghost use Rattle.model.specs.Nodes.{node_of, numbers};
 
 use crate::event::Event;
 use crate::histories::{coins, headers, received};
@@ -21,7 +21,7 @@ fn entry_on<S: Sign>(
     header: &HeaderBody,
     voter: u16,
 ) -> Option<VoteEntry>
-    ensures value { result ≡ holdings.entry_on (seen S.signature_of node.now) history.now header.now voter }
+    ensures value { result ≡ holdings.entry_on (node_of S.signature_of node.now) history.now header.now voter }
     ensures voter { IfSome result (λ entry. entry.voter.0 ≡ voter) }
 {
     match vote_on(node, history, header, voter) {
@@ -43,7 +43,7 @@ fn votes_of<S: Sign>(
     size: u16,
 ) -> Result<VoteEntries, AllocError>
     requires { size ≤ 31 }
-    ensures { IfOk result (λ found. found ≡ filter_map (holdings.entry_on (seen S.signature_of node.now) history.now header.now) (numbers size)) }
+    ensures { IfOk result (λ found. found ≡ filter_map (holdings.entry_on (node_of S.signature_of node.now) history.now header.now) (numbers size)) }
 {
     let mut found = VoteEntries::new(alloc);
     for voter in 0..size {
@@ -61,7 +61,7 @@ pub fn votes_on<S: Sign>(
     history: &[Event],
     header: &HeaderBody,
 ) -> Result<VoteEntries, AllocError>
-    ensures { IfOk result (λ found. found ≡ holdings.votes_on (seen S.signature_of node.now) history.now header.now) }
+    ensures { IfOk result (λ found. found ≡ holdings.votes_on (node_of S.signature_of node.now) history.now header.now) }
 {
     votes_of(alloc, node, history, header, node.size())
 }
@@ -73,7 +73,7 @@ pub fn completed<S: Sign>(
     history: &[Event],
     header: &Header,
 ) -> Result<Option<Certificate>, AllocError>
-    ensures { IfOk result (λ found. found ≡ holdings.completed (seen S.signature_of node.now) history.now header.now) }
+    ensures { IfOk result (λ found. found ≡ holdings.completed (node_of S.signature_of node.now) history.now header.now) }
 {
     if !node.is_own(header.body.author) {
         return Ok(None);
@@ -110,7 +110,7 @@ fn own<S: Sign>(
     node: &Node<S>,
     history: &[Event],
 ) -> Result<Vec<Certificate>, AllocError>
-    ensures { IfOk result (λ found. found.items ≡ filter_map (holdings.completed (seen S.signature_of node.now) history.now) (headers history.now)) }
+    ensures { IfOk result (λ found. found.items ≡ filter_map (holdings.completed (node_of S.signature_of node.now) history.now) (headers history.now)) }
 {
     let mut found = Vec::new(alloc);
     let headers = headers(alloc, history)?;
@@ -128,7 +128,7 @@ pub fn certificates<S: Sign>(
     node: &Node<S>,
     history: &[Event],
 ) -> Result<Vec<Certificate>, AllocError>
-    ensures { IfOk result (λ found. found.items ≡ holdings.certificates (seen S.signature_of node.now) history.now) }
+    ensures { IfOk result (λ found. found.items ≡ holdings.certificates (node_of S.signature_of node.now) history.now) }
 {
     let mut found = first(alloc, node.size())?;
     found.append(&mut received(alloc, history)?)?;
@@ -142,7 +142,7 @@ pub fn order<S: Sign>(
     node: &Node<S>,
     history: &[Event],
 ) -> Result<Vec<Digest>, AllocError>
-    ensures { IfOk result (λ found. found.items ≡ holdings.order (seen S.signature_of node.now) history.now) }
+    ensures { IfOk result (λ found. found.items ≡ holdings.order (node_of S.signature_of node.now) history.now) }
 {
     let certificates = certificates(alloc, node, history)?;
     let coins = coins(alloc, history)?;
@@ -157,7 +157,7 @@ pub fn order<S: Sign>(
 
 /// The floor.
 pub fn floor<S: Sign>(alloc: Global, node: &Node<S>, history: &[Event]) -> Result<u64, AllocError>
-    ensures { IfOk result (λ floor. floor ≡ holdings.floor (seen S.signature_of node.now) history.now) }
+    ensures { IfOk result (λ floor. floor ≡ holdings.floor (node_of S.signature_of node.now) history.now) }
 {
     let certificates = certificates(alloc, node, history)?;
     let coins = coins(alloc, history)?;
@@ -176,7 +176,7 @@ pub fn round_by<S: Sign>(
     node: &Node<S>,
     certificates: &[Certificate],
 ) -> Result<u64, AllocError>
-    ensures { IfOk result (λ round. round ≡ holdings.round_by (seen S.signature_of node.now) certificates.now) }
+    ensures { IfOk result (λ round. round ≡ holdings.round_by (node_of S.signature_of node.now) certificates.now) }
 {
     let mut greatest = 0;
     for certificate in certificates {
@@ -190,7 +190,7 @@ pub fn round_by<S: Sign>(
 
 /// The node's round.
 pub fn round<S: Sign>(alloc: Global, node: &Node<S>, history: &[Event]) -> Result<u64, AllocError>
-    ensures { IfOk result (λ round. round ≡ holdings.round (seen S.signature_of node.now) history.now) }
+    ensures { IfOk result (λ round. round ≡ holdings.round (node_of S.signature_of node.now) history.now) }
 {
     let certificates = certificates(alloc, node, history)?;
     round_by(alloc, node, &certificates)

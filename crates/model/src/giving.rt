@@ -5,7 +5,7 @@ ghost use Rattle.model.specs.Admitting as admitting;
 ghost use Rattle.model.specs.Giving as giving;
 ghost use Rattle.model.specs.Histories as histories;
 ghost use Rattle.model.specs.Holdings as holdings;
-ghost use Rattle.model.specs.Nodes.{seen};
+ghost use Rattle.model.specs.Nodes.{node_of};
 ghost use Rattle.wire.specs.declared.output.Output.TheVariants as output;
 
 use crate::admission::Outputs;
@@ -21,7 +21,7 @@ use wire::{Certificate, Output, header_digest};
 
 /// A certificate is an own one, of the header that has the node's vote.
 pub fn is_given<S: Sign>(node: &Node<S>, history: &[Event], certificate: &Certificate) -> bool
-    ensures { result ≡ giving.is_given (seen S.signature_of node.now) history.now certificate.now }
+    ensures { result ≡ giving.is_given (node_of S.signature_of node.now) history.now certificate.now }
 {
     if !node.is_own(certificate.header.author) {
         return false;
@@ -38,7 +38,7 @@ fn of_batches<S: Sign>(
     node: &Node<S>,
     history: &[Event],
 ) -> Result<Outputs, AllocError>
-    ensures { IfOk result (λ found. found ≡ flat_map (admitting.batch_outputs (seen S.signature_of node.now)) (histories.batches history.now)) }
+    ensures { IfOk result (λ found. found ≡ flat_map (admitting.batch_outputs (node_of S.signature_of node.now)) (histories.batches history.now)) }
 {
     let mut found = Outputs::new(alloc);
     let batches = batches(alloc, history)?;
@@ -54,7 +54,7 @@ fn of_headers<S: Sign>(
     node: &Node<S>,
     history: &[Event],
 ) -> Result<Outputs, AllocError>
-    ensures { IfOk result (λ found. found ≡ flat_map (admitting.header_outputs (seen S.signature_of node.now)) (histories.headers history.now)) }
+    ensures { IfOk result (λ found. found ≡ flat_map (admitting.header_outputs (node_of S.signature_of node.now)) (histories.headers history.now)) }
 {
     let mut found = Outputs::new(alloc);
     let headers = headers(alloc, history)?;
@@ -70,7 +70,7 @@ fn own_certificates<S: Sign>(
     node: &Node<S>,
     history: &[Event],
 ) -> Result<Outputs, AllocError>
-    ensures { IfOk result (λ found. found ≡ map output.Certificate (filter (giving.is_given (seen S.signature_of node.now) history.now) (holdings.certificates (seen S.signature_of node.now) history.now))) }
+    ensures { IfOk result (λ found. found ≡ map output.Certificate (filter (giving.is_given (node_of S.signature_of node.now) history.now) (holdings.certificates (node_of S.signature_of node.now) history.now))) }
 {
     let mut found = Outputs::new(alloc);
     let certificates = certificates(alloc, node, history)?;
@@ -88,7 +88,7 @@ pub fn given<S: Sign>(
     node: &Node<S>,
     history: &[Event],
 ) -> Result<Outputs, AllocError>
-    ensures { IfOk result (λ found. found ≡ giving.given (seen S.signature_of node.now) history.now) }
+    ensures { IfOk result (λ found. found ≡ giving.given (node_of S.signature_of node.now) history.now) }
 {
     let mut found = of_batches(alloc, node, history)?;
     found.append(of_headers(alloc, node, history)?)?;

@@ -3,7 +3,7 @@
 ghost use Rattle.std.specs.Prelude.{◌≡◌, ◌==◌, ◌||◌, IfOk, IfSome, count_by, find, length, option_copied};
 ghost use Rattle.model.specs.Histories.{votes};
 ghost use Rattle.model.specs.Holdings as holdings;
-ghost use Rattle.model.specs.Nodes.{seen, numbers};
+ghost use Rattle.model.specs.Nodes.{node_of, numbers};
 ghost use Rattle.model.specs.Slots.{slots_of};
 
 use crate::event::Event;
@@ -32,7 +32,7 @@ pub fn batch_at<'a>(history: &'a [Event], digest: &Digest) -> Option<&'a Batch>
 
 /// The node has an own batch of this digest.
 pub fn has_own_batch<S: Sign>(node: &Node<S>, history: &[Event], digest: &Digest) -> bool
-    ensures { result ≡ holdings.has_own_batch (seen S.signature_of node.now) history.now digest.now }
+    ensures { result ≡ holdings.has_own_batch (node_of S.signature_of node.now) history.now digest.now }
 {
     match batch_at(history, digest) {
         None => false,
@@ -65,7 +65,7 @@ fn holders<S: Sign>(node: &Node<S>, history: &[Event], digest: &Digest) -> usize
 
 /// An own batch is available.
 pub fn is_available<S: Sign>(node: &Node<S>, history: &[Event], digest: &Digest) -> bool
-    ensures { result ≡ holdings.is_available (seen S.signature_of node.now) history.now digest.now }
+    ensures { result ≡ holdings.is_available (node_of S.signature_of node.now) history.now digest.now }
 {
     has_own_batch(node, history, digest) && node.quorum() <= holders(node, history, digest)
 }
@@ -99,13 +99,13 @@ pub fn is_vote_on(header: &HeaderBody, voter: u16, vote: &Vote) -> bool
     ensures { result ≡ holdings.is_vote_on header.now voter vote.now }
 {
     is_of_slot(vote.round.number(), vote.author.0, header)
-        && vote.header == header_digest(header)
         && vote.voter.0 == voter
+        && vote.header == header_digest(header)
 }
 
 /// The node's own vote for a header.
 pub fn vote_for<S: Sign>(node: &Node<S>, header: &HeaderBody) -> Vote
-    ensures { result ≡ holdings.vote_for (seen S.signature_of node.now) header.now }
+    ensures { result ≡ holdings.vote_for (node_of S.signature_of node.now) header.now }
 {
     Vote {
         header: header_digest(header),
@@ -138,13 +138,23 @@ pub fn vote_on<S: Sign>(
     header: &HeaderBody,
     voter: u16,
 ) -> Option<Vote>
-    ensures value { result ≡ holdings.vote_on (seen S.signature_of node.now) history.now header.now voter }
+    ensures value { result ≡ holdings.vote_on (node_of S.signature_of node.now) history.now header.now voter }
     ensures voter { IfSome result (λ vote. vote.voter.0 ≡ voter) }
 {
     if voter == node.own.0 {
         return Some(vote_for(node, header));
     }
     vote_by(history, header, voter)
+}
+
+/// A member's counted vote on the own header of a round.
+pub fn counted<S: Sign>(node: &Node<S>, history: &[Event], round: u64, voter: u16) -> Option<Vote>
+    ensures { result ≡ holdings.counted (node_of S.signature_of node.now) history.now round voter }
+{
+    match header_at(history, round, node.own.0) {
+        None => None,
+        Some(header) => vote_on(node, history, &header.body, voter),
+    }
 }
 
 /// A round is low.
@@ -161,7 +171,7 @@ pub fn is_full<S: Sign>(
     certificates: &[Certificate],
     round: u64,
 ) -> Result<bool, AllocError>
-    ensures { IfOk result (λ full. full ≡ holdings.is_full (seen S.signature_of node.now) (slots_of certificates.now) round) }
+    ensures { IfOk result (λ full. full ≡ holdings.is_full (node_of S.signature_of node.now) (slots_of certificates.now) round) }
 {
     Ok(node.quorum() <= round_of(alloc, node.size(), certificates, round)?.len())
 }

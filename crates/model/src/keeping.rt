@@ -3,11 +3,11 @@
 ghost use Rattle.std.specs.Prelude.{◌≡◌, IfOk, option_copied};
 ghost use Rattle.model.specs.Giving.{kept};
 ghost use Rattle.model.specs.Holdings as holdings;
-ghost use Rattle.model.specs.Nodes.{seen};
+ghost use Rattle.model.specs.Nodes.{node_of};
 
 use crate::certificates::{certificates, floor};
 use crate::event::Event;
-use crate::holdings::{header_at, is_low, vote_on, voted};
+use crate::holdings::{counted, header_at, is_low, voted};
 use crate::node::Node;
 use crate::slots::slot;
 use sigface::Sign;
@@ -21,7 +21,7 @@ fn is_low_at<S: Sign>(
     history: &[Event],
     round: u64,
 ) -> Result<bool, AllocError>
-    ensures { IfOk result (λ low. low ≡ holdings.is_low (holdings.floor (seen S.signature_of node.now) history.now) round) }
+    ensures { IfOk result (λ low. low ≡ holdings.is_low (holdings.floor (node_of S.signature_of node.now) history.now) round) }
 {
     Ok(is_low(floor(alloc, node, history)?, round))
 }
@@ -34,7 +34,7 @@ pub fn kept_vote<S: Sign>(
     round: u64,
     author: u16,
 ) -> Result<Option<Digest>, AllocError>
-    ensures { IfOk result (λ found. found ≡ (kept (seen S.signature_of node.now) history.now).votes round author) }
+    ensures { IfOk result (λ found. found ≡ (kept (node_of S.signature_of node.now) history.now).votes round author) }
 {
     if is_low_at(alloc, node, history, round)? {
         return Ok(None);
@@ -49,7 +49,7 @@ pub fn kept_header<'a, S: Sign>(
     history: &'a [Event],
     round: u64,
 ) -> Result<Option<&'a Header>, AllocError>
-    ensures { IfOk result (λ found. option_copied found ≡ (kept (seen S.signature_of node.now) history.now).own_headers round) }
+    ensures { IfOk result (λ found. option_copied found ≡ (kept (node_of S.signature_of node.now) history.now).own_headers round) }
 {
     if is_low_at(alloc, node, history, round)? {
         return Ok(None);
@@ -65,12 +65,12 @@ pub fn kept_counted<S: Sign>(
     round: u64,
     voter: u16,
 ) -> Result<Option<Vote>, AllocError>
-    ensures { IfOk result (λ found. found ≡ (kept (seen S.signature_of node.now) history.now).counted round voter) }
+    ensures { IfOk result (λ found. found ≡ (kept (node_of S.signature_of node.now) history.now).counted round voter) }
 {
-    match kept_header(alloc, node, history, round)? {
-        None => Ok(None),
-        Some(header) => Ok(vote_on(node, history, &header.body, voter)),
+    if is_low_at(alloc, node, history, round)? {
+        return Ok(None);
     }
+    Ok(counted(node, history, round, voter))
 }
 
 /// The certificate of a slot, of a round at or above the floor.
@@ -81,7 +81,7 @@ pub fn kept_slot<S: Sign>(
     round: u64,
     author: u16,
 ) -> Result<Option<Certificate>, AllocError>
-    ensures { IfOk result (λ found. found ≡ (kept (seen S.signature_of node.now) history.now).slots round author) }
+    ensures { IfOk result (λ found. found ≡ (kept (node_of S.signature_of node.now) history.now).slots round author) }
 {
     if round < floor(alloc, node, history)? {
         return Ok(None);

@@ -1,6 +1,6 @@
 //! What holds of legal histories, proved of the definitions: each is what a function without a body ensures.
 
-ghost use Rattle.model.specs.Laws.{OneVote, OneCertificate, OneMore, SlotsGrow, AnswersAlike, OutputsGiven, OrderGrows, GivenGrows};
+ghost use Rattle.model.specs.Laws.{OneVote, OneCertificate, OneMore, SlotsGrow, AnswersAlike, KeptDecides, KeptFollows, OutputsGiven, OrderGrows, GivenGrows};
 
 /// A legal history has one vote an author and round.
 pub fn one_vote()
@@ -27,6 +27,16 @@ pub fn slots_grow()
 /// certificates and coins answer each event alike.
 pub fn answers_alike()
     ensures { AnswersAlike }
+{}
+
+/// What is kept of a legal history decides what each event is answered: two with the same kept answer alike.
+pub fn kept_decides()
+    ensures { KeptDecides }
+{}
+
+/// So it does what is kept behind each new event, and with it all answers to come.
+pub fn kept_follows()
+    ensures { KeptFollows }
 {}
 
 /// What a new event puts out may be given out at the history with it, and what a known one puts out at the history.

@@ -14,6 +14,7 @@ pub mod laws;
 mod node;
 pub mod ordering;
 pub mod outputs;
+mod parts;
 pub mod proposing;
 mod refusal;
 pub mod slots;

@@ -2,13 +2,14 @@
 
 ghost use Rattle.std.specs.Prelude.{◌≡◌, ◌+◌, ◌<◌, ◌≤◌, ◌^◌, ◌++◌, ◌∷◌, [], IfOk, OnOk, drop, length, take};
 ghost use Rattle.model.specs.Admitting as admitting;
-ghost use Rattle.model.specs.Nodes.{seen};
+ghost use Rattle.model.specs.Nodes.{node_of};
 
 use crate::admission::Outputs;
 use crate::certificates::order;
 use crate::event::Event;
 use crate::holdings::vote_for;
 use crate::node::Node;
+use crate::parts::first_of;
 use sigface::Sign;
 use std::alloc::{AllocError, Global};
 use wire::{
@@ -21,7 +22,7 @@ pub fn batch_outputs<S: Sign>(
     node: &Node<S>,
     batch: &Batch,
 ) -> Result<Outputs, AllocError>
-    ensures { IfOk result (λ outputs. outputs ≡ admitting.batch_outputs (seen S.signature_of node.now) batch.now) }
+    ensures { IfOk result (λ outputs. outputs ≡ admitting.batch_outputs (node_of S.signature_of node.now) batch.now) }
 {
     let mut outputs = Outputs::new(alloc);
     if node.is_own(batch.author()) {
@@ -43,7 +44,7 @@ pub fn header_outputs<S: Sign>(
     node: &Node<S>,
     header: &Header,
 ) -> Result<Outputs, AllocError>
-    ensures { IfOk result (λ outputs. outputs ≡ admitting.header_outputs (seen S.signature_of node.now) header.now) }
+    ensures { IfOk result (λ outputs. outputs ≡ admitting.header_outputs (node_of S.signature_of node.now) header.now) }
 {
     let mut outputs = Outputs::new(alloc);
     if node.is_own(header.body.author) {
@@ -52,17 +53,6 @@ pub fn header_outputs<S: Sign>(
         outputs.push(Output::Vote(vote_for(node, &header.body)))?;
     }
     Ok(outputs)
-}
-
-/// The first digests, as many as one output may have.
-fn first_of(digests: &[Digest]) -> &[Digest]
-    ensures value { result.now ≡ take 16000 digests.now }
-    ensures few { length result.now ≤ 16000 }
-{
-    if digests.len() <= MAX_ORDER_DIGESTS {
-        return digests;
-    }
-    &digests[..MAX_ORDER_DIGESTS]
 }
 
 /// The digests from a place on.
@@ -96,7 +86,10 @@ fn push_pieces(
 {
     for piece in 0..(digests.len() + (MAX_ORDER_DIGESTS - 1)) / MAX_ORDER_DIGESTS {
         let place = MAX_ORDER_DIGESTS * piece;
-        let digests = order_digests(alloc, first_of(part_from(digests, place)))?;
+        let digests = order_digests(
+            alloc,
+            first_of(part_from(digests, place), MAX_ORDER_DIGESTS),
+        )?;
         outputs.push(Output::Order {
             start: start + place as u64,
             digests,
@@ -138,7 +131,7 @@ pub fn push_order<S: Sign>(
     events: &[Event],
 ) -> Result<(), AllocError>
     requires { events.now ≡ history.now ++ event.now ∷ [] }
-    ensures { OnOk result (outputs.new ≡ outputs.old ++ admitting.order_outputs (seen S.signature_of node.now) history.now event.now) }
+    ensures { OnOk result (outputs.new ≡ outputs.old ++ admitting.order_outputs (node_of S.signature_of node.now) history.now event.now) }
 {
     let before = order(alloc, node, history)?;
     let after = order(alloc, node, events)?;

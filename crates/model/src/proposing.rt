@@ -3,7 +3,7 @@
 ghost use Rattle.std.specs.Prelude.{◌≡◌, ◌≤◌, ◌&&◌, not, IfOk, IfSome, IsTrue, is_some, length, map, option_map, take};
 ghost use Rattle.std.specs.List.{list_any};
 ghost use Rattle.model.specs.Holdings as holdings;
-ghost use Rattle.model.specs.Nodes.{seen};
+ghost use Rattle.model.specs.Nodes.{node_of};
 ghost use Rattle.model.specs.Proposing as proposing;
 ghost use Rattle.model.specs.Slots.{same_digest, slots_of, round_of};
 ghost use Rattle.wire.specs.References.{digest_before, batches_rise};
@@ -13,6 +13,7 @@ use crate::event::Event;
 use crate::histories::batches;
 use crate::holdings::{header_at, is_available};
 use crate::node::Node;
+use crate::parts::first_of;
 use crate::slots::{digest_of, slot};
 use sigface::Sign;
 use std::alloc::{AllocError, Global};
@@ -30,7 +31,7 @@ fn names(batches: &[BatchReference], digest: &Digest) -> bool
 
 /// An own header has named the batch of this digest.
 pub fn was_named<S: Sign>(node: &Node<S>, history: &[Event], digest: &Digest) -> bool
-    ensures { result ≡ proposing.was_named (seen S.signature_of node.now) history.now digest.now }
+    ensures { result ≡ proposing.was_named (node_of S.signature_of node.now) history.now digest.now }
 {
     for event in history {
         if let Message::Header(header) = &event.message {
@@ -51,21 +52,21 @@ fn digest_of_batch(batch: &Batch) -> Digest
 
 /// An own batch is available, and no own header has named it.
 fn is_waiting<S: Sign>(node: &Node<S>, history: &[Event], digest: &Digest) -> bool
-    ensures { result ≡ holdings.is_available (seen S.signature_of node.now) history.now digest.now && not (proposing.was_named (seen S.signature_of node.now) history.now digest.now) }
+    ensures { result ≡ holdings.is_available (node_of S.signature_of node.now) history.now digest.now && not (proposing.was_named (node_of S.signature_of node.now) history.now digest.now) }
 {
     is_available(node, history, digest) && !was_named(node, history, digest)
 }
 
 /// An own batch may be named.
 fn is_nameable<S: Sign>(node: &Node<S>, history: &[Event], batch: &Batch) -> bool
-    ensures { result ≡ proposing.is_nameable (seen S.signature_of node.now) history.now batch.now }
+    ensures { result ≡ proposing.is_nameable (node_of S.signature_of node.now) history.now batch.now }
 {
     node.is_own(batch.author()) && is_waiting(node, history, &digest_of_batch(batch))
 }
 
 /// An own batch that may be named, as a header names it.
 pub fn to_name<S: Sign>(node: &Node<S>, history: &[Event], batch: &Batch) -> Option<BatchReference>
-    ensures { result ≡ proposing.to_name (seen S.signature_of node.now) history.now batch.now }
+    ensures { result ≡ proposing.to_name (node_of S.signature_of node.now) history.now batch.now }
 {
     if !is_nameable(node, history, batch) {
         return None;
@@ -115,7 +116,7 @@ pub fn nameable<S: Sign>(
     node: &Node<S>,
     history: &[Event],
 ) -> Result<Vec<BatchReference>, AllocError>
-    ensures value { IfOk result (λ found. found.items ≡ proposing.nameable (seen S.signature_of node.now) history.now) }
+    ensures value { IfOk result (λ found. found.items ≡ proposing.nameable (node_of S.signature_of node.now) history.now) }
     ensures order { IfOk result (λ found. IsTrue (batches_rise found.items)) }
 {
     let mut found = Vec::new(alloc);
@@ -126,17 +127,6 @@ pub fn nameable<S: Sign>(
         }
     }
     Ok(found)
-}
-
-/// The first batches, as many as a header may name.
-fn first_of(batches: &[BatchReference]) -> &[BatchReference]
-    ensures value { result.now ≡ take 128 batches.now }
-    ensures few { length result.now ≤ 128 }
-{
-    if batches.len() <= MAX_BATCHES {
-        return batches;
-    }
-    &batches[..MAX_BATCHES]
 }
 
 /// Batches that rise by digest, as a header names them.
@@ -158,10 +148,10 @@ fn named_batches<S: Sign>(
     node: &Node<S>,
     history: &[Event],
 ) -> Result<BatchReferences, AllocError>
-    ensures { IfOk result (λ found. found ≡ take 128 (proposing.nameable (seen S.signature_of node.now) history.now)) }
+    ensures { IfOk result (λ found. found ≡ take 128 (proposing.nameable (node_of S.signature_of node.now) history.now)) }
 {
     let nameable = nameable(alloc, node, history)?;
-    named(alloc, first_of(&nameable))
+    named(alloc, first_of(&nameable, MAX_BATCHES))
 }
 
 /// A certificate as a parent is named.
@@ -218,8 +208,8 @@ fn proposal<S: Sign>(
     history: &[Event],
     round: Round,
 ) -> Result<HeaderBody, AllocError>
-    requires { round ≡ holdings.round (seen S.signature_of node.now) history.now }
-    ensures { IfOk result (λ body. body ≡ proposing.proposal (seen S.signature_of node.now) history.now) }
+    requires { round ≡ holdings.round (node_of S.signature_of node.now) history.now }
+    ensures { IfOk result (λ body. body ≡ proposing.proposal (node_of S.signature_of node.now) history.now) }
 {
     let batches = named_batches(alloc, node, history)?;
     let certificates = certificates(alloc, node, history)?;
@@ -235,7 +225,7 @@ fn proposal<S: Sign>(
 
 /// A header with the node's signature.
 fn signed<S: Sign>(node: &Node<S>, body: HeaderBody) -> Header
-    ensures { result ≡ proposing.signed (seen S.signature_of node.now) body }
+    ensures { result ≡ proposing.signed (node_of S.signature_of node.now) body }
 {
     let signature = node.signer.sign(&digest_of_header(&body));
     Header { body, signature }
@@ -254,7 +244,7 @@ pub fn propose<S: Sign>(
     node: &Node<S>,
     history: &[Event],
 ) -> Result<Option<Header>, AllocError>
-    ensures { IfOk result (λ found. found ≡ proposing.propose (seen S.signature_of node.now) history.now) }
+    ensures { IfOk result (λ found. found ≡ proposing.propose (node_of S.signature_of node.now) history.now) }
 {
     let number = round(alloc, node, history)?;
     if has_header(history, number, node.own.0) {

@@ -2,13 +2,13 @@ use Rattle.std.proofs.Common.{[], ◌∷◌, length-append, arith, sym, ◌∙�
 use Rattle.model.proofs.Ranges.{one_more, none_more}
 use Rattle.model.proofs.Voters.{follows_more, follows_next}
 use Rattle.model.specs.Holdings.{entry_on}
-use Rattle.model.specs.Nodes.{seen}
+use Rattle.model.specs.Nodes.{node_of}
 use Rattle.model.proofs.certificates.votes_of.Goals as goal
 use Rattle.model.proofs.certificates.votes_of.Goals.{in-Some+in_ok-push, in_default}
 
 pub loop-voter-preserved : goal.loop-voter-preserved
 loop-voter-preserved g c =
-    let make = entry_on (seen g.S.Sign.signature_of c.args.node.now) c.args.history.now c.args.header.now in
+    let make = entry_on (node_of g.S.Sign.signature_of c.args.node.now) c.args.history.now c.args.header.now in
     let so_far = c.loop-voter.found in
     let less = c.loop-voter-test.true in
     elim c.match-entry_on.branch [

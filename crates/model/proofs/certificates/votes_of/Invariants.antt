@@ -2,13 +2,13 @@ use Rattle.std.proofs.Common.{◌≡◌, ◌-◌, ◌≤◌, ◌++◌, IsTrue, l
 use Rattle.std.specs.List.{range_with_len}
 use Rattle.wire.specs.References.{vote_follows}
 use Rattle.model.specs.Holdings.{entry_on}
-use Rattle.model.specs.Nodes.{seen, numbers}
+use Rattle.model.specs.Nodes.{node_of, numbers}
 use Rattle.model.proofs.certificates.votes_of.Given as goal
 
 -- those so far and those of the members that are left are those of all, and the next one may be added
 abbrev pub invariant-loop-voter : goal.invariant-loop-voter
 invariant-loop-voter g l =
-    let node = seen g.S.Sign.signature_of l.node in
+    let node = node_of g.S.Sign.signature_of l.node in
     record {
       all : l.found ++ filter_map (entry_on node l.history l.header) (range_with_len l.voter (l.size - l.voter)) ≡ filter_map (entry_on node l.history l.header) (numbers l.size);
       few : length l.found ≤ l.voter;

@@ -1,14 +1,14 @@
 use Rattle.std.proofs.Common.{sym, ◌∙◌}
 use Rattle.model.proofs.Items.{passed_more, failed_more}
 use Rattle.model.specs.Giving.{is_given}
-use Rattle.model.specs.Nodes.{seen}
+use Rattle.model.specs.Nodes.{node_of}
 use Rattle.wire.specs.declared.output.Output.TheVariants as output
 use Rattle.model.proofs.giving.own_certificates.Goals as goal
 use Rattle.model.proofs.giving.own_certificates.Goals.{then-is_given+in_ok-try_clone+in_ok-push, else-is_given}
 
 pub loop-certificate-preserved : goal.loop-certificate-preserved
 loop-certificate-preserved g c =
-    let test = is_given (seen g.S.Sign.signature_of c.args.node.now) c.args.history.now in
+    let test = is_given (node_of g.S.Sign.signature_of c.args.node.now) c.args.history.now in
     let so_far = c.loop-certificate.found in
     let all = c.deref-certificate-items.result.now in
     let this = c.certificate-item.result in

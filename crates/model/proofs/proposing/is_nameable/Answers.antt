@@ -3,13 +3,13 @@ use Rattle.std.specs.Prelude.{◌&&◌, not}
 use Rattle.wire.specs.declared.keys.Digest.{Digest}
 use Rattle.model.specs.Admitting.{is_own}
 use Rattle.model.specs.Holdings.{batch_digest, is_available}
-use Rattle.model.specs.Nodes.{seen}
+use Rattle.model.specs.Nodes.{node_of}
 use Rattle.model.specs.Proposing.{was_named}
 use Rattle.model.proofs.proposing.is_nameable.Goals as goal
 
 pub returns-then-is_own : goal.returns-then-is_own
 returns-then-is_own g c =
-    let node = seen g.S.Sign.signature_of c.args.node.now in
+    let node = node_of g.S.Sign.signature_of c.args.node.now in
     let history = c.args.history.now in
     let waiting = λ (digest : Digest). is_available node history digest && not (was_named node history digest) in
     let own : is_own node c.args.batch.now.author ≡ true =

@@ -1,14 +1,14 @@
 use Rattle.std.proofs.Common.{sym, ◌∙◌}
 use Rattle.model.proofs.Items.{folded_more, folded_same}
 use Rattle.model.proofs.Placing.{placed-rises}
-use Rattle.model.specs.Nodes.{seen}
+use Rattle.model.specs.Nodes.{node_of}
 use Rattle.model.specs.Proposing.{placed, to_name}
 use Rattle.model.proofs.proposing.nameable.Goals as goal
 use Rattle.model.proofs.proposing.nameable.Goals.{in-Some+in_ok-found, in_default}
 
 pub loop-batch-preserved : goal.loop-batch-preserved
 loop-batch-preserved g c =
-    let make = to_name (seen g.S.Sign.signature_of c.args.node.now) c.args.history.now in
+    let make = to_name (node_of g.S.Sign.signature_of c.args.node.now) c.args.history.now in
     let so_far = c.loop-batch.found.items in
     let all = c.deref-batch-items.result.now in
     let this = c.batch-item.result in

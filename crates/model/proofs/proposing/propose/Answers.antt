@@ -2,7 +2,7 @@ use Rattle.std.proofs.Common.{◌≡◌, ℕ, ◌^◌, Bool, true, false, cond, 
 use Rattle.std.specs.Prelude.{◌||◌, nat_lt, is_some}
 use Rattle.std.proofs.lemmas.Bool.{le-ltb}
 use Rattle.model.specs.Holdings.{header_at, round}
-use Rattle.model.specs.Nodes.{seen}
+use Rattle.model.specs.Nodes.{node_of}
 use Rattle.model.specs.Proposing.{proposal, signed}
 use Rattle.model.proofs.proposing.propose.Goals as goal
 
@@ -14,7 +14,7 @@ neither false false x h k = refl
 
 pub returns-in_ok-body-in-Ok : goal.returns-in_ok-body-in-Ok
 returns-in_ok-body-in-Ok g c =
-    let node = seen g.S.Sign.signature_of c.args.node.now in
+    let node = node_of g.S.Sign.signature_of c.args.node.now in
     let history = c.args.history.now in
     let number : c.in_ok-number.number ≡ round node history = c.in_ok-number.ensures in
     let none_yet : is_some (header_at history (round node history) node.own.0) ≡ false =

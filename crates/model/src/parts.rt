@@ -1,0 +1,14 @@
+//! Parts of lists.
+
+ghost use Rattle.std.specs.Prelude.{◌≡◌, ◌≤◌, length, take};
+
+/// The first items of a list, at most so many.
+pub fn first_of<T>(list: &[T], most: usize) -> &[T]
+    ensures value { result.now ≡ take most list.now }
+    ensures few { length result.now ≤ most }
+{
+    if list.len() <= most {
+        return list;
+    }
+    &list[..most]
+}
