@@ -16,6 +16,7 @@ pub mod OrderGrows
 pub mod OrderLonger
 pub mod Parents
 pub mod Placing
+pub mod Proposed
 pub mod PutOut
 pub mod Ranges
 pub mod SameKept

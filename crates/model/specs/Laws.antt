@@ -2,11 +2,13 @@
 use Rattle.std.specs.Prelude.{◌≡◌, ℕ, Option, Some, None, List, [], ◌∷◌, ◌++◌, All, Contains, find, option_and_then, ⊤}
 use Rattle.std.specs.Option.{option_or, option_to_list}
 use Rattle.wire.specs.declared.message.Message.TheVariants as message
-use Rattle.model.specs.Admitting.{admit, IsTaken, IsLegal}
+use Rattle.header.specs.Checks.{fault_of, accepts_all}
+use Rattle.model.specs.Admitting.{admit, header_outputs, IsTaken, IsLegal}
 use Rattle.model.specs.Giving.{MayGive, kept}
 use Rattle.model.specs.Histories.{History, batches, acks, headers, votes, received, coins, as_batch, as_ack, as_header, as_vote, as_certificate, as_coin}
 use Rattle.model.specs.Holdings.{batch_digest, batch_at, is_vote_on, header_at, has_acked, voted, vote_on, counted, completed, certificates, slots, order}
 use Rattle.model.specs.Nodes.{Node}
+use Rattle.model.specs.Proposing.{propose}
 use Rattle.model.specs.Slots.{same_digest, is_of_slot, slots_of}
 use Rattle.model.specs.declared.admission.Admission.{Admission}
 use Rattle.model.specs.declared.admission.Admission.TheVariants.{New, Known, Refused}
@@ -108,3 +110,12 @@ OrderGrows = (node : Node) (history more : History) → IsLegal node (history ++
 abbrev pub GivenGrows : Type 0
 GivenGrows = (node : Node) (history more : History) (output : Output) → IsLegal node (history ++ more)
     → MayGive node history output → MayGive node (history ++ more) output
+
+-- an own header as the node's host hands it in
+abbrev pub own_event : Node → Header → Event
+own_event node header = record { sender = node.own; message = message.Header header }
+
+-- what is proposed at a legal history passes the checks, and is new there
+abbrev pub ProposalsAreNew : Type 0
+ProposalsAreNew = (node : Node) (history : History) (header : Header) → IsLegal node history → propose node history ≡ Some header
+    → (fault_of node.charter accepts_all (own_event node header) ≡ None) × (admit node history (own_event node header) ≡ New (header_outputs node header))

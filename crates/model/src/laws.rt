@@ -1,6 +1,6 @@
 //! What holds of legal histories, proved of the definitions: each is what a function without a body ensures.
 
-ghost use Rattle.model.specs.Laws.{OneVote, OneCertificate, OneMore, SlotsGrow, AnswersAlike, KeptDecides, KeptFollows, OutputsGiven, OrderGrows, GivenGrows};
+ghost use Rattle.model.specs.Laws.{OneVote, OneCertificate, OneMore, SlotsGrow, AnswersAlike, KeptDecides, KeptFollows, OutputsGiven, OrderGrows, GivenGrows, ProposalsAreNew};
 
 /// A legal history has one vote an author and round.
 pub fn one_vote()
@@ -52,4 +52,9 @@ pub fn order_grows()
 /// What may be given out at a legal history may be given out at each that it begins.
 pub fn given_grows()
     ensures { GivenGrows }
+{}
+
+/// What is proposed at a legal history passes the checks, and is new there.
+pub fn proposals_are_new()
+    ensures { ProposalsAreNew }
 {}
