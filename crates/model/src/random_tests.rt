@@ -2,13 +2,13 @@
 
 use crate::admission::{Admission, Outputs};
 use crate::admitting::admit_last;
-use crate::certificates::{certificates, floor, round_by};
+use crate::certificates::{certificates, floor, order, round_by};
 use crate::event::Event;
 use crate::giving::given;
 use crate::histories::{batches, coins};
 use crate::holdings::{header_at, is_available, is_full, vote_for};
 use crate::node::Node;
-use crate::ordering::{committed, order_by, top};
+use crate::ordering::{committed, top};
 use crate::refusal::Refusal;
 use crate::slots::slot;
 use crate::tests::{body, node};
@@ -557,8 +557,6 @@ struct Run {
     history: Vec<Event>,
     /// Its certificates.
     held: Vec<Certificate>,
-    /// How many coins it has.
-    coins: usize,
     order: Vec<Digest>,
     /// The order as the answers gave it out.
     joined: Vec<Digest>,
@@ -575,7 +573,6 @@ fn new_run(alloc: Global) -> Run {
     Run {
         history: Vec::new(alloc),
         held: Vec::new(alloc),
-        coins: 0,
         order: Vec::new(alloc),
         joined: Vec::new(alloc),
         given: Vec::new(alloc),
@@ -593,28 +590,11 @@ fn answer(alloc: Global, node: &Node<HashSign>, history: &[Event]) -> Result<Adm
     Ok(admit_last(alloc, node, history)?)
 }
 
-/// The order of certificates that are held.
-fn order_of_held(
-    alloc: Global,
-    node: &Node<HashSign>,
-    held: &[Certificate],
-    coins: &[u64],
-) -> Result<Vec<Digest>, Fail> {
-    let (size, depth) = (node.size(), node.committee.depth());
-    Ok(order_by(alloc, size, depth, held, coins)?)
-}
-
-/// The order only grows at its end. It stays where no certificate and no coin came.
+/// The order only grows at its end.
 fn check_order(alloc: Global, node: &Node<HashSign>, run: &mut Run) -> Result<(), Fail> {
-    let held = certificates(alloc, node, &run.history)?;
-    let coins = coins(alloc, &run.history)?;
-    if held.len() != run.held.len() || coins.len() != run.coins {
-        let after = order_of_held(alloc, node, &held, &coins)?;
-        expect(begins(&run.order, &after), "the order changed")?;
-        run.order = after;
-    }
-    run.held = held;
-    run.coins = coins.len();
+    let after = order(alloc, node, &run.history)?;
+    expect(begins(&run.order, &after), "the order changed")?;
+    run.order = after;
     Ok(())
 }
 
@@ -637,58 +617,22 @@ fn check_given(alloc: Global, node: &Node<HashSign>, run: &mut Run) -> Result<()
     Ok(())
 }
 
-/// Acknowledgements and batches have no part in the order.
-fn may_order(message: &Message) -> bool {
-    !matches!(message, Message::Batch(_) | Message::BatchAck(_))
-}
-
-/// Acknowledgements, coins and the certificates of others have no part in what may be given out, but for the
-/// order.
-fn may_give(node: &Node<HashSign>, message: &Message) -> bool {
-    match message {
-        Message::BatchAck(_) | Message::Coin(_) => false,
-        Message::Certificate(certificate) => node.is_own(certificate.header.author),
-        _ => true,
-    }
-}
-
-/// What an event may change.
-#[derive(Clone, Copy)]
-struct Kind {
-    may_order: bool,
-    may_give: bool,
-    is_certificate: bool,
-}
-
-fn kind_of(node: &Node<HashSign>, message: &Message) -> Kind {
-    Kind {
-        may_order: may_order(message),
-        may_give: may_give(node, message),
-        is_certificate: matches!(message, Message::Certificate(_)),
-    }
-}
-
 /// What holds after a new event.
 fn check_new(
     alloc: Global,
     node: &Node<HashSign>,
     run: &mut Run,
-    kind: Kind,
     outputs: &Outputs,
 ) -> Result<(), Fail> {
-    if kind.may_order {
-        check_order(alloc, node, run)?;
-    }
+    run.held = certificates(alloc, node, &run.history)?;
+    check_order(alloc, node, run)?;
     check_outputs(run, outputs)?;
-    if kind.may_give {
-        check_given(alloc, node, run)?;
-    }
-    Ok(())
+    check_given(alloc, node, run)
 }
 
-fn note_refusal(run: &mut Run, kind: Kind, refusal: Refusal) -> Result<(), Fail> {
+fn note_refusal(run: &mut Run, is_certificate: bool, refusal: Refusal) -> Result<(), Fail> {
     run.refusals.push(refusal)?;
-    if kind.is_certificate {
+    if is_certificate {
         run.refused_certificates.push(refusal)?;
     }
     Ok(())
@@ -699,12 +643,12 @@ fn take_answer(
     alloc: Global,
     node: &Node<HashSign>,
     run: &mut Run,
-    kind: Kind,
+    is_certificate: bool,
 ) -> Result<(), Fail> {
     match answer(alloc, node, &run.history)? {
-        Admission::New(outputs) => return check_new(alloc, node, run, kind, &outputs),
+        Admission::New(outputs) => return check_new(alloc, node, run, &outputs),
         Admission::Known(_) => run.has_known = true,
-        Admission::Refused(refusal) => note_refusal(run, kind, refusal)?,
+        Admission::Refused(refusal) => note_refusal(run, is_certificate, refusal)?,
     }
     run.history.pop();
     Ok(())
@@ -719,9 +663,9 @@ fn step(
 ) -> Result<(), Fail> {
     if let Some(event) = drawn(alloc, node, &run.history, &run.held, random)? {
         let event = checked(node, event)?;
-        let kind = kind_of(node, &event.message);
+        let is_certificate = matches!(&event.message, Message::Certificate(_));
         run.history.push(event)?;
-        take_answer(alloc, node, run, kind)?;
+        take_answer(alloc, node, run, is_certificate)?;
     }
     Ok(())
 }
