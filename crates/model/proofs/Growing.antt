@@ -150,7 +150,7 @@ reaches_new n before after ext start round author c held none new =
 -- ---- what a leader orders
 
 -- the leader before is none, or was held
-abbrev WasHeld : Slots → Option Certificate → Type 0
+abbrev pub WasHeld : Slots → Option Certificate → Type 0
 WasHeld slots previous = (c : Certificate) → previous ≡ Some c → IsIn slots c
 
 past_same : (n : ℕ) (before after : Slots) → Extends before after → (previous : Option Certificate) (c : Certificate) → WasHeld before previous → is_past n after previous c ≡ is_past n before previous c

@@ -8,6 +8,7 @@ pub mod Items
 pub mod KeptLater
 pub mod Lasts
 pub mod Legal
+pub mod Lengthening
 pub mod Lists
 pub mod Meeting
 pub mod NewEvents

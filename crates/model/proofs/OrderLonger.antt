@@ -88,7 +88,7 @@ leader_place n slots coins wave c some placed is =
 -- ---- the chain
 
 -- it ends with its leader
-chain_ends : (n : ℕ) (slots : Slots) (coins : List ℕ) (wave : ℕ) (last : Certificate) → (front : List Certificate) × (chain_to n slots coins wave last ≡ front ++ last ∷ [])
+pub chain_ends : (n : ℕ) (slots : Slots) (coins : List ℕ) (wave : ℕ) (last : Certificate) → (front : List Certificate) × (chain_to n slots coins wave last ≡ front ++ last ∷ [])
 chain_ends n slots coins zero last = ([], refl)
 chain_ends n slots coins (suc wave) last =
     elim (given_or_none (leader n slots coins (suc wave))) [
@@ -100,7 +100,7 @@ chain_ends n slots coins (suc wave) last =
     ]
 
 -- its leaders are held
-chain_held : (n : ℕ) (slots : Slots) (coins : List ℕ) → AreInPlace slots → (wave : ℕ) (last c : Certificate) → IsIn slots last → Contains (chain_to n slots coins wave last) c → IsIn slots c
+pub chain_held : (n : ℕ) (slots : Slots) (coins : List ℕ) → AreInPlace slots → (wave : ℕ) (last c : Certificate) → IsIn slots last → Contains (chain_to n slots coins wave last) c → IsIn slots c
 chain_held n slots coins placed zero last c held inside =
     elim (Contains-push_cases [] last c inside) [ inl none ↦ absurd (Contains-nothing c none) | inr same ↦ subst (IsIn slots) same held ]
 chain_held n slots coins placed (suc wave) last c held inside =
@@ -196,7 +196,7 @@ chain_longer n before after coins longer more wave last is_top is_last supported
 -- ---- the order
 
 -- the leaders that were committed, with what they order, come first
-committed_longer : (n : ℕ) (before after : Slots) → (coins : List ℕ) → IsLonger n before after coins → (more : List ℕ) (wave : ℕ) (last : Certificate) → top n before coins ≡ Some (suc wave) → leader n before coins (suc wave) ≡ Some last
+pub committed_longer : (n : ℕ) (before after : Slots) → (coins : List ℕ) → IsLonger n before after coins → (more : List ℕ) (wave : ℕ) (last : Certificate) → top n before coins ≡ Some (suc wave) → leader n before coins (suc wave) ≡ Some last
     → committed n after (coins ++ more) ≡ chain_to n before coins wave last ++ newer n after (coins ++ more) (suc wave)
 committed_longer n before after coins longer more wave last is_top is_last =
     let facts = is_top_of n before coins (length coins) (suc wave) is_top in

@@ -1,5 +1,5 @@
 -- What is said of histories, mostly of legal ones.
-use Rattle.std.specs.Prelude.{◌≡◌, ℕ, Option, Some, None, List, [], ◌∷◌, ◌++◌, All, Contains, find, option_and_then, ⊤}
+use Rattle.std.specs.Prelude.{◌≡◌, ℕ, Option, Some, None, List, [], ◌∷◌, ◌++◌, map, All, Contains, find, option_and_then, ⊤}
 use Rattle.std.specs.Option.{option_or, option_to_list}
 use Rattle.wire.specs.declared.message.Message.TheVariants as message
 use Rattle.header.specs.Checks.{fault_of, accepts_all}
@@ -7,9 +7,10 @@ use Rattle.model.specs.Admitting.{admit, header_outputs, IsTaken, IsLegal}
 use Rattle.model.specs.Giving.{MayGive, kept}
 use Rattle.model.specs.Histories.{History, batches, acks, headers, votes, received, coins, as_batch, as_ack, as_header, as_vote, as_certificate, as_coin}
 use Rattle.model.specs.Holdings.{batch_digest, batch_at, is_vote_on, header_at, has_acked, voted, vote_on, counted, completed, certificates, slots, order}
-use Rattle.model.specs.Nodes.{Node}
+use Rattle.model.specs.Nodes.{Node, size_of}
+use Rattle.model.specs.Ordering.{committed, segments}
 use Rattle.model.specs.Proposing.{propose}
-use Rattle.model.specs.Slots.{same_digest, is_of_slot, slots_of}
+use Rattle.model.specs.Slots.{same_digest, certificate_digest, is_of_slot, slots_of}
 use Rattle.model.specs.declared.admission.Admission.{Admission}
 use Rattle.model.specs.declared.admission.Admission.TheVariants.{New, Known, Refused}
 use Rattle.model.specs.Words.{Certificate, Digest, Event, Header, HeaderBody, Message, Output}
@@ -105,6 +106,26 @@ pub record Begins {X : Type 0} (one other : List X) : Type 0 where
 abbrev pub OrderGrows : Type 0
 OrderGrows = (node : Node) (history more : History) → IsLegal node (history ++ more)
     → Begins (order node history) (order node (history ++ more))
+
+-- the last of a list, if it has any, or what there was before it
+abbrev pub last_or : {X : Type 0} → Option X → List X → Option X
+last_or before [] = before
+last_or before (x ∷ rest) = last_or (Some x) rest
+
+-- the leaders that are committed at a history
+abbrev pub committed_at : Node → History → List Certificate
+committed_at node history = committed (size_of node) (slots node history) (coins history)
+
+-- at a later history the leaders are those from before and then newer ones, and the order is that from before and then
+-- what the newer ones order
+pub record Lengthens (node : Node) (before later : History) : Type 0 where
+  pub leaders : List Certificate
+  pub chain : committed_at node later ≡ committed_at node before ++ leaders
+  pub order : order node later ≡ order node before
+      ++ map (λ c. certificate_digest c.header) (segments (size_of node) node.charter.depth (slots node later) (last_or None (committed_at node before)) leaders)
+
+abbrev pub OrderLengthens : Type 0
+OrderLengthens = (node : Node) (history more : History) → IsLegal node (history ++ more) → Lengthens node history (history ++ more)
 
 -- what may be given out at a legal history may be given out at each that it begins
 abbrev pub GivenGrows : Type 0

@@ -1,6 +1,6 @@
 //! What holds of legal histories, proved of the definitions: each is what a function without a body ensures.
 
-ghost use Rattle.model.specs.Laws.{OneVote, OneCertificate, OneMore, SlotsGrow, AnswersAlike, KeptDecides, KeptFollows, OutputsGiven, OrderGrows, GivenGrows, ProposalsAreNew};
+ghost use Rattle.model.specs.Laws.{OneVote, OneCertificate, OneMore, SlotsGrow, AnswersAlike, KeptDecides, KeptFollows, OutputsGiven, OrderGrows, OrderLengthens, GivenGrows, ProposalsAreNew};
 
 /// A legal history has one vote an author and round.
 pub fn one_vote()
@@ -47,6 +47,12 @@ pub fn outputs_given()
 /// The order of a legal history begins that of each history that it begins.
 pub fn order_grows()
     ensures { OrderGrows }
+{}
+
+/// The leaders of a longer legal history are those that were committed and then newer ones, and its order is the order
+/// and then what the newer ones order.
+pub fn order_lengthens()
+    ensures { OrderLengthens }
 {}
 
 /// What may be given out at a legal history may be given out at each that it begins.
