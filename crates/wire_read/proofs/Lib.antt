@@ -5,4 +5,5 @@ pub mod EntryLists
 pub mod RisingLists
 pub mod BatchBodies
 pub mod Messages
+pub mod Beginnings
 pub mod Streams

@@ -1,7 +1,8 @@
 //! Whole messages.
 
-ghost use Rattle.std.specs.Prelude.{◌≡◌, ◌<◌, ◌++◌, List, ℕ, length, IfOk, Ok, Err};
-ghost use Rattle.wire.specs.declared.error.WireError.TheVariants.{Trailing};
+ghost use Rattle.std.specs.Prelude.{◌≡◌, ◌≢◌, ◌<◌, ◌++◌, List, ℕ, length, IfOk, Ok, Err};
+ghost use Rattle.wire.specs.declared.error.WireError.{WireError};
+ghost use Rattle.wire.specs.declared.error.WireError.TheVariants.{Short, Trailing};
 ghost use Rattle.wire.specs.declared.message.Message.{Message};
 ghost use Rattle.wire.specs.Grammar.{IsMessage, Spells};
 ghost use Rattle.wire.specs.Spelling.{spelling};
@@ -130,4 +131,15 @@ pub fn one_spelling()
 /// Bytes that go on behind a message are refused as such, whatever they are.
 pub fn what_follows_is_trailing()
     ensures { (m : Message) (rest : List ℕ) → IsMessage m → 0 < length rest → message_of (spelling m ++ rest) ≡ Err Trailing }
+{}
+
+/// Each proper beginning of a message's spelling is refused as one that ends too early.
+pub fn beginnings_are_short()
+    ensures { (m : Message) (bytes more : List ℕ) → IsMessage m → spelling m ≡ bytes ++ more → 0 < length more → message_of bytes ≡ Err Short }
+{}
+
+/// Any other refusal than for an early end or for bytes behind a message stays, whatever follows: it is for the
+/// first fault from the left.
+pub fn faults_stay()
+    ensures { (bytes more : List ℕ) (fault : WireError) → message_of bytes ≡ Err fault → fault ≢ Short → fault ≢ Trailing → message_of (bytes ++ more) ≡ Err fault }
 {}

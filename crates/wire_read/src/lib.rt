@@ -8,7 +8,9 @@ mod lists;
 mod reader;
 mod transactions;
 
-pub use decoding::{decode, one_spelling, what_follows_is_trailing};
+pub use decoding::{
+    beginnings_are_short, decode, faults_stay, one_spelling, what_follows_is_trailing,
+};
 pub use frames::{FrameReader, one_split};
 
 #[cfg(test)]

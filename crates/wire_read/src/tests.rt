@@ -141,6 +141,7 @@ fn a_vote_has_its_fields(rt: HostRuntime) -> Result<(), Fail> {
 #[test]
 fn the_length_is_exact(rt: HostRuntime) {
     one_spelling();
+    beginnings_are_short();
     let bytes = first_header();
     for length in 0..181 {
         assert_eq!(rt;
@@ -156,6 +157,7 @@ fn the_length_is_exact(rt: HostRuntime) {
 
 #[test]
 fn tags_and_rounds(rt: HostRuntime) {
+    faults_stay();
     let mut bytes = changed(ROUND, &GREATEST_ROUND);
     assert_eq!(rt; fault(rt.alloc(), &bytes), None);
     put(&mut bytes, 10, &[1]);
