@@ -66,10 +66,10 @@ pub record ReadAlike (node : Node) (one other : History) : Type 0 where
 abbrev pub floor_of : Node → Option ℕ → ℕ
 floor_of node top = option_map_or (λ wave. (2 * wave - 1) - node.charter.depth) top 0
 
-floor_alike : (node : Node) (one other : History) → ReadAlike node one other → floor node one ≡ floor node other
+pub floor_alike : (node : Node) (one other : History) → ReadAlike node one other → floor node one ≡ floor node other
 floor_alike node one other alike = ap (floor_of node) alike.same_top
 
-agree_from : (node : Node) (one other : History) → ReadAlike node one other → AgreeFrom (floor node other) (slots node one) (slots node other)
+pub agree_from : (node : Node) (one other : History) → ReadAlike node one other → AgreeFrom (floor node other) (slots node one) (slots node other)
 agree_from node one other alike = record { placed = in_place node one; placed_other = in_place node other; same = alike.same_slots }
 
 -- a round that isn't low is at or above the floor
@@ -99,7 +99,7 @@ held_in batches digest = find (λ batch. same_digest (batch_digest batch) digest
 abbrev has_own : Node → List Contents → Digest → Bool
 has_own node batches digest = option_map_or (λ batch. batch.author.0 == node.own.0) (held_in batches digest) false
 
-available_alike : (node : Node) (one other : History) → ReadAlike node one other → (digest : Digest) → is_available node one digest ≡ is_available node other digest
+pub available_alike : (node : Node) (one other : History) → ReadAlike node one other → (digest : Digest) → is_available node one digest ≡ is_available node other digest
 available_alike node one other alike digest =
     ap (λ (l : List Contents). has_own node l digest && nat_le (quorum node) (count_by (λ member. (member == node.own.0) || has_acked one digest member) (numbers (size_of node)))) alike.same_batches
     ∙ ap (λ (f : ℕ → Bool). has_own node (batches other) digest && nat_le (quorum node) (count_by (λ member. (member == node.own.0) || f member) (numbers (size_of node))))

@@ -6,6 +6,7 @@ pub mod Growing
 pub mod InSlots
 pub mod Items
 pub mod KeptLater
+pub mod KeptProposed
 pub mod Lasts
 pub mod Legal
 pub mod Lengthening

@@ -218,7 +218,7 @@ some_held node history sound r full =
 abbrev full_rounds : Node → History → List ℕ
 full_rounds node history = filter (is_full node (slots node history)) (map (λ c. c.header.round) (certificates node history))
 
-round_above : (node : Node) (history : History) → IsNode node → (r : ℕ) → is_full node (slots node history) r ≡ true → r < round node history
+pub round_above : (node : Node) (history : History) → IsNode node → (r : ℕ) → is_full node (slots node history) r ≡ true → r < round node history
 round_above node history sound r full =
     let held = some_held node history sound r full in
     let among = subst (λ k. Contains (map (λ (c : Certificate). c.header.round) (certificates node history)) k) held.2 (mapped_in (λ (c : Certificate). c.header.round) (certificates node history) held.0 held.1) in
@@ -237,7 +237,7 @@ genesis_held node history author member none =
     nothing_found (λ c. is_of_slot 0 author c.header) (certificates node history) (genesis author) none (genesis_among node history (genesis author) among) (of_its_slot (genesis author).header)
 
 -- the round below the node's is full
-below_full : (node : Node) (history : History) → IsNode node → is_full node (slots node history) (round node history - 1) ≡ true
+pub below_full : (node : Node) (history : History) → IsNode node → is_full node (slots node history) (round node history - 1) ≡ true
 below_full node history sound =
     let n = size_of node in
     let top_round = fold max 0 (full_rounds node history) in
@@ -257,7 +257,7 @@ above_floor floor round some (inl none) = grind (arith, some, none, common_steps
 above_floor floor round some (inr above) = grind (arith, some, above, common_steps)
 
 -- so that round isn't low
-round_high : (node : Node) (history : History) → IsLegal node history → is_low (floor node history) (round node history) ≡ false
+pub round_high : (node : Node) (history : History) → IsLegal node history → is_low (floor node history) (round node history) ≡ false
 round_high node history legal =
     let r = round node history in
     elim (given_or_none (top (size_of node) (slots node history) (coins history))) [

@@ -6,7 +6,7 @@ use Rattle.header.specs.Checks.{fault_of, accepts_all}
 use Rattle.model.specs.Admitting.{admit, header_outputs, IsTaken, IsLegal}
 use Rattle.model.specs.Giving.{MayGive, kept}
 use Rattle.model.specs.Histories.{History, batches, acks, headers, votes, received, coins, as_batch, as_ack, as_header, as_vote, as_certificate, as_coin}
-use Rattle.model.specs.Holdings.{batch_digest, batch_at, is_vote_on, header_at, has_acked, voted, vote_on, counted, completed, certificates, slots, order}
+use Rattle.model.specs.Holdings.{batch_digest, batch_at, is_vote_on, header_at, has_acked, voted, vote_on, counted, completed, certificates, slots, order, round}
 use Rattle.model.specs.Nodes.{Node, size_of}
 use Rattle.model.specs.Ordering.{committed, segments}
 use Rattle.model.specs.Proposing.{propose}
@@ -86,6 +86,11 @@ KeptDecides = (node : Node) (one other : History) (event : Event) → IsLegal no
 abbrev pub KeptFollows : Type 0
 KeptFollows = (node : Node) (one other : History) (event : Event) → IsLegal node (one ++ event ∷ []) → IsLegal node (other ++ event ∷ [])
     → kept node one ≡ kept node other → kept node (one ++ event ∷ []) ≡ kept node (other ++ event ∷ [])
+
+-- and they have one round, and propose the same
+abbrev pub KeptProposes : Type 0
+KeptProposes = (node : Node) (one other : History) → IsLegal node one → IsLegal node other → kept node one ≡ kept node other
+    → (round node one ≡ round node other) × (propose node one ≡ propose node other)
 
 -- what an answer puts out may be given out: at the history with the event where it is new, and else at the history
 abbrev pub PutsOutGiven : Node → History → Event → Admission → Type 0

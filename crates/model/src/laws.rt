@@ -1,6 +1,6 @@
 //! What holds of legal histories, proved of the definitions: each is what a function without a body ensures.
 
-ghost use Rattle.model.specs.Laws.{OneVote, OneCertificate, OneMore, SlotsGrow, AnswersAlike, KeptDecides, KeptFollows, OutputsGiven, OrderGrows, OrderLengthens, GivenGrows, ProposalsAreNew};
+ghost use Rattle.model.specs.Laws.{OneVote, OneCertificate, OneMore, SlotsGrow, AnswersAlike, KeptDecides, KeptFollows, KeptProposes, OutputsGiven, OrderGrows, OrderLengthens, GivenGrows, ProposalsAreNew};
 
 /// A legal history has one vote an author and round.
 pub fn one_vote()
@@ -37,6 +37,11 @@ pub fn kept_decides()
 /// So it does what is kept behind each new event, and with it all answers to come.
 pub fn kept_follows()
     ensures { KeptFollows }
+{}
+
+/// And the node's round, and what it proposes.
+pub fn kept_proposes()
+    ensures { KeptProposes }
 {}
 
 /// What a new event puts out may be given out at the history with it, and what a known one puts out at the history.

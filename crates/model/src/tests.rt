@@ -8,8 +8,8 @@ use crate::holdings::{
     all_held, has_acked, header_at, is_available, is_full, is_low, vote_for, vote_on, voted,
 };
 use crate::laws::{
-    answers_alike, given_grows, kept_decides, kept_follows, one_certificate, one_more, one_vote,
-    order_grows, order_lengthens, outputs_given, proposals_are_new, slots_grow,
+    answers_alike, given_grows, kept_decides, kept_follows, kept_proposes, one_certificate,
+    one_more, one_vote, order_grows, order_lengthens, outputs_given, proposals_are_new, slots_grow,
 };
 use crate::ordering::{committed, leader, top};
 use crate::slots::{digest_of, is_parent, reaches, slot};
@@ -533,6 +533,7 @@ fn events_are_each_new_or_not(rt: HostRuntime) -> Result<(), Fail> {
     outputs_given();
     kept_decides();
     kept_follows();
+    kept_proposes();
     order_grows();
     order_lengthens();
     given_grows();
