@@ -5,6 +5,7 @@ use super::settings::{OWN, read_committee};
 use header::check;
 use sigface::HashVerify;
 use std::alloc::Global;
+use std::io::{self, BufReader, Read};
 use std::test::Fail;
 use wire::{Message, Output};
 
@@ -301,6 +302,39 @@ fn bytes_that_are_no_text_are_a_bad_command(rt: HostRuntime) {
     assert_eq!(rt; status, 2);
     assert_eq!(rt; printed.as_slice(), b"settled 0\n".as_slice());
     assert_eq!(rt; errors.as_slice(), b"line 2: bad command\n".as_slice());
+}
+
+/// A reader of which nothing can be read.
+#[derive(Drop)]
+struct Broken;
+
+impl Read for Broken {
+    fn read(&mut self, _bytes: &mut [u8]) -> io::Result<usize> {
+        Err(io::ErrorKind::Other.into())
+    }
+}
+
+#[test]
+fn what_cannot_be_read_ends_the_run(rt: HostRuntime) -> Result<(), Fail> {
+    let mut printed = Vec::new(rt.alloc());
+    let mut errors = Vec::new(rt.alloc());
+    let mut reader = BufReader::new(rt.alloc(), Broken)?;
+    let status = run(rt.alloc(), &mut reader, &mut printed, &mut errors);
+    assert_eq!(rt; status, 5);
+    assert!(rt; printed.is_empty());
+    Ok(())
+}
+
+#[test]
+fn what_cannot_be_written_ends_the_run(rt: HostRuntime) {
+    // There is room for one answer.
+    let mut room = [0; 10];
+    let mut writer = room.as_mut_slice();
+    let mut errors = Vec::new(rt.alloc());
+    let mut reader = b"flush\nflush\n".as_slice();
+    let status = run(rt.alloc(), &mut reader, &mut writer, &mut errors);
+    assert_eq!(rt; status, 5);
+    assert_eq!(rt; room.as_slice(), b"settled 0\n".as_slice());
 }
 
 fn journal_length(alloc: Global, script: &str) -> Result<usize, Fail> {
