@@ -9,12 +9,12 @@ use Rattle.std.proofs.lemmas.Option.{none-some}
 use Rattle.std.proofs.lemmas.List.Elements.{filter-append, Contains-push_cases}
 use Rattle.committee.specs.Sizes.{support_of}
 use Rattle.model.specs.Nodes.{numbers}
-use Rattle.model.specs.Ordering.{leader, has_support, is_committed, top_to, top, is_past, is_ordered_by, segment, segments}
+use Rattle.model.specs.Ordering.{leader, has_support, is_committed, top_to, top, is_past, is_ordered_by, segment, segments, newer_to, newer_at, newer}
 use Rattle.model.specs.Slots.{Slots, certificate_digest, round_of, is_parent, has_path, reaches}
 use Rattle.model.specs.Words.{Certificate, Digest}
 use Rattle.model.proofs.Growing.{AreInPlace, any_same, picked_same}
 use Rattle.model.proofs.Lists.{given_or_none, Contains-nothing, Contains-first, Contains-later}
-use Rattle.model.proofs.OrderLonger.{above_to, newer_at, newer, since, leader_place}
+use Rattle.model.proofs.OrderLonger.{since, leader_place}
 use Rattle.model.proofs.Votes.{slot_is}
 
 -- slots that hold the same from a round on, each in its place
@@ -94,11 +94,11 @@ top_from n low one other some agree coins wave above is (suc most) within =
 
 -- ---- the leaders that are newer than those of a wave
 
-above_from : (n low : ℕ) (one other : Slots) → 0 < n → AgreeFrom low one other → (coins : List ℕ) (base : ℕ) → low ≤ 2 * base + 1 → (wave : ℕ) (last : Certificate)
-    → above_to n one coins base wave last ≡ above_to n other coins base wave last
-above_from n low one other some agree coins base above zero last = refl
-above_from n low one other some agree coins base above (suc wave) last =
-    let lower = above_from n low one other some agree coins base above wave in
+newer_to_from : (n low : ℕ) (one other : Slots) → 0 < n → AgreeFrom low one other → (coins : List ℕ) (base : ℕ) → low ≤ 2 * base + 1 → (wave : ℕ) (last : Certificate)
+    → newer_to n one coins base wave last ≡ newer_to n other coins base wave last
+newer_to_from n low one other some agree coins base above zero last = refl
+newer_to_from n low one other some agree coins base above (suc wave) last =
+    let lower = newer_to_from n low one other some agree coins base above wave in
     elim (cases_Bool (nat_le (suc wave) base)) [
       | inl done ↦ rw done refl
       | inr more ↦
@@ -117,7 +117,7 @@ above_from n low one other some agree coins base above (suc wave) last =
           ]
     ]
 
-newer_from : (n low : ℕ) (one other : Slots) → 0 < n → AgreeFrom low one other → (coins : List ℕ) (wave : ℕ) → low ≤ 2 * wave + 1 → is_committed n one coins (suc wave) ≡ true → suc wave ≤ length coins
+pub newer_from : (n low : ℕ) (one other : Slots) → 0 < n → AgreeFrom low one other → (coins : List ℕ) (wave : ℕ) → low ≤ 2 * wave + 1 → is_committed n one coins (suc wave) ≡ true → suc wave ≤ length coins
     → newer n one coins (suc wave) ≡ newer n other coins (suc wave)
 newer_from n low one other some agree coins wave above is within =
     let same = top_from n low one other some agree coins wave above is (length coins) within in
@@ -132,10 +132,10 @@ newer_from n low one other some agree coins wave above is within =
                 let next : suc (found.0 - 1) ≡ found.0 = omega (arith, higher) in
                 let leaders : leader n one coins found.0 ≡ leader n other coins found.0 =
                 ap (leader n one coins) (sym next) ∙ leader_from n low one other agree coins (found.0 - 1) (omega (arith, above, higher)) ∙ ap (leader n other coins) next in
-                let chains : above_to n one coins (suc wave) (found.0 - 1) ≡ above_to n other coins (suc wave) (found.0 - 1) =
-                fun_ext (λ last. above_from n low one other some agree coins (suc wave) (omega (arith, above)) (found.0 - 1) last) in
+                let chains : newer_to n one coins (suc wave) (found.0 - 1) ≡ newer_to n other coins (suc wave) (found.0 - 1) =
+                fun_ext (λ last. newer_to_from n low one other some agree coins (suc wave) (omega (arith, above)) (found.0 - 1) last) in
                 rw young
-                (ap (λ o. option_map_or (above_to n one coins (suc wave) (found.0 - 1)) o []) leaders
+                (ap (λ o. option_map_or (newer_to n one coins (suc wave) (found.0 - 1)) o []) leaders
                 ∙ ap (λ (f : Certificate → List Certificate). option_map_or f (leader n other coins found.0) []) chains)
           ] in
           ap (λ o. option_map_or (newer_at n one coins (suc wave)) o []) found.1 ∙ at ∙ ap (λ o. option_map_or (newer_at n other coins (suc wave)) o []) (sym also)
@@ -145,23 +145,23 @@ newer_from n low one other some agree coins wave above is within =
     ]
 
 -- they lie above it
-above_high : (n : ℕ) (slots : Slots) → 0 < n → AreInPlace slots → (coins : List ℕ) (base wave : ℕ) (last c : Certificate) → 2 * base + 1 ≤ last.header.round → Contains (above_to n slots coins base wave last) c
+newer_to_high : (n : ℕ) (slots : Slots) → 0 < n → AreInPlace slots → (coins : List ℕ) (base wave : ℕ) (last c : Certificate) → 2 * base + 1 ≤ last.header.round → Contains (newer_to n slots coins base wave last) c
     → 2 * base + 1 ≤ c.header.round
-above_high n slots some placed coins base zero last c high inside = subst (λ (d : Certificate). 2 * base + 1 ≤ d.header.round) (only_one last c inside) high
-above_high n slots some placed coins base (suc wave) last c high inside =
+newer_to_high n slots some placed coins base zero last c high inside = subst (λ (d : Certificate). 2 * base + 1 ≤ d.header.round) (only_one last c inside) high
+newer_to_high n slots some placed coins base (suc wave) last c high inside =
     elim (cases_Bool (nat_le (suc wave) base)) [
       | inl done ↦ let inside' = rw done at inside in subst (λ (d : Certificate). 2 * base + 1 ≤ d.header.round) (only_one last c inside') high
       | inr more ↦ elim (given_or_none (leader n slots coins (suc wave))) [
-        | inr none ↦ let inside' = rw (more, none) at inside in above_high n slots some placed coins base wave last c high inside'
+        | inr none ↦ let inside' = rw (more, none) at inside in newer_to_high n slots some placed coins base wave last c high inside'
         | inl earlier ↦
             let place = leader_place n slots coins wave earlier.0 some placed earlier.1 in
             let above = not_within (suc wave) base more in
             elim (cases_Bool (reaches n slots last earlier.0)) [
-              | inr missed ↦ let inside' = rw (more, earlier.1, missed) at inside in above_high n slots some placed coins base wave last c high inside'
+              | inr missed ↦ let inside' = rw (more, earlier.1, missed) at inside in newer_to_high n slots some placed coins base wave last c high inside'
               | inl reached ↦
                   let inside' = rw (more, earlier.1, reached) at inside in
-                  elim (Contains-push_cases (above_to n slots coins base wave earlier.0) last c inside') [
-                    | inl before ↦ above_high n slots some placed coins base wave earlier.0 c (omega (arith, place.0, above)) before
+                  elim (Contains-push_cases (newer_to n slots coins base wave earlier.0) last c inside') [
+                    | inl before ↦ newer_to_high n slots some placed coins base wave earlier.0 c (omega (arith, place.0, above)) before
                     | inr same ↦ subst (λ (d : Certificate). 2 * base + 1 ≤ d.header.round) same high
                   ]
             ]
@@ -185,7 +185,7 @@ newer_high n slots some placed coins base c inside =
                   | inl last ↦
                       let among = rw last.1 at inside'' in
                       let place = leader_place n slots coins (found.0 - 1) last.0 some placed (ap (leader n slots coins) next ∙ last.1) in
-                      above_high n slots some placed coins base (found.0 - 1) last.0 c (omega (arith, place.0, higher)) among
+                      newer_to_high n slots some placed coins base (found.0 - 1) last.0 c (omega (arith, place.0, higher)) among
                 ]
           ]
     ]

@@ -8,7 +8,7 @@ use Rattle.std.proofs.lemmas.List.{append-nil, append_assoc}
 use Rattle.std.proofs.lemmas.List.Elements.{filter-append}
 use Rattle.std.proofs.lemmas.List.Sums.{length-filter}
 use Rattle.model.specs.Nodes.{numbers}
-use Rattle.model.specs.Ordering.{leader, is_committed, chain_to, chain, is_past, is_ordered_by, segment, segments}
+use Rattle.model.specs.Ordering.{leader, is_committed, chain, is_past, is_ordered_by, segment, segments}
 use Rattle.model.specs.Slots.{Slots, is_of_slot, round_of, is_parent, has_path, reaches}
 use Rattle.model.specs.Words.{Certificate}
 use Rattle.model.proofs.Lists.{given_or_none, Contains-first, Contains-later}
@@ -222,7 +222,7 @@ leader_kept n before after ext coins more (suc wave) c is =
     ]
 
 -- a leader that wasn't there before is new
-leader_new : (n : ℕ) (before after : Slots) → (coins more : List ℕ) (wave : ℕ) (c : Certificate) → wave ≤ length coins → leader n before coins wave ≡ None → leader n after (coins ++ more) wave ≡ Some c
+pub leader_new : (n : ℕ) (before after : Slots) → (coins more : List ℕ) (wave : ℕ) (c : Certificate) → wave ≤ length coins → leader n before coins wave ≡ None → leader n after (coins ++ more) wave ≡ Some c
     → (round : ℕ) × (author : ℕ) × (before round author ≡ None) × (after round author ≡ Some c)
 leader_new n before after coins more zero c within none new = absurd cc
 leader_new n before after coins more (suc wave) c within none new =
@@ -244,30 +244,6 @@ leader_in n slots coins (suc wave) c placed is =
     elim (given_or_none (slice_get coins wave)) [
       | inl coin ↦ let held = rw coin.1 at is in is_in slots (2 * wave + 1) (coin.0 % n) c placed held
       | inr none ↦ let nothing = rw none at is in absurd cc
-    ]
-
--- the leaders committed with one that was held are as before
-pub chain_same : (n : ℕ) (before after : Slots) → Extends before after → (coins more : List ℕ) (wave : ℕ) (last : Certificate) → wave ≤ length coins → IsIn before last
-    → chain_to n after (coins ++ more) wave last ≡ chain_to n before coins wave last
-chain_same n before after ext coins more zero last within held = refl
-chain_same n before after ext coins more (suc wave) last within held =
-    let lower = chain_same n before after ext coins more wave last (omega (arith, within)) held in
-    elim (given_or_none (leader n before coins (suc wave))) [
-      | inl earlier ↦
-          let also = leader_kept n before after ext coins more (suc wave) earlier.0 earlier.1 in
-          let same = reaches_same n before after ext last earlier.0 held in
-          let under = chain_same n before after ext coins more wave earlier.0 (omega (arith, within)) (leader_in n before coins (suc wave) earlier.0 ext.placed_before earlier.1) in
-          elim (cases_Bool (reaches n before last earlier.0)) [
-            | inl reached ↦ let reached' = same ∙ reached in rw (earlier.1, also, reached, reached') (ap (λ l. l ++ last ∷ []) under)
-            | inr missed ↦ let missed' = same ∙ missed in rw (earlier.1, also, missed, missed') lower
-          ]
-      | inr none ↦ elim (given_or_none (leader n after (coins ++ more) (suc wave))) [
-        | inl new ↦
-            let fresh = leader_new n before after coins more (suc wave) new.0 within none new.1 in
-            let missed = reaches_new n before after ext last fresh.0 fresh.1 new.0 held fresh.2 fresh.3 in
-            rw (none, new.1, missed) lower
-        | inr nothing ↦ rw (none, nothing) lower
-      ]
     ]
 
 -- a wave that was committed is

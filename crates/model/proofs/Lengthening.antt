@@ -1,24 +1,29 @@
 -- The leaders of a longer history are those that were committed and then newer ones, and its order is the order and
 -- then what the newer ones order.
-use Rattle.std.proofs.Common.{◌≡◌, ℕ, suc, ◌-◌, arith, List, [], ◌∷◌, ◌++◌, map, Option, Some, None, inl, inr, refl, ap, sym, ◌∙◌, subst, append_assoc}
-use Rattle.std.specs.Prelude.{Contains}
+use Rattle.std.proofs.Common.{◌≡◌, ℕ, suc, ◌+◌, ◌-◌, ◌*◌, ◌≤◌, arith, true, length, List, [], ◌∷◌, ◌++◌, map, Option, Some, None, inl, inr, refl, ap, sym, ◌∙◌, subst, append_assoc}
+use Rattle.std.proofs.Math.Path.{fun_ext}
+use Rattle.std.specs.Prelude.{Contains, nat_le}
 use Rattle.std.specs.Option.{option_map_or, option_to_list}
+use Rattle.std.proofs.lemmas.Bool.{le-leb}
 use Rattle.std.proofs.lemmas.Option.{same_Some, none-some}
-use Rattle.std.proofs.lemmas.List.{append-nil, map-append}
+use Rattle.std.proofs.lemmas.List.{append-nil, length-append, map-append}
 use Rattle.std.proofs.lemmas.List.Elements.{Contains-append_left, Contains-append_right}
+use Rattle.model.specs.Admitting.{IsLegal}
 use Rattle.model.specs.Histories.{History, coins, as_coin}
-use Rattle.model.specs.Holdings.{slots, order}
-use Rattle.model.specs.Laws.{last_or, committed_at, Lengthens, OrderLengthens}
-use Rattle.model.specs.Nodes.{Node, size_of}
-use Rattle.model.specs.Ordering.{leader, top, chain_to, chain, segment, segments, committed, order_by}
+use Rattle.model.specs.Holdings.{slots, order, floor}
+use Rattle.model.specs.Laws.{last_or, committed_at, newer_at_later, HoldsFrom, Lengthens, OrderLengthens}
+use Rattle.model.specs.Nodes.{Node, IsNode, size_of}
+use Rattle.model.specs.Ordering.{leader, is_committed, top, chain_to, chain, segment, segments, committed, newer_at, newer, last_wave, order_by}
 use Rattle.model.specs.Slots.{Slots, certificate_digest}
 use Rattle.model.specs.Words.{Certificate, Digest, Event}
+use Rattle.model.proofs.Alike.{floor_of}
 use Rattle.model.proofs.Closed.{in_place, closed, coins_later, extends}
-use Rattle.model.proofs.Growing.{AreInPlace, IsIn, WasHeld, leader_in, segments_same}
+use Rattle.model.proofs.FromRounds.{AgreeFrom, newer_from, since_from}
+use Rattle.model.proofs.Growing.{AreInPlace, Extends, IsIn, WasHeld, leader_in, segments_same, committed_kept}
 use Rattle.model.proofs.Legal.{Adds, legal-grows}
 use Rattle.model.proofs.Lists.{given_or_none, Contains-nothing, Contains-first, Contains-later}
-use Rattle.model.proofs.OrderGrows.{longer}
-use Rattle.model.proofs.OrderLonger.{IsLonger, newer, chain_ends, chain_held, committed_longer, order_since, top_leader}
+use Rattle.model.proofs.OrderGrows.{longer, members_some}
+use Rattle.model.proofs.OrderLonger.{IsLonger, chain_held, newer_grows, committed_grows, is_top_of, top_leader, top_grows}
 
 -- ---- the last of a list
 
@@ -71,72 +76,168 @@ committed_in n slots coins placed c inside =
           chain_held n slots coins placed (found.0 - 1) lead.0 c (leader_in n slots coins (suc (found.0 - 1)) lead.0 placed lead.2) (subst (λ l. Contains l c) is inside)
     ]
 
-record IsStep (n depth : ℕ) (before after : Slots) (coins more : List ℕ) : Type 0 where
-  leaders : List Certificate
-  chain : committed n after (coins ++ more) ≡ committed n before coins ++ leaders
-  order : order_by n depth after (coins ++ more) ≡ order_by n depth before coins ++ digests (segments n depth after (last_or None (committed n before coins)) leaders)
-
-one_step : (n depth : ℕ) (before after : Slots) (coins : List ℕ) → IsLonger n before after coins → (more : List ℕ) → IsStep n depth before after coins more
+-- one step: what the newer leaders order comes behind the order
+one_step : (n depth : ℕ) (before after : Slots) (coins : List ℕ) → IsLonger n before after coins → (more : List ℕ)
+    → order_by n depth after (coins ++ more) ≡ order_by n depth before coins ++ digests (segments n depth after (last_or None (committed n before coins)) (newer n after (coins ++ more) (last_wave n before coins)))
 one_step n depth before after coins longer more =
-    elim (given_or_none (top n before coins)) [
-      | inr none ↦
-          let nothing : committed n before coins ≡ [] = ap (λ o. option_map_or (chain n before coins) o []) none in
-          let all = committed n after (coins ++ more) in
-          record {
-            leaders = all;
-            chain = ap (λ l. l ++ all) (sym nothing);
-            order = ap (λ l. digests (segments n depth before None l) ++ digests (segments n depth after (last_or None l) all)) (sym nothing);
-          }
-      | inl found ↦
-          let lead = top_leader n before coins found.0 found.1 in
-          let wave = found.0 - 1 in
-          let last = lead.0 in
-          let new = newer n after (coins ++ more) (suc wave) in
-          let was = committed_is n before coins wave last lead.1 lead.2 in
-          let ends = chain_ends n before coins wave last in
-          let is_last : last_or None (committed n before coins) ≡ Some last = ap (last_or None) (was ∙ ends.1) ∙ last_pushed None ends.0 last in
-          record {
-            leaders = new;
-            chain = committed_longer n before after coins longer more wave last lead.1 lead.2 ∙ ap (λ l. l ++ new) (sym was);
-            order = order_since n depth before after coins longer more wave last lead.1 lead.2
-                ∙ ap (λ p. order_by n depth before coins ++ digests (segments n depth after p new)) (sym is_last);
-          }
-    ]
+    let was = committed n before coins in
+    let new = newer n after (coins ++ more) (last_wave n before coins) in
+    let same : segments n depth after None was ≡ segments n depth before None was =
+    segments_same n depth before after longer.ext None was (λ c is. absurd (none-some c is)) (λ c inside. committed_in n before coins longer.ext.placed_before c inside) in
+    ap (λ l. digests (segments n depth after None l)) (committed_grows n before after coins longer more)
+    ∙ ap digests (segments_joined n depth after None was new)
+    ∙ map-append (λ c. certificate_digest c.header) (segments n depth after None was) (segments n depth after (last_or None was) new)
+    ∙ ap (λ l. digests l ++ digests (segments n depth after (last_or None was) new)) same
 
 -- ---- any number of events
 
-lengthens_push : (node : Node) (history later : History) (event : Event) → Adds node later event → Lengthens node history later → Lengthens node history (later ++ event ∷ [])
-lengthens_push node history later event adds so_far =
+-- what stays of a history: its waves are committed, and nothing goes down
+record IsLater (node : Node) (history later : History) : Type 0 where
+  base : last_wave (size_of node) (slots node history) (coins history) ≤ last_wave (size_of node) (slots node later) (coins later)
+  committed : (wave : ℕ) → is_committed (size_of node) (slots node history) (coins history) wave ≡ true → is_committed (size_of node) (slots node later) (coins later) wave ≡ true
+  coins : length (coins history) ≤ length (coins later)
+  lengthens : Lengthens node history later (slots node later)
+
+wave_grows : (n : ℕ) (before after : Slots) → Extends before after → (coins more : List ℕ) → last_wave n before coins ≤ last_wave n after (coins ++ more)
+wave_grows n before after ext coins more =
+    elim (given_or_none (top n before coins)) [
+      | inr none ↦ let is : last_wave n before coins ≡ 0 = ap (λ o. option_map_or (λ w. w) o 0) none in omega (arith, is)
+      | inl found ↦
+          let grown = top_grows n before after ext coins more found.0 found.1 in
+          let is : last_wave n before coins ≡ found.0 = ap (λ o. option_map_or (λ w. w) o 0) found.1 in
+          let is' : last_wave n after (coins ++ more) ≡ grown.0 = ap (λ o. option_map_or (λ w. w) o 0) grown.1 in
+          let higher = grown.2 in
+          omega (arith, is, is', higher)
+    ]
+
+later_push : (node : Node) (history later : History) (event : Event) → Adds node later event → IsLater node history later → IsLater node history (later ++ event ∷ [])
+later_push node history later event adds so_far =
     let n = size_of node in
     let depth = node.charter.depth in
     let more = option_to_list (as_coin event.message) in
     let before = slots node later in
     let after = slots node (later ++ event ∷ []) in
     let ext = extends node later event (closed node later adds.legal) adds in
-    let step = one_step n depth before after (coins later) (longer node later event adds) more in
+    let long = longer node later event adds in
+    let base = last_wave n (slots node history) (coins history) in
     let first = last_or None (committed_at node history) in
-    let held : (c : Certificate) → Contains (committed_at node history ++ so_far.leaders) c → IsIn before c =
-    λ c inside. committed_in n before (coins later) (in_place node later) c (subst (λ l. Contains l c) (sym so_far.chain) inside) in
-    let past : WasHeld before first = λ c is. held c (Contains-append_left (committed_at node history) so_far.leaders c (last_in (committed_at node history) c is)) in
-    let same : segments n depth after first so_far.leaders ≡ segments n depth before first so_far.leaders =
-    segments_same n depth before after ext first so_far.leaders past (λ c inside. held c (Contains-append_right (committed_at node history) so_far.leaders c inside)) in
-    let second = last_or first so_far.leaders in
-    let is_second : last_or None (committed_at node later) ≡ second = ap (last_or None) so_far.chain ∙ last_joined None (committed_at node history) so_far.leaders in
-    let both : digests (segments n depth after first (so_far.leaders ++ step.leaders)) ≡ digests (segments n depth before first so_far.leaders) ++ digests (segments n depth after second step.leaders) =
-    ap digests (segments_joined n depth after first so_far.leaders step.leaders)
-    ∙ map-append (λ c. certificate_digest c.header) (segments n depth after first so_far.leaders) (segments n depth after second step.leaders)
-    ∙ ap (λ l. digests l ++ digests (segments n depth after second step.leaders)) same in
+    let old = newer n before (coins later) base in
+    let new = newer n after (coins later ++ more) (last_wave n before (coins later)) in
+    let coins_same = coins_later later event in
+    let joined : newer n after (coins (later ++ event ∷ [])) base ≡ old ++ new =
+    ap (λ c. newer n after c base) coins_same ∙ newer_grows n before after (coins later) long more base so_far.base in
+    let held : (c : Certificate) → Contains (committed_at node history ++ old) c → IsIn before c =
+    λ c inside. committed_in n before (coins later) (in_place node later) c (subst (λ l. Contains l c) (sym so_far.lengthens.chain) inside) in
+    let past : WasHeld before first = λ c is. held c (Contains-append_left (committed_at node history) old c (last_in (committed_at node history) c is)) in
+    let same : segments n depth after first old ≡ segments n depth before first old =
+    segments_same n depth before after ext first old past (λ c inside. held c (Contains-append_right (committed_at node history) old c inside)) in
+    let second = last_or first old in
+    let is_second : last_or None (committed_at node later) ≡ second = ap (last_or None) so_far.lengthens.chain ∙ last_joined None (committed_at node history) old in
+    let both : digests (segments n depth after first (old ++ new)) ≡ digests (segments n depth before first old) ++ digests (segments n depth after second new) =
+    ap digests (segments_joined n depth after first old new)
+    ∙ map-append (λ c. certificate_digest c.header) (segments n depth after first old) (segments n depth after second new)
+    ∙ ap (λ l. digests l ++ digests (segments n depth after second new)) same in
+    let size = length-append (coins later) more in
+    let fewer = so_far.coins in
+    let know : length (coins (later ++ event ∷ [])) ≡ length (coins later ++ more) = ap (λ (l : List ℕ). length l) coins_same in
+    let grows : last_wave n before (coins later) ≤ last_wave n after (coins (later ++ event ∷ [])) =
+    subst (λ c. last_wave n before (coins later) ≤ last_wave n after c) (sym coins_same) (wave_grows n before after ext (coins later) more) in
+    let from = so_far.base in
     record {
-      leaders = so_far.leaders ++ step.leaders;
-      chain = ap (committed n after) (coins_later later event) ∙ step.chain ∙ ap (λ l. l ++ step.leaders) so_far.chain ∙ append_assoc (committed_at node history) so_far.leaders step.leaders;
-      order = ap (order_by n depth after) (coins_later later event) ∙ step.order
-          ∙ ap (λ l. l ++ digests (segments n depth after (last_or None (committed_at node later)) step.leaders)) so_far.order
-          ∙ ap (λ p. (order node history ++ digests (segments n depth before first so_far.leaders)) ++ digests (segments n depth after p step.leaders)) is_second
-          ∙ append_assoc (order node history) (digests (segments n depth before first so_far.leaders)) (digests (segments n depth after second step.leaders))
-          ∙ ap (λ l. order node history ++ l) (sym both);
+      base = omega (arith, from, grows);
+      committed = λ wave is. ap (λ c. is_committed n after c wave) coins_same ∙ committed_kept n before after ext (coins later) more wave (so_far.committed wave is);
+      coins = omega (arith, fewer, know, size);
+      lengthens = record {
+        chain = ap (committed n after) coins_same ∙ committed_grows n before after (coins later) long more ∙ ap (λ l. l ++ new) so_far.lengthens.chain
+            ∙ append_assoc (committed_at node history) old new ∙ ap (λ l. committed_at node history ++ l) (sym joined);
+        order = ap (order_by n depth after) coins_same ∙ one_step n depth before after (coins later) long more
+            ∙ ap (λ l. l ++ digests (segments n depth after (last_or None (committed_at node later)) new)) so_far.lengthens.order
+            ∙ ap (λ p. (order node history ++ digests (segments n depth before first old)) ++ digests (segments n depth after p new)) is_second
+            ∙ append_assoc (order node history) (digests (segments n depth before first old)) (digests (segments n depth after second new))
+            ∙ ap (λ l. order node history ++ l) (sym both)
+            ∙ ap (λ l. order node history ++ digests (segments n depth after first l)) (sym joined);
+      };
     }
 
+-- nothing is newer than the last leader
+newer_none : (n : ℕ) (slots : Slots) (coins : List ℕ) → newer n slots coins (last_wave n slots coins) ≡ []
+newer_none n slots coins =
+    elim (given_or_none (top n slots coins)) [
+      | inr none ↦ ap (λ o. option_map_or (newer_at n slots coins (last_wave n slots coins)) o []) none
+      | inl found ↦
+          let is : last_wave n slots coins ≡ found.0 = ap (λ o. option_map_or (λ w. w) o 0) found.1 in
+          let old : nat_le found.0 (last_wave n slots coins) ≡ true = le-leb _ _ (omega (arith, is)) in
+          ap (λ o. option_map_or (newer_at n slots coins (last_wave n slots coins)) o []) found.1 ∙ rw old refl
+    ]
+
+later_first : (node : Node) (history : History) → IsLater node history history
+later_first node history =
+    let n = size_of node in
+    let none = newer_none n (slots node history) (coins history) in
+    let first = last_or None (committed_at node history) in
+    record {
+      base = omega arith;
+      committed = λ wave is. is;
+      coins = omega arith;
+      lengthens = record {
+        chain = sym (append-nil (committed_at node history)) ∙ ap (λ l. committed_at node history ++ l) (sym none);
+        order = sym (append-nil (order node history)) ∙ ap (λ l. order node history ++ digests (segments n node.charter.depth (slots node history) first l)) (sym none);
+      };
+    }
+
+is_later : (node : Node) (history more : History) → IsLegal node (history ++ more) → IsLater node history (history ++ more)
+is_later node history more legal = legal-grows node (IsLater node history) (λ later event adds so_far. later_push node history later event adds so_far) history more legal (later_first node history)
+
+-- ---- by what lies at or above the floor
+
+-- the newer leaders and what they order, where the rest isn't held
+record IsFound (node : Node) (history later : History) (held : Slots) : Type 0 where
+  leaders : newer_at_later node history later (slots node later) ≡ newer_at_later node history later held
+  digests : digests (segments (size_of node) node.charter.depth (slots node later) (last_or None (committed_at node history)) (newer_at_later node history later (slots node later)))
+      ≡ digests (segments (size_of node) node.charter.depth held (last_or None (committed_at node history)) (newer_at_later node history later held))
+
+found : (node : Node) (history later : History) (held : Slots) → IsNode node → IsLater node history later → HoldsFrom (floor node history) held (slots node later) → IsFound node history later held
+found node history later held sound is from =
+    let n = size_of node in
+    let depth = node.charter.depth in
+    let all = slots node later in
+    let low = floor node history in
+    let first = last_or None (committed_at node history) in
+    elim (given_or_none (top n (slots node history) (coins history))) [
+      | inr none ↦
+          let least : low ≡ 0 = ap (floor_of node) none in
+          let same : all ≡ held = fun_ext (λ round. fun_ext (λ author. sym (from.same round author (omega (arith, least))))) in
+          record {
+            leaders = ap (newer_at_later node history later) same;
+            digests = ap (λ (s : Slots). digests (segments n depth s first (newer_at_later node history later s))) same;
+          }
+      | inl top_found ↦
+          let lead = top_leader n (slots node history) (coins history) top_found.0 top_found.1 in
+          let wave = top_found.0 - 1 in
+          let facts = is_top_of n (slots node history) (coins history) (length (coins history)) (suc wave) lead.1 in
+          let at : low ≡ (2 * suc wave - 1) - depth = ap (floor_of node) lead.1 in
+          let is_wave : last_wave n (slots node history) (coins history) ≡ suc wave = ap (λ o. option_map_or (λ w. w) o 0) lead.1 in
+          let agree : AgreeFrom low all held = record { placed = in_place node later; placed_other = from.placed; same = λ round author above. sym (from.same round author above) } in
+          let some = members_some node sound in
+          let above : low ≤ 2 * wave + 1 = omega (arith, at) in
+          let committed = is.committed (suc wave) facts.is in
+          let fewer = is.coins in
+          let size = facts.within in
+          let within : suc wave ≤ length (coins later) = omega (arith, fewer, size) in
+          record {
+            leaders = ap (newer n all (coins later)) is_wave ∙ newer_from n low all held some agree (coins later) wave above committed within ∙ ap (newer n held (coins later)) (sym is_wave);
+            digests = ap (λ w. digests (segments n depth all first (newer n all (coins later) w))) is_wave
+                ∙ since_from n depth low all held some agree (coins later) wave above committed within (λ round below. omega (arith, below, at)) first
+                ∙ ap (λ w. digests (segments n depth held first (newer n held (coins later) w))) (sym is_wave);
+          }
+    ]
+
 pub order_lengthens : OrderLengthens
-order_lengthens node history more legal =
-    legal-grows node (Lengthens node history) (λ later event adds so_far. lengthens_push node history later event adds so_far) history more legal
-    (record { leaders = []; chain = sym (append-nil (committed_at node history)); order = sym (append-nil (order node history)) })
+order_lengthens node history more held legal from =
+    let later = history ++ more in
+    let is = is_later node history more legal in
+    let by = found node history later held legal.sound is from in
+    record {
+      chain = is.lengthens.chain ∙ ap (λ l. committed_at node history ++ l) by.leaders;
+      order = is.lengthens.order ∙ ap (λ l. order node history ++ l) by.digests;
+    }

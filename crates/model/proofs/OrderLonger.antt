@@ -1,6 +1,7 @@
 -- The order of slots begins that of slots which extend them.
 use Rattle.std.proofs.Common.{◌≡◌, ℕ, zero, suc, ◌+◌, ◌-◌, ◌*◌, ◌%◌, ◌<◌, ◌≤◌, true, List, [], ◌∷◌, ◌++◌, map, length, Some, None, inl, inr, refl, ap, sym, ◌∙◌, subst, arith}
-use Rattle.std.specs.Prelude.{Contains, Option, slice_get, nat_le, false, if◌then◌else◌}
+use Rattle.std.proofs.Math.Path.{fun_ext}
+use Rattle.std.specs.Prelude.{Contains, Option, slice_get, nat_le, false}
 use Rattle.std.specs.Option.{option_map_or}
 use Rattle.std.proofs.lemmas.Bool.{cases_Bool, cases_lt, le-leb, true≢false}
 use Rattle.std.proofs.lemmas.Option.{same_Some, none-some}
@@ -9,10 +10,10 @@ use Rattle.std.proofs.lemmas.Nat.{mod_below}
 use Rattle.std.proofs.lemmas.List.Elements.{Contains-push_cases}
 use Rattle.committee.specs.Shared.{QuorumMeetsSupport}
 use Rattle.model.specs.Laws.{Begins}
-use Rattle.model.specs.Ordering.{leader, has_support, is_committed, top_to, top, chain_to, chain, segments, committed, order_by}
+use Rattle.model.specs.Ordering.{leader, has_support, is_committed, top_to, top, chain_to, chain, segments, committed, newer_to, newer_at, newer, last_wave, order_by}
 use Rattle.model.specs.Slots.{Slots, certificate_digest, reaches}
 use Rattle.model.specs.Words.{Certificate, Digest}
-use Rattle.model.proofs.Growing.{AreInPlace, Extends, IsIn, segments_same, segments-append, leader_kept, leader_in, chain_same, committed_kept}
+use Rattle.model.proofs.Growing.{AreInPlace, Extends, IsIn, segments_same, segments-append, reaches_same, reaches_new, leader_kept, leader_new, leader_in, committed_kept}
 use Rattle.model.proofs.Lists.{given_or_none, Contains-nothing}
 use Rattle.model.proofs.Meeting.{AreRooted, reaches_leader}
 use Rattle.model.proofs.Votes.{slot_is}
@@ -117,23 +118,7 @@ chain_held n slots coins placed (suc wave) last c held inside =
       | inr none ↦ let inside' = rw none at inside in chain_held n slots coins placed wave last c held inside'
     ]
 
--- a leader behind those of the waves above a given one that are committed with it, the oldest first
-abbrev pub above_to : ℕ → Slots → List ℕ → ℕ → ℕ → Certificate → List Certificate
-above_to n slots coins base zero last = last ∷ []
-above_to n slots coins base (suc wave) last =
-    if nat_le (suc wave) base then last ∷ []
-    else option_map_or (λ earlier. if reaches n slots last earlier then above_to n slots coins base wave earlier ++ last ∷ [] else above_to n slots coins base wave last)
-    (leader n slots coins (suc wave)) (above_to n slots coins base wave last)
-
--- the leaders above a given wave that are committed with that of another
-abbrev pub newer_at : ℕ → Slots → List ℕ → ℕ → ℕ → List Certificate
-newer_at n slots coins base wave = if nat_le wave base then [] else option_map_or (above_to n slots coins base (wave - 1)) (leader n slots coins wave) []
-
--- and those that are committed at all
-abbrev pub newer : ℕ → Slots → List ℕ → ℕ → List Certificate
-newer n slots coins base = option_map_or (newer_at n slots coins base) (top n slots coins) []
-
--- what they order
+-- what the leaders above a wave order, behind the one before them
 abbrev pub since : ℕ → ℕ → Slots → List ℕ → ℕ → Option Certificate → List Digest
 since n depth slots coins base previous = map (λ c. certificate_digest c.header) (segments n depth slots previous (newer n slots coins base))
 
@@ -155,15 +140,46 @@ reached_from n before after coins longer wave last c is_top is_last supported he
     reaches_leader n longer.f after longer.size longer.meets longer.ext.placed_after last (longer.ext.kept last.header.round last.header.author.0 last held_last)
     (leader_place n before coins wave last (omega (arith, size)) longer.ext.placed_before is_last).1 supported (longer.rooted (suc wave) last is_top is_last) c held above
 
--- behind the chain of a committed leader come only leaders of later waves
-chain_longer : (n : ℕ) (before after : Slots) → (coins : List ℕ) → IsLonger n before after coins → (more : List ℕ) (wave : ℕ) (last : Certificate) → top n before coins ≡ Some (suc wave) → leader n before coins (suc wave) ≡ Some last
-    → has_support n after last ≡ true → suc wave ≤ length coins
+-- the newer leaders committed with one that was held are as before
+newer_same : (n : ℕ) (before after : Slots) → Extends before after → (coins more : List ℕ) (base wave : ℕ) (last : Certificate) → wave ≤ length coins → IsIn before last
+    → newer_to n after (coins ++ more) base wave last ≡ newer_to n before coins base wave last
+newer_same n before after ext coins more base zero last within held = refl
+newer_same n before after ext coins more base (suc wave) last within held =
+    let lower = newer_same n before after ext coins more base wave last (omega (arith, within)) held in
+    elim (cases_Bool (nat_le (suc wave) base)) [
+      | inl done ↦ rw done refl
+      | inr young ↦ elim (given_or_none (leader n before coins (suc wave))) [
+        | inl earlier ↦
+            let also = leader_kept n before after ext coins more (suc wave) earlier.0 earlier.1 in
+            let same = reaches_same n before after ext last earlier.0 held in
+            let under = newer_same n before after ext coins more base wave earlier.0 (omega (arith, within)) (leader_in n before coins (suc wave) earlier.0 ext.placed_before earlier.1) in
+            elim (cases_Bool (reaches n before last earlier.0)) [
+              | inl reached ↦ let reached' = same ∙ reached in rw (young, earlier.1, also, reached, reached') (ap (λ l. l ++ last ∷ []) under)
+              | inr missed ↦ let missed' = same ∙ missed in rw (young, earlier.1, also, missed, missed') lower
+            ]
+        | inr none ↦ elim (given_or_none (leader n after (coins ++ more) (suc wave))) [
+          | inl new ↦
+              let fresh = leader_new n before after coins more (suc wave) new.0 within none new.1 in
+              let missed = reaches_new n before after ext last fresh.0 fresh.1 new.0 held fresh.2 fresh.3 in
+              rw (young, none, new.1, missed) lower
+          | inr nothing ↦ rw (young, none, nothing) lower
+        ]
+      ]
+    ]
+
+not_old : (base wave : ℕ) → base < wave → nat_le wave base ≡ false
+not_old base wave less = grind (arith, less)
+
+-- behind the leaders that were committed come only leaders of later waves
+newer_longer : (n : ℕ) (before after : Slots) → (coins : List ℕ) → IsLonger n before after coins → (more : List ℕ) (base wave : ℕ) (last : Certificate) → base ≤ wave → top n before coins ≡ Some (suc wave)
+    → leader n before coins (suc wave) ≡ Some last → has_support n after last ≡ true → suc wave ≤ length coins
     → (higher : ℕ) (c : Certificate) → wave < higher → IsIn after c → last.header.round + 2 ≤ c.header.round
-    → chain_to n after (coins ++ more) higher c ≡ chain_to n before coins wave last ++ above_to n after (coins ++ more) (suc wave) higher c
-chain_longer n before after coins longer more wave last is_top is_last supported within zero c less held above = absurd (omega (arith, less))
-chain_longer n before after coins longer more wave last is_top is_last supported within (suc higher) c less held above =
+    → newer_to n after (coins ++ more) base higher c ≡ newer_to n before coins base wave last ++ newer_to n after (coins ++ more) (suc wave) higher c
+newer_longer n before after coins longer more base wave last low is_top is_last supported within zero c less held above = absurd (omega (arith, less))
+newer_longer n before after coins longer more base wave last low is_top is_last supported within (suc higher) c less held above =
     let held_last = leader_in n before coins (suc wave) last longer.ext.placed_before is_last in
     let size = longer.size in
+    let past : nat_le (suc higher) base ≡ false = not_old base (suc higher) (omega (arith, low, less)) in
     elim (cases_lt wave higher) [
       | inr lowest ↦
           let same : higher ≡ wave = omega (arith, lowest, less) in
@@ -171,34 +187,59 @@ chain_longer n before after coins longer more wave last is_top is_last supported
           let also : leader n after (coins ++ more) (suc higher) ≡ Some last =
           ap (λ w. leader n after (coins ++ more) (suc w)) same ∙ leader_kept n before after longer.ext coins more (suc wave) last is_last in
           let reached = reached_from n before after coins longer wave last c is_top is_last supported held above in
-          let under : chain_to n after (coins ++ more) higher last ≡ chain_to n before coins wave last =
-          ap (λ w. chain_to n after (coins ++ more) w last) same ∙ chain_same n before after longer.ext coins more wave last (omega (arith, within)) held_last in
-          rw (old, also, reached) (ap (λ l. l ++ c ∷ []) under)
+          let under : newer_to n after (coins ++ more) base higher last ≡ newer_to n before coins base wave last =
+          ap (λ w. newer_to n after (coins ++ more) base w last) same ∙ newer_same n before after longer.ext coins more base wave last (omega (arith, within)) held_last in
+          rw (past, old, also, reached) (ap (λ l. l ++ c ∷ []) under)
       | inl below ↦
-          let young : nat_le (suc higher) (suc wave) ≡ false = grind (arith, below) in
-          let lower = chain_longer n before after coins longer more wave last is_top is_last supported within higher c below held above in
+          let young : nat_le (suc higher) (suc wave) ≡ false = not_old (suc wave) (suc higher) (omega (arith, below)) in
+          let lower = newer_longer n before after coins longer more base wave last low is_top is_last supported within higher c below held above in
           elim (given_or_none (leader n after (coins ++ more) (suc higher))) [
-            | inr none ↦ rw (young, none) lower
+            | inr none ↦ rw (past, young, none) lower
             | inl earlier ↦ elim (cases_Bool (reaches n after c earlier.0)) [
-              | inr missed ↦ rw (young, earlier.1, missed) lower
+              | inr missed ↦ rw (past, young, earlier.1, missed) lower
               | inl reached ↦
                   let place = leader_place n after (coins ++ more) higher earlier.0 (omega (arith, size)) longer.ext.placed_after earlier.1 in
                   let place' = leader_place n before coins wave last (omega (arith, size)) longer.ext.placed_before is_last in
                   let held_earlier = leader_in n after (coins ++ more) (suc higher) earlier.0 longer.ext.placed_after earlier.1 in
-                  let under = chain_longer n before after coins longer more wave last is_top is_last supported within higher earlier.0 below held_earlier
+                  let under = newer_longer n before after coins longer more base wave last low is_top is_last supported within higher earlier.0 below held_earlier
                   (omega (arith, place.0, place'.0, below)) in
-                  rw (young, earlier.1, reached)
-                  (ap (λ l. l ++ c ∷ []) under ∙ append_assoc (chain_to n before coins wave last) (above_to n after (coins ++ more) (suc wave) higher earlier.0) (c ∷ []))
+                  rw (past, young, earlier.1, reached)
+                  (ap (λ l. l ++ c ∷ []) under ∙ append_assoc (newer_to n before coins base wave last) (newer_to n after (coins ++ more) (suc wave) higher earlier.0) (c ∷ []))
             ]
           ]
     ]
 
+-- the chain is what is newer than wave 0
+chain_is_newer : (n : ℕ) (slots : Slots) (coins : List ℕ) (wave : ℕ) (last : Certificate) → chain_to n slots coins wave last ≡ newer_to n slots coins 0 wave last
+chain_is_newer n slots coins zero last = refl
+chain_is_newer n slots coins (suc wave) last =
+    let young = not_old 0 (suc wave) (omega arith) in
+    let lower = chain_is_newer n slots coins wave in
+    elim (given_or_none (leader n slots coins (suc wave))) [
+      | inl earlier ↦ elim (cases_Bool (reaches n slots last earlier.0)) [
+        | inl reached ↦ rw (young, earlier.1, reached) (ap (λ l. l ++ last ∷ []) (lower earlier.0))
+        | inr missed ↦ rw (young, earlier.1, missed) (lower last)
+      ]
+      | inr none ↦ rw (young, none) (lower last)
+    ]
+
+pub committed_is_newer : (n : ℕ) (slots : Slots) (coins : List ℕ) → committed n slots coins ≡ newer n slots coins 0
+committed_is_newer n slots coins =
+    elim (given_or_none (top n slots coins)) [
+      | inr none ↦ ap (λ o. option_map_or (chain n slots coins) o []) none ∙ sym (ap (λ o. option_map_or (newer_at n slots coins 0) o []) none)
+      | inl found ↦
+          let young = not_old 0 found.0 (is_top_of n slots coins (length coins) found.0 found.1).some in
+          let at : chain n slots coins found.0 ≡ newer_at n slots coins 0 found.0 =
+          rw young (ap (λ (f : Certificate → List Certificate). option_map_or f (leader n slots coins found.0) []) (fun_ext (λ last. chain_is_newer n slots coins (found.0 - 1) last))) in
+          ap (λ o. option_map_or (chain n slots coins) o []) found.1 ∙ at ∙ sym (ap (λ o. option_map_or (newer_at n slots coins 0) o []) found.1)
+    ]
+
 -- ---- the order
 
--- the leaders that were committed, with what they order, come first
-pub committed_longer : (n : ℕ) (before after : Slots) → (coins : List ℕ) → IsLonger n before after coins → (more : List ℕ) (wave : ℕ) (last : Certificate) → top n before coins ≡ Some (suc wave) → leader n before coins (suc wave) ≡ Some last
-    → committed n after (coins ++ more) ≡ chain_to n before coins wave last ++ newer n after (coins ++ more) (suc wave)
-committed_longer n before after coins longer more wave last is_top is_last =
+-- the newer leaders are those from before and then newer ones
+newer_joined : (n : ℕ) (before after : Slots) (coins : List ℕ) → IsLonger n before after coins → (more : List ℕ) (base wave : ℕ) (last : Certificate) → base ≤ suc wave → top n before coins ≡ Some (suc wave)
+    → leader n before coins (suc wave) ≡ Some last → newer n after (coins ++ more) base ≡ newer n before coins base ++ newer n after (coins ++ more) (suc wave)
+newer_joined n before after coins longer more base wave last low is_top is_last =
     let facts = is_top_of n before coins (length coins) (suc wave) is_top in
     let within = facts.within in
     let long = length-append coins more in
@@ -206,40 +247,78 @@ committed_longer n before after coins longer more wave last is_top is_last =
     let above = top_above n after (coins ++ more) (length (coins ++ more)) (suc wave) facts.some (omega (arith, within, long)) stays in
     let facts' = is_top_of n after (coins ++ more) (length (coins ++ more)) above.0 above.1 in
     let found = committed_leader n after (coins ++ more) above.0 facts'.is in
-    let supported = (committed_leader n after (coins ++ more) (suc wave) stays) in
+    let supported = committed_leader n after (coins ++ more) (suc wave) stays in
     let also = leader_kept n before after longer.ext coins more (suc wave) last is_last in
     let same_last : supported.0 ≡ last = same_Some supported.0 last (sym supported.1 ∙ also) in
     let support : has_support n after last ≡ true = ap (has_support n after) (sym same_last) ∙ supported.2 in
-    let is_committed_chain : committed n after (coins ++ more) ≡ chain_to n after (coins ++ more) (above.0 - 1) found.0 =
-    ap (λ o. option_map_or (chain n after (coins ++ more)) o []) above.1 ∙ ap (λ o. option_map_or (chain_to n after (coins ++ more) (above.0 - 1)) o []) found.1 in
-    let is_newer : newer n after (coins ++ more) (suc wave) ≡ newer_at n after (coins ++ more) (suc wave) above.0 =
-    ap (λ o. option_map_or (newer_at n after (coins ++ more) (suc wave)) o []) above.1 in
-    let base = chain_to n before coins wave last in
-    elim (cases_lt (suc wave) above.0) [
-      | inr lowest ↦
-          let not_lower = above.2 in
-          let same : above.0 ≡ suc wave = omega (arith, lowest, not_lower) in
-          let is_same : found.0 ≡ last = same_Some found.0 last (sym found.1 ∙ ap (leader n after (coins ++ more)) same ∙ also) in
-          let lower : above.0 - 1 ≡ wave = omega (arith, same) in
-          let old : nat_le above.0 (suc wave) ≡ true = le-leb _ _ lowest in
-          let none : newer_at n after (coins ++ more) (suc wave) above.0 ≡ [] = rw old refl in
-          is_committed_chain ∙ ap (λ w. chain_to n after (coins ++ more) w found.0) lower ∙ ap (chain_to n after (coins ++ more) wave) is_same
-          ∙ chain_same n before after longer.ext coins more wave last (omega (arith, within)) (leader_in n before coins (suc wave) last longer.ext.placed_before is_last)
-          ∙ sym (append-nil base) ∙ ap (λ l. base ++ l) (sym (is_newer ∙ none))
-      | inl higher ↦
-          let size = longer.size in
-          let next : above.0 ≡ suc (above.0 - 1) = omega (arith, higher) in
-          let found' : leader n after (coins ++ more) (suc (above.0 - 1)) ≡ Some found.0 = ap (leader n after (coins ++ more)) (sym next) ∙ found.1 in
-          let place = leader_place n after (coins ++ more) (above.0 - 1) found.0 (omega (arith, size)) longer.ext.placed_after found' in
-          let place' = leader_place n before coins wave last (omega (arith, size)) longer.ext.placed_before is_last in
-          let held = leader_in n after (coins ++ more) above.0 found.0 longer.ext.placed_after found.1 in
-          let young : nat_le above.0 (suc wave) ≡ false = grind (arith, higher) in
-          let some : newer_at n after (coins ++ more) (suc wave) above.0 ≡ above_to n after (coins ++ more) (suc wave) (above.0 - 1) found.0 =
-          rw young (ap (λ o. option_map_or (above_to n after (coins ++ more) (suc wave) (above.0 - 1)) o []) found.1) in
-          let chains = chain_longer n before after coins longer more wave last is_top is_last support within (above.0 - 1) found.0 (omega (arith, higher)) held
-          (omega (arith, place.0, place'.0, higher)) in
-          is_committed_chain ∙ chains ∙ ap (λ l. base ++ l) (sym (is_newer ∙ some))
+    let is_newer : (b : ℕ) → newer n after (coins ++ more) b ≡ newer_at n after (coins ++ more) b above.0 = λ b. ap (λ o. option_map_or (newer_at n after (coins ++ more) b) o []) above.1 in
+    let was : newer n before coins base ≡ newer_at n before coins base (suc wave) = ap (λ o. option_map_or (newer_at n before coins base) o []) is_top in
+    let rest = newer n after (coins ++ more) (suc wave) in
+    elim (cases_lt wave base) [
+      | inl highest ↦
+          let same : base ≡ suc wave = omega (arith, highest, low) in
+          let old : nat_le (suc wave) base ≡ true = le-leb _ _ (omega (arith, highest)) in
+          let none : newer_at n before coins base (suc wave) ≡ [] = rw old refl in
+          ap (newer n after (coins ++ more)) same ∙ ap (λ l. l ++ rest) (sym (was ∙ none))
+      | inr lower ↦
+          let young = not_old base (suc wave) (omega (arith, lower)) in
+          let below : suc wave - 1 ≡ wave = omega arith in
+          let first = newer_to n before coins base wave last in
+          let was_first : newer_at n before coins base (suc wave) ≡ first =
+          rw young (ap (λ w. option_map_or (newer_to n before coins base w) (leader n before coins (suc wave)) []) below ∙ ap (λ o. option_map_or (newer_to n before coins base wave) o []) is_last) in
+          let past : nat_le above.0 base ≡ false = let not_lower = above.2 in not_old base above.0 (omega (arith, lower, not_lower)) in
+          let now : newer_at n after (coins ++ more) base above.0 ≡ newer_to n after (coins ++ more) base (above.0 - 1) found.0 =
+          rw past (ap (λ o. option_map_or (newer_to n after (coins ++ more) base (above.0 - 1)) o []) found.1) in
+          elim (cases_lt (suc wave) above.0) [
+            | inr lowest ↦
+                let not_lower = above.2 in
+                let same : above.0 ≡ suc wave = omega (arith, lowest, not_lower) in
+                let is_same : found.0 ≡ last = same_Some found.0 last (sym found.1 ∙ ap (leader n after (coins ++ more)) same ∙ also) in
+                let under : above.0 - 1 ≡ wave = omega (arith, same) in
+                let old : nat_le above.0 (suc wave) ≡ true = le-leb _ _ lowest in
+                let none : newer_at n after (coins ++ more) (suc wave) above.0 ≡ [] = rw old refl in
+                is_newer base ∙ now ∙ ap (λ w. newer_to n after (coins ++ more) base w found.0) under ∙ ap (newer_to n after (coins ++ more) base wave) is_same
+                ∙ newer_same n before after longer.ext coins more base wave last (omega (arith, within)) (leader_in n before coins (suc wave) last longer.ext.placed_before is_last)
+                ∙ sym (append-nil first) ∙ ap (λ l. first ++ l) (sym (is_newer (suc wave) ∙ none)) ∙ ap (λ l. l ++ rest) (sym (was ∙ was_first))
+            | inl higher ↦
+                let size = longer.size in
+                let next : above.0 ≡ suc (above.0 - 1) = omega (arith, higher) in
+                let found' : leader n after (coins ++ more) (suc (above.0 - 1)) ≡ Some found.0 = ap (leader n after (coins ++ more)) (sym next) ∙ found.1 in
+                let place = leader_place n after (coins ++ more) (above.0 - 1) found.0 (omega (arith, size)) longer.ext.placed_after found' in
+                let place' = leader_place n before coins wave last (omega (arith, size)) longer.ext.placed_before is_last in
+                let held = leader_in n after (coins ++ more) above.0 found.0 longer.ext.placed_after found.1 in
+                let young' = not_old (suc wave) above.0 higher in
+                let some : newer_at n after (coins ++ more) (suc wave) above.0 ≡ newer_to n after (coins ++ more) (suc wave) (above.0 - 1) found.0 =
+                rw young' (ap (λ o. option_map_or (newer_to n after (coins ++ more) (suc wave) (above.0 - 1)) o []) found.1) in
+                is_newer base ∙ now
+                ∙ newer_longer n before after coins longer more base wave last lower is_top is_last support within (above.0 - 1) found.0 (omega (arith, higher)) held (omega (arith, place.0, place'.0, higher))
+                ∙ ap (λ l. first ++ l) (sym (is_newer (suc wave) ∙ some)) ∙ ap (λ l. l ++ rest) (sym (was ∙ was_first))
+          ]
     ]
+
+pub newer_grows : (n : ℕ) (before after : Slots) (coins : List ℕ) → IsLonger n before after coins → (more : List ℕ) (base : ℕ) → base ≤ last_wave n before coins
+    → newer n after (coins ++ more) base ≡ newer n before coins base ++ newer n after (coins ++ more) (last_wave n before coins)
+newer_grows n before after coins longer more base low =
+    elim (given_or_none (top n before coins)) [
+      | inr none ↦
+          let least : last_wave n before coins ≡ 0 = ap (λ o. option_map_or (λ w. w) o 0) none in
+          let same : base ≡ last_wave n before coins = omega (arith, low, least) in
+          ap (newer n after (coins ++ more)) same
+          ∙ ap (λ l. l ++ newer n after (coins ++ more) (last_wave n before coins)) (sym (ap (λ o. option_map_or (newer_at n before coins base) o []) none))
+      | inl found ↦
+          let lead = top_leader n before coins found.0 found.1 in
+          let wave = found.0 - 1 in
+          let is : last_wave n before coins ≡ suc wave = ap (λ o. option_map_or (λ w. w) o 0) lead.1 in
+          newer_joined n before after coins longer more base wave lead.0 (omega (arith, low, is)) lead.1 lead.2
+          ∙ ap (λ w. newer n before coins base ++ newer n after (coins ++ more) w) (sym is)
+    ]
+
+-- so are the committed ones
+pub committed_grows : (n : ℕ) (before after : Slots) (coins : List ℕ) → IsLonger n before after coins → (more : List ℕ)
+    → committed n after (coins ++ more) ≡ committed n before coins ++ newer n after (coins ++ more) (last_wave n before coins)
+committed_grows n before after coins longer more =
+    committed_is_newer n after (coins ++ more) ∙ newer_grows n before after coins longer more 0 (omega arith)
+    ∙ ap (λ l. l ++ newer n after (coins ++ more) (last_wave n before coins)) (sym (committed_is_newer n before coins))
 
 -- so the order with more is the order, and then what the newer leaders order
 pub order_since : (n depth : ℕ) (before after : Slots) (coins : List ℕ) → IsLonger n before after coins → (more : List ℕ) (wave : ℕ) (last : Certificate) → top n before coins ≡ Some (suc wave) → leader n before coins (suc wave) ≡ Some last
@@ -251,8 +330,10 @@ order_since n depth before after coins longer more wave last at_top is_last =
     let was : committed n before coins ≡ base =
     ap (λ o. option_map_or (chain n before coins) o []) at_top ∙ ap (λ w. option_map_or (chain_to n before coins w) (leader n before coins (suc wave)) []) below
     ∙ ap (λ o. option_map_or (chain_to n before coins wave) o []) is_last in
-    let grown = committed_longer n before after coins longer more wave last at_top is_last in
     let new = newer n after (coins ++ more) (suc wave) in
+    let is_wave : last_wave n before coins ≡ suc wave = ap (λ o. option_map_or (λ w. w) o 0) at_top in
+    let grown : committed n after (coins ++ more) ≡ base ++ new =
+    committed_grows n before after coins longer more ∙ ap (λ l. l ++ newer n after (coins ++ more) (last_wave n before coins)) was ∙ ap (λ w. base ++ newer n after (coins ++ more) w) is_wave in
     let ends = chain_ends n before coins wave last in
     let held = leader_in n before coins (suc wave) last longer.ext.placed_before is_last in
     let same : segments n depth after None base ≡ segments n depth before None base =

@@ -1,16 +1,16 @@
 -- What is said of histories, mostly of legal ones.
-use Rattle.std.specs.Prelude.{◌≡◌, ℕ, Option, Some, None, List, [], ◌∷◌, ◌++◌, map, All, Contains, find, option_and_then, ⊤}
+use Rattle.std.specs.Prelude.{◌≡◌, ℕ, Option, Some, None, ◌≤◌, true, List, [], ◌∷◌, ◌++◌, map, All, Contains, find, option_and_then, ⊤}
 use Rattle.std.specs.Option.{option_or, option_to_list}
 use Rattle.wire.specs.declared.message.Message.TheVariants as message
 use Rattle.header.specs.Checks.{fault_of, accepts_all}
 use Rattle.model.specs.Admitting.{admit, header_outputs, IsTaken, IsLegal}
 use Rattle.model.specs.Giving.{MayGive, kept}
 use Rattle.model.specs.Histories.{History, batches, acks, headers, votes, received, coins, as_batch, as_ack, as_header, as_vote, as_certificate, as_coin}
-use Rattle.model.specs.Holdings.{batch_digest, batch_at, is_vote_on, header_at, has_acked, voted, vote_on, counted, completed, certificates, slots, order, round}
+use Rattle.model.specs.Holdings.{batch_digest, batch_at, is_vote_on, header_at, has_acked, voted, vote_on, counted, completed, certificates, slots, order, floor, round}
 use Rattle.model.specs.Nodes.{Node, size_of}
-use Rattle.model.specs.Ordering.{committed, segments}
+use Rattle.model.specs.Ordering.{committed, newer, last_wave, segments}
 use Rattle.model.specs.Proposing.{propose}
-use Rattle.model.specs.Slots.{same_digest, certificate_digest, is_of_slot, slots_of}
+use Rattle.model.specs.Slots.{Slots, same_digest, certificate_digest, is_of_slot, slots_of}
 use Rattle.model.specs.declared.admission.Admission.{Admission}
 use Rattle.model.specs.declared.admission.Admission.TheVariants.{New, Known, Refused}
 use Rattle.model.specs.Words.{Certificate, Digest, Event, Header, HeaderBody, Message, Output}
@@ -121,16 +121,26 @@ last_or before (x ∷ rest) = last_or (Some x) rest
 abbrev pub committed_at : Node → History → List Certificate
 committed_at node history = committed (size_of node) (slots node history) (coins history)
 
--- at a later history the leaders are those from before and then newer ones, and the order is that from before and then
--- what the newer ones order
-pub record Lengthens (node : Node) (before later : History) : Type 0 where
-  pub leaders : List Certificate
-  pub chain : committed_at node later ≡ committed_at node before ++ leaders
-  pub order : order node later ≡ order node before
-      ++ map (λ c. certificate_digest c.header) (segments (size_of node) node.charter.depth (slots node later) (last_or None (committed_at node before)) leaders)
+-- slots that hold from a round on what others hold, each a certificate of its round and author
+pub record HoldsFrom (low : ℕ) (held all : Slots) : Type 0 where
+  pub placed : (round author : ℕ) (c : Certificate) → held round author ≡ Some c → is_of_slot round author c.header ≡ true
+  pub same : (round author : ℕ) → low ≤ round → held round author ≡ all round author
 
+-- the leaders of a later history that are newer than those from before, by what slots hold
+abbrev pub newer_at_later : Node → History → History → Slots → List Certificate
+newer_at_later node before later held = newer (size_of node) held (coins later) (last_wave (size_of node) (slots node before) (coins before))
+
+-- at a later history the leaders are those from before and then these, and the order is that from before and then what
+-- these order
+pub record Lengthens (node : Node) (before later : History) (held : Slots) : Type 0 where
+  pub chain : committed_at node later ≡ committed_at node before ++ newer_at_later node before later held
+  pub order : order node later ≡ order node before
+      ++ map (λ c. certificate_digest c.header) (segments (size_of node) node.charter.depth held (last_or None (committed_at node before)) (newer_at_later node before later held))
+
+-- to find them it is enough to hold what lies at or above the floor from before
 abbrev pub OrderLengthens : Type 0
-OrderLengthens = (node : Node) (history more : History) → IsLegal node (history ++ more) → Lengthens node history (history ++ more)
+OrderLengthens = (node : Node) (history more : History) (held : Slots) → IsLegal node (history ++ more)
+    → HoldsFrom (floor node history) held (slots node (history ++ more)) → Lengthens node history (history ++ more) held
 
 -- what may be given out at a legal history may be given out at each that it begins
 abbrev pub GivenGrows : Type 0

@@ -70,6 +70,26 @@ segments n depth slots previous (leader ∷ leaders) =
 abbrev pub committed : ℕ → Slots → List ℕ → List Certificate
 committed n slots coins = option_map_or (chain n slots coins) (top n slots coins) []
 
+-- a leader behind those of the waves above a base that are committed with it, the oldest first
+abbrev pub newer_to : ℕ → Slots → List ℕ → ℕ → ℕ → Certificate → List Certificate
+newer_to n slots coins base zero last = last ∷ []
+newer_to n slots coins base (suc wave) last =
+    if nat_le (suc wave) base then last ∷ []
+    else option_map_or (λ earlier. if reaches n slots last earlier then newer_to n slots coins base wave earlier ++ last ∷ [] else newer_to n slots coins base wave last)
+    (leader n slots coins (suc wave)) (newer_to n slots coins base wave last)
+
+-- the leaders of the waves above a base that are committed with that of a wave
+abbrev pub newer_at : ℕ → Slots → List ℕ → ℕ → ℕ → List Certificate
+newer_at n slots coins base wave = if nat_le wave base then [] else option_map_or (newer_to n slots coins base (wave - 1)) (leader n slots coins wave) []
+
+-- those that are committed at all
+abbrev pub newer : ℕ → Slots → List ℕ → ℕ → List Certificate
+newer n slots coins base = option_map_or (newer_at n slots coins base) (top n slots coins) []
+
+-- the greatest committed wave, or 0
+abbrev pub last_wave : ℕ → Slots → List ℕ → ℕ
+last_wave n slots coins = option_map_or (λ wave. wave) (top n slots coins) 0
+
 -- the order: the certificates' digests
 abbrev pub order_by : ℕ → ℕ → Slots → List ℕ → List Digest
 order_by n depth slots coins = map (λ c. certificate_digest c.header) (segments n depth slots None (committed n slots coins))

@@ -54,8 +54,8 @@ pub fn order_grows()
     ensures { OrderGrows }
 {}
 
-/// The leaders of a longer legal history are those that were committed and then newer ones, and its order is the order
-/// and then what the newer ones order.
+/// The leaders of a longer legal history are those from before and then newer ones, and its order is that from before
+/// and then what the newer ones order; to find these it is enough to hold what lies at or above the floor from before.
 pub fn order_lengthens()
     ensures { OrderLengthens }
 {}

@@ -11,6 +11,7 @@ pub mod histories;
 pub mod holdings;
 pub mod keeping;
 pub mod laws;
+pub mod newer;
 mod node;
 pub mod ordering;
 pub mod outputs;

@@ -11,6 +11,7 @@ use crate::laws::{
     answers_alike, given_grows, kept_decides, kept_follows, kept_proposes, one_certificate,
     one_more, one_vote, order_grows, order_lengthens, outputs_given, proposals_are_new, slots_grow,
 };
+use crate::newer::{last_wave, newer};
 use crate::ordering::{committed, leader, top};
 use crate::slots::{digest_of, is_parent, reaches, slot};
 use committee::Committee;
@@ -178,6 +179,47 @@ fn a_leader_takes_an_earlier_one_that_it_reaches(rt: HostRuntime) -> Result<(), 
     add_coin(&mut history, 2, 0)?;
     let text = order_of(alloc, &node, &history)?;
     assert_eq!(rt; text.as_str(), "c11 c10 c12 c13 c20 c21 c22 c30 ");
+    Ok(())
+}
+
+/// The rounds of the leaders that are newer than a wave.
+fn newer_rounds(
+    alloc: Global,
+    node: &Node<HashSign>,
+    history: &[Event],
+    base: u64,
+) -> Result<Vec<u64>, Fail> {
+    let held = certificates(alloc, node, history)?;
+    let coins = coins(alloc, history)?;
+    let mut rounds = Vec::new(alloc);
+    for leader in &newer(alloc, node.size(), &held, &coins, base)? {
+        rounds.push(leader.header.round.number())?;
+    }
+    Ok(rounds)
+}
+
+#[test]
+fn leaders_are_newer_than_a_wave(rt: HostRuntime) -> Result<(), Fail> {
+    let alloc = rt.alloc();
+    let node = node(alloc, "50")?;
+    let mut history = Vec::new(alloc);
+    add_layers(alloc, &node, &mut history, &ONE_SUPPORTER)?;
+    add_coin(&mut history, 1, 1)?;
+    let held = certificates(alloc, &node, &history)?;
+    assert_eq!(rt; last_wave(alloc, node.size(), &held, &[1])?, 0);
+    add_layers(alloc, &node, &mut history, &SECOND_WAVE)?;
+    add_coin(&mut history, 2, 0)?;
+    let held = certificates(alloc, &node, &history)?;
+    assert_eq!(rt; last_wave(alloc, node.size(), &held, &[1, 0])?, 2);
+    assert_eq!(rt;
+        newer_rounds(alloc, &node, &history, 0)?.as_slice(),
+        [1, 3].as_slice()
+    );
+    assert_eq!(rt;
+        newer_rounds(alloc, &node, &history, 1)?.as_slice(),
+        [3].as_slice()
+    );
+    assert!(rt; newer_rounds(alloc, &node, &history, 2)?.is_empty());
     Ok(())
 }
 
