@@ -46,7 +46,7 @@ picked_one test (y ∷ xs) some =
     ]
 
 -- an element of a list that was picked passes, and was there before
-picked_was : {X : Type 0} (test : X → Bool) (xs : List X) (x : X) → Contains (filter test xs) x → Contains xs x × (test x ≡ true)
+pub picked_was : {X : Type 0} (test : X → Bool) (xs : List X) (x : X) → Contains (filter test xs) x → Contains xs x × (test x ≡ true)
 picked_was test [] x inside = absurd (Contains-nothing x inside)
 picked_was test (y ∷ xs) x inside =
     elim (cases_Bool (test y)) [

@@ -30,7 +30,7 @@ use Rattle.model.proofs.Alike.{floor_of, header_by}
 use Rattle.model.proofs.Closed.{in_place, kept_slot, coins_later, or_right}
 use Rattle.model.proofs.Legal.{Adds, legal-induction}
 use Rattle.model.proofs.Lists.{given_or_none, filter_map-push, found-push, Contains-nothing, Contains-cases, Contains-first, Contains-later, Contains-made, nothing_found, found_passes}
-use Rattle.model.proofs.Meeting.{mapped_from, some_element, same_number}
+use Rattle.model.proofs.Meeting.{picked_was, mapped_from, some_element, same_number}
 use Rattle.model.proofs.OrderLonger.{is_top_of}
 use Rattle.model.proofs.Votes.{slot_is, of_its_slot}
 
@@ -65,16 +65,6 @@ picked_in test (y ∷ xs) x inside passes =
       | inr rest ↦
           let later = picked_in test xs x rest passes in
           elim (cases_Bool (test y)) [ inl here ↦ rw here (Contains-later y (filter test xs) x later) | inr other ↦ rw other later ]
-    ]
-
-picked_passes : {X : Type 0} (test : X → Bool) (xs : List X) (x : X) → Contains (filter test xs) x → test x ≡ true
-picked_passes test [] x inside = absurd (Contains-nothing x inside)
-picked_passes test (y ∷ xs) x inside =
-    elim (cases_Bool (test y)) [
-      | inl here ↦
-          let inside' = rw here at inside in
-          elim (Contains-cases y (filter test xs) x inside') [ inl same ↦ ap test (sym same) ∙ here | inr rest ↦ picked_passes test xs x rest ]
-      | inr other ↦ let inside' = rw other at inside in picked_passes test xs x inside'
     ]
 
 -- the greatest of numbers is none below one of them, and is one of them or the first
@@ -244,7 +234,7 @@ below_full node history sound =
     let below : round node history - 1 ≡ top_round = omega arith in
     ap (is_full node (slots node history)) below
     ∙ elim (is_one 0 (full_rounds node history)) [
-      | inr one ↦ picked_passes (is_full node (slots node history)) (map (λ c. c.header.round) (certificates node history)) top_round one
+      | inr one ↦ (picked_was (is_full node (slots node history)) (map (λ c. c.header.round) (certificates node history)) top_round one).1
       | inl none ↦
           let all = held_by_all (slots node history 0) (numbers n) (genesis_held node history) in
           let many = length-range_with_len 0 n in

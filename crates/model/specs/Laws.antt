@@ -151,7 +151,7 @@ GivenGrows = (node : Node) (history more : History) (output : Output) → IsLega
 abbrev pub own_event : Node → Header → Event
 own_event node header = record { sender = node.own; message = message.Header header }
 
--- what is proposed at a legal history passes the checks, and is new there
+-- what is proposed at a legal history passes the checks, whatever its signature, and is new there
 abbrev pub ProposalsAreNew : Type 0
 ProposalsAreNew = (node : Node) (history : History) (header : Header) → IsLegal node history → propose node history ≡ Some header
     → (fault_of node.charter accepts_all (own_event node header) ≡ None) × (admit node history (own_event node header) ≡ New (header_outputs node header))

@@ -34,12 +34,12 @@ pub fn kept_decides()
     ensures { KeptDecides }
 {}
 
-/// So it does what is kept behind each new event, and with it all answers to come.
+/// What is kept of a legal history decides what is kept behind each new event, and with it all answers to come.
 pub fn kept_follows()
     ensures { KeptFollows }
 {}
 
-/// And the node's round, and what it proposes.
+/// What is kept of a legal history decides the node's round, and what it proposes.
 pub fn kept_proposes()
     ensures { KeptProposes }
 {}
@@ -65,7 +65,7 @@ pub fn given_grows()
     ensures { GivenGrows }
 {}
 
-/// What is proposed at a legal history passes the checks, and is new there.
+/// What is proposed at a legal history passes the checks, whatever its signature, and is new there.
 pub fn proposals_are_new()
     ensures { ProposalsAreNew }
 {}

@@ -1,6 +1,6 @@
 -- What is read of the beginning of some bytes: the same as of all of them, unless it ends within a field.
 use Rattle.std.proofs.Common.{◌≡◌, ℕ, zero, suc, ◌<◌, ◌≤◌, Bool, true, false, cond, List, [], ◌∷◌, ◌++◌, length, take, drop, Result, Ok, Err, ◌⊎◌, inl, inr, refl, sym, ap, ◌∙◌, arith}
-use Rattle.std.specs.Prelude.{◌^◌, ◌&&◌, not, nat_lt, ◌==◌, if◌then◌else◌}
+use Rattle.std.specs.Prelude.{◌+◌, ◌^◌, ◌&&◌, not, nat_lt, ◌==◌, if◌then◌else◌}
 use Rattle.std.specs.Int.{Width, w16, w32, w64, byte_len, from_be_bytes}
 use Rattle.std.proofs.lemmas.Bool.{cases_Bool, ltb-false}
 use Rattle.std.proofs.lemmas.List.{append-nil, length-append, take-append-le, drop-append-le}
@@ -263,16 +263,23 @@ beginnings_are_short m bytes more fits parts some =
     let all : tagged_at (bytes ++ more) ≡ Ok (m, []) = ap tagged_at (sym parts ∙ sym (append-nil (spelling m))) ∙ tagged_again m [] fits in
     short_by m bytes more (tagged_at bytes) (tagged_at (bytes ++ more)) (tagged_goes bytes more) all some
 
-stays_by : (more : List ℕ) (one other : Read Message) (fault : WireError) → Stays more one other → (one >>= whole) ≡ Err fault → (fault ≡ Short → ⊥) → (fault ≡ Trailing → ⊥) → (other >>= whole) ≡ Err fault
-stays_by more (Ok p) other fault stays is not_short not_trailing =
+still_some : (one other both : ℕ) → both ≡ one + other → (one == 0) ≡ false → (both == 0) ≡ false
+still_some one other both sum some = grind (arith, sum, some)
+
+stays_by : (more : List ℕ) (one other : Read Message) (fault : WireError) → Stays more one other → (one >>= whole) ≡ Err fault → (fault ≡ Short → ⊥) → (other >>= whole) ≡ Err fault
+stays_by more (Ok p) other fault stays is not_short =
     elim (cases_Bool (length p.1 == 0)) [
       | inl none ↦ let bad = rw none at is in absurd cc
-      | inr some ↦ let is' = rw some at is in absurd (not_trailing (same_Err fault Trailing (sym is')))
+      | inr some ↦
+          let is' = rw some at is in
+          let both = length-append p.1 more in
+          let left : (length (p.1 ++ more) == 0) ≡ false = still_some (length p.1) (length more) (length (p.1 ++ more)) both some in
+          ap (λ r. r >>= whole) stays ∙ rw left is'
     ]
-stays_by more (Err e) other fault (inl short) is not_short not_trailing = absurd (not_short (same_Err fault e (sym is) ∙ short))
-stays_by more (Err e) other fault (inr same) is not_short not_trailing = ap (λ r. r >>= whole) same ∙ is
+stays_by more (Err e) other fault (inl short) is not_short = absurd (not_short (same_Err fault e (sym is) ∙ short))
+stays_by more (Err e) other fault (inr same) is not_short = ap (λ r. r >>= whole) same ∙ is
 
 -- any other fault stays, whatever follows
-pub faults_stay : (bytes more : List ℕ) (fault : WireError) → message_of bytes ≡ Err fault → (fault ≡ Short → ⊥) → (fault ≡ Trailing → ⊥) → message_of (bytes ++ more) ≡ Err fault
+pub faults_stay : (bytes more : List ℕ) (fault : WireError) → message_of bytes ≡ Err fault → (fault ≡ Short → ⊥) → message_of (bytes ++ more) ≡ Err fault
 unfolding message_of
-faults_stay bytes more fault is not_short not_trailing = stays_by more (tagged_at bytes) (tagged_at (bytes ++ more)) fault (tagged_goes bytes more) is not_short not_trailing
+faults_stay bytes more fault is not_short = stays_by more (tagged_at bytes) (tagged_at (bytes ++ more)) fault (tagged_goes bytes more) is not_short

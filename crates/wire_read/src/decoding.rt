@@ -138,8 +138,7 @@ pub fn beginnings_are_short()
     ensures { (m : Message) (bytes more : List ℕ) → IsMessage m → spelling m ≡ bytes ++ more → 0 < length more → message_of bytes ≡ Err Short }
 {}
 
-/// Any other refusal than for an early end or for bytes behind a message stays, whatever follows: it is for the
-/// first fault from the left.
+/// Any other refusal than for an early end stays, whatever follows: it is for the first fault from the left.
 pub fn faults_stay()
-    ensures { (bytes more : List ℕ) (fault : WireError) → message_of bytes ≡ Err fault → fault ≢ Short → fault ≢ Trailing → message_of (bytes ++ more) ≡ Err fault }
+    ensures { (bytes more : List ℕ) (fault : WireError) → message_of bytes ≡ Err fault → fault ≢ Short → message_of (bytes ++ more) ≡ Err fault }
 {}
