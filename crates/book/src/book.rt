@@ -13,8 +13,6 @@ use journal::{Group, Synced};
 use sigface::Sign;
 use std::alloc::{AllocError, Global};
 use std::collections::VecDeque;
-#[cfg(test)]
-use wire::Author;
 use wire::Output;
 
 /// Records that one run may accept.
@@ -156,14 +154,6 @@ impl<S: Sign> Book<S> {
         ensures { standing self.new ≡ record (standing self.old) { down = true } }
     {
         self.down = true;
-    }
-
-    /// The validator's number.
-    #[cfg(test)]
-    pub fn own(&self) -> Author
-        ensures { result ≡ (standing self.now).validator.own }
-    {
-        self.validator.own()
     }
 
     /// Whether `fail` was called.

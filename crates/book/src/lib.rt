@@ -12,6 +12,3 @@ pub use book::{Book, MAX_ACCEPTED, Receipt};
 pub use pending::EVENT_RECORD;
 pub use refusal::Refusal;
 pub use validator::{Admission, Step, Validator};
-
-#[cfg(test)]
-mod tests;

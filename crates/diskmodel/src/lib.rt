@@ -7,8 +7,6 @@ mod disk;
 mod fault_count;
 mod history;
 mod memory;
-#[cfg(test)]
-mod tests;
 
 pub use call::{Bytes, Call, CallKind};
 pub use disk::{Disk, DiskFault, StopDisk};

@@ -7,6 +7,3 @@ mod faults;
 
 pub use checked::{Checked, check, recheck};
 pub use error::CheckError;
-
-#[cfg(test)]
-mod tests;

@@ -14,6 +14,3 @@ pub use journal::{Journal, Synced};
 pub use layout::{MAX_GROUP_BYTES, MAX_GROUP_RECORDS, MAX_JOURNAL_BYTES};
 pub use reading::{stands, written_groups_stand};
 pub use record::{Record, RecordBytes};
-
-#[cfg(test)]
-mod tests;

@@ -10,7 +10,7 @@ use Rattle.std.specs.Cmp.Lexicographic.{pointwise}
 use Rattle.wire.specs.declared.message.Message.TheVariants as message
 use Rattle.wire.specs.declared.output.Output.TheVariants as output
 use Rattle.model.specs.Histories.{History, batches, coins}
-use Rattle.model.specs.Holdings.{batch_digest, batch_at, has_own_batch, has_acked, is_available, header_at, vote_for, vote_on, completed, slots, order, floor, is_low, is_full, all_held}
+use Rattle.model.specs.Holdings.{batch_digest, batch_at, has_own_batch, has_acked, is_available, voted_header, own_vote, counted_vote, completed, slots, order, floor, is_low, is_full, all_held}
 use Rattle.model.specs.Nodes.{Node, IsNode}
 use Rattle.model.specs.Slots.{same_digest, header_digest, certificate_digest}
 use Rattle.model.specs.Words.{Author, BatchAck, BatchReference, Certificate, Coin, Contents, Digest, Event, Header, HeaderBody, Message, Output, ParentReference, Vote}
@@ -33,7 +33,7 @@ batch_outputs node batch =
 -- an own header goes to all, and the author of another one gets the vote for it
 abbrev pub header_outputs : Node → Header → List Output
 header_outputs node header =
-    (if is_own node header.body.author then output.Header header else output.Vote (vote_for node header.body)) ∷ []
+    (if is_own node header.body.author then output.Header header else output.Vote (own_vote node header.body)) ∷ []
 
 -- the piece of this number, from 0 on, of a list that follows so many digests of the order
 abbrev pub piece_at : ℕ → List Digest → ℕ → Output
@@ -50,12 +50,11 @@ order_outputs node history event =
 
 -- ---- the answers
 
--- to a batch whose digest this one has
+-- where this batch has the digest already
 abbrev pub held_batch_answer : Node → Contents → Contents → Admission
 held_batch_answer node held batch =
     if bytes_eq (batch_body held) (batch_body batch) then Known (batch_outputs node held) else Refused DigestClash
 
--- to a batch
 abbrev pub batch_answer : Node → History → Contents → Admission
 batch_answer node history batch = on (batch_at history (batch_digest batch))
   where
@@ -63,7 +62,6 @@ batch_answer node history batch = on (batch_at history (batch_digest batch))
     on (Some held) = held_batch_answer node held batch
     on None = if nat_le node.charter.batches (length (batches history)) then Refused StoreFull else New (batch_outputs node batch)
 
--- to an acknowledgement
 abbrev pub ack_answer : Node → History → BatchAck → Admission
 ack_answer node history ack =
     if not (has_own_batch node history ack.batch) then Refused NotOurs
@@ -76,11 +74,10 @@ may_name node history header named =
     option_map_or (λ batch. batch.worker == named.worker) (batch_at history named.digest) false
     && (not (is_own node header.body.author) || is_available node history named.digest)
 
--- to a header
 abbrev pub header_answer : Node → History → Header → Admission
 header_answer node history header =
     if is_low (floor node history) header.body.round then Refused TooOld
-    else on (header_at history header.body.round header.body.author.0)
+    else on (voted_header history header.body.round header.body.author.0)
   where
     on : Option Header → Admission
     on (Some held) =
@@ -97,22 +94,21 @@ abbrev pub vote_outputs : Node → History → Event → Header → List Output
 vote_outputs node history event header =
     map output.Certificate (option_to_list (completed node (history ++ event ∷ []) header)) ++ order_outputs node history event
 
--- to a vote on an own header by this member, where no own certificate of that round is held
+-- for a vote on an own header by this member, where no own certificate of the round is held
 abbrev pub counted_answer : Node → History → Event → Header → ℕ → Admission
 counted_answer node history event header voter =
-    if is_some (vote_on node history header.body voter) then Known [] else New (vote_outputs node history event header)
+    if is_some (counted_vote node history header.body voter) then Known [] else New (vote_outputs node history event header)
 
--- to a vote, where this own certificate of its round is held
+-- for a vote, where this own certificate of its round is held
 abbrev pub held_answer : Certificate → Vote → Admission
 held_answer held vote =
     if same_digest (header_digest held.header) vote.header then Known (output.Certificate held ∷ []) else Refused CertConflict
 
--- to a vote
 abbrev pub vote_answer : Node → History → Event → Vote → Admission
 vote_answer node history event vote =
     if not (is_own node vote.author) then Refused NotOurs
     else if is_low (floor node history) vote.round then Refused TooOld
-    else on (header_at history vote.round node.own.0)
+    else on (voted_header history vote.round node.own.0)
   where
     on_slot : Header → Option Certificate → Admission
     on_slot header None = counted_answer node history event header vote.voter.0
@@ -132,13 +128,11 @@ same_batch one other = same_digest one.digest other.digest && (one.worker == oth
 abbrev pub same_parent : ParentReference → ParentReference → Bool
 same_parent one other = (one.author.0 == other.author.0) && same_digest one.certificate other.certificate
 
--- two headers are the same
 abbrev pub same_header : HeaderBody → HeaderBody → Bool
 same_header one other =
     ((one.author.0 == other.author.0) && (one.round == other.round))
     && (pointwise same_batch one.batches other.batches && pointwise same_parent one.parents other.parents)
 
--- to a certificate
 abbrev pub certificate_answer : Node → History → Event → Certificate → Admission
 certificate_answer node history event certificate =
     if is_low (floor node history) certificate.header.round then Refused TooOld
@@ -153,7 +147,6 @@ certificate_answer node history event certificate =
         if all_held (slots node history) (floor node history) certificate.header then New (order_outputs node history event)
         else Refused MissingParents
 
--- to a coin
 abbrev pub coin_answer : Node → History → Event → Coin → Admission
 coin_answer node history event coin =
     if not (is_own node event.sender) then Refused NotOurs else on (slice_get (coins history) (coin.wave - 1))
@@ -165,7 +158,6 @@ coin_answer node history event coin =
         else if not (is_full node (slots node history) (2 * coin.wave + 1)) then Refused CoinEarly
         else New (order_outputs node history event)
 
--- to an event
 abbrev pub admit : Node → History → Event → Admission
 admit node history event = on event.message
   where
@@ -179,7 +171,7 @@ admit node history event = on event.message
 
 -- ---- runs
 
--- an event is new
+-- the event that got the answer is new
 abbrev pub is_new : Admission → Bool
 is_new (New outputs) = true
 is_new (Known outputs) = false
@@ -194,7 +186,7 @@ abbrev pub answers : Node → History → List Event → List Admission
 answers node history [] = []
 answers node history (event ∷ events) = admit node history event ∷ answers node (history_after node history event) events
 
--- events that are each new, after a history
+-- events are each new, one after the other, behind a history
 abbrev pub each_new : Node → History → List Event → Bool
 each_new node history [] = true
 each_new node history (event ∷ events) = is_new (admit node history event) && each_new node (history ++ event ∷ []) events

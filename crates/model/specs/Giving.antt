@@ -4,7 +4,7 @@ use Rattle.std.specs.Option.{option_map_or}
 use Rattle.wire.specs.declared.output.Output.TheVariants as output
 use Rattle.model.specs.Admitting.{is_own, batch_outputs, header_outputs}
 use Rattle.model.specs.Histories.{History, batches, headers, coins}
-use Rattle.model.specs.Holdings.{header_at, has_acked, counted, slots, voted, certificates, order, floor, is_low}
+use Rattle.model.specs.Holdings.{voted_header, has_acked, counted_at, slots, voted_digest, certificates, order, floor, is_low}
 use Rattle.model.specs.Nodes.{Node}
 use Rattle.model.specs.Proposing.{was_named}
 use Rattle.model.specs.Slots.{Slots, same_digest, header_digest}
@@ -14,7 +14,7 @@ use Rattle.model.specs.Words.{Certificate, Contents, Digest, Header, Output, Vot
 abbrev pub is_given : Node → History → Certificate → Bool
 is_given node history certificate =
     is_own node certificate.header.author
-    && option_map_or (same_digest (header_digest certificate.header)) (voted history certificate.header.round node.own.0) false
+    && option_map_or (same_digest (header_digest certificate.header)) (voted_digest history certificate.header.round node.own.0) false
 
 -- what each batch and each header puts out, and the own certificates of headers that have the node's vote
 abbrev pub given : Node → History → List Output
@@ -29,7 +29,7 @@ pub record IsPiece (order : List Digest) (start : ℕ) (digests : List Digest) :
   pub few : length digests ≤ 16000
   pub stands : digests ≡ take (length digests) (drop start order)
 
--- what may be given out: that, and each piece of the order
+-- what may be given out: what is given, and each piece of the order
 abbrev pub MayGive : Node → History → Output → Type 0
 MayGive node history (output.Order start digests) = IsPiece (order node history) start digests
 MayGive node history other = Contains (given node history) other
@@ -49,7 +49,7 @@ pub record Kept : Type 0 where
   pub coins : List ℕ
   pub order : List Digest
 
--- of a round that isn't low
+-- what is found for a round that isn't low
 abbrev pub unless_low : {X : Type 0} → Node → History → ℕ → Option X → Option X
 unless_low node history round found = if is_low (floor node history) round then None else found
 
@@ -58,9 +58,9 @@ kept node history = record {
   batches = batches history;
   acked = has_acked history;
   named = was_named node history;
-  votes = λ round author. unless_low node history round (voted history round author);
-  own_headers = λ round. unless_low node history round (header_at history round node.own.0);
-  counted = λ round voter. unless_low node history round (counted node history round voter);
+  votes = λ round author. unless_low node history round (voted_digest history round author);
+  own_headers = λ round. unless_low node history round (voted_header history round node.own.0);
+  counted = λ round voter. unless_low node history round (counted_at node history round voter);
   slots = λ round author. if nat_lt round (floor node history) then None else slots node history round author;
   coins = coins history;
   order = order node history;

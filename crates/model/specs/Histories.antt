@@ -3,7 +3,6 @@ use Rattle.std.specs.Prelude.{ℕ, List, filter_map, Option, Some, None}
 use Rattle.wire.specs.declared.message.Message.TheVariants as message
 use Rattle.model.specs.Words.{BatchAck, Certificate, Contents, Event, Header, Message, Vote}
 
--- a list of events
 abbrev pub History : Type 0
 History = List Event
 
@@ -32,7 +31,6 @@ abbrev pub as_coin : Message → Option ℕ
 as_coin (message.Coin coin) = Some coin.value
 as_coin _ = None
 
--- the batches
 abbrev pub batches : History → List Contents
 batches history = filter_map (λ event. as_batch event.message) history
 

@@ -5,13 +5,12 @@ use Rattle.std.specs.Option.{option_map_or}
 use Rattle.wire.specs.Digests.{batch_digest_of}
 use Rattle.model.specs.Histories.{History, batches, acks, headers, votes, received, coins}
 use Rattle.model.specs.Nodes.{Node, size_of, quorum, numbers}
-use Rattle.model.specs.Ordering.{order_by, floor_by}
+use Rattle.model.specs.Ordering.{Ledger, order_by, floor_by}
 use Rattle.model.specs.Slots.{Slots, same_digest, header_digest, certificate_digest, is_of_slot, slots_of, round_of}
 use Rattle.model.specs.Words.{Certificate, Contents, Digest, Header, HeaderBody, ParentReference, Vote, VoteEntry}
 
 -- ---- batches
 
--- the digest of a batch
 abbrev pub batch_digest : Contents → Digest
 batch_digest batch = record { 0 = batch_digest_of batch }
 
@@ -35,13 +34,13 @@ is_available node history digest =
 
 -- ---- votes
 
--- the header that an author and round have a vote for
-abbrev pub header_at : History → ℕ → ℕ → Option Header
-header_at history round author = find (λ header. is_of_slot round author header.body) (headers history)
+-- the header that has the vote for an author and round: each header that is taken is voted for, so the one that is held
+abbrev pub voted_header : History → ℕ → ℕ → Option Header
+voted_header history round author = find (λ header. is_of_slot round author header.body) (headers history)
 
--- its digest
-abbrev pub voted : History → ℕ → ℕ → Option Digest
-voted history round author = option_map (λ header. header_digest header.body) (header_at history round author)
+-- the digest that has the vote for an author and round
+abbrev pub voted_digest : History → ℕ → ℕ → Option Digest
+voted_digest history round author = option_map (λ header. header_digest header.body) (voted_header history round author)
 
 -- a vote is one on this header by this member
 abbrev pub is_vote_on : HeaderBody → ℕ → Vote → Bool
@@ -49,8 +48,8 @@ is_vote_on header voter vote =
     is_of_slot vote.round vote.author.0 header && ((vote.voter.0 == voter) && same_digest vote.header (header_digest header))
 
 -- the node's own vote for a header: it signs the certificate's digest
-abbrev pub vote_for : Node → HeaderBody → Vote
-vote_for node header = record {
+abbrev pub own_vote : Node → HeaderBody → Vote
+own_vote node header = record {
   header = header_digest header;
   round = header.round;
   author = header.author;
@@ -58,21 +57,21 @@ vote_for node header = record {
   signature = node.sign (certificate_digest header);
 }
 
--- a member's vote on an own header, if it was counted; the node's own counts from the beginning
-abbrev pub vote_on : Node → History → HeaderBody → ℕ → Option Vote
-vote_on node history header voter = if voter == node.own.0 then Some (vote_for node header) else find (is_vote_on header voter) (votes history)
+-- a member's counted vote on an own header: the first that came in, and the node's own from the beginning
+abbrev pub counted_vote : Node → History → HeaderBody → ℕ → Option Vote
+counted_vote node history header voter = if voter == node.own.0 then Some (own_vote node header) else find (is_vote_on header voter) (votes history)
 
 -- a member's counted vote on the own header of a round
-abbrev pub counted : Node → History → ℕ → ℕ → Option Vote
-counted node history round voter = option_and_then (λ header. vote_on node history header.body voter) (header_at history round node.own.0)
+abbrev pub counted_at : Node → History → ℕ → ℕ → Option Vote
+counted_at node history round voter = option_and_then (λ header. counted_vote node history header.body voter) (voted_header history round node.own.0)
 
 -- a vote as a certificate has it
 abbrev pub entry_of : Vote → VoteEntry
 entry_of vote = record { voter = vote.voter; signature = vote.signature }
 
--- a member's counted vote, as a certificate has it
+-- a member's counted vote on an own header, as a certificate has it
 abbrev pub entry_on : Node → History → HeaderBody → ℕ → Option VoteEntry
-entry_on node history header voter = option_map entry_of (vote_on node history header voter)
+entry_on node history header voter = option_map entry_of (counted_vote node history header voter)
 
 -- the votes on an own header, rising by voter
 abbrev pub votes_on : Node → History → HeaderBody → List VoteEntry
@@ -101,13 +100,20 @@ slots node history = slots_of (certificates node history)
 
 -- ---- the order and the rounds
 
+abbrev pub ledger_of : Node → Slots → List ℕ → Ledger
+ledger_of node slots coins = record { charter = node.charter; slots = slots; coins = coins }
+
+abbrev pub ledger_at : Node → History → Ledger
+ledger_at node history = ledger_of node (slots node history) (coins history)
+
 abbrev pub order : Node → History → List Digest
-order node history = order_by (size_of node) node.charter.depth (slots node history) (coins history)
+order node history = order_by (ledger_at node history)
 
 abbrev pub floor : Node → History → ℕ
-floor node history = floor_by (size_of node) node.charter.depth (slots node history) (coins history)
+floor node history = floor_by (ledger_at node history)
 
--- a round is low: it is the genesis, or at or below a floor above 0
+-- a round is low, and nothing of it is taken any more: the genesis, or one at or below a floor above 0. The floor's own round
+-- is the deepest that the last committed leader orders, so its certificates are kept; each leader to come orders less deep
 abbrev pub is_low : ℕ → ℕ → Bool
 is_low floor round = (round == 0) || (nat_lt 0 floor && nat_le round floor)
 
@@ -119,16 +125,14 @@ is_full node slots round = nat_le (quorum node) (length (round_of (size_of node)
 abbrev pub round_by : Node → List Certificate → ℕ
 round_by node certificates = 1 + fold max 0 (filter (is_full node (slots_of certificates)) (map (λ c. c.header.round) certificates))
 
--- the node's round
 abbrev pub round : Node → History → ℕ
 round node history = round_by node (certificates node history)
 
--- a parent of a header of this round is held: its certificate is there, or its round is at or below a floor above 0
+-- a parent of a header of this round is held: its certificate is there, or it lies at or below a floor above 0, and isn't asked for
 abbrev pub is_held : Slots → ℕ → ℕ → ParentReference → Bool
 is_held slots floor round parent =
     option_map_or (λ c. same_digest (certificate_digest c.header) parent.certificate) (slots (round - 1) parent.author.0) false
     || (nat_lt 0 floor && nat_le (round - 1) floor)
 
--- all parents of a header are held
 abbrev pub all_held : Slots → ℕ → HeaderBody → Bool
 all_held slots floor header = list_all (is_held slots floor header.round) header.parents

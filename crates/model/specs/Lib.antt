@@ -7,4 +7,3 @@ pub mod Ordering
 pub mod Admitting
 pub mod Proposing
 pub mod Giving
-pub mod Laws

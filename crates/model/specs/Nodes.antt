@@ -17,18 +17,18 @@ pub record IsNode (node : Node) : Type 0 where
   pub charter : IsCharter node.charter
   pub member : node.own.0 < length node.charter.keys
 
--- how many members its committee has
+-- how many members the node's committee has
 abbrev pub size_of : Node → ℕ
 size_of node = length node.charter.keys
 
--- how many of them are a quorum
+-- how many members of its committee are a quorum
 abbrev pub quorum : Node → ℕ
 quorum node = quorum_of (size_of node)
 
--- the numbers of n members
+-- the numbers of so many members
 abbrev pub numbers : ℕ → List ℕ
-numbers n = range_with_len 0 n
+numbers size = range_with_len 0 size
 
--- the node that a value of the type `Node` is, with the signatures that its signer gives
-abbrev pub node_of : {S : Type 0} → (S → Digest → Signature) → declared.Node S → Node
-node_of signature_of node = record { own = node.own; charter = node.committee; sign = signature_of node.signer }
+-- what a contract sees of a value of the type `Node`, with the signatures that its signer gives
+abbrev pub node_view : {S : Type 0} → (S → Digest → Signature) → declared.Node S → Node
+node_view signature_of node = record { own = node.own; charter = node.committee; sign = signature_of node.signer }

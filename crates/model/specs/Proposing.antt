@@ -3,7 +3,7 @@ use Rattle.std.specs.Prelude.{◌-◌, ◌^◌, ◌==◌, ◌&&◌, ◌||◌, no
 use Rattle.std.specs.List.{list_any}
 use Rattle.wire.specs.References.{digest_before}
 use Rattle.model.specs.Histories.{History, batches, headers}
-use Rattle.model.specs.Holdings.{batch_digest, is_available, header_at, slots, round}
+use Rattle.model.specs.Holdings.{batch_digest, is_available, voted_header, slots, round}
 use Rattle.model.specs.Nodes.{Node, size_of}
 use Rattle.model.specs.Slots.{same_digest, header_digest, certificate_digest, round_of}
 use Rattle.model.specs.Words.{BatchReference, Certificate, Contents, Digest, Header, HeaderBody, ParentReference}
@@ -55,5 +55,5 @@ signed node body = record { body = body; signature = node.sign (header_digest bo
 -- the header that the node proposes: none where its round has one, or is past the greatest round
 abbrev pub propose : Node → History → Option Header
 propose node history =
-    if is_some (header_at history (round node history) node.own.0) || nat_lt (2 ^ 48) (round node history) then None
+    if is_some (voted_header history (round node history) node.own.0) || nat_lt (2 ^ 48) (round node history) then None
     else Some (signed node (proposal node history))

@@ -13,7 +13,6 @@ Slots = ℕ → ℕ → Option Certificate
 abbrev pub same_digest : Digest → Digest → Bool
 same_digest one other = bytes_eq one.0 other.0
 
--- the digest of a header
 abbrev pub header_digest : HeaderBody → Digest
 header_digest header = record { 0 = header_digest_of header }
 
@@ -29,9 +28,9 @@ is_of_slot round author header = (header.round == round) && (header.author.0 == 
 abbrev pub slots_of : List Certificate → Slots
 slots_of certificates round author = find (λ c. is_of_slot round author c.header) certificates
 
--- the certificates of a round, by author, of n members
+-- the certificates of a round, by author, of so many members
 abbrev pub round_of : ℕ → Slots → ℕ → List Certificate
-round_of n slots round = filter_map (slots round) (numbers n)
+round_of size slots round = filter_map (slots round) (numbers size)
 
 -- the certificate is what a header names as a parent: it has the author and the digest
 abbrev pub is_named : Certificate → ParentReference → Bool
@@ -46,12 +45,12 @@ is_parent parent child =
 
 -- a path of so many steps, each to a parent, leads from one certificate to another; without steps they are of one slot
 abbrev pub has_path : ℕ → Slots → ℕ → Certificate → Certificate → Bool
-has_path n slots zero start end = is_of_slot start.header.round start.header.author.0 end.header
-has_path n slots (suc steps) start end =
-    list_any (λ child. has_path n slots steps start child && is_parent end child) (round_of n slots (end.header.round + 1))
+has_path size slots zero start end = is_of_slot start.header.round start.header.author.0 end.header
+has_path size slots (suc steps) start end =
+    list_any (λ child. has_path size slots steps start child && is_parent end child) (round_of size slots (end.header.round + 1))
 
 -- one certificate reaches another: each step of a path goes down one round
 abbrev pub reaches : ℕ → Slots → Certificate → Certificate → Bool
-reaches n slots start end =
+reaches size slots start end =
     nat_le end.header.round start.header.round
-    && has_path n slots (start.header.round - end.header.round) start end
+    && has_path size slots (start.header.round - end.header.round) start end

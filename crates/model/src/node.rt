@@ -1,7 +1,7 @@
 //! Whose history it is.
 
 ghost use Rattle.std.specs.Prelude.{◌≡◌, ◌<◌, ◌≤◌};
-ghost use Rattle.model.specs.Nodes.{node_of, quorum, size_of};
+ghost use Rattle.model.specs.Nodes.{node_view, quorum, size_of};
 ghost use Rattle.model.specs.Admitting.{is_own};
 
 use committee::Committee;
@@ -22,7 +22,7 @@ pub struct Node<S: Sign> {
 impl<S: Sign> Node<S> {
     /// How many members its committee has.
     pub fn size(&self) -> u16
-        ensures value { result ≡ size_of (node_of S.signature_of self.now) }
+        ensures value { result ≡ size_of (node_view S.signature_of self.now) }
         ensures least { 0 < result }
         ensures greatest { result ≤ 31 }
     {
@@ -31,14 +31,14 @@ impl<S: Sign> Node<S> {
 
     /// How many of them are a quorum.
     pub fn quorum(&self) -> usize
-        ensures { result ≡ quorum (node_of S.signature_of self.now) }
+        ensures { result ≡ quorum (node_view S.signature_of self.now) }
     {
         self.committee.quorum() as usize
     }
 
     /// An author is the node itself.
     pub fn is_own(&self, author: Author) -> bool
-        ensures { result ≡ is_own (node_of S.signature_of self.now) author }
+        ensures { result ≡ is_own (node_view S.signature_of self.now) author }
     {
         author == self.own
     }

@@ -3,8 +3,6 @@
 
 mod pair;
 mod signature;
-#[cfg(test)]
-mod tests;
 
 pub use pair::{HashSign, HashVerify};
 pub use signature::{Sign, Verify};

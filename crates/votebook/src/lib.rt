@@ -6,6 +6,3 @@ mod slot;
 
 pub use book::{VoteBook, Voted};
 pub use slot::Slot;
-
-#[cfg(test)]
-mod tests;

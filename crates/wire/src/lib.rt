@@ -33,6 +33,3 @@ pub use output_bytes::{HOST, ORDER_TAG, TO_ALL, encode_output};
 pub use references::{BatchReference, BatchReferences, ParentReference, ParentReferences};
 pub use round::{Round, Wave};
 pub use votes::{VoteEntries, VoteEntry};
-
-#[cfg(test)]
-mod tests;

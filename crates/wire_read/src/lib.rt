@@ -12,6 +12,3 @@ pub use decoding::{
     beginnings_are_short, decode, faults_stay, one_spelling, what_follows_is_trailing,
 };
 pub use frames::{FrameReader, one_split};
-
-#[cfg(test)]
-mod tests;

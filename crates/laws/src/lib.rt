@@ -1,0 +1,72 @@
+//! Laws of legal histories, proved of the definitions: each is what a function without a body ensures.
+#![tactic(auto)]
+
+ghost use Rattle.laws.specs.Laws.{OneVote, OneCertificate, OneMore, SlotsGrow, AnswersAlike, KeptDecides, KeptFollows, KeptProposes, OutputsGiven, OrderGrows, OrderLengthens, GivenGrows, ProposalsAreNew};
+
+/// A legal history has one vote an author and round.
+pub fn one_vote()
+    ensures { OneVote }
+{}
+
+/// A legal history has one certificate a slot.
+pub fn one_certificate()
+    ensures { OneCertificate }
+{}
+
+/// A history with one more event has of each kind what it had, and what the event is.
+pub fn one_more()
+    ensures { OneMore }
+{}
+
+/// A legal history with one more event has the slots that it had, and in a slot that held nothing the
+/// certificate that the event adds.
+pub fn slots_grow()
+    ensures { SlotsGrow }
+{}
+
+/// Two legal histories with the same batches, acknowledgements, votes, own headers with the votes on them,
+/// certificates and coins answer each event alike.
+pub fn answers_alike()
+    ensures { AnswersAlike }
+{}
+
+/// What is kept of a legal history decides what each event is answered: two with the same kept answer alike.
+pub fn kept_decides()
+    ensures { KeptDecides }
+{}
+
+/// What is kept of a legal history decides what is kept behind each new event, and with it all answers to come.
+pub fn kept_follows()
+    ensures { KeptFollows }
+{}
+
+/// What is kept of a legal history decides the node's round, and what it proposes.
+pub fn kept_proposes()
+    ensures { KeptProposes }
+{}
+
+/// What a new event puts out may be given out at the history with it, and what a known one puts out at the history.
+pub fn outputs_given()
+    ensures { OutputsGiven }
+{}
+
+/// The order of a legal history begins that of each history that it begins.
+pub fn order_grows()
+    ensures { OrderGrows }
+{}
+
+/// The leaders of a longer legal history are those from before and then newer ones, and its order is that from before
+/// and then what the newer ones order; to find these it is enough to hold what lies at or above the floor from before.
+pub fn order_lengthens()
+    ensures { OrderLengthens }
+{}
+
+/// What may be given out at a legal history may be given out at each that it begins.
+pub fn given_grows()
+    ensures { GivenGrows }
+{}
+
+/// What is proposed at a legal history passes the checks, whatever its signature, and is new there.
+pub fn proposals_are_new()
+    ensures { ProposalsAreNew }
+{}

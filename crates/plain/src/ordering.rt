@@ -1,0 +1,199 @@
+//! Leaders, which of them are committed, and the order.
+
+ghost use Rattle.std.specs.Prelude.{◌≡◌, ◌<◌, ◌≤◌, IfOk, IfSome, None, count_by, length, option_copied};
+ghost use Rattle.model.specs.Slots.{is_parent};
+ghost use Rattle.model.specs.Ordering.{leader, has_support, is_directly_committed, top_to, top, chain, is_past, rounds_to, is_ordered_by, segment, segments, committed, order_by, floor_by};
+ghost use Rattle.plain.specs.Ledgers.{ledger_view};
+
+use crate::ledger::{Ledger, reaches_in, round_in, size_in};
+use crate::newer::{newer, newer_at};
+use crate::slots::{digest_of, is_parent, slot};
+use std::alloc::{AllocError, Global};
+use wire::{Certificate, Digest};
+
+/// The leader of a wave.
+pub fn leader<'a>(ledger: &Ledger<'a>, wave: u64) -> Option<&'a Certificate>
+    ensures { option_copied result ≡ leader (ledger_view ledger.now) wave }
+{
+    if wave == 0 {
+        return None;
+    }
+    match ledger.coins.get((wave - 1) as usize) {
+        None => None,
+        Some(coin) => slot(
+            ledger.certificates,
+            2 * (wave - 1) + 1,
+            (*coin % size_in(ledger) as u64) as u16,
+        ),
+    }
+}
+
+/// A certificate has support.
+pub fn has_support(
+    alloc: Global,
+    ledger: &Ledger,
+    certificate: &Certificate,
+) -> Result<bool, AllocError>
+    ensures { IfOk result (λ found. found ≡ has_support (ledger_view ledger.now) certificate.now) }
+{
+    let above = round_in(alloc, ledger, certificate.header.round.number() + 1)?;
+    Ok(ledger.committee.support() as usize <= children_among(certificate, &above))
+}
+
+fn children_among(certificate: &Certificate, others: &[Certificate]) -> usize
+    ensures { result ≡ count_by (is_parent certificate.now) others.now }
+{
+    others
+        .iter()
+        .filter(|child| is_parent(certificate, child))
+        .count()
+}
+
+/// A wave has a leader with support.
+pub fn is_directly_committed(alloc: Global, ledger: &Ledger, wave: u64) -> Result<bool, AllocError>
+    ensures { IfOk result (λ found. found ≡ is_directly_committed (ledger_view ledger.now) wave) }
+{
+    match leader(ledger, wave) {
+        None => Ok(false),
+        Some(leader) => has_support(alloc, ledger, leader),
+    }
+}
+
+/// The greatest wave up to one that is directly committed.
+pub fn top_to(alloc: Global, ledger: &Ledger, wave: u64) -> Result<Option<u64>, AllocError>
+    ensures value { IfOk result (λ found. found ≡ top_to (ledger_view ledger.now) wave) }
+    ensures within { IfOk result (λ found. IfSome found (λ top. (0 < top) × (top ≤ wave))) }
+{
+    if wave == 0 {
+        return Ok(None);
+    }
+    if is_directly_committed(alloc, ledger, wave)? {
+        return Ok(Some(wave));
+    }
+    top_to(alloc, ledger, wave - 1)
+}
+
+/// The greatest wave that is directly committed.
+pub fn top(alloc: Global, ledger: &Ledger) -> Result<Option<u64>, AllocError>
+    ensures value { IfOk result (λ found. found ≡ top (ledger_view ledger.now)) }
+    ensures within { IfOk result (λ found. IfSome found (λ top. (0 < top) × (top ≤ length ledger.now.coins.now))) }
+{
+    top_to(alloc, ledger, ledger.coins.len() as u64)
+}
+
+/// The leaders that are committed with that of a wave.
+pub fn chain(alloc: Global, ledger: &Ledger, wave: u64) -> Result<Vec<Certificate>, AllocError>
+    ensures { IfOk result (λ found. found.items ≡ chain (ledger_view ledger.now) wave) }
+{
+    newer_at(alloc, ledger, 0, wave)
+}
+
+/// The leader before has it already.
+fn is_past(
+    alloc: Global,
+    ledger: &Ledger,
+    previous: Option<&Certificate>,
+    certificate: &Certificate,
+) -> Result<bool, AllocError>
+    ensures { IfOk result (λ found. found ≡ is_past (ledger_view ledger.now) (option_copied previous.entry) certificate.now) }
+{
+    match previous {
+        None => Ok(false),
+        Some(leader) => reaches_in(alloc, ledger, leader, certificate),
+    }
+}
+
+/// The certificates of rounds 1 to this one, by round and then author.
+#[tactic(auto, using(crate::proofs::Ranges::round_more))]
+pub fn rounds_to(alloc: Global, ledger: &Ledger, round: u64) -> Result<Vec<Certificate>, AllocError>
+    ensures { IfOk result (λ found. found.items ≡ rounds_to (ledger_view ledger.now) round) }
+{
+    let mut found = Vec::new(alloc);
+    for lower in 0..round {
+        let mut more = round_in(alloc, ledger, lower + 1)?;
+        found.append(&mut more)?;
+    }
+    Ok(found)
+}
+
+/// A leader orders a certificate, behind the leader before.
+fn is_ordered_by(
+    alloc: Global,
+    ledger: &Ledger,
+    previous: Option<&Certificate>,
+    leader: &Certificate,
+    certificate: &Certificate,
+) -> Result<bool, AllocError>
+    ensures { IfOk result (λ found. found ≡ is_ordered_by (ledger_view ledger.now) (option_copied previous.entry) leader.now certificate.now) }
+{
+    if leader.header.round.number() > certificate.header.round.number() + ledger.committee.depth() {
+        return Ok(false);
+    }
+    if !reaches_in(alloc, ledger, leader, certificate)? {
+        return Ok(false);
+    }
+    Ok(!is_past(alloc, ledger, previous, certificate)?)
+}
+
+/// What a leader orders, behind the leader before.
+pub fn segment(
+    alloc: Global,
+    ledger: &Ledger,
+    previous: Option<&Certificate>,
+    leader: &Certificate,
+) -> Result<Vec<Certificate>, AllocError>
+    ensures { IfOk result (λ found. found.items ≡ segment (ledger_view ledger.now) (option_copied previous.entry) leader.now) }
+{
+    let mut found = Vec::new(alloc);
+    let all = rounds_to(alloc, ledger, leader.header.round.number())?;
+    for certificate in &all {
+        if is_ordered_by(alloc, ledger, previous, leader, certificate)? {
+            found.push(certificate.try_clone()?)?;
+        }
+    }
+    Ok(found)
+}
+
+/// What leaders order one after the other.
+pub fn segments(
+    alloc: Global,
+    ledger: &Ledger,
+    leaders: &[Certificate],
+) -> Result<Vec<Certificate>, AllocError>
+    ensures { IfOk result (λ found. found.items ≡ segments (ledger_view ledger.now) None leaders.now) }
+{
+    let mut found = Vec::new(alloc);
+    let mut previous = None;
+    for leader in leaders {
+        let mut more = segment(alloc, ledger, previous, leader)?;
+        found.append(&mut more)?;
+        previous = Some(leader);
+    }
+    Ok(found)
+}
+
+/// The leaders that are committed.
+pub fn committed(alloc: Global, ledger: &Ledger) -> Result<Vec<Certificate>, AllocError>
+    ensures { IfOk result (λ found. found.items ≡ committed (ledger_view ledger.now)) }
+{
+    newer(alloc, ledger, 0)
+}
+
+/// The order: the certificates' digests.
+pub fn order_by(alloc: Global, ledger: &Ledger) -> Result<Vec<Digest>, AllocError>
+    ensures { IfOk result (λ found. found.items ≡ order_by (ledger_view ledger.now)) }
+{
+    let leaders = committed(alloc, ledger)?;
+    let ordered = segments(alloc, ledger, &leaders)?;
+    ordered.iter().map(|c| digest_of(&c.header)).collect(alloc)
+}
+
+/// The floor.
+pub fn floor_by(alloc: Global, ledger: &Ledger) -> Result<u64, AllocError>
+    ensures { IfOk result (λ floor. floor ≡ floor_by (ledger_view ledger.now)) }
+{
+    match top(alloc, ledger)? {
+        None => Ok(0),
+        Some(wave) => Ok((2 * wave - 1).saturating_sub(ledger.committee.depth())),
+    }
+}

@@ -1,0 +1,4 @@
+mod Items
+mod Lasts
+mod Parents
+mod Placing

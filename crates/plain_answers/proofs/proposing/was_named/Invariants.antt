@@ -1,0 +1,10 @@
+use Rattle.std.proofs.Common.{◌≡◌, drop}
+use Rattle.model.specs.Nodes.{node_view}
+use Rattle.model.specs.Proposing.{was_named}
+use Rattle.plain_answers.proofs.proposing.was_named.Given as goal
+
+-- what is found among the events that are left is what is found
+abbrev pub invariant-loop-event : goal.invariant-loop-event
+invariant-loop-event g l =
+    was_named (node_view g.S.Sign.signature_of l.node) (drop l.event-index l.history) l.digest
+    ≡ was_named (node_view g.S.Sign.signature_of l.node) l.history l.digest

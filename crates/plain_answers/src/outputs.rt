@@ -1,0 +1,135 @@
+//! What admission gives out.
+
+ghost use Rattle.std.specs.Prelude.{◌≡◌, ◌+◌, ◌<◌, ◌≤◌, ◌^◌, ◌++◌, ◌∷◌, [], IfOk, OnOk, drop, length, take};
+ghost use Rattle.model.specs.Admitting as admitting;
+ghost use Rattle.model.specs.Nodes.{node_view};
+
+use crate::arrival::Arrival;
+use crate::parts::first_of;
+use model::{Node, Outputs};
+use plain::certificates::order;
+use plain::holdings::own_vote;
+use sigface::Sign;
+use std::alloc::{AllocError, Global};
+use wire::{
+    Batch, BatchAck, Digest, Header, MAX_ORDER_DIGESTS, OrderDigests, Output, batch_digest,
+};
+
+/// For a batch.
+pub fn batch_outputs<S: Sign>(
+    alloc: Global,
+    node: &Node<S>,
+    batch: &Batch,
+) -> Result<Outputs, AllocError>
+    ensures { IfOk result (λ outputs. outputs ≡ admitting.batch_outputs (node_view S.signature_of node.now) batch.now) }
+{
+    let mut outputs = Outputs::new(alloc);
+    if node.is_own(batch.author()) {
+        outputs.push(Output::Batch(batch.share()?))?;
+    } else {
+        let ack = BatchAck {
+            author: node.own,
+            batch: batch_digest(batch),
+        };
+        let to = batch.author();
+        outputs.push(Output::Ack { to, ack })?;
+    }
+    Ok(outputs)
+}
+
+/// For a header.
+pub fn header_outputs<S: Sign>(
+    alloc: Global,
+    node: &Node<S>,
+    header: &Header,
+) -> Result<Outputs, AllocError>
+    ensures { IfOk result (λ outputs. outputs ≡ admitting.header_outputs (node_view S.signature_of node.now) header.now) }
+{
+    let mut outputs = Outputs::new(alloc);
+    if node.is_own(header.body.author) {
+        outputs.push(Output::Header(header.try_clone()?))?;
+    } else {
+        outputs.push(Output::Vote(own_vote(node, &header.body)))?;
+    }
+    Ok(outputs)
+}
+
+/// The digests from a place on.
+fn part_from(digests: &[Digest], place: usize) -> &[Digest]
+    requires { place ≤ length digests.now }
+    ensures { result.now ≡ drop place digests.now }
+{
+    &digests[place..]
+}
+
+fn order_digests(alloc: Global, digests: &[Digest]) -> Result<OrderDigests, AllocError>
+    requires { length digests.now ≤ 16000 }
+    ensures { IfOk result (λ found. found ≡ digests.now) }
+{
+    let mut found = OrderDigests::new(alloc);
+    for digest in digests {
+        found.push(*digest)?;
+    }
+    Ok(found)
+}
+
+/// Adds a list that follows so many digests of the order, in pieces.
+fn push_pieces(
+    alloc: Global,
+    outputs: &mut Outputs,
+    start: u64,
+    digests: &[Digest],
+) -> Result<(), AllocError>
+    requires { start + length digests.now < 2 ^ 63 }
+    ensures { OnOk result (outputs.new ≡ outputs.old ++ admitting.pieces start digests.now) }
+{
+    for piece in 0..(digests.len() + (MAX_ORDER_DIGESTS - 1)) / MAX_ORDER_DIGESTS {
+        let place = MAX_ORDER_DIGESTS * piece;
+        let digests = order_digests(
+            alloc,
+            first_of(part_from(digests, place), MAX_ORDER_DIGESTS),
+        )?;
+        outputs.push(Output::Order {
+            start: start + place as u64,
+            digests,
+        })?;
+    }
+    Ok(())
+}
+
+/// What a list has behind so many as another one has.
+fn behind<'a>(before: &[Digest], after: &'a [Digest]) -> &'a [Digest]
+    ensures value { result.now ≡ drop (length before.now) after.now }
+    ensures small { length before.now + length result.now < 2 ^ 63 }
+{
+    if before.len() >= after.len() {
+        return &[];
+    }
+    &after[before.len()..]
+}
+
+/// Adds what an order has behind the one before, in pieces.
+fn push_grown(
+    alloc: Global,
+    outputs: &mut Outputs,
+    before: &[Digest],
+    after: &[Digest],
+) -> Result<(), AllocError>
+    ensures { OnOk result (outputs.new ≡ outputs.old ++ admitting.pieces (length before.now) (drop (length before.now) after.now)) }
+{
+    push_pieces(alloc, outputs, before.len() as u64, behind(before, after))
+}
+
+/// Adds what an event adds to the order.
+pub fn push_order<S: Sign>(
+    alloc: Global,
+    node: &Node<S>,
+    outputs: &mut Outputs,
+    arrival: &Arrival,
+) -> Result<(), AllocError>
+    ensures { OnOk result (outputs.new ≡ outputs.old ++ admitting.order_outputs (node_view S.signature_of node.now) arrival.now.history.now arrival.now.event.now) }
+{
+    let before = order(alloc, node, arrival.history)?;
+    let after = order(alloc, node, arrival.events)?;
+    push_grown(alloc, outputs, &before, &after)
+}

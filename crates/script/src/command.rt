@@ -1,0 +1,250 @@
+//! The lines of a script.
+
+use crate::words::{hex_byte, label, member, number, worker};
+use std::str;
+use wire::Author;
+
+/// What is set before all else.
+#[derive(Clone, Copy)]
+pub enum Setting {
+    /// The committee's depth.
+    Depth(u64),
+    /// How many batches the node holds at most.
+    Batches(u64),
+}
+
+/// A batch that a script defines.
+#[derive(Clone, Copy)]
+pub struct Pack<'a> {
+    /// Its label.
+    pub label: &'a str,
+    /// Its author.
+    pub author: Author,
+    /// The worker that gathered it.
+    pub worker: u16,
+    /// Its transactions in hexadecimal, parted by one space, as they are written.
+    pub transactions: &'a str,
+}
+
+/// A header that a script defines.
+#[derive(Clone, Copy)]
+pub struct Form<'a> {
+    /// Its label.
+    pub label: &'a str,
+    /// Its author.
+    pub author: Author,
+    /// Its round, which may be above the limit.
+    pub round: u64,
+    /// The labels of its parents, parted by commas, as they are written.
+    pub parents: &'a str,
+    /// The labels of its batches, parted by commas, as they are written.
+    pub batches: &'a str,
+}
+
+/// A kind of device call.
+#[derive(Clone, Copy)]
+pub enum Call {
+    /// A read.
+    Read,
+    /// A write.
+    Write,
+    /// A cut.
+    Cut,
+    /// A sync.
+    Sync,
+}
+
+/// How the machine stops.
+#[derive(Clone, Copy)]
+pub enum Stopping {
+    /// With the bytes of the last sync.
+    Lose,
+    /// With all that a read gives.
+    Keep,
+    /// While a group is written, before its sync.
+    Body,
+    /// While a group's gate is written; the gate holds this byte.
+    Gate(u8),
+}
+
+/// A command.
+#[derive(Clone, Copy)]
+pub enum Command<'a> {
+    /// Sets the configuration.
+    Set(Setting),
+    /// Defines a batch.
+    Pack(Pack<'a>),
+    /// Defines a header.
+    Form(Form<'a>),
+    /// Submits the batch of a label as from its author.
+    Batch(&'a str),
+    /// Submits the header of a label as from its author.
+    Header(&'a str),
+    /// Submits that a member holds the batch of a label.
+    Ack { batch: &'a str, sender: Author },
+    /// Submits the vote of a member on the header of a label.
+    Vote { header: &'a str, voter: Author },
+    /// Submits the certificate of the header of a label with the votes of these members, parted by commas, as written.
+    Cert { header: &'a str, voters: &'a str },
+    /// Submits the coin of a wave, which may be out of its range.
+    Coin { wave: u64, value: u64 },
+    /// One round of the flusher.
+    Flush,
+    /// The next output that may go out.
+    Collect,
+    /// The order of the settled records.
+    Order,
+    /// The round of the accepted records.
+    Round,
+    /// The vote for an author and round.
+    Peek { author: Author, round: u64 },
+    /// How many records were accepted.
+    Accepted,
+    /// How many of them are settled.
+    Synced,
+    /// Lets the call of this kind and number, counted from now on, fail.
+    Fail { call: Call, count: u64 },
+    /// Stops the machine and opens the node again.
+    Stop(Stopping),
+}
+
+/// The command of a line without its newline, or `None` where it has no command's shape. What stands in a list, and
+/// the transactions of a batch, are read where the command is carried out.
+pub fn parse(line: &[u8]) -> Option<Command<'_>> {
+    let text = str::from_utf8(line).ok()?;
+    if let Some(words) = text.strip_prefix("pack ") {
+        return pack_of(words);
+    }
+    let mut words = text.split(' ');
+    let word = words.next()?;
+    let arguments = (
+        words.next(),
+        words.next(),
+        words.next(),
+        words.next(),
+        words.next(),
+        words.next(),
+    );
+    match arguments {
+        (None, ..) => plain(word),
+        (Some(first), None, ..) => with_one(word, first),
+        (Some(first), Some(second), None, ..) => with_two(word, first, second),
+        (Some(label), Some(author), Some(round), Some(parents), Some(batches), None) => {
+            form_of(word, label, author, round, parents, batches)
+        }
+        _ => None,
+    }
+}
+
+fn plain(word: &str) -> Option<Command<'static>> {
+    match word {
+        "flush" => Some(Command::Flush),
+        "collect" => Some(Command::Collect),
+        "order" => Some(Command::Order),
+        "round" => Some(Command::Round),
+        "accepted" => Some(Command::Accepted),
+        "synced" => Some(Command::Synced),
+        _ => None,
+    }
+}
+
+fn with_one<'a>(word: &str, argument: &'a str) -> Option<Command<'a>> {
+    match word {
+        "batch" => Some(Command::Batch(label(argument)?)),
+        "header" => Some(Command::Header(label(argument)?)),
+        "stop" => Some(Command::Stop(stopping_of(argument)?)),
+        _ => None,
+    }
+}
+
+fn stopping_of(word: &str) -> Option<Stopping> {
+    match word {
+        "lose" => Some(Stopping::Lose),
+        "keep" => Some(Stopping::Keep),
+        "body" => Some(Stopping::Body),
+        _ => None,
+    }
+}
+
+fn with_two<'a>(word: &str, first: &'a str, second: &'a str) -> Option<Command<'a>> {
+    match word {
+        "set" => Some(Command::Set(setting_of(first, second)?)),
+        "ack" => Some(Command::Ack {
+            batch: label(first)?,
+            sender: member(second)?,
+        }),
+        "vote" => Some(Command::Vote {
+            header: label(first)?,
+            voter: member(second)?,
+        }),
+        "cert" => Some(Command::Cert {
+            header: label(first)?,
+            voters: second,
+        }),
+        "coin" => Some(Command::Coin {
+            wave: number(first)?,
+            value: number(second)?,
+        }),
+        "peek" => Some(Command::Peek {
+            author: member(first)?,
+            round: number(second)?,
+        }),
+        "fail" => Some(Command::Fail {
+            call: call_of(first)?,
+            count: number(second)?,
+        }),
+        "stop" if first == "gate" => Some(Command::Stop(Stopping::Gate(hex_byte(second)?))),
+        _ => None,
+    }
+}
+
+fn setting_of(name: &str, value: &str) -> Option<Setting> {
+    match name {
+        "depth" => Some(Setting::Depth(number(value)?)),
+        "batches" => Some(Setting::Batches(number(value)?)),
+        _ => None,
+    }
+}
+
+fn call_of(word: &str) -> Option<Call> {
+    match word {
+        "read" => Some(Call::Read),
+        "write" => Some(Call::Write),
+        "cut" => Some(Call::Cut),
+        "sync" => Some(Call::Sync),
+        _ => None,
+    }
+}
+
+fn form_of<'a>(
+    word: &str,
+    name: &'a str,
+    author: &str,
+    round: &str,
+    parents: &'a str,
+    batches: &'a str,
+) -> Option<Command<'a>> {
+    if word != "form" {
+        return None;
+    }
+    Some(Command::Form(Form {
+        label: label(name)?,
+        author: member(author)?,
+        round: number(round)?,
+        parents,
+        batches,
+    }))
+}
+
+// The words behind `pack`.
+fn pack_of(words: &str) -> Option<Command<'_>> {
+    let (name, words) = words.split_once(' ')?;
+    let (author, words) = words.split_once(' ')?;
+    let (holder, transactions) = words.split_once(' ')?;
+    Some(Command::Pack(Pack {
+        label: label(name)?,
+        author: member(author)?,
+        worker: worker(holder)?,
+        transactions,
+    }))
+}

@@ -1,0 +1,159 @@
+//! Headers and batches from their words in a script.
+
+ghost use Rattle.std.specs.Prelude.{◌≤◌, length, vec_len};
+
+use crate::command::{Form, Pack};
+use crate::error::FormError;
+use crate::labels::Labels;
+use crate::signing::signer;
+use crate::words::hex_bytes;
+use sigface::Sign;
+use std::alloc::{AllocError, Global};
+use wire::{
+    Author, Batch, BatchReference, BatchReferences, Header, HeaderBody, MAX_BATCHES, MAX_PARENTS,
+    MAX_TRANSACTION_BYTES, OpenBatch, ParentReference, ParentReferences, Round, WireError,
+    header_digest,
+};
+
+/// Defines the header of a form, with its batches sorted by digest. A bad word or label comes before the first fault
+/// that reading its bytes would meet; either defines nothing.
+pub fn define_header(alloc: Global, labels: &mut Labels, form: &Form<'_>) -> Result<(), FormError> {
+    if labels.is_taken(form.label) {
+        return Err(FormError::BadCommand);
+    }
+    let certificates = certificates_of(alloc, labels, form.parents)?;
+    let named = batches_of(alloc, labels, form.batches)?;
+    let round = Round::new(form.round)?;
+    let batches = rising_batches(alloc, &named)?;
+    let parents = rising_parents(alloc, &certificates)?;
+    let body = HeaderBody {
+        author: form.author,
+        round,
+        batches,
+        parents,
+    };
+    let signature = signer(form.author).sign(&header_digest(&body));
+    labels.define_header(form.label, Header { body, signature })?;
+    Ok(())
+}
+
+// The certificates of a list of labels, as they are written.
+fn certificates_of(
+    alloc: Global,
+    labels: &Labels,
+    text: &str,
+) -> Result<Vec<ParentReference>, FormError> {
+    let mut certificates = Vec::new(alloc);
+    if text == "-" {
+        return Ok(certificates);
+    }
+    for name in text.split(',') {
+        let Some(certificate) = labels.parent(name) else {
+            return Err(FormError::BadCommand);
+        };
+        certificates.push(certificate)?;
+    }
+    Ok(certificates)
+}
+
+// The batches of a list of labels, sorted by digest.
+fn batches_of(
+    alloc: Global,
+    labels: &Labels,
+    text: &str,
+) -> Result<Vec<BatchReference>, FormError> {
+    let mut batches = Vec::new(alloc);
+    if text == "-" {
+        return Ok(batches);
+    }
+    for name in text.split(',') {
+        let Some(batch) = reference_to(labels, name) else {
+            return Err(FormError::BadCommand);
+        };
+        batches.push(batch)?;
+    }
+    batches.sort_by_key(|batch| batch.digest)?;
+    Ok(batches)
+}
+
+fn reference_to(labels: &Labels, name: &str) -> Option<BatchReference> {
+    match &labels.batch(name)?.batch {
+        Some((batch, digest)) => Some(BatchReference {
+            digest: *digest,
+            worker: batch.worker(),
+        }),
+        None => None,
+    }
+}
+
+// The batches, which are at most so many and rise.
+fn rising_batches(alloc: Global, named: &[BatchReference]) -> Result<BatchReferences, WireError> {
+    if named.len() > MAX_BATCHES {
+        return Err(WireError::TooMany);
+    }
+    let mut batches = BatchReferences::new(alloc);
+    for batch in named {
+        if !batches.may_follow(&batch.digest) {
+            return Err(WireError::NotCanonical);
+        }
+        batches.push(*batch)?;
+    }
+    Ok(batches)
+}
+
+// The parents, which are at most so many and rise.
+fn rising_parents(
+    alloc: Global,
+    certificates: &[ParentReference],
+) -> Result<ParentReferences, WireError> {
+    if certificates.len() > MAX_PARENTS {
+        return Err(WireError::TooMany);
+    }
+    let mut parents = ParentReferences::new(alloc);
+    for certificate in certificates {
+        if !parents.may_follow(certificate.author) {
+            return Err(WireError::NotCanonical);
+        }
+        parents.push(*certificate)?;
+    }
+    Ok(parents)
+}
+
+/// Defines a batch, or its label alone where its transactions pass a limit.
+pub fn define_batch(alloc: Global, labels: &mut Labels, pack: &Pack<'_>) -> Result<(), FormError> {
+    if labels.is_taken(pack.label) {
+        return Err(FormError::BadCommand);
+    }
+    let transactions = transactions_of(alloc, pack.transactions)?;
+    let batch = gather(alloc, pack.author, pack.worker, &transactions)?;
+    labels.define_batch(pack.label, batch)?;
+    Ok(())
+}
+
+fn transactions_of(alloc: Global, text: &str) -> Result<Vec<Vec<u8>>, FormError> {
+    let mut transactions = Vec::new(alloc);
+    for word in text.split(' ') {
+        let Some(transaction) = hex_bytes(alloc, word)? else {
+            return Err(FormError::BadCommand);
+        };
+        transactions.push(transaction)?;
+    }
+    Ok(transactions)
+}
+
+// The batch of these transactions; nothing where one of them or all together are too long.
+fn gather(
+    alloc: Global,
+    author: Author,
+    worker: u16,
+    transactions: &[Vec<u8>],
+) -> Result<Option<Batch>, AllocError> {
+    let mut batch = OpenBatch::new(alloc, author, worker)?;
+    for transaction in transactions {
+        if transaction.len() > MAX_TRANSACTION_BYTES || !batch.has_room(transaction.len()) {
+            return Ok(None);
+        }
+        batch.push(transaction)?;
+    }
+    Ok(Some(batch.close()?))
+}

@@ -1,0 +1,18 @@
+//! The language of scripts: its commands, the labels that they define, the messages that these stand for, signed by
+//! the test pair, and the committee that scripts play in.
+#![tactic(auto)]
+
+mod command;
+mod error;
+mod forming;
+mod labels;
+mod settings;
+mod signing;
+mod words;
+
+pub use command::{Call, Command, Form, Pack, Setting, Stopping, parse};
+pub use error::FormError;
+pub use forming::{define_batch, define_header};
+pub use labels::{Labels, Packed, Proposed};
+pub use settings::{BATCHES, DEPTH, committee_file};
+pub use signing::{certificate, signer, vote};

@@ -1,0 +1,4 @@
+pub mod Live
+pub mod Node
+pub mod Queue
+pub mod Store

@@ -1,0 +1,48 @@
+//! What ends a run.
+
+use journal::JournalError;
+use std::alloc::{AllocError, AllocFailed};
+use std::io;
+
+/// Why a run ends before its script does.
+#[derive(Drop)]
+pub enum Ending {
+    /// The line is no command.
+    BadCommand,
+    /// Memory was refused outside an event.
+    Memory,
+    /// The journal couldn't be opened.
+    Fault(JournalError),
+    /// A read of the script or a write of an answer failed.
+    InputOutput,
+}
+
+impl From<AllocError> for Ending {
+    fn from(_: AllocError) -> Ending {
+        Ending::Memory
+    }
+}
+
+impl<T: Drop> From<AllocFailed<T>> for Ending {
+    fn from(_: AllocFailed<T>) -> Ending {
+        Ending::Memory
+    }
+}
+
+impl From<JournalError> for Ending {
+    fn from(error: JournalError) -> Ending {
+        match error {
+            JournalError::Memory => Ending::Memory,
+            other => Ending::Fault(other),
+        }
+    }
+}
+
+impl From<io::Error> for Ending {
+    fn from(error: io::Error) -> Ending {
+        match error.kind() {
+            io::ErrorKind::OutOfMemory => Ending::Memory,
+            _ => Ending::InputOutput,
+        }
+    }
+}

@@ -1,0 +1,245 @@
+//! The simulated node: its journal and its book.
+
+ghost use Rattle.std.specs.Prelude.{◌≡◌, IsTrue};
+ghost use Rattle.std.specs.List.{list_all};
+ghost use Rattle.book.specs.Admission.{IsKnownKind};
+ghost use Rattle.book.specs.Book.{standing};
+ghost use Rattle.simulator.specs.declared.settings.TheConstants.{OWN};
+ghost use Rattle.simulator.specs.Queue.{is_vote};
+
+use crate::answer::{Answer, FlushError};
+use crate::ending::Ending;
+use crate::live::{Appended, LiveJournal};
+use crate::opening::{Opened, open};
+use crate::settings::OWN;
+use book::Book;
+use committee::Committee;
+use diskmodel::{CallKind, MemDisk, StopDisk};
+use header::Checked;
+use script::Stopping;
+use sigface::HashSign;
+use std::alloc::{AllocError, Global};
+use wire::{Output, Vote};
+
+/// What the bytes of a group hold that a stop came upon before their sync.
+const TORN_BYTE: u8 = 0xee;
+
+/// The syncs of a journal that is opened and gets a group: of the opening, of the group's body, of its gate.
+const BODY_SYNC: u64 = 2;
+
+const GATE_SYNC: u64 = 3;
+
+/// Where the node's records are kept.
+#[derive(Drop)]
+enum Store {
+    Live(LiveJournal<MemDisk>),
+    /// After a fault.
+    Failed(MemDisk),
+}
+
+impl Store {
+    ghost use Rattle.simulator.specs.Store.{disk_of_store};
+
+    fn into_disk(self) -> MemDisk
+        ensures { result ≡ disk_of_store self }
+    {
+        match self {
+            Store::Live(journal) => journal.into_disk(),
+            Store::Failed(disk) => disk,
+        }
+    }
+}
+
+/// The node.
+#[derive(Drop)]
+pub struct Node {
+    store: Store,
+    book: Book<HashSign>,
+    ghost own: { (standing book).validator.own ≡ OWN },
+    // So far only votes are put out.
+    ghost votes: { IsTrue (list_all is_vote (standing book).queue) },
+}
+
+impl Node {
+    ghost use Rattle.std.specs.Prelude.{Some, None, MatchOption};
+    ghost use Rattle.book.specs.Book.{releasable};
+    ghost use Rattle.simulator.specs.Node.{book_of, disk_of};
+
+    /// The node after what is on a disk, and how many events that is.
+    pub(crate) fn open(
+        alloc: Global,
+        committee: &Committee,
+        disk: MemDisk,
+    ) -> Result<(Node, u64), Ending> {
+        match open(alloc, committee, disk) {
+            Ok(
+                Opened {
+                    journal,
+                    validator,
+                    events,
+                },
+            ) => {
+                let store = Store::Live(journal);
+                let book = Book::new(alloc, validator);
+                Ok((Node { store, book }, events))
+            }
+            Err(failed) => Err(Ending::from(failed.error)),
+        }
+    }
+
+    /// Submits a checked header of another member.
+    pub(crate) fn submit(&mut self, event: Checked) -> Answer<'static>
+        requires { IsKnownKind OWN event }
+    {
+        match self.book.accept(event) {
+            Ok(receipt) if receipt.new => Answer::New(receipt.ticket),
+            Ok(receipt) => Answer::Known(receipt.ticket),
+            Err(refusal) => Answer::Refused(refusal),
+        }
+    }
+
+    /// The next output that may go out: a vote, as all that is put out so far.
+    pub fn collect(&mut self) -> Option<Vote>
+        ensures { MatchOption result (releasable (book_of self.old) ≡ None) (λ vote. releasable (book_of self.old) ≡ Some (Output.Vote vote)) }
+    {
+        match self.book.release()? {
+            Output::Vote(vote) => Some(vote),
+            _ => unreachable!(),
+        }
+    }
+
+    /// One round: takes a group, writes it and settles it. After a fault the node is down.
+    pub(crate) fn flush(self) -> (Node, Result<u64, FlushError>) {
+        let Node { store, mut book } = self;
+        let journal = match store {
+            Store::Live(journal) => journal,
+            Store::Failed(disk) => {
+                let store = Store::Failed(disk);
+                return (Node { store, book }, Err(FlushError::Down));
+            }
+        };
+        if book.is_down() {
+            let store = Store::Live(journal);
+            return (Node { store, book }, Err(FlushError::Down));
+        }
+        let group = match book.take() {
+            Ok(Some(group)) => group,
+            Ok(None) => {
+                let store = Store::Live(journal);
+                return (Node { store, book }, Ok(0));
+            }
+            Err(_) => {
+                let store = Store::Live(journal);
+                return (Node { store, book }, Err(FlushError::Memory));
+            }
+        };
+        let count = group.records_count();
+        match journal.append(group) {
+            Appended::Done(journal, synced) => {
+                book.settle(synced);
+                let store = Store::Live(journal);
+                (Node { store, book }, Ok(count))
+            }
+            Appended::Full(journal) => {
+                book.fail();
+                let store = Store::Live(journal);
+                (Node { store, book }, Err(FlushError::Full))
+            }
+            Appended::Failed(disk) => {
+                book.fail();
+                let store = Store::Failed(disk);
+                (Node { store, book }, Err(FlushError::Device))
+            }
+        }
+    }
+
+    /// Gives the journal's disk back.
+    pub fn into_disk(self) -> MemDisk
+        ensures { result ≡ disk_of self }
+    {
+        let Node { store, book: _ } = self;
+        store.into_disk()
+    }
+
+    /// Stops the machine and opens the node again; answers how many events were found.
+    pub(crate) fn stop(
+        self,
+        alloc: Global,
+        committee: &Committee,
+        stopping: Stopping,
+    ) -> Result<(Node, u64), Ending> {
+        let Node { store, book } = self;
+        let mut disk = match stopping {
+            Stopping::Lose => losing(alloc, store.into_disk())?,
+            Stopping::Keep => store.into_disk(),
+            Stopping::Body => interrupted(alloc, store, book, BODY_SYNC, TORN_BYTE)?,
+            Stopping::Gate(byte) => interrupted(alloc, store, book, GATE_SYNC, byte)?,
+        };
+        disk.stop();
+        Node::open(alloc, committee, disk)
+    }
+}
+
+// The disk, of which the next stop leaves the bytes of the last sync.
+fn losing(alloc: Global, mut disk: MemDisk) -> Result<MemDisk, AllocError> {
+    let firm = disk.firm().to_vec(alloc)?;
+    disk.choose(firm);
+    Ok(disk)
+}
+
+// The disk in the midst of writing a group, at this sync. The next stop leaves this
+// byte wherever one was written since the sync before. With nothing to write the disk is as it was.
+fn interrupted(
+    alloc: Global,
+    store: Store,
+    mut book: Book<HashSign>,
+    sync: u64,
+    byte: u8,
+) -> Result<MemDisk, Ending> {
+    let journal = match store {
+        Store::Live(journal) => journal,
+        Store::Failed(disk) => return Ok(disk),
+    };
+    if book.is_down() {
+        return Ok(journal.into_disk());
+    }
+    let Some(group) = book.take()? else {
+        return Ok(journal.into_disk());
+    };
+    let mut disk = journal.into_disk();
+    if let Err(error) = disk.fail(CallKind::Sync, sync) {
+        group.discard();
+        return Err(Ending::from(error));
+    }
+    let journal = match LiveJournal::open(alloc, disk) {
+        Ok((journal, _)) => journal,
+        Err(failed) => {
+            group.discard();
+            return Err(Ending::from(failed.error));
+        }
+    };
+    let disk = match journal.append(group) {
+        Appended::Failed(disk) => disk,
+        Appended::Full(journal) => journal.into_disk(),
+        Appended::Done(journal, synced) => {
+            let _ = synced.records();
+            journal.into_disk()
+        }
+    };
+    Ok(tearing(alloc, disk, byte)?)
+}
+
+// The disk, of which the next stop leaves this byte wherever one was written since the last sync.
+fn tearing(alloc: Global, mut disk: MemDisk, byte: u8) -> Result<MemDisk, AllocError> {
+    let mut torn = Vec::new(alloc);
+    for (place, kept) in disk.bytes().iter().enumerate() {
+        let found = if disk.is_written(place as u64) {
+            byte
+        } else {
+            *kept
+        };
+        torn.push(found)?;
+    }
+    disk.choose(torn);
+    Ok(disk)
+}

@@ -1,0 +1,44 @@
+//! The tests of the definitions: scripts over the plain programs, whose contracts the definitions are.
+#![tactic(auto)]
+
+mod looking;
+mod played;
+mod searching;
+mod showing;
+
+use cases::{Ending, play};
+use played::Played;
+use std::io::{self, BufReader};
+use std::process::ExitCode;
+
+fn main(rt: HostRuntime) -> ExitCode {
+    laws_hold();
+    match tested(&rt) {
+        Ok(true) => ExitCode::SUCCESS,
+        _ => ExitCode::FAILURE,
+    }
+}
+
+fn tested(rt: &HostRuntime) -> Result<bool, Ending> {
+    let mut reader = BufReader::new(rt.alloc(), rt.reader())?;
+    let mut writer = io::writer(rt);
+    let mut subject = Played::new(rt.alloc())?;
+    play(rt.alloc(), &mut reader, &mut writer, &mut subject)
+}
+
+/// Each law, which has no condition.
+fn laws_hold() {
+    laws::one_vote();
+    laws::one_certificate();
+    laws::one_more();
+    laws::slots_grow();
+    laws::answers_alike();
+    laws::kept_decides();
+    laws::kept_follows();
+    laws::kept_proposes();
+    laws::outputs_given();
+    laws::order_grows();
+    laws::order_lengthens();
+    laws::given_grows();
+    laws::proposals_are_new();
+}

@@ -1,0 +1,309 @@
+//! A history that grows by commands, and what was put out.
+
+use crate::looking::{look, member, number};
+use crate::searching::passes;
+use crate::showing::{header_label, line, order, outputs};
+use cases::Subject;
+use committee::Committee;
+use header::check;
+use model::{Admission, Event, Node, Outputs};
+use plain::certificates::round;
+use plain::holdings::voted_digest;
+use plain_answers::admitting::{admit_last, answers, each_new};
+use script::{
+    BATCHES, Command, DEPTH, FormError, Labels, Setting, certificate, committee_file, define_batch,
+    define_header, parse, signer, vote,
+};
+use sigface::{HashSign, HashVerify};
+use std::alloc::{AllocError, Global};
+use wire::{Author, Coin, Message, Wave};
+
+/// The node's own number.
+const OWN: Author = Author(0);
+
+/// A line that goes out once so many events are settled.
+#[derive(Drop)]
+struct Waiting {
+    ticket: usize,
+    line: String,
+}
+
+/// The history of one node, with what was put out.
+#[derive(Drop)]
+pub struct Played {
+    pub alloc: Global,
+    pub node: Node<HashSign>,
+    pub labels: Labels,
+    pub history: Vec<Event>,
+    waiting: Vec<Waiting>,
+    collected: usize,
+    settled: usize,
+    /// Outputs are told with each answer, in place of waiting.
+    tells: bool,
+    /// Events are gathered, and answered later.
+    gathers: bool,
+}
+
+/// Member 0 of four, with these limits.
+fn node_with(alloc: Global, depth: u64, batches: u64) -> Result<Node<HashSign>, AllocError> {
+    let file = committee_file(alloc, depth, batches)?;
+    match Committee::read(alloc, file.as_str()) {
+        Err(_) => Err(AllocError),
+        Ok(committee) => Ok(Node {
+            own: OWN,
+            committee,
+            signer: signer(OWN),
+        }),
+    }
+}
+
+impl Played {
+    /// An empty history.
+    pub fn new(alloc: Global) -> Result<Played, AllocError> {
+        Ok(Played {
+            alloc,
+            node: node_with(alloc, DEPTH, BATCHES)?,
+            labels: Labels::new(alloc),
+            history: Vec::new(alloc),
+            waiting: Vec::new(alloc),
+            collected: 0,
+            settled: 0,
+            tells: false,
+            gathers: false,
+        })
+    }
+
+    /// A command of scripts.
+    fn run(&mut self, command: Command<'_>, answer: &mut String) -> Result<(), FormError> {
+        match command {
+            Command::Set(Setting::Depth(depth)) => self.node = node_with(
+                self.alloc, depth, BATCHES,
+            )?,
+            Command::Set(Setting::Batches(most)) => self.node = node_with(self.alloc, DEPTH, most)?,
+            Command::Pack(pack) => define_batch(self.alloc, &mut self.labels, &pack)?,
+            Command::Form(form) => define_header(self.alloc, &mut self.labels, &form)?,
+            Command::Flush => self.flush(answer)?,
+            Command::Collect => self.collect(answer)?,
+            Command::Order => self.order(answer)?,
+            Command::Round => self.round(answer)?,
+            Command::Peek { author, round } => self.peek(author, round, answer)?,
+            other => {
+                let (sender, message) = self.message_of(other)?;
+                self.take(sender, message, answer)?;
+            }
+        }
+        Ok(())
+    }
+
+    /// The message that a command submits, with its sender.
+    fn message_of(&self, command: Command<'_>) -> Result<(Author, Message), FormError> {
+        match command {
+            Command::Batch(label) => self.batch(label),
+            Command::Header(label) => self.header(label),
+            Command::Ack { batch, sender } => self.ack(batch, sender),
+            Command::Vote { header, voter } => self.vote(header, voter),
+            Command::Cert { header, voters } => self.certificate(header, voters),
+            Command::Coin { wave, value } => coin(OWN, wave, value),
+            _ => Err(FormError::BadCommand),
+        }
+    }
+
+    fn batch(&self, label: &str) -> Result<(Author, Message), FormError> {
+        let packed = self.labels.batch(label).ok_or(FormError::BadCommand)?;
+        match &packed.batch {
+            None => Err(FormError::BadCommand),
+            Some((batch, _)) => Ok((batch.author(), Message::Batch(batch.share()?))),
+        }
+    }
+
+    fn header(&self, label: &str) -> Result<(Author, Message), FormError> {
+        let proposed = self.labels.header(label).ok_or(FormError::BadCommand)?;
+        let header = proposed.header.try_clone()?;
+        Ok((header.body.author, Message::Header(header)))
+    }
+
+    fn ack(&self, label: &str, author: Author) -> Result<(Author, Message), FormError> {
+        let packed = self.labels.batch(label).ok_or(FormError::BadCommand)?;
+        match &packed.batch {
+            None => Err(FormError::BadCommand),
+            Some((_, digest)) => {
+                let batch = *digest;
+                Ok((author, Message::BatchAck(wire::BatchAck { author, batch })))
+            }
+        }
+    }
+
+    fn vote(&self, label: &str, voter: Author) -> Result<(Author, Message), FormError> {
+        let proposed = self.labels.header(label).ok_or(FormError::BadCommand)?;
+        Ok((voter, Message::Vote(vote(proposed, voter))))
+    }
+
+    fn certificate(&self, label: &str, voters: &str) -> Result<(Author, Message), FormError> {
+        let proposed = self.labels.header(label).ok_or(FormError::BadCommand)?;
+        let certificate = certificate(self.alloc, proposed, voters)?;
+        Ok((Author(1), Message::Certificate(certificate)))
+    }
+
+    /// Takes a message, where it passes the checks; what is only gathered isn't checked.
+    fn take(
+        &mut self,
+        sender: Author,
+        message: Message,
+        answer: &mut String,
+    ) -> Result<(), AllocError> {
+        if self.gathers {
+            self.history.push(Event { sender, message })?;
+            return Ok(());
+        }
+        match check(&self.node.committee, &HashVerify, sender, message) {
+            Err(error) => writeln!(answer, "unchecked {error}"),
+            Ok(checked) => {
+                let (sender, message) = (checked.sender(), checked.into_message());
+                self.history.push(Event { sender, message })?;
+                self.admit(answer)
+            }
+        }
+    }
+
+    /// Admits the last event, and drops it again where it isn't new.
+    fn admit(&mut self, answer: &mut String) -> Result<(), AllocError> {
+        let ticket = self.history.len();
+        if ticket == 0 {
+            return Ok(());
+        }
+        match admit_last(self.alloc, &self.node, &self.history)? {
+            Admission::New(outputs) => {
+                writeln!(answer, "new {ticket}")?;
+                self.put_out(ticket, &outputs, answer)
+            }
+            Admission::Known(outputs) => {
+                self.history.pop();
+                let ticket = self.history.len();
+                writeln!(answer, "known {ticket}")?;
+                self.put_out(ticket, &outputs, answer)
+            }
+            Admission::Refused(refusal) => {
+                self.history.pop();
+                writeln!(answer, "refused {refusal}")
+            }
+        }
+    }
+
+    fn put_out(
+        &mut self,
+        ticket: usize,
+        list: &Outputs,
+        answer: &mut String,
+    ) -> Result<(), AllocError> {
+        if self.tells {
+            return outputs(self, list, answer);
+        }
+        let mut told = String::new(self.alloc);
+        outputs(self, list, &mut told)?;
+        for text in told.lines() {
+            let line = String::from_str(self.alloc, text)?;
+            self.waiting.push(Waiting { ticket, line })?;
+        }
+        Ok(())
+    }
+
+    fn flush(&mut self, answer: &mut String) -> Result<(), AllocError> {
+        let count = self.history.len().saturating_sub(self.settled);
+        self.settled = self.history.len();
+        writeln!(answer, "settled {count}")
+    }
+
+    fn collect(&mut self, answer: &mut String) -> Result<(), AllocError> {
+        match self.waiting.get(self.collected) {
+            Some(waiting) if waiting.ticket <= self.settled => {
+                self.collected = self.collected.saturating_add(1);
+                line(waiting.line.as_str(), answer)
+            }
+            _ => line("out none", answer),
+        }
+    }
+
+    fn order(&self, answer: &mut String) -> Result<(), AllocError> {
+        let settled = self.history.as_slice().get(..self.settled).unwrap_or(&[]);
+        let digests = plain::certificates::order(self.alloc, &self.node, settled)?;
+        answer.push_str("order")?;
+        order(self, &digests, answer)
+    }
+
+    fn round(&self, answer: &mut String) -> Result<(), AllocError> {
+        let round = round(self.alloc, &self.node, &self.history)?;
+        writeln!(answer, "round {round}")
+    }
+
+    fn peek(&self, author: Author, round: u64, answer: &mut String) -> Result<(), AllocError> {
+        let label = match voted_digest(&self.history, round, author.0) {
+            None => "none",
+            Some(digest) => header_label(self, &digest),
+        };
+        writeln!(answer, "voted {label}")
+    }
+
+    /// Answers the events that were gathered, one after the other.
+    fn answer_all(&mut self, answer: &mut String) -> Result<(), AllocError> {
+        let events = std::mem::replace(&mut self.history, Vec::new(self.alloc));
+        for found in &answers(self.alloc, &self.node, events)? {
+            match found {
+                Admission::New(_) => line("new", answer)?,
+                Admission::Known(_) => line("known", answer)?,
+                Admission::Refused(refusal) => writeln!(answer, "refused {refusal}")?,
+            }
+        }
+        Ok(())
+    }
+
+    fn each_is_new(&mut self, answer: &mut String) -> Result<(), AllocError> {
+        let events = std::mem::replace(&mut self.history, Vec::new(self.alloc));
+        let each = each_new(self.alloc, &self.node, events)?;
+        writeln!(answer, "{each}")
+    }
+
+    /// A command of these tests alone.
+    fn run_own(&mut self, words: &[&str], answer: &mut String) -> Result<(), AllocError> {
+        match words {
+            ["tell", "outputs"] => self.tells = true,
+            ["gather"] => self.gathers = true,
+            ["answers"] => self.answer_all(answer)?,
+            ["each-new"] => self.each_is_new(answer)?,
+            ["proposal-passes"] => passes(self, answer)?,
+            ["coin-from", sender, wave, value] => {
+                let coin = coin(Author(member(sender)), number(wave), number(value));
+                match coin {
+                    Ok((sender, message)) => self.take(sender, message, answer)?,
+                    Err(_) => line("bad case", answer)?,
+                }
+            }
+            _ => look(self, words, answer)?,
+        }
+        Ok(())
+    }
+}
+
+fn coin(sender: Author, wave: u64, value: u64) -> Result<(Author, Message), FormError> {
+    let wave = Wave::new(wave)?;
+    Ok((sender, Message::Coin(Coin { wave, value })))
+}
+
+impl Subject for Played {
+    fn begin(&mut self, _title: &str) -> Result<(), AllocError> {
+        *self = Played::new(self.alloc)?;
+        Ok(())
+    }
+
+    fn obey(&mut self, command: &str, answer: &mut String) -> Result<(), AllocError> {
+        let Some(parsed) = parse(command.as_bytes()) else {
+            let words: Vec<&str> = command.split(' ').collect(self.alloc)?;
+            return self.run_own(words.as_slice(), answer);
+        };
+        match self.run(parsed, answer) {
+            Ok(()) => Ok(()),
+            Err(FormError::BadCommand) => line("bad case", answer),
+            Err(FormError::Unread(error)) => writeln!(answer, "unread {error}"),
+            Err(FormError::Memory) => Err(AllocError),
+        }
+    }
+}

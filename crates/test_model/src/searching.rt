@@ -1,0 +1,234 @@
+//! Commands that look for batches and votes.
+
+use crate::looking::{member, number};
+use crate::played::Played;
+use crate::showing::{add, batch_label, header_label, line, yes_or_no};
+use header::check;
+use plain::certificates::{certificates, completed, votes_on};
+use plain::holdings::{
+    all_held, batch_at, counted_at, counted_vote, has_acked, has_own_batch, is_available,
+    voted_digest,
+};
+use plain_answers::keeping::{kept_counted, kept_header, kept_slot, kept_vote};
+use plain_answers::proposing::{nameable, placed, propose, to_name, was_named};
+use sigface::HashVerify;
+use std::alloc::AllocError;
+use wire::{
+    Author, Batch, BatchReference, Digest, Header, Message, Vote, batch_digest, header_digest,
+};
+
+// ---- batches
+
+pub fn batches(played: &Played, words: &[&str], answer: &mut String) -> Result<(), AllocError> {
+    match words {
+        ["nameable"] => {
+            let found = nameable(played.alloc, &played.node, &played.history)?;
+            answer.push_str("nameable")?;
+            named(played, &found, answer)
+        }
+        ["placed", first, second, third] => in_place(played, first, second, third, answer),
+        [how, label, rest @ ..] => match labelled_batch(played, label) {
+            None => line("bad case", answer),
+            Some(batch) => of_batch(played, how, batch, rest, answer),
+        },
+        _ => line("bad case", answer),
+    }
+}
+
+fn labelled_batch<'a>(played: &'a Played, label: &str) -> Option<&'a Batch> {
+    match &played.labels.batch(label)?.batch {
+        None => None,
+        Some((batch, _)) => Some(batch),
+    }
+}
+
+fn of_batch(
+    played: &Played,
+    how: &str,
+    batch: &Batch,
+    rest: &[&str],
+    answer: &mut String,
+) -> Result<(), AllocError> {
+    let (node, history, digest) = (&played.node, played.history.as_slice(), batch_digest(batch));
+    match (how, rest) {
+        ("available", []) => yes_or_no(is_available(node, history, &digest), answer),
+        ("own-batch", []) => yes_or_no(has_own_batch(node, history, &digest), answer),
+        ("was-named", []) => yes_or_no(was_named(node, history, &digest), answer),
+        ("acked", [who]) => yes_or_no(has_acked(history, &digest, member(who)), answer),
+        ("to-name", []) => match to_name(node, history, batch) {
+            None => line("none", answer),
+            Some(found) => {
+                let worker = found.worker;
+                let is_held = batch_at(history, &found.digest).is_some();
+                writeln!(answer, "worker {worker}, held {is_held}")
+            }
+        },
+        _ => line("bad case", answer),
+    }
+}
+
+/// The labels of batches, parted by commas.
+pub fn named(
+    played: &Played,
+    list: &[BatchReference],
+    answer: &mut String,
+) -> Result<(), AllocError> {
+    let mut mark = " ";
+    for batch in list {
+        add(mark, batch_label(played, &batch.digest), answer)?;
+        mark = ",";
+    }
+    if list.is_empty() {
+        answer.push_str(" -")?;
+    }
+    answer.push_str("\n")
+}
+
+fn reference(word: &str) -> BatchReference {
+    BatchReference {
+        digest: Digest([(number(word) & 255) as u8; 32]),
+        worker: 0,
+    }
+}
+
+/// Batches of these bytes as digests, put in their places one after the other.
+fn in_place(
+    played: &Played,
+    first: &str,
+    second: &str,
+    third: &str,
+    answer: &mut String,
+) -> Result<(), AllocError> {
+    let mut list = Vec::new(played.alloc);
+    for word in [first, second, third] {
+        list = placed(played.alloc, &list, reference(word))?;
+    }
+    answer.push_str("placed")?;
+    for batch in &list {
+        let byte = batch.digest.0[0];
+        write!(answer, " {byte}")?;
+    }
+    answer.push_str("\n")
+}
+
+// ---- votes
+
+pub fn votes(played: &Played, words: &[&str], answer: &mut String) -> Result<(), AllocError> {
+    let history = played.history.as_slice();
+    match words {
+        ["voted", round, author] => {
+            digest_line(
+                played,
+                voted_digest(history, number(round), member(author)),
+                answer,
+            )
+        }
+        ["counted", round, voter] => {
+            vote_line(
+                played,
+                counted_at(&played.node, history, number(round), member(voter)),
+                answer,
+            )
+        }
+        ["kept", kind, rest @ ..] => kept(played, kind, rest, answer),
+        [how, label, rest @ ..] => match played.labels.header(label) {
+            None => line("bad case", answer),
+            Some(proposed) => of_header(played, how, &proposed.header, rest, answer),
+        },
+        _ => line("bad case", answer),
+    }
+}
+
+fn digest_line(
+    played: &Played,
+    digest: Option<Digest>,
+    answer: &mut String,
+) -> Result<(), AllocError> {
+    match digest {
+        None => line("none", answer),
+        Some(digest) => line(header_label(played, &digest), answer),
+    }
+}
+
+fn vote_line(played: &Played, vote: Option<Vote>, answer: &mut String) -> Result<(), AllocError> {
+    let Some(vote) = vote else {
+        return line("none", answer);
+    };
+    let (label, Author(voter)) = (header_label(played, &vote.header), vote.voter);
+    writeln!(answer, "{label} {voter}")
+}
+
+fn of_header(
+    played: &Played,
+    how: &str,
+    header: &Header,
+    rest: &[&str],
+    answer: &mut String,
+) -> Result<(), AllocError> {
+    match (how, rest) {
+        ("vote-on", [voter]) => {
+            let found = counted_vote(&played.node, &played.history, &header.body, member(voter));
+            vote_line(played, found, answer)
+        }
+        ("entries", []) => {
+            let found = votes_on(played.alloc, &played.node, &played.history, &header.body)?;
+            let (count, takes_3) = (found.len(), found.may_follow(Author(3)));
+            writeln!(answer, "{count} entries, may 3 follow: {takes_3}")
+        }
+        ("completed", []) => {
+            let found = completed(played.alloc, &played.node, &played.history, header)?;
+            yes_or_no(found.is_some(), answer)
+        }
+        ("held", [floor]) => {
+            let all = certificates(played.alloc, &played.node, &played.history)?;
+            yes_or_no(all_held(&all, number(floor), &header.body), answer)
+        }
+        _ => line("bad case", answer),
+    }
+}
+
+fn kept(played: &Played, kind: &str, rest: &[&str], answer: &mut String) -> Result<(), AllocError> {
+    let (alloc, node, history) = (played.alloc, &played.node, played.history.as_slice());
+    match (kind, rest) {
+        ("vote", [round, author]) => {
+            let found = kept_vote(alloc, node, history, number(round), member(author))?;
+            digest_line(played, found, answer)
+        }
+        ("header", [round]) => {
+            let found = kept_header(alloc, node, history, number(round))?;
+            digest_line(
+                played,
+                found.map(|header| header_digest(&header.body)),
+                answer,
+            )
+        }
+        ("counted", [round, voter]) => {
+            let found = kept_counted(alloc, node, history, number(round), member(voter))?;
+            vote_line(played, found, answer)
+        }
+        ("slot", [round, author]) => {
+            match kept_slot(alloc, node, history, number(round), member(author))? {
+                None => line("none", answer),
+                Some(found) => line(crate::showing::certificate_label(played, &found), answer),
+            }
+        }
+        _ => line("bad case", answer),
+    }
+}
+
+/// Whether what the node proposes passes the checks, its signature too.
+pub fn passes(played: &Played, answer: &mut String) -> Result<(), AllocError> {
+    match propose(played.alloc, &played.node, &played.history)? {
+        None => line("none", answer),
+        Some(header) => {
+            let own = played.node.own;
+            let checked = check(
+                &played.node.committee,
+                &HashVerify,
+                own,
+                Message::Header(header),
+            );
+            yes_or_no(checked.is_ok(), answer)
+        }
+    }
+}

@@ -1,0 +1,499 @@
+#!/usr/bin/env python3
+"""Draws histories of one node's events and writes them as cases for the tests of the definitions.
+
+    tools/histories.py START DEPTH EVENTS > CASES
+
+START is the value that all is drawn from, DEPTH the committee's depth, EVENTS how many new events a history has. Member 0
+of four members is the node. Each event stands with the answer and the outputs that the rules of docs/FORMATS.md give, as
+this program computes them: it shares nothing with the code of the repository. See docs/FORMATS.md for the language.
+"""
+import hashlib
+import random
+import sys
+
+SIZE, QUORUM, SUPPORT, OWN = 4, 3, 2, 0
+MAX_PIECE, MAX_NAMED = 16000, 128
+
+
+def sha(letter, text):
+    return hashlib.sha256(letter + text).digest()
+
+
+def u16(number):
+    return number.to_bytes(2, 'big')
+
+
+def u32(number):
+    return number.to_bytes(4, 'big')
+
+
+def u64(number):
+    return number.to_bytes(8, 'big')
+
+
+class Batch:
+    def __init__(self, label, author, transaction):
+        self.label, self.author, self.worker = label, author, 0
+        body = u16(author) + u16(0) + u32(1) + u32(len(transaction)) + transaction
+        self.transaction, self.digest = transaction, sha(b'B', body)
+
+
+class Header:
+    """A header, with the certificates that it names and the batches, in the order in which it has them."""
+
+    def __init__(self, label, author, round_, parents, batches):
+        self.label, self.author, self.round = label, author, round_
+        self.parents = sorted(parents, key=lambda parent: parent.author)
+        self.batches = sorted(batches, key=lambda batch: batch.digest)
+        body = u16(author) + u64(round_) + u16(len(self.batches))
+        body += b''.join(batch.digest + u16(batch.worker) for batch in self.batches)
+        body += u16(len(self.parents))
+        body += b''.join(u16(parent.author) + parent.certificate for parent in self.parents)
+        self.digest = sha(b'H', body)
+        self.certificate = sha(b'C', self.digest + u64(round_) + u16(author))
+
+
+class Node:
+    """What a history of a node holds, and what the node answers. Of the order nothing is kept: it is read afresh."""
+
+    def __init__(self, depth):
+        self.depth = depth
+        self.batches, self.acked = {}, {}
+        self.headers, self.counted = {}, {}
+        self.certificates = {(0, a): Header('g%d' % a, a, 0, [], []) for a in range(SIZE)}
+        self.voters = {}
+        self.coins = []
+        self.events = 0
+
+    # ---- the order
+
+    def of_round(self, round_):
+        return [self.certificates[round_, a] for a in range(SIZE) if (round_, a) in self.certificates]
+
+    def leader(self, wave):
+        if wave < 1 or wave > len(self.coins):
+            return None
+        return self.certificates.get((2 * wave - 1, self.coins[wave - 1] % SIZE))
+
+    def is_parent(self, parent, child):
+        named = [(p.author, p.certificate) for p in child.parents]
+        return child.round == parent.round + 1 and (parent.author, parent.certificate) in named
+
+    def top(self):
+        for wave in range(len(self.coins), 0, -1):
+            leader = self.leader(wave)
+            if leader and sum(self.is_parent(leader, c) for c in self.of_round(2 * wave)) >= SUPPORT:
+                return wave
+        return None
+
+    def past(self, certificate):
+        found, open_ = {}, [certificate]
+        while open_:
+            one = open_.pop()
+            if (one.round, one.author) not in found:
+                found[one.round, one.author] = one
+                open_ += [c for c in self.of_round(one.round - 1) if self.is_parent(c, one)]
+        return found
+
+    def chain(self):
+        wave = self.top()
+        if wave is None:
+            return []
+        chain = [self.leader(wave)]
+        for earlier in range(wave - 1, 0, -1):
+            leader = self.leader(earlier)
+            if leader and (leader.round, leader.author) in self.past(chain[0]):
+                chain.insert(0, leader)
+        return chain
+
+    def order(self):
+        order, previous = [], {}
+        for leader in self.chain():
+            past = self.past(leader)
+            order += [past[slot] for slot in sorted(past)
+                      if slot[0] >= 1 and slot not in previous and slot[0] + self.depth >= leader.round]
+            previous = past
+        return order
+
+    def floor(self):
+        wave = self.top()
+        return 0 if wave is None else max(0, 2 * wave - 1 - self.depth)
+
+    def is_low(self, round_):
+        floor = self.floor()
+        return round_ == 0 or (floor > 0 and round_ <= floor)
+
+    def is_full(self, round_):
+        return len(self.of_round(round_)) >= QUORUM
+
+    def round(self):
+        return 1 + max(round_ for round_, _ in self.certificates if self.is_full(round_))
+
+    # ---- holdings
+
+    def holds_parents(self, header):
+        floor = self.floor()
+        for parent in header.parents:
+            held = self.certificates.get((header.round - 1, parent.author))
+            if not (held and held.certificate == parent.certificate) and not (floor > 0 and header.round - 1 <= floor):
+                return False
+        return True
+
+    def is_available(self, batch):
+        if batch.digest not in self.batches or batch.author != OWN:
+            return False
+        return len(self.acked.get(batch.digest, set()) | {OWN}) >= QUORUM
+
+    def may_name(self, header, batch):
+        held = self.batches.get(batch.digest)
+        return held is not None and held.worker == batch.worker and (header.author != OWN or self.is_available(batch))
+
+    def named(self):
+        return {b.digest for (_, author), h in self.headers.items() if author == OWN for b in h.batches}
+
+    def propose(self):
+        round_ = self.round()
+        if (round_, OWN) in self.headers:
+            return None
+        named = self.named()
+        free = [b for b in self.batches.values() if self.is_available(b) and b.digest not in named]
+        return round_, self.of_round(round_ - 1), sorted(free, key=lambda b: b.digest)[:MAX_NAMED]
+
+    # ---- answers: a word, and the outputs
+
+    def grown(self, before):
+        after = self.order()
+        assert after[:len(before)] == before, 'an order was taken back'
+        added, lines = after[len(before):], []
+        for place in range(0, len(added), MAX_PIECE):
+            piece = added[place:place + MAX_PIECE]
+            lines.append('order %d %s' % (len(before) + place, ' '.join(c.label for c in piece)))
+        return lines
+
+    def new(self, outputs):
+        self.events += 1
+        return 'new %d' % self.events, outputs
+
+    def known(self, outputs):
+        return 'known %d' % self.events, outputs
+
+    def batch(self, batch, limit):
+        held = self.batches.get(batch.digest)
+        output = ['batch ' + batch.label if batch.author == OWN else 'ack ' + batch.label]
+        if held:
+            return self.known([output[0].replace(batch.label, held.label)])
+        if len(self.batches) >= limit:
+            return 'refused 14 StoreFull', []
+        self.batches[batch.digest] = batch
+        return self.new(output)
+
+    def ack(self, batch, member):
+        if batch.digest not in self.batches or self.batches[batch.digest].author != OWN:
+            return 'refused 10 NotOurs', []
+        if member == OWN or member in self.acked.get(batch.digest, set()):
+            return self.known([])
+        self.acked.setdefault(batch.digest, set()).add(member)
+        return self.new([])
+
+    def header(self, header):
+        if self.is_low(header.round):
+            return 'refused 3 TooOld', []
+        held = self.headers.get((header.round, header.author))
+        if held:
+            if held.digest == header.digest:
+                return self.known(['header ' + held.label if header.author == OWN else 'vote ' + held.label])
+            return ('refused 9 AlreadyProposed' if header.author == OWN else 'refused 6 Equivocation'), []
+        if not self.holds_parents(header):
+            return 'refused 4 MissingParents', []
+        if not all(self.may_name(header, batch) for batch in header.batches):
+            return 'refused 5 MissingBatch', []
+        self.headers[header.round, header.author] = header
+        if header.author == OWN:
+            self.counted[header.digest] = {OWN}
+        return self.new(['header ' + header.label if header.author == OWN else 'vote ' + header.label])
+
+    def certificate_line(self, slot):
+        return 'certificate %s %s' % (self.certificates[slot].label, ','.join(map(str, self.voters[slot])))
+
+    def vote(self, header, member):
+        slot = header.round, OWN
+        if header.author != OWN:
+            return 'refused 10 NotOurs', []
+        if self.is_low(header.round):
+            return 'refused 3 TooOld', []
+        if slot not in self.headers or self.headers[slot].digest != header.digest:
+            return 'refused 10 NotOurs', []
+        if slot in self.certificates:
+            if self.certificates[slot].digest != header.digest:
+                return 'refused 7 CertConflict', []
+            return self.known([self.certificate_line(slot)])
+        counted = self.counted[header.digest]
+        if member in counted:
+            return self.known([])
+        before = self.order()
+        counted.add(member)
+        if len(counted) < QUORUM:
+            return self.new([])
+        self.certificates[slot], self.voters[slot] = self.headers[slot], sorted(counted)
+        return self.new([self.certificate_line(slot)] + self.grown(before))
+
+    def certificate(self, header, voters):
+        slot = header.round, header.author
+        if self.is_low(header.round):
+            return 'refused 3 TooOld', []
+        if slot in self.certificates:
+            if self.certificates[slot].certificate == header.certificate:
+                return self.known([])
+            return 'refused 7 CertConflict', []
+        if not self.holds_parents(header):
+            return 'refused 4 MissingParents', []
+        before = self.order()
+        self.certificates[slot], self.voters[slot] = header, voters
+        return self.new(self.grown(before))
+
+    def coin(self, sender, wave, value):
+        if sender != OWN:
+            return 'refused 10 NotOurs', []
+        if wave <= len(self.coins):
+            return self.known([]) if self.coins[wave - 1] == value else ('refused 13 CoinConflict', [])
+        if wave != len(self.coins) + 1:
+            return 'refused 11 CoinOutOfTurn', []
+        if not self.is_full(2 * wave + 1):
+            return 'refused 12 CoinEarly', []
+        before = self.order()
+        self.coins.append(value)
+        return self.new(self.grown(before))
+
+
+class Drawn:
+    """A history as it is drawn, and the lines of its case."""
+
+    def __init__(self, start, depth):
+        self.random = random.Random(start)
+        self.start = start
+        self.node, self.lines, self.seen = Node(depth), [], {}
+        self.all_headers, self.all_batches = [], []
+        self.limit = 1048576
+
+    def one_in(self, count):
+        return self.random.randrange(count) == 0
+
+    def peer(self):
+        return self.random.randrange(1, SIZE)
+
+    def of_round(self, round_, purpose, count):
+        """A number that stays the same for a round, and differs with the purpose."""
+        return random.Random('%d %d %d' % (self.start, round_, purpose)).randrange(count)
+
+    def is_late(self, round_, author):
+        late = self.of_round(round_, 1, 9)
+        return late == author or (author == OWN and 3 < late < 7)
+
+    def members(self, round_):
+        left_out = self.random.randrange(6) if self.one_in(3) else self.of_round(round_, 2, 8)
+        return [member for member in range(SIZE) if member != left_out]
+
+    def take(self, command, answer):
+        word, outputs = answer
+        self.lines.append(command)
+        self.lines.append('> ' + word)
+        self.lines += ['> out ' + output for output in outputs]
+        key = word if word.startswith('refused') else word.split()[0]
+        self.seen[key] = self.seen.get(key, 0) + 1
+
+    # ---- forms
+
+    def define(self, header):
+        for other in self.all_headers:
+            if other.digest == header.digest:
+                return other
+        self.all_headers.append(header)
+        self.lines.append('form %s %d %d %s %s' % (
+            header.label, header.author, header.round, ','.join(p.label for p in header.parents) or '-',
+            ','.join(b.label for b in header.batches) or '-'))
+        return header
+
+    def label(self):
+        return 'h%d' % len(self.all_headers)
+
+    def drawn_batches(self, author):
+        recent = self.all_batches[-12:]
+        picked = {}
+        for _ in range(max(0, self.random.randrange(5) - 2)):
+            if recent:
+                batch = self.random.choice(recent)
+                if author != OWN or self.node.is_available(batch) or self.one_in(12):
+                    picked[batch.digest] = batch
+        return list(picked.values())
+
+    def body(self, round_, author, batches):
+        held = {c.author: c for c in self.node.of_round(round_ - 1)}
+        parents = [held[m] for m in self.members(round_) if m in held]
+        if len(parents) < QUORUM:
+            parents = list(held.values())
+        if len(parents) < QUORUM:
+            return None
+        return self.define(Header(self.label(), author, round_, parents, batches))
+
+    def misplaced(self, round_, author):
+        """A header over the certificates of another round than the one below."""
+        parents = self.node.of_round(round_ - 2) if round_ >= 2 else []
+        if len(parents) < QUORUM:
+            return None
+        return self.define(Header(self.label(), author, round_, parents, []))
+
+    def round(self):
+        current, draw = self.node.round(), self.random.randrange(10)
+        lag = self.random.randrange(current) if draw == 0 else self.random.randrange(4) if draw < 4 else 0
+        return max(1, current - lag)
+
+    def is_too_soon(self, round_, author):
+        return self.is_late(round_, author) and self.node.round() - round_ < 2
+
+    # ---- events
+
+    def draw_batch(self):
+        author = OWN if self.random.randrange(5) < 3 else self.peer()
+        if self.all_batches and self.one_in(10):
+            batch = self.random.choice(self.all_batches)
+        else:
+            transaction = self.random.randrange(2 ** 64).to_bytes(8, 'big')
+            batch = Batch('b%d' % len(self.all_batches), author, transaction)
+            self.all_batches.append(batch)
+            self.lines.append('pack %s %d 0 %s' % (batch.label, author, transaction.hex()))
+        self.take('batch ' + batch.label, self.node.batch(batch, self.limit))
+
+    def draw_ack(self):
+        if self.all_batches:
+            batch, member = self.random.choice(self.all_batches[-12:]), self.random.randrange(SIZE)
+            self.take('ack %s %d' % (batch.label, member), self.node.ack(batch, member))
+
+    def draw_header(self, author):
+        round_ = self.round()
+        if author == OWN and self.is_too_soon(round_, author):
+            return
+        if (round_, author) in self.node.headers and not self.one_in(6):
+            return
+        header = self.body(round_, author, self.drawn_batches(author))
+        if header and self.one_in(15):
+            header = self.misplaced(round_, author) or header
+        if header:
+            self.take('header ' + header.label, self.node.header(header))
+
+    def draw_vote(self):
+        header = self.node.headers.get((self.round(), OWN))
+        if header and self.one_in(12):
+            others = [h for h in self.all_headers if h.round == header.round and h.digest != header.digest]
+            header = self.random.choice(others) if others else header
+        if header:
+            member = self.random.randrange(SIZE)
+            self.take('vote %s %d' % (header.label, member), self.node.vote(header, member))
+
+    def draw_certificate(self):
+        round_ = self.round()
+        author = OWN if self.one_in(12) else self.peer()
+        if self.is_too_soon(round_, author):
+            return
+        if (round_, author) in self.node.certificates and not self.one_in(6):
+            return
+        header = self.node.headers.get((round_, author))
+        if self.one_in(10):
+            header = self.misplaced(round_, author)
+        elif not header or self.one_in(4):
+            header = self.body(round_, author, self.drawn_batches(author))
+        if header:
+            voters = self.members(round_)
+            voters = voters if len(voters) >= QUORUM else list(range(SIZE))
+            command = 'cert %s %s' % (header.label, ','.join(map(str, voters)))
+            self.take(command, self.node.certificate(header, voters))
+
+    def draw_coin(self):
+        taken, draw = len(self.node.coins), self.random.randrange(12)
+        wave = max(1, taken) if draw == 0 else taken + 2 if draw < 4 else taken + 1
+        if wave > taken and not self.node.is_full(2 * wave + 1) and not self.one_in(4):
+            return
+        value = self.random.randrange(2 ** 64)
+        if wave <= taken and self.one_in(2):
+            value = self.node.coins[wave - 1]
+        if self.one_in(12):
+            sender = self.peer()
+            self.take('coin-from %d %d %d' % (sender, wave, value), self.node.coin(sender, wave, value))
+        else:
+            self.take('coin %d %d' % (wave, value), self.node.coin(OWN, wave, value))
+
+    def draw_again(self):
+        if self.all_headers:
+            header = self.random.choice(self.all_headers)
+            if self.one_in(2):
+                self.take('header ' + header.label, self.node.header(header))
+            else:
+                voters = list(range(QUORUM))
+                self.take('cert %s %s' % (header.label, ','.join(map(str, voters))),
+                          self.node.certificate(header, voters))
+
+    def draw(self, share):
+        if self.random.randrange(100) < share:
+            return self.draw_batch() if self.random.randrange(8) < 5 else self.draw_ack()
+        draw = self.random.randrange(14)
+        if draw < 2:
+            self.draw_header(self.peer())
+        elif draw < 3:
+            self.draw_header(OWN)
+        elif draw < 5:
+            self.draw_vote()
+        elif draw < 11:
+            self.draw_certificate()
+        elif draw < 13:
+            self.draw_coin()
+        else:
+            self.draw_again()
+
+    # ---- what is looked at now and then
+
+    def look(self):
+        node = self.node
+        self.lines += ['floor', '> floor %d' % node.floor(), 'round', '> round %d' % node.round()]
+        proposal = node.propose()
+        if proposal is None:
+            line = 'none'
+        else:
+            round_, parents, batches = proposal
+            line = '%d %s %s' % (round_, ','.join(p.label for p in parents), ','.join(b.label for b in batches) or '-')
+        self.lines += ['propose', '> proposes ' + line]
+
+    def look_at_all(self):
+        self.lines += ['flush', '> settled %d' % self.node.events]
+        self.lines += ['order', '> order ' + (' '.join(c.label for c in self.node.order()) or 'none')]
+        self.look()
+
+
+def history(start, depth, events):
+    drawn = Drawn(start, depth)
+    looks = 0
+    for _ in range(40 * events):
+        if drawn.node.events >= events:
+            break
+        drawn.draw(45)
+        if drawn.node.events // 20 > looks:
+            looks = drawn.node.events // 20
+            drawn.look()
+    drawn.look_at_all()
+    return drawn
+
+
+def main():
+    start, depth, events = map(int, sys.argv[1:4])
+    drawn = history(start, depth, events)
+    node = drawn.node
+    print('== a random history of %d events, depth %d, start value %d' % (node.events, depth, start))
+    print('# drawn by tools/histories.py %d %d %d' % (start, depth, events))
+    print('# round %d, floor %d, greatest wave with support %d, leaders %d, ordered %d'
+          % (node.round(), node.floor(), node.top(), len(node.chain()), len(node.order())))
+    for word in sorted(drawn.seen):
+        print('# %s: %d' % (word, drawn.seen[word]))
+    print('set depth %d' % depth)
+    print('tell outputs')
+    print('\n'.join(drawn.lines))
+
+
+main()
