@@ -37,6 +37,8 @@ impl Model for Committee {
 }
 
 impl Committee {
+    ghost use Rattle.committee.specs.File.{IsCharter};
+
     /// Reads a committee from the text of a TOML file: a list `members` of keys in 64 digits 0 to 9 and a to
     /// f, and where they are there the whole numbers `depth` (2 to 1000 rounds, else 50), `workers` (1 to 16,
     /// else 1) and `batches` (1 to 1048576, else 1048576). Other keys of the file are ignored.
@@ -119,6 +121,14 @@ impl Committee {
         ensures greatest { result ≤ 1048576 }
     {
         self.batches
+    }
+
+    /// What holds of each committee: its size, that no key stands there twice, and its limits. The call does
+    /// nothing.
+    pub fn limits_hold(&self)
+        ensures { IsCharter self.now }
+    {
+        let _ = &self.keys;
     }
 
     // How many members may be dishonest: f.

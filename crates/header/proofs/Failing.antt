@@ -1,10 +1,10 @@
 -- Which test of a list fails first, that none stands for want of memory, and that none of a signature fails where
 -- all signatures are accepted.
-use Rattle.std.proofs.Common.{◌≡◌, ℕ, zero, suc, Bool, true, false, List, [], ◌∷◌, ◌++◌, length, Some, None, refl, ap, sym, ◌∙◌, arith}
+use Rattle.std.proofs.Common.{◌≡◌, ℕ, zero, suc, Bool, true, false, List, [], ◌∷◌, ◌++◌, length, Some, None, inl, inr, refl, ap, sym, ◌∙◌, arith}
 use Rattle.std.specs.Prelude.{if◌then◌else◌, nat_lt, slice_get}
 use Rattle.std.specs.List.{list_all}
 use Rattle.std.specs.Option.{option_map_or}
-use Rattle.std.proofs.lemmas.Bool.{and_parts, false≢true}
+use Rattle.std.proofs.lemmas.Bool.{and_parts, and_from, cases_Bool, false≢true}
 use Rattle.std.proofs.lemmas.Grind.{common_steps}
 use Rattle.std.proofs.lemmas.Option.{same_Some}
 use Rattle.committee.specs.File.{Charter}
@@ -126,3 +126,54 @@ all_tested charter accepts sender (message.Coin coin) = refl
 pub fault_of-memory : (charter : Charter) (accepts : Accepts) (event : Event) → fault_of charter accepts event ≡ Some Memory → ⊥
 unfolding is_tested
 fault_of-memory charter accepts event = untested (tests_of charter accepts event) (all_tested charter accepts event.sender event.message)
+
+-- where the tests of one list hold, those of another do
+IsWeaker : List Test → List Test → Type 0
+IsWeaker [] [] = Unit {0}
+IsWeaker (t ∷ tests) (u ∷ others) = (t.holds ≡ true → u.holds ≡ true) × IsWeaker tests others
+IsWeaker [] (u ∷ others) = ⊥
+IsWeaker (t ∷ tests) [] = ⊥
+
+passes-weaker : (tests others : List Test) → IsWeaker tests others → first_failing tests ≡ None → first_failing others ≡ None
+unfolding IsWeaker
+passes-weaker [] [] weaker h = refl
+passes-weaker [] (u ∷ others) weaker h = absurd weaker
+passes-weaker (t ∷ tests) [] weaker h = absurd weaker
+passes-weaker (t ∷ tests) (u ∷ others) weaker h =
+    elim (cases_Bool t.holds) [
+      | inl holds ↦ let rest = rw holds at h in rw (weaker.0 holds) (passes-weaker tests others weaker.1 rest)
+      | inr fails ↦ let bad = rw fails at h in absurd cc
+    ]
+
+-- a signature that is good is one where all are taken
+is_signed-weaker : (charter : Charter) (accepts : Accepts) (signer : Author) (digest : Digest) (signature : Signature)
+    → is_signed charter accepts signer digest signature ≡ true → is_signed charter accepts_all signer digest signature ≡ true
+is_signed-weaker charter accepts signer digest signature h =
+    elim (slice_get charter.keys signer.0) as (λ o. option_map_or (λ key. accepts key digest signature) o false ≡ true → option_map_or (λ key. true) o false ≡ true)
+    [ None ↦ λ e. e | Some key ↦ λ e. refl ] h
+
+all_signed-weaker : (charter : Charter) (accepts : Accepts) (digest : Digest) (votes : List VoteEntry)
+    → list_all (λ vote. is_signed charter accepts vote.voter digest vote.signature) votes ≡ true → list_all (λ vote. is_signed charter accepts_all vote.voter digest vote.signature) votes ≡ true
+all_signed-weaker charter accepts digest [] h = refl
+all_signed-weaker charter accepts digest (vote ∷ votes) h =
+    let parts = and_parts (is_signed charter accepts vote.voter digest vote.signature) (list_all (λ v. is_signed charter accepts v.voter digest v.signature) votes) h in
+    and_from _ _ (is_signed-weaker charter accepts vote.voter digest vote.signature parts.0) (all_signed-weaker charter accepts digest votes parts.1)
+
+message-weaker : (charter : Charter) (accepts : Accepts) (sender : Author) (message : Message) → IsWeaker (message_tests charter accepts sender message) (message_tests charter accepts_all sender message)
+unfolding IsWeaker
+message-weaker charter accepts sender (message.Batch batch) = (λ e. e, (λ e. e, (λ e. e, tt)))
+message-weaker charter accepts sender (message.BatchAck ack) = (λ e. e, tt)
+message-weaker charter accepts sender (message.Header header) =
+    (λ e. e, (λ e. e, (λ e. e, (λ e. e, (λ e. e, (λ e. e, (is_signed-weaker charter accepts header.body.author (header_signed header.body) header.signature, tt)))))))
+message-weaker charter accepts sender (message.Vote vote) =
+    (λ e. e, (λ e. e, (λ e. e, (is_signed-weaker charter accepts vote.voter (vote_signed vote.header.0 vote.round vote.author) vote.signature, tt))))
+message-weaker charter accepts sender (message.Certificate certificate) =
+    let signed = vote_signed (header_digest_of certificate.header) certificate.header.round certificate.header.author in
+    (λ e. e, (λ e. e, (λ e. e, (λ e. e, (λ e. e, (λ e. e, (λ e. e, (all_signed-weaker charter accepts signed certificate.votes, tt))))))))
+message-weaker charter accepts sender (message.Coin coin) = tt
+
+-- what passes with its signatures passes without
+pub passes-accepts_all : (charter : Charter) (accepts : Accepts) (event : Event) → fault_of charter accepts event ≡ None → fault_of charter accepts_all event ≡ None
+unfolding IsWeaker
+passes-accepts_all charter accepts event h =
+    passes-weaker (tests_of charter accepts event) (tests_of charter accepts_all event) (λ e. e, message-weaker charter accepts event.sender event.message) h

@@ -1,8 +1,8 @@
 -- The tests of an incoming message, in their order, and which refusal each stands for.
-use Rattle.std.specs.Prelude.{Bool, true, false, ◌==◌, nat_lt, nat_le, ℕ, List, [], ◌∷◌, ◌++◌, length, Option, Some, None, slice_get, if◌then◌else◌}
+use Rattle.std.specs.Prelude.{◌≡◌, Bool, true, false, ◌==◌, nat_lt, nat_le, ℕ, List, [], ◌∷◌, ◌++◌, length, Option, Some, None, slice_get, if◌then◌else◌}
 use Rattle.std.specs.List.{list_all}
 use Rattle.std.specs.Option.{option_map_or}
-use Rattle.committee.specs.File.{Charter}
+use Rattle.committee.specs.File.{Charter, IsCharter}
 use Rattle.committee.specs.Sizes.{quorum_of}
 use Rattle.wire.specs.Batches.{Contents}
 use Rattle.wire.specs.Digests.{header_digest_of, certificate_digest_of}
@@ -137,3 +137,9 @@ tests_of charter accepts event =
 -- why a message from its sender is refused, or None where it passes
 abbrev pub fault_of : Charter → Accepts → Event → Option CheckError
 fault_of charter accepts event = first_failing (tests_of charter accepts event)
+
+-- a message from its sender passed the tests of some committee, whatever its signatures
+pub record HasPassed (event : Event) : Type 0 where
+  pub charter : Charter
+  pub committee : IsCharter charter
+  pub passed : fault_of charter accepts_all event ≡ None

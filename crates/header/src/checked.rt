@@ -1,12 +1,14 @@
 //! Messages that passed the tests.
 
-ghost use Rattle.std.specs.Prelude.{◌≡◌, IfOk, IfErr, IsErrOf};
+ghost use Rattle.std.specs.Prelude.{◌≡◌, IfOk, IfErr, IsErrOf, option_copied};
 ghost use Rattle.wire.specs.Events.{Event};
 ghost use Rattle.wire.specs.declared.keys.Digest.{Digest};
 ghost use Rattle.wire.specs.declared.keys.Key.{Key};
 ghost use Rattle.wire.specs.declared.keys.Signature.{Signature};
 ghost use Rattle.header.specs.Checks.{fault_of, accepts_all};
+ghost use Rattle.header.specs.Digested.{batch_digest_in, header_digest_in, certificate_digest_in};
 
+use crate::digested::Digested;
 use crate::error::CheckError;
 use crate::faults::test_message;
 use committee::Committee;
@@ -14,19 +16,26 @@ use sigface::Verify;
 use std::marker::Model;
 use wire::{Author, Digest, Key, Message, Signature};
 
-/// A message that passed `check` or `recheck`, with its sender. Nothing else makes one.
+/// A message that passed `check` or `recheck`, with its sender, and with the digests that its tests computed.
+/// Nothing else makes one: its message passed the tests of a committee.
 #[derive(Debug, Drop)]
 pub struct Checked {
     sender: Author,
     message: Message,
+    digested: Digested,
 }
 
 impl Model for Checked {
     ghost use Rattle.wire.specs.Events.{Event};
+    ghost use Rattle.header.specs.Checks.{HasPassed};
+    ghost use Rattle.header.specs.Digested.{digested_of};
+    ghost use Rattle.std.specs.Prelude.{◌≡◌};
 
     ghost Value = { Event };
 
     ghost view = { λ c. record { sender = c.sender; message = c.message } };
+
+    ghost invariant = { λ c. HasPassed (record { sender = c.sender; message = c.message }) × (c.digested ≡ digested_of c.message) };
 }
 
 impl Checked {
@@ -49,6 +58,37 @@ impl Checked {
         ensures { result ≡ self.message }
     {
         self.message
+    }
+
+    /// The digest of a batch; None of another message.
+    pub fn batch_digest(&self) -> Option<&Digest>
+        ensures { option_copied result ≡ batch_digest_in self.now.message }
+    {
+        match &self.digested {
+            Digested::Batch(digest) => Some(digest),
+            _ => None,
+        }
+    }
+
+    /// The digest of a header, or of that of a certificate; None of another message.
+    pub fn header_digest(&self) -> Option<&Digest>
+        ensures { option_copied result ≡ header_digest_in self.now.message }
+    {
+        match &self.digested {
+            Digested::Header(digest) => Some(digest),
+            Digested::Certificate { header, .. } => Some(header),
+            _ => None,
+        }
+    }
+
+    /// The digest of a certificate; None of another message.
+    pub fn certificate_digest(&self) -> Option<&Digest>
+        ensures { option_copied result ≡ certificate_digest_in self.now.message }
+    {
+        match &self.digested {
+            Digested::Certificate { certificate, .. } => Some(certificate),
+            _ => None,
+        }
     }
 }
 
@@ -75,11 +115,18 @@ pub fn check<V: Verify>(
 ) -> Result<Checked, CheckError>
     ensures checked { IfOk result (λ checked. checked ≡ record { sender = sender; message = message }) }
     ensures passed { IfOk result (λ checked. fault_of committee.now (V.accepts verifier.now) checked ≡ None) }
+    // So it passes where signatures aren't tested, too.
+    ensures passed_before { IfOk result (λ checked. fault_of committee.now accepts_all checked ≡ None) }
     ensures refused { IfErr result (λ error. fault_of committee.now (V.accepts verifier.now) (record { sender = sender; message = message }) ≡ Some error) }
     ensures no_memory { ¬ IsErrOf result CheckError.Memory }
 {
-    test_message(committee, verifier, sender, &message)?;
-    Ok(Checked { sender, message })
+    let digested = test_message(committee, verifier, sender, &message)?;
+    committee.limits_hold();
+    Ok(Checked {
+        sender,
+        message,
+        digested,
+    })
 }
 
 /// Tests a message from its sender without its signatures, as for one that the node's own journal gave. It

@@ -1,17 +1,19 @@
 //! The tests of each kind of message, in their order: the first that fails is the answer.
 
-ghost use Rattle.std.specs.Prelude.{◌≡◌};
+ghost use Rattle.std.specs.Prelude.{◌≡◌, IfOk};
 ghost use Rattle.std.specs.List.{list_all};
 ghost use Rattle.std.specs.Result.{result_err};
 ghost use Rattle.wire.specs.Events.{Event};
 ghost use Rattle.header.specs.Checks.{first_failing, is_member, is_worker, is_signed, body_tests, batch_tests, ack_tests, header_tests, vote_tests, votes_tests, certificate_tests, message_tests, fault_of};
+ghost use Rattle.header.specs.Digested.{digest_of_batch, digest_of_header, digest_of_certificate, digested_of};
 
+use crate::digested::Digested;
 use crate::error::CheckError;
 use committee::Committee;
 use sigface::Verify;
 use wire::{
     Author, Batch, BatchAck, BatchReference, Certificate, Digest, Header, HeaderBody, Message,
-    ParentReference, Signature, Vote, VoteEntry, certificate_digest, header_digest,
+    ParentReference, Signature, Vote, VoteEntry, batch_digest, certificate_digest, header_digest,
 };
 
 fn is_member(committee: &Committee, author: Author) -> bool
@@ -93,8 +95,9 @@ fn test_body(committee: &Committee, body: &HeaderBody) -> Result<(), CheckError>
     Ok(())
 }
 
-fn test_batch(committee: &Committee, sender: Author, batch: &Batch) -> Result<(), CheckError>
-    ensures { result_err result ≡ first_failing (batch_tests committee.now sender batch.now) }
+fn test_batch(committee: &Committee, sender: Author, batch: &Batch) -> Result<Digest, CheckError>
+    ensures refused { result_err result ≡ first_failing (batch_tests committee.now sender batch.now) }
+    ensures digest { IfOk result (λ digest. digest ≡ digest_of_batch batch.now) }
 {
     if !is_member(committee, batch.author()) {
         return Err(CheckError::UnknownAuthor);
@@ -105,7 +108,7 @@ fn test_batch(committee: &Committee, sender: Author, batch: &Batch) -> Result<()
     if !is_worker(committee, batch.worker()) {
         return Err(CheckError::UnknownWorker);
     }
-    Ok(())
+    Ok(batch_digest(batch))
 }
 
 fn test_ack(sender: Author, ack: &BatchAck) -> Result<(), CheckError>
@@ -122,8 +125,9 @@ fn test_header<V: Verify>(
     verifier: &V,
     sender: Author,
     header: &Header,
-) -> Result<(), CheckError>
-    ensures { result_err result ≡ first_failing (header_tests committee.now (V.accepts verifier.now) sender header.now) }
+) -> Result<Digest, CheckError>
+    ensures refused { result_err result ≡ first_failing (header_tests committee.now (V.accepts verifier.now) sender header.now) }
+    ensures digest { IfOk result (λ digest. digest ≡ digest_of_header header.now.body) }
 {
     let author = header.body.author;
     if !is_member(committee, author) {
@@ -137,7 +141,7 @@ fn test_header<V: Verify>(
     if !is_signed(committee, verifier, author, &digest, &header.signature) {
         return Err(CheckError::BadSignature);
     }
-    Ok(())
+    Ok(digest)
 }
 
 fn test_vote<V: Verify>(
@@ -185,36 +189,56 @@ fn test_certificate<V: Verify>(
     committee: &Committee,
     verifier: &V,
     certificate: &Certificate,
-) -> Result<(), CheckError>
-    ensures { result_err result ≡ first_failing (certificate_tests committee.now (V.accepts verifier.now) certificate.now) }
+) -> Result<Digested, CheckError>
+    ensures refused { result_err result ≡ first_failing (certificate_tests committee.now (V.accepts verifier.now) certificate.now) }
+    ensures digests { IfOk result (λ digested. digested ≡ Digested.Certificate (digest_of_header certificate.now.header) (digest_of_certificate certificate.now.header)) }
 {
-    let header = &certificate.header;
-    if !is_member(committee, header.author) {
+    let body = &certificate.header;
+    if !is_member(committee, body.author) {
         return Err(CheckError::UnknownAuthor);
     }
-    test_body(committee, header)?;
-    let digest = certificate_digest(&header_digest(header), header.round, header.author);
-    test_votes(committee, verifier, &digest, certificate.votes.as_slice())
+    test_body(committee, body)?;
+    let header = header_digest(body);
+    let certificate_digest = certificate_digest(&header, body.round, body.author);
+    test_votes(
+        committee,
+        verifier,
+        &certificate_digest,
+        certificate.votes.as_slice(),
+    )?;
+    Ok(Digested::Certificate {
+        header,
+        certificate: certificate_digest,
+    })
 }
 
-/// Tests a message from its sender: the first test that fails is the answer.
+/// Tests a message from its sender: the first test that fails is the answer. Of one that passes its digests.
 pub(crate) fn test_message<V: Verify>(
     committee: &Committee,
     verifier: &V,
     sender: Author,
     message: &Message,
-) -> Result<(), CheckError>
-    ensures { result_err result ≡ fault_of committee.now (V.accepts verifier.now) (record { sender = sender; message = message.now }) }
+) -> Result<Digested, CheckError>
+    ensures refused { result_err result ≡ fault_of committee.now (V.accepts verifier.now) (record { sender = sender; message = message.now }) }
+    ensures digests { IfOk result (λ digested. digested ≡ digested_of message.now) }
 {
     if !is_member(committee, sender) {
         return Err(CheckError::UnknownAuthor);
     }
-    match message {
-        Message::Batch(batch) => test_batch(committee, sender, batch),
-        Message::BatchAck(ack) => test_ack(sender, ack),
-        Message::Header(header) => test_header(committee, verifier, sender, header),
-        Message::Vote(vote) => test_vote(committee, verifier, sender, vote),
-        Message::Certificate(certificate) => test_certificate(committee, verifier, certificate),
-        Message::Coin(_) => Ok(()),
-    }
+    Ok(match message {
+        Message::Batch(batch) => Digested::Batch(test_batch(committee, sender, batch)?),
+        Message::BatchAck(ack) => {
+            test_ack(sender, ack)?;
+            Digested::Nothing
+        }
+        Message::Header(header) => {
+            Digested::Header(test_header(committee, verifier, sender, header)?)
+        }
+        Message::Vote(vote) => {
+            test_vote(committee, verifier, sender, vote)?;
+            Digested::Nothing
+        }
+        Message::Certificate(certificate) => test_certificate(committee, verifier, certificate)?,
+        Message::Coin(_) => Digested::Nothing,
+    })
 }

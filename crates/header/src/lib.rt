@@ -2,6 +2,7 @@
 #![tactic(auto)]
 
 mod checked;
+mod digested;
 mod error;
 mod faults;
 

@@ -26,7 +26,7 @@ use Rattle.wire.specs.declared.output.Output.TheVariants as output
 use Rattle.wire.specs.declared.references.BatchReference.{BatchReference}
 use Rattle.wire.specs.declared.references.ParentReference.{ParentReference}
 use Rattle.wire.specs.declared.votes.VoteEntry.{VoteEntry}
-use Rattle.model.specs.Admitting.{admit, is_new, is_own, batch_answer, ack_answer, header_answer, header_outputs, batch_outputs, vote_outputs, order_outputs, pieces, may_name, held_batch_answer, held_answer, same_header, IsTaken, IsLegal}
+use Rattle.model.specs.Admitting.{when◌gives◌else◌, admit, is_new, is_own, batch_answer, ack_answer, header_answer, header_outputs, batch_outputs, vote_outputs, order_outputs, pieces, may_name, held_batch_answer, held_answer, same_header, IsTaken, IsLegal}
 use Rattle.model.specs.Histories.{History, batches, headers, coins, as_vote, as_coin}
 use Rattle.model.specs.Holdings.{ledger_of, ledger_at, batch_digest, has_acked, is_available, voted_header, voted_digest, is_vote_on, counted_vote, own_vote, counted_at, entry_of, completed, slots, order, floor, is_low, is_full, is_held, all_held}
 use Rattle.laws.specs.Laws.{added, AnswersAlike}
@@ -115,8 +115,10 @@ may_name_alike node one other alike header =
 -- ---- answers, over what they read
 
 abbrev batch_on : Node → Contents → List Contents → Option Contents → Admission
-batch_on node batch held (Some first) = held_batch_answer node first batch
-batch_on node batch held None = if nat_le node.charter.batches (length held) then Refused StoreFull else New (batch_outputs node batch)
+batch_on node batch held first =
+    when first gives (λ other. held_batch_answer node other batch)
+    else if nat_le node.charter.batches (length held) then Refused StoreFull
+    else New (batch_outputs node batch)
 
 batch_alike : (node : Node) (one other : History) → ReadAlike node one other → (batch : Contents) → batch_answer node one batch ≡ batch_answer node other batch
 batch_alike node one other alike batch = ap (λ l. batch_on node batch l (held_in l (batch_digest batch))) alike.same_batches
@@ -125,12 +127,14 @@ ack_alike : (node : Node) (one other : History) → ReadAlike node one other →
 ack_alike node one other alike ack = rw (alike.same_batches, alike.same_acks ack.batch ack.author.0) refl
 
 abbrev pub header_on : Node → Header → Bool → Bool → Option Header → Admission
-header_on node header held named (Some first) =
-    if same_digest (header_digest first.body) (header_digest header.body) then Known (header_outputs node first)
-    else if is_own node header.body.author then Refused AlreadyProposed
-    else Refused Equivocation
-header_on node header held named None =
-    if not held then Refused MissingParents else if not named then Refused MissingBatch else New (header_outputs node header)
+header_on node header held named first =
+    when first gives (λ other.
+        if same_digest (header_digest other.body) (header_digest header.body) then Known (header_outputs node other)
+        else if is_own node header.body.author then Refused AlreadyProposed
+        else Refused Equivocation)
+    else if not held then Refused MissingParents
+    else if not named then Refused MissingBatch
+    else New (header_outputs node header)
 
 abbrev pub header_by : Node → Header → Bool → Bool → Bool → Option Header → Admission
 header_by node header low held named first = if low then Refused TooOld else header_on node header held named first
@@ -320,11 +324,13 @@ outputs_alike node one other event alike adds also same =
 
 -- an answer whose outputs count only where it is new
 abbrev certificate_on : Certificate → Bool → List Output → Option Certificate → Admission
-certificate_on certificate held outputs (Some first) =
-    if not (same_digest (certificate_digest first.header) (certificate_digest certificate.header)) then Refused CertConflict
-    else if same_header first.header certificate.header then Known []
-    else Refused DigestClash
-certificate_on certificate held outputs None = if held then New outputs else Refused MissingParents
+certificate_on certificate held outputs first =
+    when first gives (λ other.
+        if not (same_digest (certificate_digest other.header) (certificate_digest certificate.header)) then Refused CertConflict
+        else if same_header other.header certificate.header then Known []
+        else Refused DigestClash)
+    else if not held then Refused MissingParents
+    else New outputs
 
 abbrev certificate_by : Certificate → Bool → Bool → Option Certificate → List Output → Admission
 certificate_by certificate low held found outputs = if low then Refused TooOld else certificate_on certificate held outputs found
@@ -378,8 +384,11 @@ certificate_alike node one other sender certificate taken alike =
 -- ---- coins
 
 abbrev coin_on : Coin → Bool → Bool → List Output → Option ℕ → Admission
-coin_on coin in_turn full outputs (Some taken) = if taken == coin.value then Known [] else Refused CoinConflict
-coin_on coin in_turn full outputs None = if not in_turn then Refused CoinOutOfTurn else if not full then Refused CoinEarly else New outputs
+coin_on coin in_turn full outputs first =
+    when first gives (λ taken. if taken == coin.value then Known [] else Refused CoinConflict)
+    else if not in_turn then Refused CoinOutOfTurn
+    else if not full then Refused CoinEarly
+    else New outputs
 
 abbrev coin_by : Bool → Coin → Bool → Bool → Option ℕ → List Output → Admission
 coin_by own coin in_turn full found outputs = if not own then Refused NotOurs else coin_on coin in_turn full outputs found
@@ -437,13 +446,14 @@ coin_alike node one other sender coin taken alike =
 -- ---- votes
 
 abbrev vote_on_slot : Vote → Bool → List Output → Option Certificate → Admission
-vote_on_slot vote counted outputs None = if counted then Known [] else New outputs
-vote_on_slot vote counted outputs (Some held) = held_answer held vote
+vote_on_slot vote counted outputs slot = when slot gives (λ held. held_answer held vote) else if counted then Known [] else New outputs
 
 abbrev vote_on_header : Vote → (Header → Bool) → (Header → List Output) → Option Certificate → Option Header → Admission
-vote_on_header vote counted outputs slot None = Refused NotOurs
-vote_on_header vote counted outputs slot (Some header) =
-    if same_digest (header_digest header.body) vote.header then vote_on_slot vote (counted header) (outputs header) slot else Refused NotOurs
+vote_on_header vote counted outputs slot first =
+    when first gives (λ header.
+        if not (same_digest (header_digest header.body) vote.header) then Refused NotOurs
+        else vote_on_slot vote (counted header) (outputs header) slot)
+    else Refused NotOurs
 
 abbrev vote_by : Node → Vote → (Header → Bool) → (Header → List Output) → Bool → Option Certificate → Option Header → Admission
 vote_by node vote counted outputs low slot found =
@@ -455,10 +465,11 @@ abbrev vote_with : Node → Vote → Bool → Header → Option Certificate → 
 vote_with node vote low header slot counted outputs =
     if not (is_own node vote.author) then Refused NotOurs
     else if low then Refused TooOld
-    else if same_digest (header_digest header.body) vote.header then vote_on_slot vote counted outputs slot else Refused NotOurs
+    else if not (same_digest (header_digest header.body) vote.header) then Refused NotOurs
+    else vote_on_slot vote counted outputs slot
 
 vote_outputs_only : (own low same : Bool) (vote : Vote) (slot : Option Certificate) (counted : Bool)
-    → IsByOutputs (λ outputs. if not own then Refused NotOurs else if low then Refused TooOld else if same then vote_on_slot vote counted outputs slot else Refused NotOurs)
+    → IsByOutputs (λ outputs. if not own then Refused NotOurs else if low then Refused TooOld else if not same then Refused NotOurs else vote_on_slot vote counted outputs slot)
 vote_outputs_only false low same vote slot counted = record { same_new = λ one other. refl; only_new = λ one other h. refl }
 vote_outputs_only true true same vote slot counted = record { same_new = λ one other. refl; only_new = λ one other h. refl }
 vote_outputs_only true false false vote slot counted = record { same_new = λ one other. refl; only_new = λ one other h. refl }

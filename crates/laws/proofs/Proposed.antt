@@ -12,19 +12,19 @@ use Rattle.std.proofs.lemmas.List.Elements.{All-contains, Contains-append_cases,
 use Rattle.std.proofs.lemmas.List.FromFn.{length-range_with_len}
 use Rattle.std.proofs.lemmas.Slice.Eq.{bytes_eq-Decides}
 use Rattle.committee.specs.Sizes.{quorum_of, dishonest_of}
-use Rattle.header.specs.Checks.{test, fault_of, accepts_all, is_member, is_worker, is_signed, header_signed}
+use Rattle.header.specs.Checks.{Accepts, test, fault_of, accepts_all, is_member, is_worker, is_signed, header_signed}
 use Rattle.wire.specs.References.{digest_before}
 use Rattle.wire.specs.declared.keys.Key.{Key}
 use Rattle.wire.specs.declared.message.Message.TheVariants as message
 use Rattle.model.specs.Admitting.{admit, is_new, is_own, batch_answer, coin_answer, header_answer, header_outputs, may_name, IsTaken, IsLegal}
 use Rattle.model.specs.Histories.{History, batches, headers, received, coins, as_batch, as_coin}
 use Rattle.model.specs.Holdings.{ledger_at, batch_digest, batch_at, is_available, voted_header, completed, certificates, genesis, slots, floor, round, is_low, is_full, is_held, all_held}
-use Rattle.laws.specs.Laws.{own_event, ProposalsAreNew}
-use Rattle.model.specs.Nodes.{Node, IsNode, size_of, quorum, numbers}
+use Rattle.laws.specs.Laws.{own_event, vote_event, ProposalsAreNew, ProposalsPass, OwnVotesPass}
+use Rattle.model.specs.Nodes.{Node, IsNode, AreTied, size_of, quorum, numbers}
 use Rattle.model.specs.Ordering.{top}
 use Rattle.model.specs.Proposing.{is_nameable, to_name, placed, nameable, as_parent, proposal, signed, propose}
-use Rattle.model.specs.Slots.{Slots, same_digest, certificate_digest, is_of_slot, round_of}
-use Rattle.model.specs.Words.{Author, BatchReference, Certificate, Coin, Contents, Event, Header, Message, ParentReference}
+use Rattle.model.specs.Slots.{Slots, same_digest, header_digest, certificate_digest, is_of_slot, round_of}
+use Rattle.model.specs.Words.{Author, BatchReference, Certificate, Coin, Contents, Digest, Event, Header, Message, ParentReference}
 use Rattle.model.specs.declared.admission.Admission.TheVariants.{New}
 use Rattle.laws.proofs.Alike.{floor_of, header_by}
 use Rattle.laws.proofs.Closed.{in_place, kept_slot, coins_later, or_right}
@@ -442,8 +442,9 @@ signature_taken node sound header own =
     let key = slice_get-get_or node.charter.keys node.own.0 none sound.member in
     ap (λ (a : Author). is_signed node.charter accepts_all a (header_signed header.body) header.signature) own ∙ rw key refl
 
-passes : (node : Node) (history : History) → IsLegal node history → fault_of node.charter accepts_all (own_event node (signed node (proposal node history))) ≡ None
-passes node history legal =
+passes : (node : Node) (history : History) (accepts : Accepts) → IsLegal node history → is_signed node.charter accepts node.own (header_signed (proposal node history)) (node.sign (header_digest (proposal node history))) ≡ true
+    → fault_of node.charter accepts (own_event node (signed node (proposal node history))) ≡ None
+passes node history accepts legal signature =
     let n = size_of node in
     let body = proposal node history in
     let member : is_member node.charter node.own ≡ true = lt-ltb _ _ legal.sound.member in
@@ -459,7 +460,6 @@ passes node history legal =
     all_from (λ p. is_member node.charter p.author) body.parents (λ p inside. lt-ltb _ _ (parents_below node history p inside).member) in
     let workers : list_all (λ b. is_worker node.charter b.worker) body.batches ≡ true =
     all_from (λ b. is_worker node.charter b.worker) body.batches (λ b inside. (batches_named node history legal b inside).known) in
-    let signature = signature_taken node legal.sound (signed node body) refl in
     rw (member, own, quorum, few, members, workers, signature) refl
 
 may_be_named : (node : Node) (history : History) (header : Header) (named : BatchReference) (batch : Contents) → batch_at history named.digest ≡ Some batch → batch.worker ≡ named.worker → is_available node history named.digest ≡ true
@@ -493,4 +493,36 @@ pub proposals_are_new : ProposalsAreNew
 proposals_are_new node history header legal is =
     let parts = proposed node history header is in
     subst (λ h. (fault_of node.charter accepts_all (own_event node h) ≡ None) × (admit node history (own_event node h) ≡ New (header_outputs node h))) parts.is
-    (passes node history legal, is_new_there node history legal parts.free)
+    (passes node history accepts_all legal (signature_taken node legal.sound (signed node (proposal node history)) refl), is_new_there node history legal parts.free)
+
+-- ---- signatures
+
+-- where the node's signer belongs to the verifier, what the node signs is taken as its member's
+pub is_own_signature : (node : Node) (key : Key) (accepts : Accepts) → AreTied node key accepts → (digest : Digest) → is_signed node.charter accepts node.own digest (node.sign digest) ≡ true
+is_own_signature node key accepts tied digest = ap (λ o. option_map_or (λ k. accepts k digest (node.sign digest)) o false) tied.own_key ∙ tied.accepted digest
+
+pub proposals_pass : ProposalsPass
+proposals_pass node history header key accepts legal tied is =
+    let parts = proposed node history header is in
+    subst (λ h. fault_of node.charter accepts (own_event node h) ≡ None) parts.is
+    (passes node history accepts legal (is_own_signature node key accepts tied (header_digest (proposal node history))))
+
+-- a header that was taken is by a member
+author_taken : (node : Node) (sender : Author) (header : Header) → IsTaken node (record { sender = sender; message = message.Header header }) → is_member node.charter header.body.author ≡ true
+author_taken node sender header taken =
+    let none = taken.passed in
+    elim (cases_Bool (is_member node.charter sender)) [
+      | inr foreign ↦ let bad = rw foreign at none in absurd cc
+      | inl by ↦ elim (cases_Bool (is_member node.charter header.body.author)) [
+        | inl member ↦ member
+        | inr other ↦ let bad = rw (by, other) at none in absurd cc
+      ]
+    ]
+
+pub own_votes_pass : OwnVotesPass
+own_votes_pass node sender header key accepts sound tied taken =
+    let member : is_member node.charter node.own ≡ true = lt-ltb _ _ sound.member in
+    let author = author_taken node sender header taken in
+    let own = same_number node.own.0 in
+    let signature = is_own_signature node key accepts tied (certificate_digest header.body) in
+    rw (member, author, own, signature) refl

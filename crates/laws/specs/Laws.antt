@@ -2,18 +2,19 @@
 use Rattle.std.specs.Prelude.{◌≡◌, ℕ, Option, Some, None, ◌≤◌, true, List, [], ◌∷◌, ◌++◌, map, All, Contains, find, option_and_then, ⊤}
 use Rattle.std.specs.Option.{option_or, option_to_list}
 use Rattle.wire.specs.declared.message.Message.TheVariants as message
-use Rattle.header.specs.Checks.{fault_of, accepts_all}
+use Rattle.header.specs.Checks.{Accepts, fault_of, accepts_all}
+use Rattle.wire.specs.declared.keys.Key.{Key}
 use Rattle.model.specs.Admitting.{admit, header_outputs, IsTaken, IsLegal}
 use Rattle.model.specs.Giving.{MayGive, kept}
 use Rattle.model.specs.Histories.{History, batches, acks, headers, votes, received, coins, as_batch, as_ack, as_header, as_vote, as_certificate, as_coin}
-use Rattle.model.specs.Holdings.{batch_digest, batch_at, is_vote_on, voted_header, has_acked, voted_digest, counted_vote, counted_at, completed, certificates, slots, ledger_of, ledger_at, order, floor, round}
-use Rattle.model.specs.Nodes.{Node}
+use Rattle.model.specs.Holdings.{batch_digest, batch_at, is_vote_on, voted_header, has_acked, voted_digest, counted_vote, counted_at, completed, certificates, slots, ledger_of, ledger_at, order, own_vote, floor, round}
+use Rattle.model.specs.Nodes.{Node, IsNode, AreTied}
 use Rattle.model.specs.Ordering.{committed, newer, last_wave, segments}
 use Rattle.model.specs.Proposing.{propose}
 use Rattle.model.specs.Slots.{Slots, same_digest, certificate_digest, is_of_slot, slots_of}
 use Rattle.model.specs.declared.admission.Admission.{Admission}
 use Rattle.model.specs.declared.admission.Admission.TheVariants.{New, Known, Refused}
-use Rattle.model.specs.Words.{Certificate, Digest, Event, Header, HeaderBody, Message, Output}
+use Rattle.model.specs.Words.{Author, Certificate, Digest, Event, Header, HeaderBody, Message, Output}
 
 -- a legal history has one vote an author and round
 abbrev pub OneVote : Type 0
@@ -155,3 +156,17 @@ own_event node header = record { sender = node.own; message = message.Header hea
 abbrev pub ProposalsAreNew : Type 0
 ProposalsAreNew = (node : Node) (history : History) (header : Header) → IsLegal node history → propose node history ≡ Some header
     → (fault_of node.charter accepts_all (own_event node header) ≡ None) × (admit node history (own_event node header) ≡ New (header_outputs node header))
+
+-- what is proposed at a legal history passes the checks with its signature too, where the node's signer belongs to the verifier
+abbrev pub ProposalsPass : Type 0
+ProposalsPass = (node : Node) (history : History) (header : Header) (key : Key) (accepts : Accepts) → IsLegal node history → AreTied node key accepts
+    → propose node history ≡ Some header → fault_of node.charter accepts (own_event node header) ≡ None
+
+-- the vote that a node gives a header that it took, as it comes to another node
+abbrev pub vote_event : Node → HeaderBody → Event
+vote_event node header = record { sender = node.own; message = message.Vote (own_vote node header) }
+
+-- the node's vote for a header that it took passes the checks with its signature, where its signer belongs to the verifier
+abbrev pub OwnVotesPass : Type 0
+OwnVotesPass = (node : Node) (sender : Author) (header : Header) (key : Key) (accepts : Accepts) → IsNode node → AreTied node key accepts
+    → IsTaken node (record { sender = sender; message = message.Header header }) → fault_of node.charter accepts (vote_event node header.body) ≡ None

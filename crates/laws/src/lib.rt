@@ -1,7 +1,7 @@
 //! Laws of legal histories, proved of the definitions: each is what a function without a body ensures.
 #![tactic(auto)]
 
-ghost use Rattle.laws.specs.Laws.{OneVote, OneCertificate, OneMore, SlotsGrow, AnswersAlike, KeptDecides, KeptFollows, KeptProposes, OutputsGiven, OrderGrows, OrderLengthens, GivenGrows, ProposalsAreNew};
+ghost use Rattle.laws.specs.Laws.{OneVote, OneCertificate, OneMore, SlotsGrow, AnswersAlike, KeptDecides, KeptFollows, KeptProposes, OutputsGiven, OrderGrows, OrderLengthens, GivenGrows, ProposalsAreNew, ProposalsPass, OwnVotesPass};
 
 /// A legal history has one vote an author and round.
 pub fn one_vote()
@@ -69,4 +69,16 @@ pub fn given_grows()
 /// What is proposed at a legal history passes the checks, whatever its signature, and is new there.
 pub fn proposals_are_new()
     ensures { ProposalsAreNew }
+{}
+
+/// What is proposed at a legal history passes the checks with its signature too, where the node's signer belongs to
+/// the verifier.
+pub fn proposals_pass()
+    ensures { ProposalsPass }
+{}
+
+/// The node's vote for a header that it took passes the checks with its signature, where its signer belongs to the
+/// verifier.
+pub fn own_votes_pass()
+    ensures { OwnVotesPass }
 {}

@@ -50,17 +50,22 @@ order_outputs node history event =
 
 -- ---- the answers
 
+-- a case of a table: where a look-up gives something, that decides, and else the cases behind it
+infixr 5 when◌gives◌else◌
+abbrev pub when◌gives◌else◌ : {X : Type 0} → Option X → (X → Admission) → Admission → Admission
+when Some held gives answer else others = answer held
+when None gives answer else others = others
+
 -- where this batch has the digest already
 abbrev pub held_batch_answer : Node → Contents → Contents → Admission
 held_batch_answer node held batch =
     if bytes_eq (batch_body held) (batch_body batch) then Known (batch_outputs node held) else Refused DigestClash
 
 abbrev pub batch_answer : Node → History → Contents → Admission
-batch_answer node history batch = on (batch_at history (batch_digest batch))
-  where
-    on : Option Contents → Admission
-    on (Some held) = held_batch_answer node held batch
-    on None = if nat_le node.charter.batches (length (batches history)) then Refused StoreFull else New (batch_outputs node batch)
+batch_answer node history batch =
+    when batch_at history (batch_digest batch) gives (λ held. held_batch_answer node held batch)
+    else if nat_le node.charter.batches (length (batches history)) then Refused StoreFull
+    else New (batch_outputs node batch)
 
 abbrev pub ack_answer : Node → History → BatchAck → Admission
 ack_answer node history ack =
@@ -77,17 +82,13 @@ may_name node history header named =
 abbrev pub header_answer : Node → History → Header → Admission
 header_answer node history header =
     if is_low (floor node history) header.body.round then Refused TooOld
-    else on (voted_header history header.body.round header.body.author.0)
-  where
-    on : Option Header → Admission
-    on (Some held) =
+    else when voted_header history header.body.round header.body.author.0 gives (λ held.
         if same_digest (header_digest held.body) (header_digest header.body) then Known (header_outputs node held)
         else if is_own node header.body.author then Refused AlreadyProposed
-        else Refused Equivocation
-    on None =
-        if not (all_held (slots node history) (floor node history) header.body) then Refused MissingParents
-        else if not (list_all (may_name node history header) header.body.batches) then Refused MissingBatch
-        else New (header_outputs node header)
+        else Refused Equivocation)
+    else if not (all_held (slots node history) (floor node history) header.body) then Refused MissingParents
+    else if not (list_all (may_name node history header) header.body.batches) then Refused MissingBatch
+    else New (header_outputs node header)
 
 -- what a new vote on an own header gives out: the certificate, if it completes one, and what that adds to the order
 abbrev pub vote_outputs : Node → History → Event → Header → List Output
@@ -108,17 +109,11 @@ abbrev pub vote_answer : Node → History → Event → Vote → Admission
 vote_answer node history event vote =
     if not (is_own node vote.author) then Refused NotOurs
     else if is_low (floor node history) vote.round then Refused TooOld
-    else on (voted_header history vote.round node.own.0)
-  where
-    on_slot : Header → Option Certificate → Admission
-    on_slot header None = counted_answer node history event header vote.voter.0
-    on_slot header (Some held) = held_answer held vote
-
-    on : Option Header → Admission
-    on None = Refused NotOurs
-    on (Some header) =
-        if same_digest (header_digest header.body) vote.header then on_slot header (slots node history vote.round node.own.0)
-        else Refused NotOurs
+    else when voted_header history vote.round node.own.0 gives (λ header.
+        if not (same_digest (header_digest header.body) vote.header) then Refused NotOurs
+        else when slots node history vote.round node.own.0 gives (λ held. held_answer held vote)
+        else counted_answer node history event header vote.voter.0)
+    else Refused NotOurs
 
 -- two references name the same batch and worker
 abbrev pub same_batch : BatchReference → BatchReference → Bool
@@ -136,27 +131,20 @@ same_header one other =
 abbrev pub certificate_answer : Node → History → Event → Certificate → Admission
 certificate_answer node history event certificate =
     if is_low (floor node history) certificate.header.round then Refused TooOld
-    else on (slots node history certificate.header.round certificate.header.author.0)
-  where
-    on : Option Certificate → Admission
-    on (Some held) =
+    else when slots node history certificate.header.round certificate.header.author.0 gives (λ held.
         if not (same_digest (certificate_digest held.header) (certificate_digest certificate.header)) then Refused CertConflict
         else if same_header held.header certificate.header then Known []
-        else Refused DigestClash
-    on None =
-        if all_held (slots node history) (floor node history) certificate.header then New (order_outputs node history event)
-        else Refused MissingParents
+        else Refused DigestClash)
+    else if not (all_held (slots node history) (floor node history) certificate.header) then Refused MissingParents
+    else New (order_outputs node history event)
 
 abbrev pub coin_answer : Node → History → Event → Coin → Admission
 coin_answer node history event coin =
-    if not (is_own node event.sender) then Refused NotOurs else on (slice_get (coins history) (coin.wave - 1))
-  where
-    on : Option ℕ → Admission
-    on (Some taken) = if taken == coin.value then Known [] else Refused CoinConflict
-    on None =
-        if not (coin.wave == length (coins history) + 1) then Refused CoinOutOfTurn
-        else if not (is_full node (slots node history) (2 * coin.wave + 1)) then Refused CoinEarly
-        else New (order_outputs node history event)
+    if not (is_own node event.sender) then Refused NotOurs
+    else when slice_get (coins history) (coin.wave - 1) gives (λ taken. if taken == coin.value then Known [] else Refused CoinConflict)
+    else if not (coin.wave == length (coins history) + 1) then Refused CoinOutOfTurn
+    else if not (is_full node (slots node history) (2 * coin.wave + 1)) then Refused CoinEarly
+    else New (order_outputs node history event)
 
 abbrev pub admit : Node → History → Event → Admission
 admit node history event = on event.message

@@ -1,8 +1,11 @@
 -- The node whose history it is, and what its committee fixes.
-use Rattle.std.specs.Prelude.{ℕ, ◌<◌, List, length}
+use Rattle.std.specs.Prelude.{◌≡◌, ℕ, ◌<◌, List, length, Some, slice_get}
 use Rattle.std.specs.List.{range_with_len}
 use Rattle.committee.specs.File.{Charter, IsCharter}
 use Rattle.committee.specs.Sizes.{quorum_of}
+use Rattle.sigface.specs.Tied.{AreAccepted}
+use Rattle.header.specs.Checks.{Accepts}
+use Rattle.wire.specs.declared.keys.Key.{Key}
 use Rattle.model.specs.Words.{Author, Digest, Signature}
 use Rattle.model.specs.declared.node.Node as declared
 
@@ -32,3 +35,9 @@ numbers size = range_with_len 0 size
 -- what a contract sees of a value of the type `Node`, with the signatures that its signer gives
 abbrev pub node_view : {S : Type 0} → (S → Digest → Signature) → declared.Node S → Node
 node_view signature_of node = record { own = node.own; charter = node.committee; sign = signature_of node.signer }
+
+-- a node's signer and a verifier belong together: the signer's key is the node's member's, and what the node signs is accepted
+-- for that key
+pub record AreTied (node : Node) (key : Key) (accepts : Accepts) : Type 0 where
+  pub own_key : slice_get node.charter.keys node.own.0 ≡ Some key
+  pub accepted : AreAccepted accepts key node.sign

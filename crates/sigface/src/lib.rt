@@ -4,5 +4,5 @@
 mod pair;
 mod signature;
 
-pub use pair::{HashSign, HashVerify};
+pub use pair::{HashSign, HashVerify, pair_is_tied};
 pub use signature::{Sign, Verify};

@@ -4,6 +4,7 @@ ghost use Rattle.std.specs.Prelude.{◌≡◌, ◌↔◌, ◌∷◌, ◌++◌, I
 ghost use Rattle.std.proofs.lemmas.Cmp.{nat_list_eq_equiv};
 ghost use Rattle.sha2.specs.Sha256.{sha256};
 ghost use Rattle.sigface.specs.Pair.{pair_signature, is_pair_signature};
+ghost use Rattle.sigface.specs.Tied.{AreAccepted};
 
 use crate::signature::{Sign, Verify};
 use sha2::{Digest as Hasher, Sha256};
@@ -93,3 +94,8 @@ impl Verify for HashVerify {
         signature_by(key, digest) == *signature
     }
 }
+
+/// The two are a pair: whatever a `HashSign` signs, a `HashVerify` accepts for its key. The call does nothing.
+pub fn pair_is_tied(signer: &HashSign, verifier: &HashVerify)
+    ensures { AreAccepted (⟦<HashVerify as Verify>⟧.accepts verifier.now) (⟦<HashSign as Sign>⟧.own_key signer.now) (⟦<HashSign as Sign>⟧.signature_of signer.now) }
+{}

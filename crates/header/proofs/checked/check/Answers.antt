@@ -1,13 +1,19 @@
-use Rattle.std.proofs.Common.{rules, ◌≡◌, Some}
+use Rattle.std.proofs.Common.{◌≡◌, None, sym}
 use Rattle.wire.specs.Events.{Event}
-use Rattle.header.specs.declared.error.CheckError.TheVariants.{Memory}
-use Rattle.header.specs.Checks.{fault_of}
-use Rattle.header.proofs.Failing.{fault_of-memory}
+use Rattle.header.specs.Checks.{fault_of, accepts_all}
+use Rattle.header.proofs.Failing.{passes-accepts_all}
 use Rattle.header.proofs.checked.check.Goals as goal
 
-pub returns-in_err-test_message-clause-no_memory :
-    goal.returns-in_err-test_message-clause-no_memory
-returns-in_err-test_message-clause-no_memory g c is =
+pub invariant_of-result : goal.invariant_of-result
+invariant_of-result g c =
     let event : Event = record { sender = c.args.sender; message = c.args.message } in
-    let refused : fault_of c.args.committee.now (g.V.Verify.accepts c.args.verifier.now) event ≡ Some Memory = search (rules, is, c.from_residual.ensures, c.in_err-test_message.ensures) in
-    fault_of-memory c.args.committee.now (g.V.Verify.accepts c.args.verifier.now) event refused
+    (record {
+      charter = c.args.committee.now;
+      committee = c.limits_hold.ensures;
+      passed = passes-accepts_all c.args.committee.now (g.V.Verify.accepts c.args.verifier.now) event (sym c.in_ok-digested.ensures.refused);
+    }, c.in_ok-digested.ensures.digests)
+
+pub returns-clause-passed_before : goal.returns-clause-passed_before
+returns-clause-passed_before g c =
+    let event : Event = record { sender = c.args.sender; message = c.args.message } in
+    passes-accepts_all c.args.committee.now (g.V.Verify.accepts c.args.verifier.now) event (sym c.in_ok-digested.ensures.refused)
