@@ -48,7 +48,7 @@ pub struct Book<S: Sign> {
 }
 
 impl<S: Sign> Book<S> {
-    ghost use Rattle.std.specs.Prelude.{◌⊎◌, ◌∷◌, [], ◌++◌, ◌<◌, false, true, take, drop, IsTrue, IsNone, IsSome, IfOk, IfErr, IfSome, OnOk, OnErr, IsErrOf, MatchOption, MatchResult, ◌↔◌, is_some, if◌then◌else◌};
+    ghost use Rattle.std.specs.Prelude.{◌≢◌, ◌⊎◌, ◌∷◌, [], ◌++◌, ◌<◌, false, true, take, drop, IsTrue, IsNone, IsSome, IfOk, IfErr, IfSome, OnOk, OnErr, IsErrOf, MatchOption, MatchResult, ◌↔◌, is_some, if◌then◌else◌};
     ghost use Rattle.std.specs.FinMap as map;
     ghost use Rattle.book.specs.declared.validator.Admission.TheVariants.{New, Known};
     ghost use Rattle.book.specs.Admission.{Admits, IsKnownKind};
@@ -128,6 +128,13 @@ impl<S: Sign> Book<S> {
         let group = first_group(self.alloc, &self.pending)?;
         drop_front(&mut self.pending, group.records_count() as usize);
         Ok(Some(group))
+    }
+
+    /// Whether a record is pending.
+    pub fn has_pending(&self) -> bool
+        ensures { IsTrue result ↔ ((standing self.now).pending ≢ []) }
+    {
+        !self.pending.is_empty()
     }
 
     /// Says that a group is on the disk: the one that was taken first of those that aren't settled.

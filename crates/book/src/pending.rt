@@ -6,7 +6,7 @@ ghost use Rattle.book.specs.Record.{record_of as record_bytes};
 ghost use Rattle.book.specs.Pending.{EachFits, IsLongestBeginning};
 
 use header::Checked;
-use journal::{Group, MAX_GROUP_BYTES, MAX_GROUP_RECORDS};
+use journal::{Group, LENGTH_BYTES, MAX_GROUP_BYTES, MAX_GROUP_RECORDS};
 use std::alloc::{AllocError, Global};
 use wire::encode;
 use wire::numbers::two_bytes;
@@ -17,13 +17,10 @@ pub const EVENT_RECORD: u8 = 1;
 /// The bytes of an event's record before its message: the kind and the sender.
 const EVENT_FRONT_BYTES: usize = 3;
 
-/// The bytes that a group adds to each record: its length.
-const LENGTH_BYTES: usize = 4;
-
 /// The record of an event: its kind, the sender, the message.
 pub fn record_of(alloc: Global, event: &Checked) -> Result<Vec<u8>, AllocError>
     ensures bytes { IfOk result (λ bytes. bytes.items ≡ record_bytes event.now) }
-    ensures fits { IfOk result (λ bytes. 4 + length bytes.items ≤ 4194304) }
+    ensures fits { IfOk result (λ bytes. LENGTH_BYTES + length bytes.items ≤ MAX_GROUP_BYTES) }
 {
     let message = encode(alloc, event.message())?;
     let mut record = Vec::with_capacity(alloc, EVENT_FRONT_BYTES + message.len())?;
@@ -54,8 +51,8 @@ fn longest_beginning(pending: &[Vec<u8>]) -> usize
 
 // Whether a record of this length fits a group behind so many records whose body has this size.
 fn fits_behind(count: usize, size: usize, len: usize) -> bool
-    requires { size ≤ 4194304 }
-    ensures { IsTrue result ↔ ((count < 1024) × (size + (4 + len) ≤ 4194304)) }
+    requires { size ≤ MAX_GROUP_BYTES }
+    ensures { IsTrue result ↔ ((count < MAX_GROUP_RECORDS) × (size + (LENGTH_BYTES + len) ≤ MAX_GROUP_BYTES)) }
 {
     let room = MAX_GROUP_BYTES - size;
     count < MAX_GROUP_RECORDS && room >= LENGTH_BYTES && len <= room - LENGTH_BYTES

@@ -1,6 +1,6 @@
 -- What a disk in memory keeps, over its calls.
 use Rattle.std.proofs.Common.{◌≡◌, ◌⊎◌, ℕ, ◌≤◌, min, max, List, [], ◌∷◌, ◌++◌, length, take, refl, sym, ap, subst, ◌∙◌, inl, inr, arith, true, Some}
-use Rattle.std.specs.Prelude.{slice_get}
+use Rattle.std.specs.Prelude.{slice_get, slice_index}
 use Rattle.std.proofs.lemmas.List.{length_push}
 use Rattle.diskmodel.specs.declared.call.Call.{Call}
 use Rattle.diskmodel.specs.declared.call.Call.TheVariants.{Wrote, Cut, Synced, Stopped}
@@ -34,6 +34,16 @@ pub state_firm_bytes : (first : List ℕ) (calls : List Call) (firm : List ℕ) 
     → Keeps first calls firm smallest greatest spans content → AreBytes (state first calls).firm
 state_firm_bytes first calls firm smallest greatest spans content kept = subst AreBytes (sym kept.firm_is) kept.firm_bytes
 
+-- the bytes of the last sync are an outcome
+pub firm_possible : (first : List ℕ) (calls : List Call) (firm : List ℕ) (smallest greatest : ℕ) (spans : List Span) (content : List ℕ)
+    → Keeps first calls firm smallest greatest spans content → IsOutcome first calls firm
+firm_possible first calls firm smallest greatest spans content kept = record {
+  stays = λ place below none. ap (λ (bytes : List ℕ). slice_index bytes place) (sym kept.firm_is);
+  are_bytes = kept.firm_bytes;
+  no_shorter = omega (arith, kept.smallest_is, kept.in_firm);
+  no_longer = omega (arith, kept.greatest_is, kept.firm_fits);
+}
+
 pub kept_write : (first : List ℕ) (calls : List Call) (firm : List ℕ) (smallest greatest : ℕ) (spans : List Span) (content : List ℕ) (at : ℕ) (bytes : List ℕ)
     → Keeps first calls firm smallest greatest spans content → AreBytes bytes → at ≤ length content
     → Keeps first (calls ++ Wrote at bytes ∷ []) firm (min smallest (length (written content at bytes))) (max greatest (length (written content at bytes)))
@@ -49,6 +59,7 @@ kept_write first calls firm smallest greatest spans content at bytes kept are_by
       spans_are = ap (λ (s : State). s.spans) push ∙ ap (λ (rows : List Span). rows ++ record { place = at; count = length bytes } ∷ []) kept.spans_are;
       content_is = ap (λ (s : State). s.content) push ∙ read;
       in_firm = omega (arith, kept.in_firm);
+      firm_fits = omega (arith, kept.firm_fits);
       firm_bytes = kept.firm_bytes;
       possible = IsOutcome-push first calls (Wrote at bytes) (written content at bytes)
           (subst (λ (c : List ℕ). CanLeave (after (state first calls) (Wrote at bytes)) c) read
@@ -69,6 +80,7 @@ kept_cut first calls firm smallest greatest spans content len kept within =
       spans_are = ap (λ (s : State). s.spans) push ∙ kept.spans_are;
       content_is = ap (λ (s : State). s.content) push ∙ read;
       in_firm = omega (arith, kept.in_firm);
+      firm_fits = omega (arith, kept.firm_fits);
       firm_bytes = kept.firm_bytes;
       possible = IsOutcome-push first calls (Cut len) (take len content)
           (subst (λ (c : List ℕ). CanLeave (after (state first calls) (Cut len)) c) read
@@ -87,6 +99,7 @@ kept_sync first calls firm smallest greatest spans content kept =
       spans_are = ap (λ (s : State). s.spans) now;
       content_is = ap (λ (s : State). s.content) now;
       in_firm = omega arith;
+      firm_fits = omega arith;
       firm_bytes = kept.possible.are_bytes;
       possible = subst (λ (s : State). CanLeave s content) (sym now) (possible_firm content kept.possible.are_bytes);
     }
@@ -104,6 +117,7 @@ kept_stop first calls firm smallest greatest spans content found kept left =
       spans_are = ap (λ (s : State). s.spans) push ∙ kept.spans_are;
       content_is = ap (λ (s : State). s.content) push;
       in_firm = kept.in_firm;
+      firm_fits = kept.firm_fits;
       firm_bytes = kept.firm_bytes;
       possible = IsOutcome-push first calls (Stopped found) found (unstopped (state first calls) found found left);
     }
@@ -120,6 +134,7 @@ kept_as first calls calls' firm firm' smallest smallest' greatest greatest' span
   spans_are = ap (λ (past : List Call). (state first past).spans) same_calls ∙ kept.spans_are ∙ sym same_spans;
   content_is = ap (λ (past : List Call). (state first past).content) same_calls ∙ kept.content_is ∙ sym same_content;
   in_firm = omega (arith, kept.in_firm, ap length same_firm);
+  firm_fits = omega (arith, kept.firm_fits, ap length same_firm);
   firm_bytes = subst AreBytes (sym same_firm) kept.firm_bytes;
   possible = subst (λ (past : List Call). IsOutcome first past content') (sym same_calls) (subst (λ (bytes : List ℕ). IsOutcome first calls bytes) (sym same_content) kept.possible);
 }
@@ -151,6 +166,7 @@ kept_replaced first rest firm smallest greatest spans content gone found kept le
       spans_are = ap (λ (s : State). s.spans) push ∙ ap (λ (s : State). s.spans) (sym push_gone) ∙ kept.spans_are;
       content_is = ap (λ (s : State). s.content) push;
       in_firm = kept.in_firm;
+      firm_fits = kept.firm_fits;
       firm_bytes = kept.firm_bytes;
       possible = IsOutcome-unstopped first rest found found (IsOutcome-stopped first rest gone found left);
     }

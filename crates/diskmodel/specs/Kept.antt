@@ -13,6 +13,7 @@ pub record Keeps (first : List ℕ) (calls : List Call) (firm : List ℕ) (small
   pub spans_are : (state first calls).spans ≡ spans
   pub content_is : (state first calls).content ≡ content
   pub in_firm : smallest ≤ length firm
+  pub firm_fits : length firm ≤ greatest
   pub firm_bytes : AreBytes firm
   pub possible : IsOutcome first calls content
 

@@ -4,3 +4,4 @@ pub mod Kept
 pub mod Memory
 pub mod Outcomes
 pub mod Recorded
+pub mod Refusals

@@ -6,6 +6,8 @@
 --   4. After a successful sync what a read gives is the only outcome of a stop.
 --   5. A stop may come inside a call: the outcomes are then those before it together with those
 --      after it. After a stop reads give one of the outcomes, and the others stay until a sync.
+-- `CanLeave` has rules 1 to 3, `after` says of the calls what makes rule 4 and the end of rule 5, and
+-- `IsOutcomeSince` has its beginning.
 use Rattle.std.specs.Prelude.{◌<◌, ◌≡◌, ℕ, ◌+◌, ◌≤◌, max, min, Bool, false, ◌&&◌, nat_le, nat_lt, List, [], ◌∷◌, ◌++◌, length, take, slice_index}
 use Rattle.std.specs.List.{All, list_any}
 use Rattle.std.proofs.Common.{arith, subst, sym}
@@ -23,16 +25,19 @@ holds span place = nat_le span.place place && nat_lt place (span.place + span.co
 abbrev pub is_written : List Span → ℕ → Bool
 is_written spans place = list_any (λ span. holds span place) spans
 
--- what counts of the calls so far: the bytes at the last successful sync, the smallest and the
--- greatest length since then, the places that were written since then, and what a read gives
+-- what counts of the calls so far
 pub record State : Type 0 where
+  -- the bytes at the last successful sync
   pub firm : List ℕ
+  -- the smallest and the greatest length since then
   pub smallest : ℕ
   pub greatest : ℕ
+  -- the places that were written since then
   pub spans : List Span
+  -- what a read gives
   pub content : List ℕ
 
--- right after a sync
+-- Right after a sync, which is rule 4: no place was written, and the one length is that of these bytes.
 abbrev pub firmed : List ℕ → State
 firmed bytes = record { firm = bytes; smallest = length bytes; greatest = length bytes; spans = []; content = bytes }
 
@@ -40,11 +45,13 @@ firmed bytes = record { firm = bytes; smallest = length bytes; greatest = length
 abbrev pub marked : State → ℕ → ℕ → State
 marked s place count = record s { spans = s.spans ++ record { place = place; count = count } ∷ [] }
 
--- with these bytes for what a read gives
+-- with these bytes for what a read gives, whose length is one more of those since the sync
 abbrev pub giving : State → List ℕ → State
 giving s bytes = record s { smallest = min s.smallest (length bytes); greatest = max s.greatest (length bytes); content = bytes }
 
--- after one call more
+-- After one call more. What a cut took lies past the smallest length from then on, as rule 2 has it. A
+-- stop makes no byte firm and forgets no write: by rule 5 it changes what a read gives and nothing else,
+-- so that the outcomes stay the same until a sync.
 abbrev pub after : State → Call → State
 after s (Wrote place bytes) = giving (marked s place (length bytes)) (written s.content place bytes)
 after s (Cut len) = giving s (take len s.content)
@@ -66,17 +73,20 @@ AreBytes numbers = All (λ number. number < 256) numbers
 
 -- a stop may leave these bytes
 pub record CanLeave (s : State) (found : List ℕ) : Type 0 where
+  -- rule 1, of a place that wasn't written and that no cut took
+  pub stays : (place : ℕ) → place < s.smallest → is_written s.spans place ≡ false → slice_index found place ≡ slice_index s.firm place
+  -- rule 2, which asks no more than that of the other places
   pub are_bytes : AreBytes found
+  -- rule 3
   pub no_shorter : s.smallest ≤ length found
   pub no_longer : length found ≤ s.greatest
-  -- a place below the smallest length that wasn't written
-  pub stays : (place : ℕ) → place < s.smallest → is_written s.spans place ≡ false → slice_index found place ≡ slice_index s.firm place
 
 -- what a stop may leave after these calls
 abbrev pub IsOutcome : List ℕ → List Call → List ℕ → Type 0
 IsOutcome first calls found = CanLeave (state first calls) found
 
--- what a stop may have left after the first t of these calls or later
+-- What a stop may have left after the first t of these calls or later, which is rule 5: one inside a call
+-- leaves what one right before it or right after it may leave.
 pub record IsOutcomeSince (first : List ℕ) (calls : List Call) (t : ℕ) (found : List ℕ) : Type 0 where
   pub moment : ℕ
   pub no_earlier : t ≤ moment

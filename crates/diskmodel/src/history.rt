@@ -3,9 +3,14 @@ ghost use Rattle.std.specs.Prelude.{◌≡◌, ◌⊎◌, ℕ, ◌+◌, ◌-◌,
 ghost use Rattle.diskmodel.specs.Disk.{written};
 ghost use Rattle.diskmodel.specs.Outcomes.{is_written, state, IsOutcome};
 ghost use Rattle.diskmodel.specs.Kept.{Keeps, ends_in_stop};
+ghost use Rattle.diskmodel.specs.Refusals.{IsRefused, room_for};
 
 use crate::call::{Bytes, Call, Span};
+use crate::refusals::Refusals;
 use std::alloc::{AllocError, Global};
+
+/// How many places a call makes room for in the record: its own, and one for a stop behind it.
+pub const CALL_AND_STOP: usize = 2;
 
 /// The smallest and the greatest length since the last sync, in bytes.
 #[derive(Clone, Copy, Debug, PartialEq, Eq)]
@@ -59,15 +64,35 @@ pub struct History {
     ghost fits: { lengths.greatest ≤ vec_capacity content },
 }
 
+/// A copy of these bytes.
+fn copy(alloc: Global, bytes: &[u8], refusals: &mut Refusals) -> Result<Vec<u8>, AllocError>
+    ensures items { IfOk result (λ copy. copy.items ≡ bytes.now) }
+    ensures no_refusal { OnOk result (refusals.new ≡ refusals.old) }
+    ensures refused { OnErr result (IsRefused (length bytes.now) refusals.old refusals.new) }
+{
+    let mut copy = Vec::new(alloc);
+    refusals.grow(&mut copy, bytes.len())?;
+    let _ = copy.extend_from_slice(bytes);
+    Ok(copy)
+}
+
 /// Puts bytes into a list at a place within it or at its end. Where memory is refused the list is as before.
-fn overlay(list: &mut Vec<u8>, at: usize, bytes: &[u8]) -> Result<(), AllocError>
+fn overlay(
+    list: &mut Vec<u8>,
+    at: usize,
+    bytes: &[u8],
+    refusals: &mut Refusals,
+) -> Result<(), AllocError>
     requires { at ≤ vec_len list.old }
     ensures ok { OnOk result (list.new.items ≡ written list.old.items at bytes.now) }
     ensures err { OnErr result (list.new.items ≡ list.old.items) }
     ensures capacity { vec_capacity list.old ≤ vec_capacity list.new }
+    ensures refused { OnErr result (IsRefused (length bytes.now) refusals.old refusals.new) }
 {
     let within = bytes.len().min(list.len() - at);
-    list.extend_from_slice(&bytes[within..])?;
+    let behind = &bytes[within..];
+    refusals.grow(list, behind.len())?;
+    let _ = list.extend_from_slice(behind);
     list[at..at + within].copy_from_slice(&bytes[..within]);
     Ok(())
 }
@@ -133,17 +158,22 @@ impl History {
     }
 
     /// Writes bytes within the content or at its end. Where memory is refused all is as before.
-    pub fn write(&mut self, at: usize, bytes: &[u8]) -> Result<(), AllocError>
+    pub fn write(
+        &mut self,
+        at: usize,
+        bytes: &[u8],
+        refusals: &mut Refusals,
+    ) -> Result<(), AllocError>
         requires { at ≤ length self.old.content.items }
         ensures added { OnOk result (Adds (Call.Wrote at bytes.now) self.old self.new) }
         ensures content { OnOk result (self.new.content.items ≡ written self.old.content.items at bytes.now) }
         ensures err { OnErr result (IsAsBefore self.old self.new) }
+        ensures refused { OnErr result (IsRefused (room_for (length bytes.now)) refusals.old refusals.new) }
     {
-        let copy = Bytes::from_vec(bytes.to_vec(self.alloc)?);
-        // One place more than this call takes is for a stop after it.
-        self.calls.reserve(2)?;
-        self.spans.reserve(1)?;
-        overlay(&mut self.content, at, bytes)?;
+        let copy = Bytes::from_vec(copy(self.alloc, bytes, refusals)?);
+        refusals.grow(&mut self.calls, CALL_AND_STOP)?;
+        refusals.grow(&mut self.spans, 1)?;
+        overlay(&mut self.content, at, bytes, refusals)?;
         self.lengths.note(self.content.len());
         let place = at as u64;
         let count = bytes.len() as u64;
@@ -153,13 +183,14 @@ impl History {
     }
 
     /// Cuts the content to a length. Where memory is refused all is as before.
-    pub fn cut(&mut self, len: usize) -> Result<(), AllocError>
+    pub fn cut(&mut self, len: usize, refusals: &mut Refusals) -> Result<(), AllocError>
         requires { len ≤ length self.old.content.items }
         ensures added { OnOk result (Adds (Call.Cut len) self.old self.new) }
         ensures content { OnOk result (self.new.content.items ≡ take len self.old.content.items) }
         ensures err { OnErr result (IsAsBefore self.old self.new) }
+        ensures refused { OnErr result (IsRefused (room_for 0) refusals.old refusals.new) }
     {
-        self.calls.reserve(2)?;
+        refusals.grow(&mut self.calls, CALL_AND_STOP)?;
         self.content.truncate(len);
         self.lengths.note(self.content.len());
         self.calls.push_reserved(Call::Cut(len as u64));
@@ -167,13 +198,14 @@ impl History {
     }
 
     /// Makes the content firm. Where memory is refused all is as before.
-    pub fn sync(&mut self) -> Result<(), AllocError>
+    pub fn sync(&mut self, refusals: &mut Refusals) -> Result<(), AllocError>
         ensures added { OnOk result (Adds Call.Synced self.old self.new) }
         ensures content { self.new.content.items ≡ self.old.content.items }
         ensures err { OnErr result (IsAsBefore self.old self.new) }
+        ensures refused { OnErr result (IsRefused (room_for (length self.old.content.items)) refusals.old refusals.new) }
     {
-        let firm = self.content.to_vec(self.alloc)?;
-        self.calls.reserve(2)?;
+        let firm = copy(self.alloc, &self.content, refusals)?;
+        refusals.grow(&mut self.calls, CALL_AND_STOP)?;
         self.firm = firm;
         self.lengths = Lengths::only(self.content.len());
         self.spans.clear();

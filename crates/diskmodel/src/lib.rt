@@ -4,9 +4,10 @@
 mod call;
 mod countdowns;
 mod disk;
-mod fault_count;
 mod history;
 mod memory;
+mod refusals;
+mod tally;
 
 pub use call::{Bytes, Call, CallKind};
 pub use disk::{Disk, DiskFault, StopDisk};

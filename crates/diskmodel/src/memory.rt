@@ -1,5 +1,5 @@
 //! A disk in memory, which can be told to fail and on which a stop of the machine can be played.
-ghost use Rattle.std.specs.Prelude.{◌≡◌, ℕ, ◌+◌, ◌-◌, ◌<◌, ◌≤◌, ◌↔◌, List, [], None, Some, length, take, drop, IsTrue, IsErr, Ok, IfOk, OnOk, OnErr, is_ok};
+ghost use Rattle.std.specs.Prelude.{◌≡◌, ◌⊎◌, ℕ, ◌+◌, ◌-◌, ◌<◌, ◌≤◌, ◌↔◌, List, [], None, Some, length, take, drop, IsTrue, IsErr, Ok, IfOk, OnOk, OnErr, is_ok};
 ghost use Rattle.std.specs.List.{Contains};
 ghost use Rattle.diskmodel.specs.Disk.{HasCause, NoneNew, GoesOn};
 ghost use Rattle.diskmodel.specs.Outcomes.{is_written};
@@ -7,8 +7,9 @@ ghost use Rattle.diskmodel.specs.Outcomes.{is_written};
 use crate::call::{Bytes, Call, CallKind};
 use crate::countdowns::Countdowns;
 use crate::disk::{Disk, DiskFault, StopDisk};
-use crate::fault_count::FaultCount;
 use crate::history::History;
+use crate::refusals::Refusals;
+use crate::tally::Tally;
 use std::alloc::{AllocError, Global};
 
 /// A disk in memory. It keeps its first bytes and the record of its calls.
@@ -17,7 +18,8 @@ pub struct MemDisk {
     history: History,
     countdowns: Countdowns,
     choice: Option<Bytes>,
-    faults: FaultCount,
+    faults: Tally,
+    refusals: Refusals,
 }
 
 impl MemDisk {
@@ -39,7 +41,8 @@ impl MemDisk {
             history: History::new(alloc, bytes)?,
             countdowns: Countdowns::none(alloc),
             choice: None,
-            faults: FaultCount::none(),
+            faults: Tally::none(),
+            refusals: Refusals::none(),
         })
     }
 
@@ -50,9 +53,11 @@ impl MemDisk {
         &self.history.content
     }
 
-    /// The bytes of the last successful sync, or those of the beginning if there was none.
+    /// The bytes of the last successful sync, or those of the beginning if there was none. A stop may
+    /// leave them.
     pub fn firm(&self) -> &[u8]
-        ensures { result.now ≡ (state_of self.now).firm }
+        ensures value { result.now ≡ (state_of self.now).firm }
+        ensures outcome { CanStopAt self.now result.now }
     {
         &self.history.firm
     }
@@ -106,6 +111,7 @@ impl MemDisk {
         ensures undisturbed { IsUndisturbed self.old self.new }
         ensures told { told_of self.new ≡ told_of self.old }
         ensures count { self.new.faults.count ≡ self.old.faults.count + 1 }
+        ensures refusals { self.new.refusals ≡ self.old.refusals }
     {
         self.faults = self.faults.one_more();
         DiskFault
@@ -118,6 +124,7 @@ impl MemDisk {
         ensures no_fault { OnOk result (self.new.faults.count ≡ self.old.faults.count) }
         ensures told { IsErr result ↔ Contains (counts_for (told_of self.old) call) 1 }
         ensures counted { told_of self.new ≡ counting (told_of self.old) call }
+        ensures refusals { self.new.refusals ≡ self.old.refusals }
     {
         if self.countdowns.count(call) {
             return Err(self.fault());
@@ -132,6 +139,7 @@ impl MemDisk {
         ensures cause { HasCause self.old.faults.count self.new.faults.count result }
         ensures no_fault { OnOk result (self.new.faults.count ≡ self.old.faults.count) }
         ensures same { is_ok result ≡ is_ok outcome }
+        ensures refusals { self.new.refusals ≡ self.old.refusals }
     {
         match outcome {
             Ok(()) => Ok(()),
@@ -146,6 +154,7 @@ impl Disk for MemDisk {
     ghost use Rattle.diskmodel.specs.Recorded.{Adds};
     ghost use Rattle.diskmodel.specs.Countdowns.{counts_for};
     ghost use Rattle.diskmodel.specs.Memory.{content_of, CanStopAt, told_of, TimeGoesOn, IsUndisturbed, Heeds};
+    ghost use Rattle.diskmodel.specs.Refusals.{IsRefused, room_for};
 
     ghost content = { λ disk. disk.history.content.items };
 
@@ -203,9 +212,12 @@ impl Disk for MemDisk {
         ensures cause { HasCause self.old.faults.count self.new.faults.count result }
         ensures recorded { OnOk result (Adds (Call.Wrote at bytes.now) self.old.history self.new.history) }
         ensures heeds { Heeds CallKind.Write self.old self.new result }
+
+        // It fails only where it has been told to, or memory was refused.
+        ensures succeeds { OnErr result (Contains (counts_for (told_of self.old) CallKind.Write) 1 ⊎ IsRefused (room_for (length bytes.now)) self.old.refusals self.new.refusals) }
     {
         self.fail_if_told(CallKind::Write)?;
-        let outcome = self.history.write(at as usize, bytes);
+        let outcome = self.history.write(at as usize, bytes, &mut self.refusals);
         self.counted(outcome)
     }
 
@@ -217,9 +229,10 @@ impl Disk for MemDisk {
         ensures cause { HasCause self.old.faults.count self.new.faults.count result }
         ensures recorded { OnOk result (Adds (Call.Cut len) self.old.history self.new.history) }
         ensures heeds { Heeds CallKind.Cut self.old self.new result }
+        ensures succeeds { OnErr result (Contains (counts_for (told_of self.old) CallKind.Cut) 1 ⊎ IsRefused (room_for 0) self.old.refusals self.new.refusals) }
     {
         self.fail_if_told(CallKind::Cut)?;
-        let outcome = self.history.cut(len as usize);
+        let outcome = self.history.cut(len as usize, &mut self.refusals);
         self.counted(outcome)
     }
 
@@ -231,9 +244,10 @@ impl Disk for MemDisk {
         ensures cause { HasCause self.old.faults.count self.new.faults.count result }
         ensures recorded { OnOk result (Adds Call.Synced self.old.history self.new.history) }
         ensures heeds { Heeds CallKind.Sync self.old self.new result }
+        ensures succeeds { OnErr result (Contains (counts_for (told_of self.old) CallKind.Sync) 1 ⊎ IsRefused (room_for (length (content_of self.old))) self.old.refusals self.new.refusals) }
     {
         self.fail_if_told(CallKind::Sync)?;
-        let outcome = self.history.sync();
+        let outcome = self.history.sync(&mut self.refusals);
         self.counted(outcome)
     }
 }

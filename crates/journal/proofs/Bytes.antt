@@ -1,13 +1,12 @@
 -- How records and groups are read back from their bytes.
-use Rattle.std.proofs.Common.{◌≡◌, ◌≢◌, ℕ, zero, suc, ◌+◌, ◌-◌, ◌<◌, ◌≤◌, ◌^◌, Bool, true, false, cond, List, [], ◌∷◌, ◌++◌, length, take, drop, Option, Some, None, refl, sym, ◌∙◌, ap, arith, length-append, length-drop, ltb}
+use Rattle.std.proofs.Common.{◌≡◌, ◌≢◌, ℕ, zero, suc, ◌+◌, ◌<◌, ◌≤◌, ◌^◌, Bool, true, false, cond, List, [], ◌∷◌, ◌++◌, length, take, drop, Option, Some, None, refl, sym, ◌∙◌, ap, arith, length-append, length-drop, ltb}
 use Rattle.std.specs.Option.{option_map, option_and_then}
 use Rattle.std.proofs.lemmas.List.{drop-drop, take_at, drop_at, length-take-le}
 use Rattle.std.proofs.lemmas.List.Sums.{sum_by-cons}
-use Rattle.std.specs.Option.{unwrap_or}
 use Rattle.std.proofs.lemmas.Nat.{from_be_bytes-to_be_bytes_4}
 use Rattle.std.proofs.lemmas.Bool.{ltb-false, le-ltb, cond-false}
 use Rattle.std.proofs.lemmas.Option.{same_Some, none-some}
-use Rattle.journal.specs.Format.{FitsGroup, body_len, record_bytes, body_bytes, group_bytes, length_field, split_record, records_behind, records_of, group_of, written_records}
+use Rattle.journal.specs.Format.{FitsGroup, body_len, record_bytes, body_bytes, group_bytes, length_field, split_record, records_behind, records_of, group_of}
 
 -- a test that led to a value led past its `None`
 pub passed_test : {A : Type 0} (b : Bool) (y : Option A) (z : A) → cond b None y ≡ Some z → (b ≡ false) × (y ≡ Some z)
@@ -99,12 +98,3 @@ unfolding group_of
 group_read records fits =
     ap (λ (o : Option (List (List ℕ))). option_and_then (λ found. cond (ltb 1024 (length found)) None (Some found)) o) (body_read records fits.not_long)
     ∙ cond-false (ltb 1024 (length records)) None (Some records) (le-ltb 1024 (length records) fits.not_many)
-
--- a group's bytes give its records back
-pub written_back : (records : List (List ℕ)) → FitsGroup records → written_records (group_bytes records) ≡ records
-unfolding written_records
-written_back records fits =
-    let body = body_bytes records in
-    let size : length (group_bytes records) - 5 ≡ length body = omega (arith, length-append body (0 ∷ [])) in
-    let is_body : take (length (group_bytes records) - 5) (drop 4 (group_bytes records)) ≡ body = take_at body (0 ∷ []) _ (sym size) in
-    ap (λ (l : List ℕ). unwrap_or (records_of l) []) is_body ∙ ap (λ (o : Option (List (List ℕ))). unwrap_or o []) (body_read records fits.not_long)

@@ -2,6 +2,7 @@ mod Bytes
 mod Loops
 mod Moments
 mod Parts
+mod ReadBack
 mod Stops
 mod Walks
 mod Written

@@ -1,10 +1,10 @@
 -- How the records of a group add up.
-use Rattle.std.proofs.Common.{◌≡◌, ℕ, ◌+◌, ◌<◌, ◌≤◌, List, [], ◌∷◌, length, take, get_or, Vec, sym, ◌∙◌, ap, subst, arith, length-append}
+use Rattle.std.proofs.Common.{◌≡◌, ℕ, ◌+◌, ◌<◌, ◌≤◌, List, [], ◌∷◌, length, take, get_or, Vec, sym, ◌∙◌, ap, arith, length-append}
 use Rattle.std.proofs.lemmas.List.{take-map, get_or-map, length-map}
 use Rattle.std.proofs.lemmas.List.Sums.{sum_by_more_le}
 use Rattle.std.specs.declared.alloc.Global.{Global}
-use Rattle.journal.specs.Format.{FitsGroup, body_len, contents, body_bytes, group_bytes, written_records, IsWritten}
-use Rattle.journal.proofs.Bytes.{length-body, written_back}
+use Rattle.journal.specs.Format.{FitsGroup, body_len, contents, body_bytes, group_bytes}
+use Rattle.journal.proofs.Bytes.{length-body}
 
 -- the records so far and the next one are no longer than all of them
 pub len_more : (xs : List (Vec ℕ Global)) (i : ℕ) (x : Vec ℕ Global) → i < length xs → x ≡ get_or xs i x → body_len (contents (take i xs)) + (4 + length x.items) ≤ body_len (contents xs)
@@ -18,16 +18,6 @@ len_more xs i x inside is =
 
 pub length-group : (records : List (List ℕ)) → length (group_bytes records) ≡ 5 + body_len records
 length-group records = omega (arith, length-append (body_bytes records) (0 ∷ []), length-body records)
-
--- the bytes of a group of these records stand for them
-pub is_written : (bytes : List ℕ) (count : ℕ) (records : List (List ℕ)) → FitsGroup records → bytes ≡ group_bytes records → count ≡ length records → IsWritten bytes count
-is_written bytes count records fits is counts =
-    let back : written_records bytes ≡ records = ap written_records is ∙ written_back records fits in
-    record {
-      fits = subst FitsGroup (sym back) fits;
-      written = is ∙ ap group_bytes (sym back);
-      counts = counts ∙ ap length (sym back);
-    }
 
 -- the limits that were tested
 pub fits_from : (records front : List (Vec ℕ Global)) (count len : ℕ) → front ≡ records → count ≡ length records → 1 ≤ count → count ≤ 1024 → (body_len (contents front) ≤ 4194304) × (len ≡ body_len (contents front)) → FitsGroup (contents records)

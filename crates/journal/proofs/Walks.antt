@@ -9,7 +9,7 @@ use Rattle.journal.specs.declared.record.Record.{Record}
 use Rattle.journal.specs.Format.{FitsGroup, body_len, body_bytes, group_bytes, length_field, group_of, body_at, kept, with_front, walk, scan, only_records, stands}
 use Rattle.journal.proofs.Bytes.{passed_test, length-body, field_is, not_empty, group_read}
 
-abbrev Found : Type 0
+abbrev pub Found : Type 0
 Found = List Record × ℕ
 
 pub with_front-nil : (r : Result Found ℕ) → with_front [] r ≡ r

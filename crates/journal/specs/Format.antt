@@ -1,9 +1,10 @@
 -- What the bytes of a journal stand for.
-use Rattle.std.specs.Prelude.{◌≡◌, ℕ, zero, suc, ◌+◌, ◌-◌, ◌≤◌, List, [], ◌∷◌, ◌++◌, length, take, drop, map, sum_by, Option, Some, None, Result, Ok, Err, nat_lt, nat_le, ◌==◌, if◌then◌else◌, unwrap_or, Vec}
-use Rattle.std.specs.List.{flat_map}
+use Rattle.std.specs.Prelude.{◌≡◌, ◌≢◌, ℕ, zero, suc, ◌+◌, ◌-◌, ◌≤◌, List, [], ◌∷◌, ◌++◌, length, take, drop, map, sum_by, Option, Some, None, Result, Ok, Err, nat_lt, nat_le, ◌==◌, if◌then◌else◌, Vec}
+use Rattle.std.specs.List.{All, flat_map}
 use Rattle.std.specs.Option.{option_map, option_and_then, option_map_or}
 use Rattle.std.specs.Int.{w32, to_be_bytes, from_be_bytes}
 use Rattle.std.specs.declared.alloc.Global.{Global}
+use Rattle.journal.specs.declared.layout.TheConstants.{CLOSED, OPEN, LENGTH_BYTES, MAX_GROUP_BYTES, MAX_GROUP_RECORDS}
 use Rattle.journal.specs.declared.record.Record.{Record}
 use Rattle.journal.specs.declared.error.JournalError.{JournalError}
 use Rattle.journal.specs.declared.error.JournalError.TheVariants as errors
@@ -14,15 +15,15 @@ contents records = map (λ record_bytes. record_bytes.items) records
 
 -- the length of the body of a group of these records
 abbrev pub body_len : List (List ℕ) → ℕ
-body_len records = sum_by (λ bytes. 4 + length bytes) records
+body_len records = sum_by (λ bytes. LENGTH_BYTES + length bytes) records
 
 -- these records are within the limits of a group
 pub record FitsGroup (records : List (List ℕ)) : Type 0 where
   pub some : 1 ≤ length records
-  pub not_many : length records ≤ 1024
-  pub not_long : body_len records ≤ 4194304
+  pub not_many : length records ≤ MAX_GROUP_RECORDS
+  pub not_long : body_len records ≤ MAX_GROUP_BYTES
 
--- a record as it stands in a body: four bytes of length, and its bytes
+-- a record as it stands in a body: its length, and its bytes
 abbrev pub record_bytes : List ℕ → List ℕ
 record_bytes bytes = to_be_bytes w32 (length bytes) ++ bytes
 
@@ -30,53 +31,77 @@ record_bytes bytes = to_be_bytes w32 (length bytes) ++ bytes
 abbrev pub body_bytes : List (List ℕ) → List ℕ
 body_bytes records = flat_map record_bytes records
 
+-- the body of a group of these records, behind its length
+abbrev pub sized_body : List (List ℕ) → List ℕ
+sized_body records = to_be_bytes w32 (body_len records) ++ body_bytes records
+
 -- a group of these records behind its gate, with the closed gate for the next group
 abbrev pub group_bytes : List (List ℕ) → List ℕ
-group_bytes records = to_be_bytes w32 (body_len records) ++ body_bytes records ++ 0 ∷ []
+group_bytes records = sized_body records ++ CLOSED ∷ []
 
 -- this file with a group of these records behind it, whose gate is the file's last byte, and is open
 abbrev pub file_with : List ℕ → List (List ℕ) → List ℕ
-file_with file records = take (length file - 1) file ++ 1 ∷ group_bytes records
+file_with file records = take (length file - 1) file ++ OPEN ∷ group_bytes records
 
--- the bytes of a file of these groups: each with its length and its body behind an open gate, and a closed
--- gate behind the last
+-- a group, with the byte of its gate
+pub record Gated : Type 0 where
+  pub gate : ℕ
+  pub records : List (List ℕ)
+
+-- the gate is open, and the records are within the limits of a group
+pub record IsOpen (group : Gated) : Type 0 where
+  pub not_closed : group.gate ≢ CLOSED
+  pub fits : FitsGroup group.records
+
+-- a group with its gate before it
+abbrev pub with_gate : Gated → List ℕ
+with_gate group = group.gate ∷ sized_body group.records
+
+-- the bytes of these groups, one behind the other
+abbrev pub in_turn : List Gated → List ℕ
+in_turn groups = flat_map with_gate groups
+
+-- a group of these records behind the open gate that is written
+abbrev pub as_written : List (List ℕ) → Gated
+as_written records = record { gate = OPEN; records = records }
+
+-- the bytes of a file of these groups, and a closed gate behind the last
 abbrev pub file_bytes : List (List (List ℕ)) → List ℕ
-file_bytes [] = 0 ∷ []
-file_bytes (records ∷ groups) = 1 ∷ [] ++ to_be_bytes w32 (body_len records) ++ body_bytes records ++ file_bytes groups
+file_bytes groups = in_turn (map as_written groups) ++ CLOSED ∷ []
 
 -- the number in the length field at the front
 abbrev pub length_field : List ℕ → ℕ
-length_field bytes = from_be_bytes w32 (take 4 bytes)
+length_field bytes = from_be_bytes w32 (take LENGTH_BYTES bytes)
 
 -- the record at the front, and the bytes behind it, if it is whole
 unfoldable pub split_record : List ℕ → Option (List ℕ × List ℕ)
 split_record bytes =
-    if nat_lt (length bytes) 4 then None else
-    if nat_lt (length (drop 4 bytes)) (length_field bytes) then None else
-    Some (take (length_field bytes) (drop 4 bytes), drop (length_field bytes) (drop 4 bytes))
+    if nat_lt (length bytes) LENGTH_BYTES then None else
+    if nat_lt (length (drop LENGTH_BYTES bytes)) (length_field bytes) then None else
+    Some (take (length_field bytes) (drop LENGTH_BYTES bytes), drop (length_field bytes) (drop LENGTH_BYTES bytes))
 
 -- the list of whole records that the bytes are, but for so many at the front that are passed over
 unfoldable pub records_behind : ℕ → List ℕ → Option (List (List ℕ))
 records_behind passed [] = Some []
 records_behind (suc passed) (byte ∷ rest) = records_behind passed rest
-records_behind zero (byte ∷ rest) = option_and_then (λ parts. option_map (λ others. parts.0 ∷ others) (records_behind (3 + length parts.0) rest)) (split_record (byte ∷ rest))
+records_behind zero (byte ∷ rest) = option_and_then (λ parts. option_map (λ others. parts.0 ∷ others) (records_behind (LENGTH_BYTES - 1 + length parts.0) rest)) (split_record (byte ∷ rest))
 
 -- the list of whole records that a body is
 abbrev pub records_of : List ℕ → Option (List (List ℕ))
 records_of body = records_behind 0 body
 
--- the records of a body, if they are whole and at most 1,024
+-- the records of a body, if they are whole and not too many
 unfoldable pub group_of : List ℕ → Option (List (List ℕ))
-group_of body = option_and_then (λ records. if nat_lt 1024 (length records) then None else Some records) (records_of body)
+group_of body = option_and_then (λ records. if nat_lt MAX_GROUP_RECORDS (length records) then None else Some records) (records_of body)
 
 -- the body behind an open gate, if its length is within the limits, and it and the next gate stand within the file
 unfoldable pub body_at : List ℕ → Option (List ℕ)
 body_at bytes =
-    if nat_lt (length bytes) 4 then None else
+    if nat_lt (length bytes) LENGTH_BYTES then None else
     if length_field bytes == 0 then None else
-    if nat_lt 4194304 (length_field bytes) then None else
-    if nat_le (length bytes - 4) (length_field bytes) then None else
-    Some (take (length_field bytes) (drop 4 bytes))
+    if nat_lt MAX_GROUP_BYTES (length_field bytes) then None else
+    if nat_le (length bytes - LENGTH_BYTES) (length_field bytes) then None else
+    Some (take (length_field bytes) (drop LENGTH_BYTES bytes))
 
 -- a record of the group behind the gate at this place
 abbrev pub kept_at : ℕ → List ℕ → Record
@@ -89,7 +114,7 @@ kept gate records = map (kept_at gate) records
 -- the records of these groups, the first of which has its gate at this place
 abbrev pub all_kept : ℕ → List (List (List ℕ)) → List Record
 all_kept gate [] = []
-all_kept gate (records ∷ groups) = kept gate records ++ all_kept (gate + 1 + 4 + body_len records) groups
+all_kept gate (records ∷ groups) = kept gate records ++ all_kept (gate + 1 + length (sized_body records)) groups
 
 -- these records, and then those that are found
 abbrev pub with_front : List Record → Result (List Record × ℕ) ℕ → Result (List Record × ℕ) ℕ
@@ -103,8 +128,8 @@ unfoldable pub walk : ℕ → ℕ → List ℕ → Result (List Record × ℕ) �
 walk place passed [] = Ok ([], place)
 walk place (suc passed) (byte ∷ rest) = walk (place + 1) passed rest
 walk place zero (gate ∷ rest) =
-    if gate == 0 then Ok ([], place) else
-    option_map_or (λ body. option_map_or (λ records. with_front (kept place records) (walk (place + 1) (4 + length body) rest)) (group_of body) (Err place)) (body_at rest) (Err place)
+    if gate == CLOSED then Ok ([], place) else
+    option_map_or (λ body. option_map_or (λ records. with_front (kept place records) (walk (place + 1) (LENGTH_BYTES + length body) rest)) (group_of body) (Err place)) (body_at rest) (Err place)
 
 -- the same for a whole file: one of at most one byte has no group, whatever its byte
 unfoldable pub scan : List ℕ → Result (List Record × ℕ) ℕ
@@ -120,21 +145,46 @@ only_records (Err gate) = Err gate
 unfoldable pub stands : List ℕ → Result (List Record) ℕ
 stands file = only_records (scan file)
 
+-- the bytes are groups behind open gates with a closed gate behind the last, and these are their records
+pub record AreGroups (bytes : List ℕ) (records : List Record) : Type 0 where
+  pub groups : List Gated
+  pub behind : List ℕ
+  pub all_open : All IsOpen groups
+  pub written : bytes ≡ in_turn groups ++ CLOSED ∷ behind
+  pub found : records ≡ all_kept 0 (map (λ group. group.records) groups)
+
+-- a whole group, but for its gate, stands at the front with one byte or more behind it, the next gate
+pub record HasGroup (bytes : List ℕ) : Type 0 where
+  pub records : List (List ℕ)
+  pub next : ℕ
+  pub rest : List ℕ
+  pub fits : FitsGroup records
+  pub written : bytes ≡ sized_body records ++ next ∷ rest
+
+-- groups behind open gates end at this place, where an open gate has no whole group behind it
+pub record IsDamagedAt (bytes : List ℕ) (place : ℕ) : Type 0 where
+  pub long : 2 ≤ length bytes
+  pub groups : List Gated
+  pub gate : ℕ
+  pub behind : List ℕ
+  pub all_open : All IsOpen groups
+  pub written : bytes ≡ in_turn groups ++ gate ∷ behind
+  pub here : place ≡ length (in_turn groups)
+  pub not_closed : gate ≢ CLOSED
+  pub no_group : ¬ HasGroup behind
+
 -- The error says why nothing was read: the place of the gate, or that memory was refused.
 abbrev pub FailsAs : {X : Type 0} → JournalError → Result X ℕ → Type 0
 FailsAs errors.Memory read = Unit {0}
 FailsAs (errors.Damaged gate) read = read ≡ Err gate
 FailsAs error read = ⊥
 
--- the records that the bytes of a group have
-unfoldable pub written_records : List ℕ → List (List ℕ)
-written_records bytes = unwrap_or (records_of (take (length bytes - 5) (drop 4 bytes))) []
-
--- the bytes are those of a group of so many records
-pub record IsWritten (bytes : List ℕ) (count : ℕ) : Type 0 where
-  pub fits : FitsGroup (written_records bytes)
-  pub written : bytes ≡ group_bytes (written_records bytes)
-  pub counts : count ≡ length (written_records bytes)
+-- the bytes are those of a group of these records, which are so many
+pub record IsGroup (bytes : List ℕ) (count : ℕ) : Type 0 where
+  pub records : List (List ℕ)
+  pub fits : FitsGroup records
+  pub written : bytes ≡ group_bytes records
+  pub counts : count ≡ length records
 
 -- reading the file ends at the closed gate at this place
 abbrev pub ScansTo : List ℕ → ℕ → Type 0

@@ -1,6 +1,7 @@
 -- What a journal on a disk is, and what a stop of the machine leaves of it.
 use Rattle.std.specs.Prelude.{◌≡◌, ◌⊎◌, ℕ, ◌+◌, ◌-◌, ◌<◌, ◌≤◌, List, [], ◌∷◌, ◌++◌, length, take, Result, Ok, Err}
 use Rattle.diskmodel.specs.Disk.{LeavesOnly}
+use Rattle.journal.specs.declared.layout.TheConstants.{CLOSED}
 use Rattle.journal.specs.declared.record.Record.{Record}
 use Rattle.journal.specs.declared.journal.Journal.{Journal}
 use Rattle.journal.specs.Format.{kept, walk, stands, ScansTo}
@@ -34,7 +35,7 @@ stands_with file group = with_group (length file - 1) group (stands file)
 -- What an opening leaves of a file: one closed gate of a file of at most one byte, and otherwise the bytes up
 -- to the closed gate at which reading ends.
 pub record IsClosedUp (file left : List ℕ) : Type 0 where
-  pub short : length file < 2 → left ≡ 0 ∷ []
+  pub short : length file < 2 → left ≡ CLOSED ∷ []
   pub long : 2 ≤ length file → (gate : ℕ) × ScansTo file gate × (left ≡ take (gate + 1) file)
 
 -- what a stop leaves stands for the records of this file, or for these with the whole group

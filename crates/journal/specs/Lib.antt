@@ -1,2 +1,3 @@
 pub mod Format
 pub mod Journal
+pub mod OneGroup

@@ -2,29 +2,27 @@
 
 ghost use Rattle.std.specs.Prelude.{◌≡◌, ◌+◌, ◌<◌, ◌≤◌, ◌^◌, ◌++◌, [], ◌∷◌, length, take, drop, IfOk, OnOk};
 ghost use Rattle.std.specs.Option.{SomeIff};
-ghost use Rattle.journal.specs.Format.{FitsGroup, body_len, contents, body_bytes, group_bytes};
+ghost use Rattle.journal.specs.Format.{FitsGroup, IsGroup, body_len, contents, body_bytes, group_bytes};
+ghost use Rattle.journal.specs.OneGroup.{one_group};
 
 use crate::layout::{CLOSED, LENGTH_BYTES, MAX_GROUP_BYTES, MAX_GROUP_RECORDS};
 use std::alloc::{AllocError, Global};
 use std::marker::Model;
 
-/// Records that are to be added together, within the limits of a group. It must be appended, or
-/// discarded.
+/// Records that are to be added together, within the limits of a group. It must be appended.
 pub struct Group {
     // The length of the body, the body, and the closed gate for the next group.
     bytes: Vec<u8>,
     count: u64,
+    ghost written: { IsGroup bytes.items count } by { one_group bytes.items count },
 }
 
 impl Model for Group {
     ghost use Rattle.std.specs.Prelude.{List, ℕ};
-    ghost use Rattle.journal.specs.Format.{IsWritten, written_records};
 
     ghost Value = { List (List ℕ) };
 
-    ghost view = { λ group. written_records group.bytes.items };
-
-    ghost invariant = { λ group. IsWritten group.bytes.items group.count };
+    ghost view = { λ group. group.written.records };
 }
 
 impl Group {
@@ -62,20 +60,20 @@ impl Group {
 
     // How long it is on the disk, without its own gate, in bytes.
     pub(crate) fn written_len(&self) -> u64
-        ensures { result ≡ 5 + body_len self.now }
+        ensures { result ≡ length (group_bytes self.now) }
     {
         self.bytes.len() as u64
     }
 
-    /// Spends a group that is not to be appended.
-    pub fn discard(self) {
+    // Spends a group for which there is no room.
+    pub(crate) fn discard(self) {
         let Group { bytes: _, count: _ } = self;
     }
 }
 
 // The length of the records' body, or `None` above a group's limit.
 fn body_len_within(records: &[Vec<u8>]) -> Option<usize>
-    ensures { SomeIff result (body_len (contents records.now) ≤ 4194304) (body_len (contents records.now)) }
+    ensures { SomeIff result (body_len (contents records.now) ≤ MAX_GROUP_BYTES) (body_len (contents records.now)) }
 {
     let mut total = 0;
     for record in records {
@@ -90,7 +88,7 @@ fn body_len_within(records: &[Vec<u8>]) -> Option<usize>
 
 // The bytes of a group of these records behind its gate, with the closed gate for the next group.
 fn bytes_of(alloc: Global, records: &[Vec<u8>], len: usize) -> Result<Vec<u8>, AllocError>
-    requires fits { len ≤ 4194304 }
+    requires fits { len ≤ MAX_GROUP_BYTES }
     requires len { len ≡ body_len (contents records.now) }
     ensures { IfOk result (λ bytes. bytes.items ≡ group_bytes (contents records.now)) }
 {
@@ -103,7 +101,7 @@ fn bytes_of(alloc: Global, records: &[Vec<u8>], len: usize) -> Result<Vec<u8>, A
 
 // Puts the records behind the bytes, each with its length before it.
 fn put_body(bytes: &mut Vec<u8>, records: &[Vec<u8>]) -> Result<(), AllocError>
-    requires { body_len (contents records.now) ≤ 4194304 }
+    requires { body_len (contents records.now) ≤ MAX_GROUP_BYTES }
     ensures { OnOk result (bytes.new.items ≡ bytes.old.items ++ body_bytes (contents records.now)) }
 {
     for record in records {

@@ -2,7 +2,7 @@
 
 ghost use Rattle.std.specs.Prelude.{◌≡◌, ◌≢◌, ◌⊎◌, ◌↔◌, ◌+◌, ◌-◌, ◌*◌, ◌^◌, ◌<◌, ◌≤◌, List, ℕ, length, Ok, Err, IfOk, IfErr, OnOk, OnErr, IsErrOf};
 ghost use Rattle.diskmodel.specs.Disk.{LeavesOnly, AtEachMoment, NoneNew};
-ghost use Rattle.journal.specs.Format.{body_len, stands, file_with, ScansTo};
+ghost use Rattle.journal.specs.Format.{group_bytes, stands, file_with, ScansTo};
 ghost use Rattle.journal.specs.Journal.{disk_of, EndsClosed, IsAlive, stands_with, IsClosedUp, IsBeforeOrAfter, StandsAsOneOf};
 
 use crate::error::{Failed, JournalError};
@@ -13,6 +13,9 @@ use crate::record::Record;
 use diskmodel::Disk;
 use std::alloc::Global;
 use std::marker::Model;
+
+/// The length that is kept after a failure of the disk: no journal that is alive has it.
+const DEAD: u64 = 0;
 
 /// Groups of records on a disk, each of them there as a whole or not at all.
 #[derive(Drop)]
@@ -79,7 +82,7 @@ impl<D: Disk> Journal<D> {
     }
 
     /// Adds a group behind the others. At `Ok` it is on the disk. At `Full` nothing has changed.
-    /// At `Device` open the disk again. It takes no memory.
+    /// At `Device` nothing can be added any more: open the disk again. It takes no memory.
     pub fn append(&mut self, group: Group) -> Result<Synced, JournalError>
         requires { IsAlive D.content D.outcome self.old }
 
@@ -93,7 +96,11 @@ impl<D: Disk> Journal<D> {
 
         ensures errors { IfErr result (λ error. (error ≡ JournalError.Device) ⊎ (error ≡ JournalError.Full)) }
         ensures device { IsErrOf result JournalError.Device → D.faults (disk_of self.old) < D.faults (disk_of self.new) }
-        ensures full { IsErrOf result JournalError.Full ↔ (2 ^ 40 < length (D.content (disk_of self.old)) + 5 + body_len group) }
+
+        // At `Device` nothing can be added any more.
+        ensures dead { IsErrOf result JournalError.Device → ¬ IsAlive D.content D.outcome self.new }
+
+        ensures full { IsErrOf result JournalError.Full ↔ (MAX_JOURNAL_BYTES < length (D.content (disk_of self.old)) + length (group_bytes group)) }
         ensures unchanged { IsErrOf result JournalError.Full → self.new ≡ self.old }
         ensures faults { D.faults (disk_of self.old) ≤ D.faults (disk_of self.new) }
     {
@@ -103,7 +110,10 @@ impl<D: Disk> Journal<D> {
             return Err(JournalError::Full);
         }
         let records = group.records_count();
-        write_group(&mut self.disk, self.len, group)?;
+        if let Err(error) = write_group(&mut self.disk, self.len, group) {
+            self.len = DEAD;
+            return Err(error);
+        }
         self.len += added;
         Ok(Synced { records })
     }
@@ -121,11 +131,11 @@ impl<D: Disk> Journal<D> {
 fn write_group<D: Disk>(disk: &mut D, len: u64, group: Group) -> Result<(), JournalError>
     requires ends_closed { EndsClosed (D.content disk.old) }
     requires len { len ≡ length (D.content disk.old) }
-    requires room { len + 5 + body_len group < 2 ^ 64 }
+    requires room { len + length (group_bytes group) < 2 ^ 64 }
     requires firm { LeavesOnly (D.content disk.old) (D.outcome disk.old) }
 
     ensures ends_closed { OnOk result (EndsClosed (D.content disk.new)) }
-    ensures len { OnOk result (length (D.content disk.new) ≡ len + 5 + body_len group) }
+    ensures len { OnOk result (length (D.content disk.new) ≡ len + length (group_bytes group)) }
     ensures records { OnOk result (stands (D.content disk.new) ≡ stands_with (D.content disk.old) group) }
     ensures content { OnOk result (D.content disk.new ≡ file_with (D.content disk.old) group) }
     ensures firm { OnOk result (LeavesOnly (D.content disk.new) (D.outcome disk.new)) }

@@ -1,16 +1,16 @@
 //! The bytes of a journal, and their limits.
 
+/// The length of a length field, in bytes: one stands before each body, and one before each record.
+pub const LENGTH_BYTES: usize = 4;
+
 /// The most records of a group.
 pub const MAX_GROUP_RECORDS: usize = 1_024;
 
-/// The greatest length of a group's body, in bytes: its records, each with four bytes of length.
+/// The greatest length of a group's body, in bytes: its records, each with its length before it.
 pub const MAX_GROUP_BYTES: usize = 4_194_304;
 
 /// The greatest length of a journal, in bytes.
 pub const MAX_JOURNAL_BYTES: u64 = 1 << 40;
-
-/// The bytes of a length field.
-pub(crate) const LENGTH_BYTES: usize = 4;
 
 /// A closed gate. Any other byte is an open one.
 pub(crate) const CLOSED: u8 = 0;

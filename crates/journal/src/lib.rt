@@ -4,6 +4,7 @@
 mod error;
 mod group;
 mod journal;
+mod laws;
 mod layout;
 mod reading;
 mod record;
@@ -11,6 +12,7 @@ mod record;
 pub use error::{Failed, JournalError};
 pub use group::Group;
 pub use journal::{Journal, Synced};
-pub use layout::{MAX_GROUP_BYTES, MAX_GROUP_RECORDS, MAX_JOURNAL_BYTES};
-pub use reading::{stands, written_groups_stand};
-pub use record::{Record, RecordBytes};
+pub use laws::{damage_is_found, groups_stand, layout_in_numbers, written_groups_stand};
+pub use layout::{LENGTH_BYTES, MAX_GROUP_BYTES, MAX_GROUP_RECORDS, MAX_JOURNAL_BYTES};
+pub use reading::stands;
+pub use record::Record;

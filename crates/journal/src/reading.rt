@@ -1,13 +1,13 @@
 //! What the bytes of a journal stand for.
 
-ghost use Rattle.std.specs.Prelude.{◌≡◌, ℕ, ◌≤◌, ◌<◌, List, [], ◌∷◌, ◌++◌, length, Ok, IfOk, IfErr, drop};
-ghost use Rattle.std.specs.List.{All};
+ghost use Rattle.std.specs.Prelude.{◌≡◌, ◌≤◌, ◌<◌, length, Ok, IfOk, IfErr, drop};
 ghost use Rattle.std.specs.Option.{option_map, option_copied};
-ghost use Rattle.journal.specs.Format.{FitsGroup, file_with, file_bytes, all_kept, stands, scan, walk, records_of, group_of, body_at, length_field, kept, FailsAs, split_record};
+ghost use Rattle.journal.specs.Format.{stands, scan, walk, records_of, group_of, body_at, length_field, kept, FailsAs, split_record};
 
 use crate::error::JournalError;
 use crate::layout::{CLOSED, LENGTH_BYTES, MAX_GROUP_BYTES, MAX_GROUP_RECORDS};
-use crate::record::{Record, RecordBytes};
+use crate::record::Record;
+use bytes::Bytes;
 use std::alloc::{AllocError, Global};
 
 /// What the bytes of a journal stand for: the records of the groups whose gates are open, from the
@@ -20,13 +20,6 @@ pub fn stands(alloc: Global, bytes: &[u8]) -> Result<Vec<Record>, JournalError>
     let (records, _) = scan(alloc, bytes)?;
     Ok(records)
 }
-
-/// The bytes of groups within their limits, with anything behind them, stand for the records of these
-/// groups, each with the place of its group's gate. To append a group is to write one group more.
-pub fn written_groups_stand()
-    ensures stand { (groups : List (List (List ℕ))) (behind : List ℕ) → All FitsGroup groups → stands (file_bytes groups ++ behind) ≡ Ok (all_kept 0 groups) }
-    ensures one_more { (groups : List (List (List ℕ))) (group : List (List ℕ)) → file_with (file_bytes groups) group ≡ file_bytes (groups ++ group ∷ []) }
-{}
 
 // The records that the bytes stand for, and the place of the closed gate that ends them.
 #[tactic(auto, unfolding(crate::specs::Format::scan))]
@@ -64,7 +57,7 @@ fn walk(alloc: Global, bytes: &[u8]) -> Result<(Vec<Record>, u64), JournalError>
 
 // The number in a length field at the front of the bytes.
 fn length_at(bytes: &[u8]) -> u32
-    requires { 4 ≤ length bytes.now }
+    requires { LENGTH_BYTES ≤ length bytes.now }
     ensures { result ≡ length_field bytes.now }
 {
     let (front, _) = bytes.split_at(LENGTH_BYTES);
@@ -111,7 +104,7 @@ fn records_of(alloc: Global, body: &[u8], gate: u64) -> Result<Option<Vec<Record
         let Some((record, after)) = split_record(rest) else {
             return Ok(None);
         };
-        let bytes = RecordBytes::new(Vec::from_slice(alloc, record)?);
+        let bytes = Bytes::copy_from_slice(alloc, record)?;
         records.push(Record { bytes, gate })?;
         rest = after;
     }

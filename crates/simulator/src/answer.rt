@@ -46,6 +46,8 @@ pub enum Answer<'a> {
     OutNone,
     /// The vote for the header of this label goes out.
     OutVote(&'a str),
+    /// A vote for a header without a label goes out.
+    OutUnnamed,
     /// The node was opened again, with so many records of events.
     Reopened(u64),
 }
@@ -63,6 +65,7 @@ impl fmt::Display for Answer<'_> {
             Answer::Fault(error) => write!(f, "fault {error}"),
             Answer::OutNone => write!(f, "out none"),
             Answer::OutVote(label) => write!(f, "out vote {label}"),
+            Answer::OutUnnamed => write!(f, "out vote -"),
             Answer::Reopened(count) => write!(f, "reopened {count}"),
         }
     }

@@ -15,6 +15,10 @@ pub enum Ending {
     Fault(JournalError),
     /// A read of the script or a write of an answer failed.
     InputOutput,
+    /// The script has more lines than are counted.
+    TooLong,
+    /// A group was written to its end, though the disk was told to fail a sync of it.
+    Unstopped,
 }
 
 impl From<AllocError> for Ending {

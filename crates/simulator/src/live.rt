@@ -54,7 +54,8 @@ impl<D: Disk> LiveJournal<D> {
         match journal.append(group) {
             Ok(synced) => Appended::Done(LiveJournal { journal }, synced),
             Err(JournalError::Full) => Appended::Full(LiveJournal { journal }),
-            Err(_) => Appended::Failed(journal.into_disk()),
+            Err(JournalError::Device) => Appended::Failed(journal.into_disk()),
+            Err(_) => unreachable!(),
         }
     }
 

@@ -1,11 +1,13 @@
 //! The simulated node: its journal and its book.
 
-ghost use Rattle.std.specs.Prelude.{◌≡◌, IsTrue};
+ghost use Rattle.std.specs.Prelude.{◌≡◌, ℕ, List, IsTrue, IfOk};
 ghost use Rattle.std.specs.List.{list_all};
 ghost use Rattle.book.specs.Admission.{IsKnownKind};
 ghost use Rattle.book.specs.Book.{standing};
 ghost use Rattle.simulator.specs.declared.settings.TheConstants.{OWN};
+ghost use Rattle.diskmodel.specs.Memory.{state_of};
 ghost use Rattle.simulator.specs.Queue.{is_vote};
+ghost use Rattle.simulator.specs.Stops.{WillLeave, IsTornBy};
 
 use crate::answer::{Answer, FlushError};
 use crate::ending::Ending;
@@ -16,6 +18,7 @@ use book::Book;
 use committee::Committee;
 use diskmodel::{CallKind, MemDisk, StopDisk};
 use header::Checked;
+use journal::JournalError;
 use script::Stopping;
 use sigface::HashSign;
 use std::alloc::{AllocError, Global};
@@ -181,7 +184,9 @@ impl Node {
 }
 
 // The disk, of which the next stop leaves the bytes of the last sync.
-fn losing(alloc: Global, mut disk: MemDisk) -> Result<MemDisk, AllocError> {
+fn losing(alloc: Global, mut disk: MemDisk) -> Result<MemDisk, AllocError>
+    ensures { IfOk result (λ left. WillLeave left (state_of disk).firm) }
+{
     let firm = disk.firm().to_vec(alloc)?;
     disk.choose(firm);
     Ok(disk)
@@ -200,46 +205,49 @@ fn interrupted(
         Store::Live(journal) => journal,
         Store::Failed(disk) => return Ok(disk),
     };
-    if book.is_down() {
-        return Ok(journal.into_disk());
-    }
-    let Some(group) = book.take()? else {
-        return Ok(journal.into_disk());
-    };
     let mut disk = journal.into_disk();
-    if let Err(error) = disk.fail(CallKind::Sync, sync) {
-        group.discard();
-        return Err(Ending::from(error));
+    if book.is_down() || !book.has_pending() {
+        return Ok(disk);
     }
-    let journal = match LiveJournal::open(alloc, disk) {
-        Ok((journal, _)) => journal,
-        Err(failed) => {
-            group.discard();
-            return Err(Ending::from(failed.error));
-        }
+    disk.fail(CallKind::Sync, sync)?;
+    let (journal, _) = LiveJournal::open(alloc, disk).map_err(|failed| failed.error)?;
+    let Some(group) = book.take()? else {
+        unreachable!()
     };
     let disk = match journal.append(group) {
         Appended::Failed(disk) => disk,
-        Appended::Full(journal) => journal.into_disk(),
-        Appended::Done(journal, synced) => {
+        // The disk would go on to fail a later sync.
+        Appended::Full(_) => return Err(Ending::Fault(JournalError::Full)),
+        Appended::Done(_, synced) => {
             let _ = synced.records();
-            journal.into_disk()
+            return Err(Ending::Unstopped);
         }
     };
     Ok(tearing(alloc, disk, byte)?)
 }
 
-// The disk, of which the next stop leaves this byte wherever one was written since the last sync.
-fn tearing(alloc: Global, mut disk: MemDisk, byte: u8) -> Result<MemDisk, AllocError> {
+// What a read of the disk gives, with this byte wherever one was written since the last sync.
+fn torn(alloc: Global, disk: &MemDisk, byte: u8) -> Result<Vec<u8>, AllocError>
+    ensures { IfOk result (λ torn. IsTornBy byte disk.now torn.items) }
+{
+    let bytes = disk.bytes();
     let mut torn = Vec::new(alloc);
-    for (place, kept) in disk.bytes().iter().enumerate() {
+    for place in 0..bytes.len() {
         let found = if disk.is_written(place as u64) {
             byte
         } else {
-            *kept
+            bytes[place]
         };
         torn.push(found)?;
     }
-    disk.choose(torn);
+    Ok(torn)
+}
+
+// The disk, of which the next stop leaves this byte wherever one was written since the last sync.
+fn tearing(alloc: Global, mut disk: MemDisk, byte: u8) -> Result<MemDisk, AllocError>
+    ensures { IfOk result (λ left. (found : List ℕ) × IsTornBy byte disk found × WillLeave left found) }
+{
+    let found = torn(alloc, &disk, byte)?;
+    disk.choose(found);
     Ok(disk)
 }

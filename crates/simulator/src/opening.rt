@@ -1,14 +1,16 @@
 //! Opening the node: the journal's records, and the validator after their events.
 
-ghost use Rattle.std.specs.Prelude.{◌≡◌, IfOk, IfSome};
+ghost use Rattle.std.specs.Prelude.{◌≡◌, ◌+◌, ◌*◌, [], ◌∷◌, length, vec_len, IfOk, IfSome};
 ghost use Rattle.book.specs.Admission.{IsKnownKind};
+ghost use Rattle.journal.specs.Format.{FitsGroup};
+ghost use Rattle.simulator.specs.Events.{IsOfHeader};
 
 use crate::live::{Appended, LiveJournal};
 use crate::settings::OWN;
 use book::{EVENT_RECORD, Refusal, Step, Validator};
 use committee::Committee;
 use diskmodel::Disk;
-use header::{Checked, recheck};
+use header::{CheckError, Checked, recheck};
 use journal::{Failed, Group, JournalError, Record};
 use script::signer;
 use sigface::HashSign;
@@ -19,6 +21,9 @@ use wire_read::decode;
 
 /// What a configuration record begins with: its kind, and the version of the journal.
 const CONFIGURATION_FRONT: [u8; 2] = [0, 1];
+
+/// The bytes of a configuration record before the members' keys.
+const SETTINGS_BYTES: usize = 14;
 
 /// The bytes of a key.
 const KEY_BYTES: usize = 32;
@@ -96,12 +101,15 @@ fn configuration_group(alloc: Global, committee: &Committee) -> Result<Group, Al
     records.push(configuration(alloc, committee)?)?;
     match Group::new(alloc, records)? {
         Some(group) => Ok(group),
-        None => Err(AllocError),
+        None => unreachable!(),
     }
 }
 
 // The configuration record: kind, version, own number, depth, workers, batches, members, and their keys.
-fn configuration(alloc: Global, committee: &Committee) -> Result<Vec<u8>, AllocError> {
+fn configuration(alloc: Global, committee: &Committee) -> Result<Vec<u8>, AllocError>
+    ensures len { IfOk result (λ bytes. vec_len bytes ≡ SETTINGS_BYTES + length committee.now.keys * KEY_BYTES) }
+    ensures fits { IfOk result (λ bytes. FitsGroup (bytes.items ∷ [])) }
+{
     let mut record = Vec::new(alloc);
     record.extend_from_slice(&CONFIGURATION_FRONT)?;
     record.extend_from_slice(&two_bytes(OWN.0))?;
@@ -110,9 +118,10 @@ fn configuration(alloc: Global, committee: &Committee) -> Result<Vec<u8>, AllocE
     record.extend_from_slice(&committee.batches().to_be_bytes())?;
     record.extend_from_slice(&two_bytes(committee.size()))?;
     for member in 0..committee.size() {
-        if let Some(key) = committee.key(Author(member)) {
-            record.extend_from_slice(&key.0)?;
-        }
+        let Some(key) = committee.key(Author(member)) else {
+            unreachable!()
+        };
+        record.extend_from_slice(&key.0)?;
     }
     Ok(record)
 }
@@ -179,7 +188,15 @@ fn replay_event(
     match validator.step(event) {
         Ok(Step::New(_)) => Ok(()),
         Err(Refusal::Memory) => Err(JournalError::Memory),
-        _ => Err(damaged),
+        Ok(Step::Known(_)) => Err(damaged),
+        Err(
+            Refusal::TooOld
+            | Refusal::MissingParents
+            | Refusal::MissingBatch
+            | Refusal::Equivocation,
+        ) => Err(damaged),
+        // No header is answered so by a validator.
+        Err(Refusal::Down | Refusal::NotOurs | Refusal::StoreFull) => unreachable!(),
     }
 }
 
@@ -190,7 +207,8 @@ fn event_of(
     committee: &Committee,
     bytes: &[u8],
 ) -> Result<Option<Checked>, AllocError>
-    ensures { IfOk result (λ found. IfSome found (IsKnownKind OWN)) }
+    ensures kind { IfOk result (λ found. IfSome found (IsKnownKind OWN)) }
+    ensures header { IfOk result (λ found. IfSome found IsOfHeader) }
 {
     let [EVENT_RECORD, high, low, message @ ..] = bytes else {
         return Ok(None);
@@ -204,5 +222,17 @@ fn event_of(
     if header.body.author == OWN {
         return Ok(None);
     }
-    Ok(recheck(committee, sender, Message::Header(header)).ok())
+    match recheck(committee, sender, Message::Header(header)) {
+        Ok(event) => Ok(Some(event)),
+        Err(
+            CheckError::UnknownAuthor
+            | CheckError::BadSender
+            | CheckError::TooFewParents
+            | CheckError::TooManyParents
+            | CheckError::TooFewVotes
+            | CheckError::UnknownWorker,
+        ) => Ok(None),
+        // These tests take no memory, and take each signature as good.
+        Err(CheckError::Memory | CheckError::BadSignature) => unreachable!(),
+    }
 }

@@ -21,7 +21,8 @@ use wire::{Header, Message, Vote, WireError};
 /// Runs the script that is read, and writes a line for each command. Where several lines of the script are there, their
 /// answers may be written together, but always before more input is waited for. Answers the exit status: 0, or 2 after
 /// a bad line (told as an error), 3 where memory was refused outside an event, 4 where the journal couldn't be opened
-/// (told as that line's answer), 5 where a read or write failed.
+/// or had no room for a group that was to be stopped (told as that line's answer), 5 where a read or write failed, 6
+/// after more lines than are counted, 7 where a group was written to its end though it was to be stopped.
 pub fn run<R: Read + Drop, W: Write, E: Write>(
     alloc: Global,
     reader: R,
@@ -46,6 +47,8 @@ pub fn run<R: Read + Drop, W: Write, E: Write>(
         Some(Ending::Memory) => 3,
         Some(Ending::Fault(_)) => 4,
         Some(Ending::InputOutput) => 5,
+        Some(Ending::TooLong) => 6,
+        Some(Ending::Unstopped) => 7,
     }
 }
 
@@ -91,7 +94,7 @@ fn play<R: Read + Drop, W: Write>(
     let mut line = Vec::new(alloc);
     for count in 1..u64::MAX {
         if !next_line(&mut reader, writer, gathered, &mut line)? {
-            break;
+            return Ok(node);
         }
         *number = count;
         let Some(command) = parse(&line) else {
@@ -101,7 +104,7 @@ fn play<R: Read + Drop, W: Write>(
         node = next;
         gathered.add(answer)?;
     }
-    Ok(node)
+    Err(Ending::TooLong)
 }
 
 // Reads a line without its newline; there is none at the end. Writes the lines first where reading may wait, or where
@@ -205,5 +208,8 @@ fn submit(
 
 // A vote by the label of its header. Each header that was submitted has one.
 fn shown<'a>(labels: &'a Labels, vote: &Vote) -> Answer<'a> {
-    Answer::OutVote(labels.header_name(&vote.header).unwrap_or("-"))
+    match labels.header_name(&vote.header) {
+        Some(name) => Answer::OutVote(name),
+        None => Answer::OutUnnamed,
+    }
 }

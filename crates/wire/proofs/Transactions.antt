@@ -10,6 +10,7 @@ use Rattle.std.proofs.lemmas.List.Elements.{recursion_from_All, All-append, All-
 use Rattle.std.proofs.lemmas.List.Sums.{sum_by-cons, sum_by_push}
 use Rattle.std.proofs.lemmas.Nat.{from_be_bytes-to_be_bytes_4}
 use Rattle.wire.specs.declared.keys.Author.{Author}
+use Rattle.wire.specs.declared.limits.TheConstants.{MAX_TRANSACTION_BYTES}
 use Rattle.wire.specs.Batches.{Contents, transaction_bytes, batch_body, body_len, has_room, IsTransaction, IsOpen, transactions_in}
 
 -- the length of the transactions of a body
@@ -32,7 +33,7 @@ few (t ∷ ts) =
     rw sum_by-cons (omega (arith, one))
 
 -- a transaction that begins the bytes is found there
-one_back : (t rest : List ℕ) → length t ≤ 65536 → (take (from_be_bytes w32 (take 4 (transaction_bytes t ++ rest))) (drop 4 (transaction_bytes t ++ rest)) ≡ t) × (drop (from_be_bytes w32 (take 4 (transaction_bytes t ++ rest))) (drop 4 (transaction_bytes t ++ rest)) ≡ rest)
+one_back : (t rest : List ℕ) → length t ≤ MAX_TRANSACTION_BYTES → (take (from_be_bytes w32 (take 4 (transaction_bytes t ++ rest))) (drop 4 (transaction_bytes t ++ rest)) ≡ t) × (drop (from_be_bytes w32 (take 4 (transaction_bytes t ++ rest))) (drop 4 (transaction_bytes t ++ rest)) ≡ rest)
 one_back t rest short =
     let len : from_be_bytes w32 (to_be_bytes w32 (length t)) ≡ length t = from_be_bytes-to_be_bytes_4 (length t) (omega (arith, short)) in
     rw len (take_at t rest (length t) refl, drop_at t rest (length t) refl)

@@ -3,6 +3,7 @@ use Rattle.std.specs.Prelude.{◌≡◌, ℕ, zero, suc, ◌+◌, ◌≤◌, Lis
 use Rattle.std.specs.List.{flat_map}
 use Rattle.std.specs.Int.{w16, w32, to_be_bytes, from_be_bytes}
 use Rattle.wire.specs.declared.keys.Author.{Author}
+use Rattle.wire.specs.declared.limits.TheConstants.{MAX_TRANSACTION_BYTES, MAX_BATCH_BYTES}
 use Rattle.wire.specs.Fields.{EachIsByte, IsNumber, IsAuthor}
 
 -- a batch, as contracts see it: an author's transactions of one worker, in their order
@@ -27,11 +28,11 @@ body_len transactions = 8 + sum_by (λ t. 4 + length t) transactions
 
 -- a body of these transactions has room for one more of this length: it then has at most 500,000 bytes
 abbrev pub has_room : List (List ℕ) → ℕ → Bool
-has_room transactions len = nat_le (body_len transactions + (4 + len)) 500000
+has_room transactions len = nat_le (body_len transactions + (4 + len)) MAX_BATCH_BYTES
 
 -- a transaction has at most 65,536 bytes
 pub record IsTransaction (transaction : List ℕ) : Type 0 where
-  pub short : length transaction ≤ 65536
+  pub short : length transaction ≤ MAX_TRANSACTION_BYTES
   pub bytes : EachIsByte transaction
 
 -- a batch has an author, a worker, and as many transactions as a body of 500,000 bytes has room for, so at most 124,998
@@ -39,7 +40,7 @@ pub record IsBatch (b : Contents) : Type 0 where
   pub author : IsAuthor b.author
   pub worker : IsNumber b.worker
   pub each : All IsTransaction b.transactions
-  pub short : body_len b.transactions ≤ 500000
+  pub short : body_len b.transactions ≤ MAX_BATCH_BYTES
 
 -- so many transactions, each with its length before it
 unfoldable pub transactions_in : ℕ → List ℕ → List (List ℕ)

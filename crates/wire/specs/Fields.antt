@@ -1,5 +1,7 @@
 -- The values that a field of fixed size may have.
 use Rattle.std.specs.Prelude.{◌≡◌, ℕ, ◌<◌, ◌≤◌, ◌^◌, List, length, All}
+use Rattle.wire.specs.declared.round.TheConstants.Round.{MAX as MAX_ROUND}
+use Rattle.wire.specs.declared.round.TheConstants.Wave.{MAX as MAX_WAVE}
 use Rattle.wire.specs.declared.keys.Author.{Author}
 use Rattle.wire.specs.declared.keys.Digest.{Digest}
 use Rattle.wire.specs.declared.keys.Signature.{Signature}
@@ -31,9 +33,9 @@ IsSignature s = AreBytes 64 s.0
 
 -- rounds go up to 2^48
 abbrev pub IsRound : ℕ → Type 0
-IsRound round = round ≤ 2 ^ 48
+IsRound round = round ≤ MAX_ROUND
 
 -- waves go from 1 up to 2^47 - 1
 pub record IsWave (wave : ℕ) : Type 0 where
   pub least : 0 < wave
-  pub limit : wave < 2 ^ 47
+  pub limit : wave ≤ MAX_WAVE

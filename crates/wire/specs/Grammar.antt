@@ -11,6 +11,7 @@ use Rattle.wire.specs.declared.message.Message.TheVariants as message
 use Rattle.wire.specs.declared.references.BatchReference.{BatchReference}
 use Rattle.wire.specs.declared.references.ParentReference.{ParentReference}
 use Rattle.wire.specs.declared.votes.VoteEntry.{VoteEntry}
+use Rattle.wire.specs.declared.limits.TheConstants.{MAX_BATCHES, MAX_PARENTS, MAX_VOTES}
 use Rattle.wire.specs.Fields.{IsNumber, IsAuthor, IsDigest, IsSignature, IsRound, IsWave}
 use Rattle.wire.specs.Batches.{IsBatch}
 use Rattle.wire.specs.References.{batches_rise, parents_rise, votes_rise}
@@ -38,19 +39,19 @@ pub record IsVoteEntry (v : VoteEntry) : Type 0 where
 
 -- a header names at most 128 batches, which rise by digest
 pub record AreBatches (batches : List BatchReference) : Type 0 where
-  pub few : length batches ≤ 128
+  pub few : length batches ≤ MAX_BATCHES
   pub each : All IsBatchReference batches
   pub rise : IsTrue (batches_rise batches)
 
 -- a header names at most 31 parents, which rise by author, so no author twice
 pub record AreParents (parents : List ParentReference) : Type 0 where
-  pub few : length parents ≤ 31
+  pub few : length parents ≤ MAX_PARENTS
   pub each : All IsParentReference parents
   pub rise : IsTrue (parents_rise parents)
 
 -- a certificate has at most 31 votes, which rise by voter, so no voter twice
 pub record AreVotes (votes : List VoteEntry) : Type 0 where
-  pub few : length votes ≤ 31
+  pub few : length votes ≤ MAX_VOTES
   pub each : All IsVoteEntry votes
   pub rise : IsTrue (votes_rise votes)
 

@@ -6,6 +6,7 @@ use Rattle.wire.specs.declared.keys.Digest.{Digest}
 use Rattle.wire.specs.declared.message.Message.TheVariants as message
 use Rattle.wire.specs.declared.output.Output.{Output}
 use Rattle.wire.specs.declared.output.Output.TheVariants as output
+use Rattle.wire.specs.declared.limits.TheConstants.{MAX_ORDER_DIGESTS}
 use Rattle.wire.specs.Fields.{IsDigest}
 use Rattle.wire.specs.Grammar.{IsMessage}
 use Rattle.wire.specs.Spelling.{spelling}
@@ -46,7 +47,7 @@ output_bytes o = to_be_bytes w16 (receiver_of o) ++ content_of o
 
 -- a piece of the order has at most 16,000 digests
 pub record AreOrdered (digests : List Digest) : Type 0 where
-  pub few : length digests ≤ 16000
+  pub few : length digests ≤ MAX_ORDER_DIGESTS
   pub each : All IsDigest digests
 
 -- what an output carries is a message, or a piece of the order

@@ -1,8 +1,11 @@
 -- Reading a message from left to right, field by field, up to the first fault.
-use Rattle.std.specs.Prelude.{◌≡◌, ℕ, ◌^◌, zero, suc, List, [], ◌∷◌, ◌++◌, length, take, drop, Result, Ok, Err, nat_lt, ◌==◌, ◌&&◌, not, if◌then◌else◌}
+use Rattle.std.specs.Prelude.{◌≡◌, ℕ, zero, suc, List, [], ◌∷◌, ◌++◌, length, take, drop, Result, Ok, Err, nat_lt, nat_le, ◌==◌, ◌&&◌, not, if◌then◌else◌}
 use Rattle.std.specs.Int.{Width, w16, w32, w64, byte_len, from_be_bytes}
 use Rattle.wire.specs.declared.error.WireError.{WireError}
 use Rattle.wire.specs.declared.error.WireError.TheVariants.{Memory, Short, Trailing, BadTag, NotCanonical, TooMany, BadRound}
+use Rattle.wire.specs.declared.limits.TheConstants.{MAX_TRANSACTION_BYTES, MAX_TRANSACTIONS, MAX_BATCHES, MAX_PARENTS, MAX_VOTES}
+use Rattle.wire.specs.declared.round.TheConstants.Round.{MAX as MAX_ROUND}
+use Rattle.wire.specs.declared.round.TheConstants.Wave.{MAX as MAX_WAVE}
 use Rattle.wire.specs.declared.keys.Author.{Author}
 use Rattle.wire.specs.declared.keys.Digest.{Digest}
 use Rattle.wire.specs.declared.keys.Signature.{Signature}
@@ -62,13 +65,13 @@ signature_at bytes = do
 unfoldable pub round_at : List ℕ → Read ℕ
 round_at bytes = do
   n ← number_at w64 bytes
-  if nat_lt (2 ^ 48) n.0 then Err BadRound else Ok n
+  if nat_lt MAX_ROUND n.0 then Err BadRound else Ok n
 
 -- a wave is from 1 to 2^47 - 1
 unfoldable pub wave_at : List ℕ → Read ℕ
 wave_at bytes = do
   n ← number_at w64 bytes
-  if nat_lt 0 n.0 && nat_lt n.0 (2 ^ 47) then Ok n else Err BadRound
+  if nat_lt 0 n.0 && nat_le n.0 MAX_WAVE then Ok n else Err BadRound
 
 -- a count is at most its limit
 unfoldable pub count_at : Width → ℕ → List ℕ → Read ℕ
@@ -94,7 +97,7 @@ batch_reference_at before bytes = do
 -- their count, at most 128, and the batches
 unfoldable pub batches_at : List ℕ → Read (List BatchReference)
 batches_at bytes = do
-  count ← count_at w16 128 bytes
+  count ← count_at w16 MAX_BATCHES bytes
   more_at batch_reference_at count.0 [] count.1
 
 -- a parent behind those before it
@@ -106,7 +109,7 @@ parent_reference_at before bytes = do
 -- their count, at most 31, and the parents
 unfoldable pub parents_at : List ℕ → Read (List ParentReference)
 parents_at bytes = do
-  count ← count_at w16 31 bytes
+  count ← count_at w16 MAX_PARENTS bytes
   more_at parent_reference_at count.0 [] count.1
 
 -- a vote of a certificate behind those before it
@@ -118,19 +121,19 @@ vote_entry_at before bytes = do
 -- their count, at most 31, and the votes
 unfoldable pub votes_at : List ℕ → Read (List VoteEntry)
 votes_at bytes = do
-  count ← count_at w16 31 bytes
+  count ← count_at w16 MAX_VOTES bytes
   more_at vote_entry_at count.0 [] count.1
 
 -- a transaction behind those before it: its length is at most 65,536, and the body with it has at most 500,000 bytes
 unfoldable pub transaction_at : List (List ℕ) → List ℕ → Read (List ℕ)
 transaction_at before bytes = do
   len ← number_at w32 bytes
-  if not (nat_lt 65536 len.0) && has_room before len.0 then bytes_at len.0 len.1 else Err TooMany
+  if not (nat_lt MAX_TRANSACTION_BYTES len.0) && has_room before len.0 then bytes_at len.0 len.1 else Err TooMany
 
 -- their count, at most 124,998, and the transactions
 unfoldable pub transactions_at : List ℕ → Read (List (List ℕ))
 transactions_at bytes = do
-  count ← count_at w32 124998 bytes
+  count ← count_at w32 MAX_TRANSACTIONS bytes
   more_at transaction_at count.0 [] count.1
 
 -- ---- messages

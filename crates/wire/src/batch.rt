@@ -1,6 +1,7 @@
 //! Batches of transactions.
 
 ghost use Rattle.std.specs.Prelude.{◌≡◌, ◌+◌, ◌≤◌, ◌++◌, [], ◌∷◌, length, IsTrue, ◌↔◌, MatchResult, IfOk, OnOk, OnErr, vec_len, vec_capacity};
+ghost use Rattle.wire.specs.declared.limits.TheConstants.{MAX_TRANSACTION_BYTES};
 ghost use Rattle.wire.specs.Batches.{batch_body, body_len, has_room, IsBatch};
 
 use crate::keys::Author;
@@ -78,7 +79,7 @@ impl Batch {
     pub fn body(&self) -> &[u8]
         ensures value { result.now ≡ batch_body self.now }
         ensures len { length result.now ≡ body_len self.now.transactions }
-        ensures limit { length result.now ≤ 500000 }
+        ensures limit { length result.now ≤ MAX_BATCH_BYTES }
         ensures fits { IsBatch self.now }
     {
         self.body.as_slice()
@@ -140,7 +141,7 @@ impl OpenBatch {
     /// Adds a transaction of at most `MAX_TRANSACTION_BYTES` at the end, where `has_room` says that it may.
     /// `AllocError` where a growth was refused.
     pub fn push(&mut self, transaction: &[u8]) -> Result<(), AllocError>
-        requires short { length transaction.now ≤ 65536 }
+        requires short { length transaction.now ≤ MAX_TRANSACTION_BYTES }
         requires room { IsTrue (has_room self.old.transactions (length transaction.now)) }
         ensures ok { OnOk result (self.new ≡ record self.old { transactions = self.old.transactions ++ transaction.now ∷ [] }) }
         ensures err { OnErr result (self.new ≡ self.old) }

@@ -3,6 +3,7 @@
 ghost use Rattle.std.specs.Prelude.{◌≡◌, ◌++◌, ◌∷◌, [], List, ℕ, ◌≤◌, length};
 ghost use Rattle.sha2.specs.Sha256.{sha256};
 ghost use Rattle.sha2.specs.Hashers.{Holds256};
+ghost use Rattle.wire.specs.declared.limits.TheConstants.{MAX_BATCHES, MAX_PARENTS};
 ghost use Rattle.wire.specs.Spelling.{batches_bytes, parents_bytes, body_bytes};
 ghost use Rattle.wire.specs.Digests.{batch_digest_of, header_digest_of, certificate_digest_of, genesis_digest_of};
 
@@ -24,7 +25,7 @@ const HEADER_LETTER: u8 = 0x48;
 const CERTIFICATE_LETTER: u8 = 0x43;
 
 fn feed_batches(hasher: &mut Sha256, batches: &[BatchReference])
-    requires { length batches.now ≤ 128 }
+    requires { length batches.now ≤ MAX_BATCHES }
     ensures { (m : List ℕ) → Holds256 hasher.old m → Holds256 hasher.new (m ++ batches_bytes batches.now) }
 {
     hasher.update(two_bytes(batches.len() as u16));
@@ -35,7 +36,7 @@ fn feed_batches(hasher: &mut Sha256, batches: &[BatchReference])
 }
 
 fn feed_parents(hasher: &mut Sha256, parents: &[ParentReference])
-    requires { length parents.now ≤ 31 }
+    requires { length parents.now ≤ MAX_PARENTS }
     ensures { (m : List ℕ) → Holds256 hasher.old m → Holds256 hasher.new (m ++ parents_bytes parents.now) }
 {
     hasher.update(two_bytes(parents.len() as u16));
@@ -51,8 +52,8 @@ fn body_digest(
     batches: &[BatchReference],
     parents: &[ParentReference],
 ) -> Digest
-    requires few_batches { length batches.now ≤ 128 }
-    requires few_parents { length parents.now ≤ 31 }
+    requires few_batches { length batches.now ≤ MAX_BATCHES }
+    requires few_parents { length parents.now ≤ MAX_PARENTS }
     ensures { result.0 ≡ sha256 (72 ∷ body_bytes author.0 round batches.now parents.now) }
 {
     let mut hasher = Sha256::new();

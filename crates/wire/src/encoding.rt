@@ -1,6 +1,7 @@
 //! Messages as bytes.
 
 ghost use Rattle.std.specs.Prelude.{◌≡◌, ◌≤◌, ◌+◌, ◌*◌, ◌++◌, ◌∷◌, length, IfOk, OnOk};
+ghost use Rattle.wire.specs.declared.limits.TheConstants.{MAX_BATCH_BYTES, MAX_BATCHES, MAX_PARENTS, MAX_VOTES};
 ghost use Rattle.wire.specs.Spelling.{batch_reference_bytes, parent_reference_bytes, vote_entry_bytes, batches_bytes, parents_bytes, votes_bytes, header_body, header_body_len, spelling, length_of};
 ghost use Rattle.wire.specs.Fields.{EachIsByte, IsDigest, IsSignature};
 ghost use Rattle.wire.specs.Batches.{IsBatch};
@@ -60,7 +61,7 @@ fn put_signature(out: &mut Vec<u8>, signature: &Signature) -> Result<(), AllocEr
 pub(crate) fn put_batch(out: &mut Vec<u8>, batch: &Batch) -> Result<(), AllocError>
     ensures bytes { OnOk result (out.new.items ≡ out.old.items ++ spelling (Message.Batch batch.now)) }
     ensures len { OnOk result (length out.new.items ≡ length out.old.items + length_of (Message.Batch batch.now)) }
-    ensures limit { OnOk result (length_of (Message.Batch batch.now) ≤ 500001) }
+    ensures limit { OnOk result (length_of (Message.Batch batch.now) ≤ 1 + MAX_BATCH_BYTES) }
     ensures fits { OnOk result (IsBatch batch.now) }
 {
     out.push(BATCH_TAG)?;
@@ -90,7 +91,7 @@ fn put_batches(out: &mut Vec<u8>, batches: &BatchReferences) -> Result<(), Alloc
     ensures bytes { OnOk result (out.new.items ≡ out.old.items ++ batches_bytes batches.now) }
     ensures len { OnOk result (length out.new.items ≡ length out.old.items + (2 + 34 * length batches.now)) }
     ensures fits { OnOk result (AreBatches batches.now) }
-    ensures few { OnOk result (length batches.now ≤ 128) }
+    ensures few { OnOk result (length batches.now ≤ MAX_BATCHES) }
 {
     let list = batches.as_slice();
     out.extend_from_slice(&two_bytes(list.len() as u16))?;
@@ -113,7 +114,7 @@ fn put_parents(out: &mut Vec<u8>, parents: &ParentReferences) -> Result<(), Allo
     ensures bytes { OnOk result (out.new.items ≡ out.old.items ++ parents_bytes parents.now) }
     ensures len { OnOk result (length out.new.items ≡ length out.old.items + (2 + 34 * length parents.now)) }
     ensures fits { OnOk result (AreParents parents.now) }
-    ensures few { OnOk result (length parents.now ≤ 31) }
+    ensures few { OnOk result (length parents.now ≤ MAX_PARENTS) }
 {
     let list = parents.as_slice();
     out.extend_from_slice(&two_bytes(list.len() as u16))?;
@@ -135,7 +136,7 @@ fn put_vote_entry(out: &mut Vec<u8>, entry: &VoteEntry) -> Result<(), AllocError
 fn put_votes(out: &mut Vec<u8>, votes: &VoteEntries) -> Result<(), AllocError>
     ensures bytes { OnOk result (out.new.items ≡ out.old.items ++ votes_bytes votes.now) }
     ensures len { OnOk result (length out.new.items ≡ length out.old.items + (2 + 66 * length votes.now)) }
-    ensures few { OnOk result (length votes.now ≤ 31) }
+    ensures few { OnOk result (length votes.now ≤ MAX_VOTES) }
     ensures fits { OnOk result (AreVotes votes.now) }
 {
     let list = votes.as_slice();
@@ -149,7 +150,7 @@ fn put_votes(out: &mut Vec<u8>, votes: &VoteEntries) -> Result<(), AllocError>
 fn put_header_body(out: &mut Vec<u8>, header: &HeaderBody) -> Result<(), AllocError>
     ensures bytes { OnOk result (out.new.items ≡ out.old.items ++ header_body header.now) }
     ensures len { OnOk result (length out.new.items ≡ length out.old.items + header_body_len header.now) }
-    ensures few { OnOk result (header_body_len header.now ≤ 5420) }
+    ensures few { OnOk result (header_body_len header.now ≤ 14 + 34 * (MAX_BATCHES + MAX_PARENTS)) }
     ensures fits { OnOk result (IsHeaderBody header.now) }
 {
     out.extend_from_slice(&two_bytes(header.author.0))?;
@@ -162,7 +163,7 @@ fn put_header_body(out: &mut Vec<u8>, header: &HeaderBody) -> Result<(), AllocEr
 pub(crate) fn put_header(out: &mut Vec<u8>, header: &Header) -> Result<(), AllocError>
     ensures bytes { OnOk result (out.new.items ≡ out.old.items ++ spelling (Message.Header header.now)) }
     ensures len { OnOk result (length out.new.items ≡ length out.old.items + length_of (Message.Header header.now)) }
-    ensures limit { OnOk result (length_of (Message.Header header.now) ≤ 5485) }
+    ensures limit { OnOk result (length_of (Message.Header header.now) ≤ 1 + (14 + 34 * (MAX_BATCHES + MAX_PARENTS) + 64)) }
     ensures fits { OnOk result (IsHeader header.now) }
 {
     out.push(HEADER_TAG)?;
@@ -189,7 +190,7 @@ pub(crate) fn put_certificate(
 ) -> Result<(), AllocError>
     ensures bytes { OnOk result (out.new.items ≡ out.old.items ++ spelling (Message.Certificate certificate.now)) }
     ensures len { OnOk result (length out.new.items ≡ length out.old.items + length_of (Message.Certificate certificate.now)) }
-    ensures limit { OnOk result (length_of (Message.Certificate certificate.now) ≤ 7469) }
+    ensures limit { OnOk result (length_of (Message.Certificate certificate.now) ≤ 1 + (14 + 34 * (MAX_BATCHES + MAX_PARENTS) + (2 + 66 * MAX_VOTES))) }
     ensures fits { OnOk result (IsCertificate certificate.now) }
 {
     out.push(CERTIFICATE_TAG)?;
@@ -211,7 +212,7 @@ fn put_coin(out: &mut Vec<u8>, coin: &Coin) -> Result<(), AllocError>
 fn put_message(out: &mut Vec<u8>, message: &Message) -> Result<(), AllocError>
     ensures bytes { OnOk result (out.new.items ≡ out.old.items ++ spelling message.now) }
     ensures len { OnOk result (length out.new.items ≡ length out.old.items + length_of message.now) }
-    ensures limit { OnOk result (length_of message.now ≤ 500001) }
+    ensures limit { OnOk result (length_of message.now ≤ 1 + MAX_BATCH_BYTES) }
     ensures fits { OnOk result (IsMessage message.now) }
 {
     match message {
@@ -229,7 +230,7 @@ pub fn encode(alloc: Global, message: &Message) -> Result<Vec<u8>, AllocError>
     ensures spelling { IfOk result (λ bytes. Spells message.now bytes.items) }
     ensures len { IfOk result (λ bytes. length bytes.items ≡ length_of message.now) }
     // So it fits a frame, with a sender before it.
-    ensures limit { IfOk result (λ bytes. length bytes.items ≤ 500001) }
+    ensures limit { IfOk result (λ bytes. length bytes.items ≤ 1 + MAX_BATCH_BYTES) }
 {
     let mut out = Vec::new(alloc);
     put_message(&mut out, message)?;

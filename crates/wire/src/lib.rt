@@ -25,7 +25,7 @@ pub use header::{Certificate, Header, HeaderBody, Vote};
 pub use keys::{Author, Digest, Key, Signature};
 pub use limits::{
     MAX_BATCH_BYTES, MAX_BATCHES, MAX_FRAME_BYTES, MAX_ORDER_DIGESTS, MAX_PARENTS,
-    MAX_TRANSACTION_BYTES, MAX_TRANSACTIONS, MAX_VOTES,
+    MAX_TRANSACTION_BYTES, MAX_TRANSACTIONS, MAX_VOTES, limits_in_numbers,
 };
 pub use message::{BatchAck, Coin, Message};
 pub use output::{OrderDigests, Output};

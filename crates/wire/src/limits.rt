@@ -1,5 +1,9 @@
 //! The limits of messages. A round's and a wave's stand with their types.
 
+ghost use Rattle.std.specs.Prelude.{◌≡◌, ◌-◌, ◌^◌};
+ghost use Rattle.wire.specs.declared.round.TheConstants.Round.{MAX as MAX_ROUND};
+ghost use Rattle.wire.specs.declared.round.TheConstants.Wave.{MAX as MAX_WAVE};
+
 /// Bytes of a transaction, at most.
 pub const MAX_TRANSACTION_BYTES: usize = 65_536;
 
@@ -23,3 +27,17 @@ pub const MAX_ORDER_DIGESTS: usize = 16_000;
 
 /// Bytes of a frame behind its length, at most.
 pub const MAX_FRAME_BYTES: usize = 524_288;
+
+/// The limits in numbers. Every other promise names them.
+pub fn limits_in_numbers()
+    ensures transaction { MAX_TRANSACTION_BYTES ≡ 65536 }
+    ensures batch { MAX_BATCH_BYTES ≡ 500000 }
+    ensures transactions { MAX_TRANSACTIONS ≡ 124998 }
+    ensures batches { MAX_BATCHES ≡ 128 }
+    ensures parents { MAX_PARENTS ≡ 31 }
+    ensures votes { MAX_VOTES ≡ 31 }
+    ensures order { MAX_ORDER_DIGESTS ≡ 16000 }
+    ensures frame { MAX_FRAME_BYTES ≡ 524288 }
+    ensures round { MAX_ROUND ≡ 2 ^ 48 }
+    ensures wave { MAX_WAVE ≡ 2 ^ 47 - 1 }
+{}

@@ -36,12 +36,13 @@ pub struct OrderDigests {
 impl Model for OrderDigests {
     ghost use Rattle.std.specs.Prelude.{List, length, ◌≤◌};
     ghost use Rattle.wire.specs.declared.keys.Digest.{Digest};
+    ghost use Rattle.wire.specs.declared.limits.TheConstants.{MAX_ORDER_DIGESTS};
 
     ghost Value = { List Digest };
 
     ghost view = { λ d. d.list.items };
 
-    ghost invariant = { λ d. length d.list.items ≤ 16000 };
+    ghost invariant = { λ d. length d.list.items ≤ MAX_ORDER_DIGESTS };
 }
 
 impl OrderDigests {
@@ -57,7 +58,7 @@ impl OrderDigests {
     /// How many there are.
     pub fn len(&self) -> usize
         ensures value { result ≡ length self.now }
-        ensures limit { result ≤ 16000 }
+        ensures limit { result ≤ MAX_ORDER_DIGESTS }
     {
         self.list.len()
     }
@@ -71,14 +72,14 @@ impl OrderDigests {
 
     /// Whether one more digest may be added: there are fewer than `MAX_ORDER_DIGESTS`.
     pub fn has_room(&self) -> bool
-        ensures { IsTrue result ↔ (length self.now < 16000) }
+        ensures { IsTrue result ↔ (length self.now < MAX_ORDER_DIGESTS) }
     {
         self.list.len() < MAX_ORDER_DIGESTS
     }
 
     /// Adds a digest at the end, where `has_room` says that it may. `AllocError` where a growth was refused.
     pub fn push(&mut self, digest: Digest) -> Result<(), AllocError>
-        requires { length self.old < 16000 }
+        requires { length self.old < MAX_ORDER_DIGESTS }
         ensures ok { OnOk result (self.new ≡ self.old ++ digest ∷ []) }
         ensures err { OnErr result (self.new ≡ self.old) }
     {
@@ -89,7 +90,7 @@ impl OrderDigests {
     /// The digests, in their order.
     pub fn as_slice(&self) -> &[Digest]
         ensures value { result.now ≡ self.now }
-        ensures limit { length self.now ≤ 16000 }
+        ensures limit { length self.now ≤ MAX_ORDER_DIGESTS }
     {
         &self.list
     }

@@ -1,6 +1,7 @@
 //! What a validator gives out as bytes.
 
 ghost use Rattle.std.specs.Prelude.{◌≡◌, ◌≤◌, ◌+◌, ◌*◌, ◌++◌, length, IfOk, OnOk};
+ghost use Rattle.wire.specs.declared.limits.TheConstants.{MAX_FRAME_BYTES, MAX_ORDER_DIGESTS};
 ghost use Rattle.wire.specs.Outputs.{receiver_of, digests_bytes, order_bytes, content_of, output_bytes, AreOrdered, IsOutput};
 
 use crate::encoding::{put_ack, put_batch, put_certificate, put_digest, put_header, put_vote};
@@ -57,7 +58,7 @@ fn put_order(out: &mut Vec<u8>, start: u64, digests: &OrderDigests) -> Result<()
 fn put_content(out: &mut Vec<u8>, output: &Output) -> Result<(), AllocError>
     ensures bytes { OnOk result (out.new.items ≡ out.old.items ++ content_of output.now) }
     ensures fits { OnOk result (IsOutput output.now) }
-    ensures limit { OnOk result (length out.new.items ≤ length out.old.items + 512013) }
+    ensures limit { OnOk result (length out.new.items ≤ length out.old.items + (13 + 32 * MAX_ORDER_DIGESTS)) }
 {
     match output {
         Output::Batch(batch) => put_batch(out, batch),
@@ -75,7 +76,7 @@ pub fn encode_output(alloc: Global, output: &Output) -> Result<Vec<u8>, AllocErr
     ensures bytes { IfOk result (λ bytes. bytes.items ≡ output_bytes output.now) }
     ensures fits { IfOk result (λ _. IsOutput output.now) }
     // It fits a frame.
-    ensures limit { IfOk result (λ bytes. length bytes.items ≤ 524288) }
+    ensures limit { IfOk result (λ bytes. length bytes.items ≤ MAX_FRAME_BYTES) }
 {
     let mut out = Vec::new(alloc);
     out.extend_from_slice(&two_bytes(receiver(output)))?;

@@ -1,6 +1,7 @@
 //! What a header refers to: batches, and certificates of the round before.
 
 ghost use Rattle.std.specs.Prelude.{◌≡◌, ◌<◌, ◌≤◌, ◌++◌, [], ◌∷◌, List, length, IsTrue, ◌↔◌, OnOk, OnErr};
+ghost use Rattle.wire.specs.declared.limits.TheConstants.{MAX_BATCHES, MAX_PARENTS};
 ghost use Rattle.wire.specs.References.{batch_follows, parent_follows, batches_rise, parents_rise};
 
 use crate::keys::{Author, Digest};
@@ -34,13 +35,14 @@ pub struct BatchReferences {
 impl Model for BatchReferences {
     ghost use Rattle.std.specs.Prelude.{List, IsTrue, length, ◌≤◌};
     ghost use Rattle.wire.specs.declared.references.BatchReference.{BatchReference};
+    ghost use Rattle.wire.specs.declared.limits.TheConstants.{MAX_BATCHES};
     ghost use Rattle.wire.specs.References.{batches_rise};
 
     ghost Value = { List BatchReference };
 
     ghost view = { λ r. r.list.items };
 
-    ghost invariant = { λ r. (length r.list.items ≤ 128) × IsTrue (batches_rise r.list.items) };
+    ghost invariant = { λ r. (length r.list.items ≤ MAX_BATCHES) × IsTrue (batches_rise r.list.items) };
 }
 
 impl BatchReferences {
@@ -56,7 +58,7 @@ impl BatchReferences {
     /// How many there are.
     pub fn len(&self) -> usize
         ensures value { result ≡ length self.now }
-        ensures limit { result ≤ 128 }
+        ensures limit { result ≤ MAX_BATCHES }
     {
         self.list.len()
     }
@@ -81,7 +83,7 @@ impl BatchReferences {
     /// Adds a batch at the end, where there is room and `may_follow` says that it may. `AllocError` where a growth
     /// was refused.
     pub fn push(&mut self, batch: BatchReference) -> Result<(), AllocError>
-        requires room { length self.old < 128 }
+        requires room { length self.old < MAX_BATCHES }
         requires follows { IsTrue (batch_follows self.old batch.digest) }
         ensures ok { OnOk result (self.new ≡ self.old ++ batch ∷ []) }
         ensures err { OnErr result (self.new ≡ self.old) }
@@ -93,7 +95,7 @@ impl BatchReferences {
     /// The batches, in their order.
     pub fn as_slice(&self) -> &[BatchReference]
         ensures value { result.now ≡ self.now }
-        ensures limit { length self.now ≤ 128 }
+        ensures limit { length self.now ≤ MAX_BATCHES }
         ensures order { IsTrue (batches_rise self.now) }
     {
         &self.list
@@ -109,13 +111,14 @@ pub struct ParentReferences {
 impl Model for ParentReferences {
     ghost use Rattle.std.specs.Prelude.{List, IsTrue, length, ◌≤◌};
     ghost use Rattle.wire.specs.declared.references.ParentReference.{ParentReference};
+    ghost use Rattle.wire.specs.declared.limits.TheConstants.{MAX_PARENTS};
     ghost use Rattle.wire.specs.References.{parents_rise};
 
     ghost Value = { List ParentReference };
 
     ghost view = { λ r. r.list.items };
 
-    ghost invariant = { λ r. (length r.list.items ≤ 31) × IsTrue (parents_rise r.list.items) };
+    ghost invariant = { λ r. (length r.list.items ≤ MAX_PARENTS) × IsTrue (parents_rise r.list.items) };
 }
 
 impl ParentReferences {
@@ -131,7 +134,7 @@ impl ParentReferences {
     /// How many there are.
     pub fn len(&self) -> usize
         ensures value { result ≡ length self.now }
-        ensures limit { result ≤ 31 }
+        ensures limit { result ≤ MAX_PARENTS }
     {
         self.list.len()
     }
@@ -156,7 +159,7 @@ impl ParentReferences {
     /// Adds a parent at the end, where there is room and `may_follow` says that it may. `AllocError` where a growth
     /// was refused.
     pub fn push(&mut self, parent: ParentReference) -> Result<(), AllocError>
-        requires room { length self.old < 31 }
+        requires room { length self.old < MAX_PARENTS }
         requires follows { IsTrue (parent_follows self.old parent.author) }
         ensures ok { OnOk result (self.new ≡ self.old ++ parent ∷ []) }
         ensures err { OnErr result (self.new ≡ self.old) }
@@ -168,7 +171,7 @@ impl ParentReferences {
     /// The parents, in their order.
     pub fn as_slice(&self) -> &[ParentReference]
         ensures value { result.now ≡ self.now }
-        ensures limit { length self.now ≤ 31 }
+        ensures limit { length self.now ≤ MAX_PARENTS }
         ensures order { IsTrue (parents_rise self.now) }
     {
         &self.list

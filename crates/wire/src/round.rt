@@ -1,6 +1,6 @@
 //! Rounds, and waves.
 
-ghost use Rattle.std.specs.Prelude.{◌≡◌, ◌<◌, ◌≤◌, ◌^◌, ◌↔◌, ◌⊎◌, MatchResult, IfOk, IsErrOf};
+ghost use Rattle.std.specs.Prelude.{◌≡◌, ◌<◌, ◌≤◌, ◌↔◌, ◌⊎◌, MatchResult, IfOk, IsErrOf};
 
 use crate::error::WireError;
 use std::marker::Model;
@@ -12,13 +12,14 @@ pub struct Round {
 }
 
 impl Model for Round {
-    ghost use Rattle.std.specs.Prelude.{ℕ, ◌≤◌, ◌^◌};
+    ghost use Rattle.std.specs.Prelude.{ℕ, ◌≤◌};
+    ghost use Rattle.wire.specs.declared.round.TheConstants.Round.{MAX};
 
     ghost Value = { ℕ };
 
     ghost view = { λ r. r.number };
 
-    ghost invariant = { λ r. r.number ≤ 2 ^ 48 };
+    ghost invariant = { λ r. r.number ≤ MAX };
 
     ghost inverse = { λ n. record { number = n } };
 }
@@ -30,8 +31,8 @@ impl Round {
     /// The round of this number, or `BadRound` above `Round::MAX`.
     pub fn new(number: u64) -> Result<Round, WireError>
         ensures ok { IfOk result (λ round. round ≡ number) }
-        ensures bad_round { IsErrOf result WireError.BadRound ↔ (2 ^ 48 < number) }
-        ensures no_other { MatchResult result (λ _. number ≤ 2 ^ 48) (λ e. e ≡ WireError.BadRound) }
+        ensures bad_round { IsErrOf result WireError.BadRound ↔ (Round.MAX < number) }
+        ensures no_other { MatchResult result (λ _. number ≤ Round.MAX) (λ e. e ≡ WireError.BadRound) }
     {
         if number > Round::MAX {
             return Err(WireError::BadRound);
@@ -49,7 +50,7 @@ impl Round {
     /// Its number.
     pub fn number(self) -> u64
         ensures value { result ≡ self }
-        ensures limit { result ≤ 2 ^ 48 }
+        ensures limit { result ≤ Round.MAX }
     {
         self.number
     }
@@ -62,13 +63,14 @@ pub struct Wave {
 }
 
 impl Model for Wave {
-    ghost use Rattle.std.specs.Prelude.{ℕ, ◌<◌, ◌^◌};
+    ghost use Rattle.std.specs.Prelude.{ℕ, ◌<◌, ◌≤◌};
+    ghost use Rattle.wire.specs.declared.round.TheConstants.Wave.{MAX};
 
     ghost Value = { ℕ };
 
     ghost view = { λ w. w.number };
 
-    ghost invariant = { λ w. (0 < w.number) × (w.number < 2 ^ 47) };
+    ghost invariant = { λ w. (0 < w.number) × (w.number ≤ MAX) };
 
     ghost inverse = { λ n. record { number = n } };
 }
@@ -80,8 +82,8 @@ impl Wave {
     /// The wave of this number, or `BadRound` for 0 and above `Wave::MAX`.
     pub fn new(number: u64) -> Result<Wave, WireError>
         ensures ok { IfOk result (λ wave. wave ≡ number) }
-        ensures bad_round { IsErrOf result WireError.BadRound ↔ ((number ≡ 0) ⊎ (2 ^ 47 ≤ number)) }
-        ensures no_other { MatchResult result (λ _. (0 < number) × (number < 2 ^ 47)) (λ e. e ≡ WireError.BadRound) }
+        ensures bad_round { IsErrOf result WireError.BadRound ↔ ((number ≡ 0) ⊎ (Wave.MAX < number)) }
+        ensures no_other { MatchResult result (λ _. (0 < number) × (number ≤ Wave.MAX)) (λ e. e ≡ WireError.BadRound) }
     {
         if number == 0 || number > Wave::MAX {
             return Err(WireError::BadRound);
@@ -93,7 +95,7 @@ impl Wave {
     pub fn number(self) -> u64
         ensures value { result ≡ self }
         ensures least { 0 < result }
-        ensures limit { result < 2 ^ 47 }
+        ensures limit { result ≤ Wave.MAX }
     {
         self.number
     }

@@ -1,6 +1,7 @@
 //! The votes of a certificate.
 
 ghost use Rattle.std.specs.Prelude.{◌≡◌, ◌<◌, ◌≤◌, ◌++◌, [], ◌∷◌, List, length, IsTrue, ◌↔◌, OnOk, OnErr};
+ghost use Rattle.wire.specs.declared.limits.TheConstants.{MAX_VOTES};
 ghost use Rattle.wire.specs.References.{vote_follows, votes_rise};
 
 use crate::keys::{Author, Signature};
@@ -25,13 +26,14 @@ pub struct VoteEntries {
 impl Model for VoteEntries {
     ghost use Rattle.std.specs.Prelude.{List, IsTrue, length, ◌≤◌};
     ghost use Rattle.wire.specs.declared.votes.VoteEntry.{VoteEntry};
+    ghost use Rattle.wire.specs.declared.limits.TheConstants.{MAX_VOTES};
     ghost use Rattle.wire.specs.References.{votes_rise};
 
     ghost Value = { List VoteEntry };
 
     ghost view = { λ v. v.list.items };
 
-    ghost invariant = { λ v. (length v.list.items ≤ 31) × IsTrue (votes_rise v.list.items) };
+    ghost invariant = { λ v. (length v.list.items ≤ MAX_VOTES) × IsTrue (votes_rise v.list.items) };
 }
 
 impl VoteEntries {
@@ -47,7 +49,7 @@ impl VoteEntries {
     /// How many there are.
     pub fn len(&self) -> usize
         ensures value { result ≡ length self.now }
-        ensures limit { result ≤ 31 }
+        ensures limit { result ≤ MAX_VOTES }
     {
         self.list.len()
     }
@@ -72,7 +74,7 @@ impl VoteEntries {
     /// Adds a vote at the end, where there is room and `may_follow` says that it may. `AllocError` where a growth
     /// was refused.
     pub fn push(&mut self, vote: VoteEntry) -> Result<(), AllocError>
-        requires room { length self.old < 31 }
+        requires room { length self.old < MAX_VOTES }
         requires follows { IsTrue (vote_follows self.old vote.voter) }
         ensures ok { OnOk result (self.new ≡ self.old ++ vote ∷ []) }
         ensures err { OnErr result (self.new ≡ self.old) }
@@ -84,7 +86,7 @@ impl VoteEntries {
     /// The votes, in their order.
     pub fn as_slice(&self) -> &[VoteEntry]
         ensures value { result.now ≡ self.now }
-        ensures limit { length self.now ≤ 31 }
+        ensures limit { length self.now ≤ MAX_VOTES }
         ensures order { IsTrue (votes_rise self.now) }
     {
         &self.list

@@ -8,6 +8,7 @@ use Rattle.std.proofs.lemmas.Bool.{ltb-false, le-ltb, leb-true, le-leb, not-true
 use Rattle.std.proofs.lemmas.List.Elements.{All-from_recursion, recursion_from_All}
 use Rattle.std.proofs.lemmas.List.Sums.{sum_by-append, sum_by_push}
 use Rattle.wire.specs.declared.error.WireError.TheVariants.{TooMany}
+use Rattle.wire.specs.declared.limits.TheConstants.{MAX_TRANSACTION_BYTES, MAX_BATCH_BYTES, MAX_TRANSACTIONS}
 use Rattle.wire.specs.Fields.{AreBytes}
 use Rattle.wire.specs.Batches.{Contents, transaction_bytes, batch_body, body_len, has_room, IsTransaction, IsBatch}
 use Rattle.wire.specs.Reading.{◌>>=◌, number_at, bytes_at, author_at, transaction_at, transactions_at, batch_at}
@@ -19,7 +20,7 @@ use Rattle.wire_read.proofs.Fields.{wide16, wide32, number_takes, number_again, 
 
 -- the body of these transactions is within the limit
 abbrev Short : List (List ℕ) → Type 0
-Short ts = body_len ts ≤ 500000
+Short ts = body_len ts ≤ MAX_BATCH_BYTES
 
 is_not : (b : Bool) → b ≡ false → not b ≡ true
 is_not true h = absurd cc
@@ -36,23 +37,23 @@ front_short front rest short = omega (arith, short, sum_by-append (λ t. 4 + len
 transaction_takes : (before : List (List ℕ)) (bytes : List ℕ) (x : List ℕ × List ℕ) → IsBytes bytes → Short before → transaction_at before bytes ≡ Ok x → Takes bytes (transaction_bytes x.0) x.1 × IsTransaction x.0 × Short (before ++ x.0 ∷ [])
 unfolding transaction_at
 transaction_takes before bytes x fits short e =
-    let a = bind_ok (number_at w32 bytes) (λ len. cond (not (ltb 65536 len.0) && has_room before len.0) (bytes_at len.0 len.1) (Err TooMany)) x e in
-    let g = held_ok (not (ltb 65536 a.0.0) && has_room before a.0.0) TooMany (bytes_at a.0.0 a.0.1) x a.2 in
-    let both = both-are (not (ltb 65536 a.0.0)) (has_room before a.0.0) g.0 in
+    let a = bind_ok (number_at w32 bytes) (λ len. cond (not (ltb MAX_TRANSACTION_BYTES len.0) && has_room before len.0) (bytes_at len.0 len.1) (Err TooMany)) x e in
+    let g = held_ok (not (ltb MAX_TRANSACTION_BYTES a.0.0) && has_room before a.0.0) TooMany (bytes_at a.0.0 a.0.1) x a.2 in
+    let both = both-are (not (ltb MAX_TRANSACTION_BYTES a.0.0)) (has_room before a.0.0) g.0 in
     let t0 = number_takes w32 (2 ^ 32) wide32 bytes a.0.0 a.0.1 fits a.1 in
     let t1 = bytes_take a.0.0 a.0.1 x t0.0.rest_fits g.1 in
     let len : length x.0 ≡ a.0.0 = t1.1.count_is in
     let whole = Takes-then bytes (to_be_bytes w32 a.0.0) a.0.1 x.0 x.1 t0.0 t1.0 in
-    let limit : a.0.0 ≤ 65536 = ltb-false _ _ (not-true _ both.0) in
-    let room : body_len before + (4 + a.0.0) ≤ 500000 = leb-true _ _ both.1 in
+    let limit : a.0.0 ≤ MAX_TRANSACTION_BYTES = ltb-false _ _ (not-true _ both.0) in
+    let room : body_len before + (4 + a.0.0) ≤ MAX_BATCH_BYTES = leb-true _ _ both.1 in
     (subst (λ (n : ℕ). Takes bytes (to_be_bytes w32 n ++ x.0) x.1) (sym len) whole, record { short = omega (arith, len, limit); bytes = t1.1.each }, omega (arith, grown before x.0, len, room))
 
 transaction_again : (before : List (List ℕ)) (t : List ℕ) (rest : List ℕ) → IsTransaction t → Short (before ++ t ∷ []) → transaction_at before (transaction_bytes t ++ rest) ≡ Ok (t, rest)
 unfolding transaction_at
 transaction_again before t rest is short =
     let regrouped : transaction_bytes t ++ rest ≡ to_be_bytes w32 (length t) ++ (t ++ rest) = append_assoc (to_be_bytes w32 (length t)) t rest in
-    let room : body_len before + (4 + length t) ≤ 500000 = omega (arith, grown before t, short) in
-    let within = both_true (is_not (ltb 65536 (length t)) (le-ltb _ _ is.short)) (le-leb _ _ room) in
+    let room : body_len before + (4 + length t) ≤ MAX_BATCH_BYTES = omega (arith, grown before t, short) in
+    let within = both_true (is_not (ltb MAX_TRANSACTION_BYTES (length t)) (le-ltb _ _ is.short)) (le-leb _ _ room) in
     let are : AreBytes (length t) t = record { count_is = refl; each = is.bytes } in
     ap (transaction_at before) regrouped ∙ rw (number_again w32 (2 ^ 32) wide32 (length t) (t ++ rest) (omega (arith, is.short)), within, bytes_again (length t) t rest are) refl
 
@@ -71,7 +72,7 @@ contents_take bytes x fits e =
     let c = bind_ok (transactions_at b.0.1) (λ transactions. Ok (record { author = a.0.0; worker = b.0.0; transactions = transactions.0 }, transactions.1)) x b.2 in
     let t0 = author_takes bytes a.0 fits a.1 in
     let t1 = number_takes w16 (2 ^ 16) wide16 a.0.1 b.0.0 b.0.1 t0.0.rest_fits b.1 in
-    let r = counted_take w32 (2 ^ 32) wide32 124998 transaction_at transaction_bytes IsTransaction Short transaction_is b.0.1 c.0 t1.0.rest_fits (omega arith) c.1 in
+    let r = counted_take w32 (2 ^ 32) wide32 MAX_TRANSACTIONS transaction_at transaction_bytes IsTransaction Short transaction_is b.0.1 c.0 t1.0.rest_fits (omega arith) c.1 in
     let from1 = Takes-then a.0.1 (to_be_bytes w16 b.0.0) b.0.1 (to_be_bytes w32 (length c.0.0) ++ flat_map transaction_bytes c.0.0) c.0.1 t1.0 r.takes in
     let from0 = Takes-then bytes (to_be_bytes w16 a.0.0.0) a.0.1 (to_be_bytes w16 b.0.0 ++ (to_be_bytes w32 (length c.0.0) ++ flat_map transaction_bytes c.0.0)) c.0.1 t0.0 from1 in
     let made : Contents × List ℕ = (record { author = a.0.0; worker = b.0.0; transactions = c.0.0 }, c.0.1) in
@@ -82,6 +83,6 @@ unfolding batch_at transactions_at
 contents_again b rest is =
     let text = to_be_bytes w32 (length b.transactions) ++ flat_map transaction_bytes b.transactions in
     let regrouped : batch_body b ++ rest ≡ to_be_bytes w16 b.author.0 ++ (to_be_bytes w16 b.worker ++ (text ++ rest)) = simp append_assoc in
-    let limit : length b.transactions ≤ 124998 = omega (arith, few b.transactions, is.short) in
-    let all = counted_again w32 (2 ^ 32) wide32 124998 transaction_at transaction_bytes IsTransaction Short transaction_is b.transactions rest (omega arith) limit (recursion_from_All IsTransaction b.transactions is.each) is.short in
+    let limit : length b.transactions ≤ MAX_TRANSACTIONS = omega (arith, few b.transactions, is.short) in
+    let all = counted_again w32 (2 ^ 32) wide32 MAX_TRANSACTIONS transaction_at transaction_bytes IsTransaction Short transaction_is b.transactions rest (omega arith) limit (recursion_from_All IsTransaction b.transactions is.each) is.short in
     ap batch_at regrouped ∙ rw (author_again b.author (to_be_bytes w16 b.worker ++ (text ++ rest)) is.author, number_again w16 (2 ^ 16) wide16 b.worker (text ++ rest) is.worker, all) refl

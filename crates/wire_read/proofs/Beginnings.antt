@@ -1,6 +1,6 @@
 -- What is read of the beginning of some bytes: the same as of all of them, unless it ends within a field.
 use Rattle.std.proofs.Common.{◌≡◌, ℕ, zero, suc, ◌<◌, ◌≤◌, Bool, true, false, cond, List, [], ◌∷◌, ◌++◌, length, take, drop, Result, Ok, Err, ◌⊎◌, inl, inr, refl, sym, ap, ◌∙◌, arith}
-use Rattle.std.specs.Prelude.{◌+◌, ◌^◌, ◌&&◌, not, nat_lt, ◌==◌, if◌then◌else◌}
+use Rattle.std.specs.Prelude.{◌+◌, ◌&&◌, not, nat_lt, nat_le, ◌==◌, if◌then◌else◌}
 use Rattle.std.specs.Int.{Width, w16, w32, w64, byte_len, from_be_bytes}
 use Rattle.std.proofs.lemmas.Bool.{cases_Bool, ltb-false}
 use Rattle.std.proofs.lemmas.List.{append-nil, length-append, take-append-le, drop-append-le}
@@ -11,6 +11,9 @@ use Rattle.wire.specs.declared.message.Message.TheVariants as message
 use Rattle.wire.specs.declared.references.BatchReference.{BatchReference}
 use Rattle.wire.specs.declared.references.ParentReference.{ParentReference}
 use Rattle.wire.specs.declared.votes.VoteEntry.{VoteEntry}
+use Rattle.wire.specs.declared.limits.TheConstants.{MAX_TRANSACTION_BYTES, MAX_TRANSACTIONS, MAX_BATCHES, MAX_PARENTS, MAX_VOTES}
+use Rattle.wire.specs.declared.round.TheConstants.Round.{MAX as MAX_ROUND}
+use Rattle.wire.specs.declared.round.TheConstants.Wave.{MAX as MAX_WAVE}
 use Rattle.wire.specs.Batches.{has_room}
 use Rattle.wire.specs.Grammar.{IsMessage}
 use Rattle.wire.specs.References.{batch_follows, parent_follows, vote_follows}
@@ -81,14 +84,14 @@ passed more false fault one other stays = inr refl
 round_goes : Goes round_at
 unfolding round_at
 round_goes bytes more =
-    behind more (number_at w64 bytes) (number_at w64 (bytes ++ more)) (λ n. if nat_lt (2 ^ 48) n.0 then Err BadRound else Ok n) (number_goes w64 bytes more)
-    (λ p. tested more (nat_lt (2 ^ 48) p.0) BadRound p)
+    behind more (number_at w64 bytes) (number_at w64 (bytes ++ more)) (λ n. if nat_lt MAX_ROUND n.0 then Err BadRound else Ok n) (number_goes w64 bytes more)
+    (λ p. tested more (nat_lt MAX_ROUND p.0) BadRound p)
 
 wave_goes : Goes wave_at
 unfolding wave_at
 wave_goes bytes more =
-    behind more (number_at w64 bytes) (number_at w64 (bytes ++ more)) (λ n. if nat_lt 0 n.0 && nat_lt n.0 (2 ^ 47) then Ok n else Err BadRound) (number_goes w64 bytes more)
-    (λ p. passed more (nat_lt 0 p.0 && nat_lt p.0 (2 ^ 47)) BadRound (Ok p) (Ok (p.0, p.1 ++ more)) refl)
+    behind more (number_at w64 bytes) (number_at w64 (bytes ++ more)) (λ n. if nat_lt 0 n.0 && nat_le n.0 MAX_WAVE then Ok n else Err BadRound) (number_goes w64 bytes more)
+    (λ p. passed more (nat_lt 0 p.0 && nat_le p.0 MAX_WAVE) BadRound (Ok p) (Ok (p.0, p.1 ++ more)) refl)
 
 count_goes : (w : Width) (limit : ℕ) → Goes (count_at w limit)
 unfolding count_at
@@ -122,7 +125,7 @@ batch_reference_goes before bytes more =
 
 batches_go : Goes batches_at
 unfolding batches_at
-batches_go = list_goes w16 128 batch_reference_at batch_reference_goes
+batches_go = list_goes w16 MAX_BATCHES batch_reference_at batch_reference_goes
 
 parent_reference_goes : (before : List ParentReference) → Goes (parent_reference_at before)
 unfolding parent_reference_at
@@ -135,7 +138,7 @@ parent_reference_goes before bytes more =
 
 parents_go : Goes parents_at
 unfolding parents_at
-parents_go = list_goes w16 31 parent_reference_at parent_reference_goes
+parents_go = list_goes w16 MAX_PARENTS parent_reference_at parent_reference_goes
 
 vote_entry_goes : (before : List VoteEntry) → Goes (vote_entry_at before)
 unfolding vote_entry_at
@@ -148,17 +151,17 @@ vote_entry_goes before bytes more =
 
 votes_go : Goes votes_at
 unfolding votes_at
-votes_go = list_goes w16 31 vote_entry_at vote_entry_goes
+votes_go = list_goes w16 MAX_VOTES vote_entry_at vote_entry_goes
 
 transaction_goes : (before : List (List ℕ)) → Goes (transaction_at before)
 unfolding transaction_at
 transaction_goes before bytes more =
-    behind more (number_at w32 bytes) (number_at w32 (bytes ++ more)) (λ len. if not (nat_lt 65536 len.0) && has_room before len.0 then bytes_at len.0 len.1 else Err TooMany) (number_goes w32 bytes more)
-    (λ p. passed more (not (nat_lt 65536 p.0) && has_room before p.0) TooMany (bytes_at p.0 p.1) (bytes_at p.0 (p.1 ++ more)) (bytes_go p.0 p.1 more))
+    behind more (number_at w32 bytes) (number_at w32 (bytes ++ more)) (λ len. if not (nat_lt MAX_TRANSACTION_BYTES len.0) && has_room before len.0 then bytes_at len.0 len.1 else Err TooMany) (number_goes w32 bytes more)
+    (λ p. passed more (not (nat_lt MAX_TRANSACTION_BYTES p.0) && has_room before p.0) TooMany (bytes_at p.0 p.1) (bytes_at p.0 (p.1 ++ more)) (bytes_go p.0 p.1 more))
 
 transactions_go : Goes transactions_at
 unfolding transactions_at
-transactions_go = list_goes w32 124998 transaction_at transaction_goes
+transactions_go = list_goes w32 MAX_TRANSACTIONS transaction_at transaction_goes
 
 -- ---- messages
 

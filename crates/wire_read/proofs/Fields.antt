@@ -1,9 +1,9 @@
 -- A field that is read is the field that is spelled, and what is spelled is read again, whatever follows.
-use Rattle.std.proofs.Common.{◌≡◌, ℕ, ◌^◌, ◌<◌, ◌≤◌, false, cond, ltb, List, ◌++◌, length, take, drop, Ok, Err, refl, sym, ap, subst, arith}
+use Rattle.std.proofs.Common.{◌≡◌, ℕ, ◌^◌, ◌<◌, ◌≤◌, false, cond, ltb, leb, List, ◌++◌, length, take, drop, Ok, Err, refl, sym, ap, subst, arith}
 use Rattle.std.specs.Int.{Width, w16, w32, w64, byte_len, from_be_bytes, to_be_bytes}
 use Rattle.std.specs.Prelude.{◌&&◌}
 use Rattle.std.specs.Cmp.Derive.{both_true}
-use Rattle.std.proofs.lemmas.Bool.{ltb-false, ltb-true, le-ltb, lt-ltb}
+use Rattle.std.proofs.lemmas.Bool.{ltb-false, ltb-true, leb-true, le-ltb, lt-ltb, le-leb}
 use Rattle.wire.proofs.RisingLemmas.{both-are}
 use Rattle.std.proofs.lemmas.List.{take_at, drop_at, take-append-drop, length-append, length-take}
 use Rattle.std.proofs.lemmas.Nat.{be_bytes_2, be_bytes_4, be_bytes_8, from_be_bytes-to_be_bytes_2, from_be_bytes-to_be_bytes_4, from_be_bytes-to_be_bytes_8}
@@ -11,6 +11,8 @@ use Rattle.wire.specs.declared.error.WireError.TheVariants.{Short, TooMany, BadR
 use Rattle.wire.specs.declared.keys.Author.{Author}
 use Rattle.wire.specs.declared.keys.Digest.{Digest}
 use Rattle.wire.specs.declared.keys.Signature.{Signature}
+use Rattle.wire.specs.declared.round.TheConstants.Round.{MAX as MAX_ROUND}
+use Rattle.wire.specs.declared.round.TheConstants.Wave.{MAX as MAX_WAVE}
 use Rattle.wire.specs.Fields.{AreBytes, IsAuthor, IsDigest, IsSignature, IsRound, IsWave}
 use Rattle.wire.specs.Reading.{number_at, bytes_at, author_at, digest_at, signature_at, round_at, wave_at, count_at}
 use Rattle.wire_read.proofs.Steps.{bind_ok, guard_ok, held_ok, ok_is, IsBytes, IsBytes-drop, IsBytes-take, are_bytes, Takes}
@@ -119,31 +121,31 @@ signature_again s rest is = rw (bytes_again 64 s.0 rest is) refl
 pub round_takes : (bytes : List ℕ) (x : ℕ × List ℕ) → IsBytes bytes → round_at bytes ≡ Ok x → Takes bytes (to_be_bytes w64 x.0) x.1 × IsRound x.0
 unfolding round_at
 round_takes bytes x fits e =
-    let a = bind_ok (number_at w64 bytes) (λ n. cond (ltb (2 ^ 48) n.0) (Err BadRound) (Ok n)) x e in
+    let a = bind_ok (number_at w64 bytes) (λ n. cond (ltb MAX_ROUND n.0) (Err BadRound) (Ok n)) x e in
     let t = number_takes w64 (2 ^ 64) wide64 bytes a.0.0 a.0.1 fits a.1 in
-    let g = guard_ok (ltb (2 ^ 48) a.0.0) BadRound a.0 x a.2 in
-    let within : a.0.0 ≤ 2 ^ 48 = ltb-false _ _ g.0 in
+    let g = guard_ok (ltb MAX_ROUND a.0.0) BadRound a.0 x a.2 in
+    let within : a.0.0 ≤ MAX_ROUND = ltb-false _ _ g.0 in
     subst (λ (y : ℕ × List ℕ). Takes bytes (to_be_bytes w64 y.0) y.1 × IsRound y.0) g.1 (t.0, within)
 
 pub round_again : (round : ℕ) (rest : List ℕ) → IsRound round → round_at (to_be_bytes w64 round ++ rest) ≡ Ok (round, rest)
 unfolding round_at
 round_again round rest is =
-    let within : ltb (2 ^ 48) round ≡ false = le-ltb _ _ is in
+    let within : ltb MAX_ROUND round ≡ false = le-ltb _ _ is in
     rw (number_again w64 (2 ^ 64) wide64 round rest (omega arith), within) refl
 
 pub wave_takes : (bytes : List ℕ) (x : ℕ × List ℕ) → IsBytes bytes → wave_at bytes ≡ Ok x → Takes bytes (to_be_bytes w64 x.0) x.1 × IsWave x.0
 unfolding wave_at
 wave_takes bytes x fits e =
-    let a = bind_ok (number_at w64 bytes) (λ n. cond (ltb 0 n.0 && ltb n.0 (2 ^ 47)) (Ok n) (Err BadRound)) x e in
+    let a = bind_ok (number_at w64 bytes) (λ n. cond (ltb 0 n.0 && leb n.0 MAX_WAVE) (Ok n) (Err BadRound)) x e in
     let t = number_takes w64 (2 ^ 64) wide64 bytes a.0.0 a.0.1 fits a.1 in
-    let g = held_ok (ltb 0 a.0.0 && ltb a.0.0 (2 ^ 47)) BadRound (Ok a.0) x a.2 in
-    let both = both-are (ltb 0 a.0.0) (ltb a.0.0 (2 ^ 47)) g.0 in
-    subst (λ (y : ℕ × List ℕ). Takes bytes (to_be_bytes w64 y.0) y.1 × IsWave y.0) (ok_is a.0 x g.1) (t.0, record { least = ltb-true _ _ both.0; limit = ltb-true _ _ both.1 })
+    let g = held_ok (ltb 0 a.0.0 && leb a.0.0 MAX_WAVE) BadRound (Ok a.0) x a.2 in
+    let both = both-are (ltb 0 a.0.0) (leb a.0.0 MAX_WAVE) g.0 in
+    subst (λ (y : ℕ × List ℕ). Takes bytes (to_be_bytes w64 y.0) y.1 × IsWave y.0) (ok_is a.0 x g.1) (t.0, record { least = ltb-true _ _ both.0; limit = leb-true _ _ both.1 })
 
 pub wave_again : (wave : ℕ) (rest : List ℕ) → IsWave wave → wave_at (to_be_bytes w64 wave ++ rest) ≡ Ok (wave, rest)
 unfolding wave_at
 wave_again wave rest is =
-    let within = both_true (lt-ltb _ _ is.least) (lt-ltb _ _ is.limit) in
+    let within = both_true (lt-ltb _ _ is.least) (le-leb _ _ is.limit) in
     rw (number_again w64 (2 ^ 64) wide64 wave rest (omega (arith, is.limit)), within) refl
 
 pub count_takes : (w : Width) (top : ℕ) (wide : IsWide w top) (limit : ℕ) (bytes : List ℕ) (x : ℕ × List ℕ) → IsBytes bytes → count_at w limit bytes ≡ Ok x → Takes bytes (to_be_bytes w x.0) x.1 × (x.0 ≤ limit)

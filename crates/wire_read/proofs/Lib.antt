@@ -7,3 +7,5 @@ pub mod BatchBodies
 pub mod Messages
 pub mod Beginnings
 pub mod Streams
+pub mod Cuts
+pub mod ByTable

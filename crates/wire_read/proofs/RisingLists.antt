@@ -8,6 +8,7 @@ use Rattle.wire.specs.declared.error.WireError.TheVariants.{NotCanonical}
 use Rattle.wire.specs.declared.references.BatchReference.{BatchReference}
 use Rattle.wire.specs.declared.references.ParentReference.{ParentReference}
 use Rattle.wire.specs.declared.votes.VoteEntry.{VoteEntry}
+use Rattle.wire.specs.declared.limits.TheConstants.{MAX_BATCHES, MAX_PARENTS, MAX_VOTES}
 use Rattle.wire.specs.Grammar.{IsBatchReference, IsParentReference, IsVoteEntry, AreBatches, AreParents, AreVotes}
 use Rattle.wire.specs.Rising.{rises, follows}
 use Rattle.wire.specs.References.{digest_before, batch_follows, parent_follows, vote_follows}
@@ -74,12 +75,12 @@ batch_is = rising batch_reference_at batch_reference_bytes IsBatchReference batc
 pub batches_take : (bytes : List ℕ) (x : List BatchReference × List ℕ) → IsBytes bytes → batches_at bytes ≡ Ok x → Takes bytes (batches_bytes x.0) x.1 × AreBatches x.0
 unfolding batches_at
 batches_take bytes x fits e =
-    let r = counted_take w16 (2 ^ 16) wide16 128 batch_reference_at batch_reference_bytes IsBatchReference (λ l. IsTrue (rises batch_below l)) batch_is bytes x fits refl e in
+    let r = counted_take w16 (2 ^ 16) wide16 MAX_BATCHES batch_reference_at batch_reference_bytes IsBatchReference (λ l. IsTrue (rises batch_below l)) batch_is bytes x fits refl e in
     (r.takes, record { few = r.few; each = All-from_recursion IsBatchReference x.0 r.fits; rise = r.sound })
 
 pub batches_again : (batches : List BatchReference) (rest : List ℕ) → AreBatches batches → batches_at (batches_bytes batches ++ rest) ≡ Ok (batches, rest)
 unfolding batches_at
-batches_again batches rest are = counted_again w16 (2 ^ 16) wide16 128 batch_reference_at batch_reference_bytes IsBatchReference (λ l. IsTrue (rises batch_below l)) batch_is batches rest (omega arith) are.few (recursion_from_All IsBatchReference batches are.each) are.rise
+batches_again batches rest are = counted_again w16 (2 ^ 16) wide16 MAX_BATCHES batch_reference_at batch_reference_bytes IsBatchReference (λ l. IsTrue (rises batch_below l)) batch_is batches rest (omega arith) are.few (recursion_from_All IsBatchReference batches are.each) are.rise
 
 -- ---- parents
 
@@ -110,12 +111,12 @@ parent_is = rising parent_reference_at parent_reference_bytes IsParentReference 
 pub parents_take : (bytes : List ℕ) (x : List ParentReference × List ℕ) → IsBytes bytes → parents_at bytes ≡ Ok x → Takes bytes (parents_bytes x.0) x.1 × AreParents x.0
 unfolding parents_at
 parents_take bytes x fits e =
-    let r = counted_take w16 (2 ^ 16) wide16 31 parent_reference_at parent_reference_bytes IsParentReference (λ l. IsTrue (rises parent_below l)) parent_is bytes x fits refl e in
+    let r = counted_take w16 (2 ^ 16) wide16 MAX_PARENTS parent_reference_at parent_reference_bytes IsParentReference (λ l. IsTrue (rises parent_below l)) parent_is bytes x fits refl e in
     (r.takes, record { few = r.few; each = All-from_recursion IsParentReference x.0 r.fits; rise = r.sound })
 
 pub parents_again : (parents : List ParentReference) (rest : List ℕ) → AreParents parents → parents_at (parents_bytes parents ++ rest) ≡ Ok (parents, rest)
 unfolding parents_at
-parents_again parents rest are = counted_again w16 (2 ^ 16) wide16 31 parent_reference_at parent_reference_bytes IsParentReference (λ l. IsTrue (rises parent_below l)) parent_is parents rest (omega arith) are.few (recursion_from_All IsParentReference parents are.each) are.rise
+parents_again parents rest are = counted_again w16 (2 ^ 16) wide16 MAX_PARENTS parent_reference_at parent_reference_bytes IsParentReference (λ l. IsTrue (rises parent_below l)) parent_is parents rest (omega arith) are.few (recursion_from_All IsParentReference parents are.each) are.rise
 
 -- ---- votes
 
@@ -146,9 +147,9 @@ vote_is = rising vote_entry_at vote_entry_bytes IsVoteEntry vote_below vote_take
 pub votes_take : (bytes : List ℕ) (x : List VoteEntry × List ℕ) → IsBytes bytes → votes_at bytes ≡ Ok x → Takes bytes (votes_bytes x.0) x.1 × AreVotes x.0
 unfolding votes_at
 votes_take bytes x fits e =
-    let r = counted_take w16 (2 ^ 16) wide16 31 vote_entry_at vote_entry_bytes IsVoteEntry (λ l. IsTrue (rises vote_below l)) vote_is bytes x fits refl e in
+    let r = counted_take w16 (2 ^ 16) wide16 MAX_VOTES vote_entry_at vote_entry_bytes IsVoteEntry (λ l. IsTrue (rises vote_below l)) vote_is bytes x fits refl e in
     (r.takes, record { few = r.few; each = All-from_recursion IsVoteEntry x.0 r.fits; rise = r.sound })
 
 pub votes_again : (votes : List VoteEntry) (rest : List ℕ) → AreVotes votes → votes_at (votes_bytes votes ++ rest) ≡ Ok (votes, rest)
 unfolding votes_at
-votes_again votes rest are = counted_again w16 (2 ^ 16) wide16 31 vote_entry_at vote_entry_bytes IsVoteEntry (λ l. IsTrue (rises vote_below l)) vote_is votes rest (omega arith) are.few (recursion_from_All IsVoteEntry votes are.each) are.rise
+votes_again votes rest are = counted_again w16 (2 ^ 16) wide16 MAX_VOTES vote_entry_at vote_entry_bytes IsVoteEntry (λ l. IsTrue (rises vote_below l)) vote_is votes rest (omega arith) are.few (recursion_from_All IsVoteEntry votes are.each) are.rise

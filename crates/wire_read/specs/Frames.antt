@@ -3,10 +3,11 @@ use Rattle.std.specs.Prelude.{◌≡◌, ℕ, ◌+◌, ◌<◌, ◌≤◌, List,
 use Rattle.std.specs.List.{flat_map}
 use Rattle.std.specs.Int.{w32, to_be_bytes, from_be_bytes}
 use Rattle.std.specs.declared.alloc.Global.{Global}
+use Rattle.wire.specs.declared.limits.TheConstants.{MAX_FRAME_BYTES}
 
 -- a body that a frame may have: at most 524,288 bytes
 abbrev pub IsFrameBody : List ℕ → Type 0
-IsFrameBody body = length body ≤ 524288
+IsFrameBody body = length body ≤ MAX_FRAME_BYTES
 
 -- a frame: the length of its body, and the body
 abbrev pub frame : List ℕ → List ℕ
@@ -18,12 +19,12 @@ length_field bytes = from_be_bytes w32 (take 4 bytes)
 
 -- less than a whole frame: not yet its length, or a length within the limit and fewer bytes than it says
 abbrev pub IsPartial : List ℕ → Type 0
-IsPartial bytes = (4 ≤ length bytes) → (length_field bytes ≤ 524288) × (length bytes < 4 + length_field bytes)
+IsPartial bytes = (4 ≤ length bytes) → (length_field bytes ≤ MAX_FRAME_BYTES) × (length bytes < 4 + length_field bytes)
 
 -- a length above the limit, in a frame's place
 pub record IsTooLong (bytes : List ℕ) : Type 0 where
   pub field : 4 ≤ length bytes
-  pub above : 524288 < length_field bytes
+  pub above : MAX_FRAME_BYTES < length_field bytes
 
 -- frames of these bodies, and then a rest
 abbrev pub stream_of : List (List ℕ) → List ℕ → List ℕ

@@ -1,12 +1,13 @@
 //! Whole messages.
 
-ghost use Rattle.std.specs.Prelude.{◌≡◌, ◌≢◌, ◌<◌, ◌++◌, List, ℕ, length, IfOk, Ok, Err};
+ghost use Rattle.std.specs.Prelude.{◌≡◌, ◌≢◌, ◌<◌, ◌++◌, ◌↔◌, List, ℕ, length, IfOk, IsOk, Ok, Err};
 ghost use Rattle.wire.specs.declared.error.WireError.{WireError};
 ghost use Rattle.wire.specs.declared.error.WireError.TheVariants.{Short, Trailing};
 ghost use Rattle.wire.specs.declared.message.Message.{Message};
 ghost use Rattle.wire.specs.Grammar.{IsMessage, Spells};
 ghost use Rattle.wire.specs.Spelling.{spelling};
 ghost use Rattle.wire.specs.Reading.{Gives, ack_at, header_body_at, header_at, vote_at, certificate_at, coin_at, tagged_at, message_of};
+ghost use Rattle.wire_read.specs.Table.{HasFault, HasNone};
 
 use crate::lists::{batches_of, parents_of, votes_of};
 use crate::reader::Reader;
@@ -83,7 +84,7 @@ fn coin_of(reader: &mut Reader) -> Result<Coin, WireError>
     ensures { Gives (λ x. (x, reader.new)) result (coin_at reader.old) }
 {
     let wave = reader.wave()?;
-    let value = reader.long_number()?;
+    let value = reader.u64()?;
     Ok(Coin { wave, value })
 }
 
@@ -141,4 +142,12 @@ pub fn beginnings_are_short()
 /// Any other refusal than for an early end stays, whatever follows: it is for the first fault from the left.
 pub fn faults_stay()
     ensures { (bytes more : List ℕ) (fault : WireError) → message_of bytes ≡ Err fault → fault ≢ Short → message_of (bytes ++ more) ≡ Err fault }
+{}
+
+/// Reading gives what the table of fields says, whatever the bytes. Cut by the table, the fault is that of
+/// the first field that breaks a limit, an order or a range, and every field before it passes. Where none
+/// does, the bytes end within a field, go on behind the last one, or are a message.
+pub fn faults_by_the_table()
+    ensures fault { (bytes : List ℕ) (fault : WireError) → (message_of bytes ≡ Err fault) ↔ HasFault bytes fault }
+    ensures none { (bytes : List ℕ) → IsOk (message_of bytes) ↔ HasNone bytes }
 {}

@@ -20,7 +20,7 @@ fn batch_of(reader: &mut Reader, before: &BatchReferences) -> Result<BatchRefere
     if !before.may_follow(&digest) {
         return Err(WireError::NotCanonical);
     }
-    let worker = reader.number()?;
+    let worker = reader.u16()?;
     Ok(BatchReference { digest, worker })
 }
 
@@ -28,7 +28,7 @@ fn batch_of(reader: &mut Reader, before: &BatchReferences) -> Result<BatchRefere
 pub(crate) fn batches_of(alloc: Global, reader: &mut Reader) -> Result<BatchReferences, WireError>
     ensures { Gives (λ x. (x, reader.new)) result (batches_at reader.old) }
 {
-    let count = reader.count(MAX_BATCHES as u16)?;
+    let count = reader.count_u16(MAX_BATCHES as u16)?;
     let mut batches = BatchReferences::new(alloc);
     for _ in 0..count {
         let batch = batch_of(reader, &batches)?;
@@ -57,7 +57,7 @@ fn parent_of(reader: &mut Reader, before: &ParentReferences) -> Result<ParentRef
 pub(crate) fn parents_of(alloc: Global, reader: &mut Reader) -> Result<ParentReferences, WireError>
     ensures { Gives (λ x. (x, reader.new)) result (parents_at reader.old) }
 {
-    let count = reader.count(MAX_PARENTS as u16)?;
+    let count = reader.count_u16(MAX_PARENTS as u16)?;
     let mut parents = ParentReferences::new(alloc);
     for _ in 0..count {
         let parent = parent_of(reader, &parents)?;
@@ -83,7 +83,7 @@ fn vote_of(reader: &mut Reader, before: &VoteEntries) -> Result<VoteEntry, WireE
 pub(crate) fn votes_of(alloc: Global, reader: &mut Reader) -> Result<VoteEntries, WireError>
     ensures { Gives (λ x. (x, reader.new)) result (votes_at reader.old) }
 {
-    let count = reader.count(MAX_VOTES as u16)?;
+    let count = reader.count_u16(MAX_VOTES as u16)?;
     let mut votes = VoteEntries::new(alloc);
     for _ in 0..count {
         let vote = vote_of(reader, &votes)?;

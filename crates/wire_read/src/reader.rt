@@ -1,6 +1,6 @@
 //! Fields of fixed size.
 
-ghost use Rattle.std.specs.Prelude.{◌≡◌, ◌≤◌, IfOk};
+ghost use Rattle.std.specs.Prelude.{◌≡◌, ◌≤◌, length, IfOk};
 ghost use Rattle.std.specs.Int.{w16, w32, w64};
 ghost use Rattle.wire.specs.Reading.{Gives, number_at, bytes_at, author_at, digest_at, signature_at, round_at, wave_at, count_at};
 
@@ -37,7 +37,8 @@ impl<'a> Reader<'a> {
 
     /// So many bytes.
     pub(crate) fn slice(&mut self, len: usize) -> Result<&'a [u8], WireError>
-        ensures { Gives (λ x. (x.now, self.new)) result (bytes_at len self.old) }
+        ensures reads { Gives (λ x. (x.now, self.new)) result (bytes_at len self.old) }
+        ensures len { IfOk result (λ x. length x.now ≡ len) }
     {
         if self.rest.len() < len {
             return Err(WireError::Short);
@@ -50,31 +51,27 @@ impl<'a> Reader<'a> {
     fn array<const N: usize>(&mut self) -> Result<[u8; N], WireError>
         ensures { Gives (λ x. (x, self.new)) result (bytes_at N self.old) }
     {
-        if self.rest.len() < N {
-            return Err(WireError::Short);
-        }
-        let (front, rest) = self.rest.split_at(N);
         let mut array = [0; N];
-        array.copy_from_slice(front);
-        self.rest = rest;
+        array.copy_from_slice(self.slice(N)?);
         Ok(array)
     }
 
-    pub(crate) fn number(&mut self) -> Result<u16, WireError>
+    /// A number of two bytes.
+    pub(crate) fn u16(&mut self) -> Result<u16, WireError>
         ensures { Gives (λ x. (x, self.new)) result (number_at w16 self.old) }
     {
         Ok(u16::from_be_bytes(self.array()?))
     }
 
     /// A number of four bytes.
-    pub(crate) fn length(&mut self) -> Result<u32, WireError>
+    pub(crate) fn u32(&mut self) -> Result<u32, WireError>
         ensures { Gives (λ x. (x, self.new)) result (number_at w32 self.old) }
     {
         Ok(u32::from_be_bytes(self.array()?))
     }
 
     /// A number of eight bytes.
-    pub(crate) fn long_number(&mut self) -> Result<u64, WireError>
+    pub(crate) fn u64(&mut self) -> Result<u64, WireError>
         ensures { Gives (λ x. (x, self.new)) result (number_at w64 self.old) }
     {
         Ok(u64::from_be_bytes(self.array()?))
@@ -84,7 +81,7 @@ impl<'a> Reader<'a> {
     pub(crate) fn author(&mut self) -> Result<Author, WireError>
         ensures { Gives (λ x. (x, self.new)) result (author_at self.old) }
     {
-        Ok(Author(self.number()?))
+        Ok(Author(self.u16()?))
     }
 
     #[tactic(auto, unfolding(wire::specs::Reading::digest_at))]
@@ -105,36 +102,36 @@ impl<'a> Reader<'a> {
     pub(crate) fn round(&mut self) -> Result<Round, WireError>
         ensures { Gives (λ x. (x, self.new)) result (round_at self.old) }
     {
-        Round::new(self.long_number()?)
+        Round::new(self.u64()?)
     }
 
     #[tactic(auto, unfolding(wire::specs::Reading::wave_at))]
     pub(crate) fn wave(&mut self) -> Result<Wave, WireError>
         ensures { Gives (λ x. (x, self.new)) result (wave_at self.old) }
     {
-        Wave::new(self.long_number()?)
+        Wave::new(self.u64()?)
     }
 
-    /// A count of four bytes of at most this limit.
+    /// A count of two bytes of at most this limit.
     #[tactic(auto, unfolding(wire::specs::Reading::count_at))]
-    pub(crate) fn long_count(&mut self, limit: u32) -> Result<u32, WireError>
-        ensures reads { Gives (λ x. (x, self.new)) result (count_at w32 limit self.old) }
+    pub(crate) fn count_u16(&mut self, limit: u16) -> Result<u16, WireError>
+        ensures reads { Gives (λ x. (x, self.new)) result (count_at w16 limit self.old) }
         ensures limit { IfOk result (λ count. count ≤ limit) }
     {
-        let count = self.length()?;
+        let count = self.u16()?;
         if count > limit {
             return Err(WireError::TooMany);
         }
         Ok(count)
     }
 
-    /// A count of two bytes of at most this limit.
+    /// A count of four bytes of at most this limit.
     #[tactic(auto, unfolding(wire::specs::Reading::count_at))]
-    pub(crate) fn count(&mut self, limit: u16) -> Result<u16, WireError>
-        ensures reads { Gives (λ x. (x, self.new)) result (count_at w16 limit self.old) }
+    pub(crate) fn count_u32(&mut self, limit: u32) -> Result<u32, WireError>
+        ensures reads { Gives (λ x. (x, self.new)) result (count_at w32 limit self.old) }
         ensures limit { IfOk result (λ count. count ≤ limit) }
     {
-        let count = self.number()?;
+        let count = self.u32()?;
         if count > limit {
             return Err(WireError::TooMany);
         }

@@ -11,10 +11,10 @@ use wire::{Batch, MAX_TRANSACTION_BYTES, MAX_TRANSACTIONS, OpenBatch, WireError}
 #[tactic(auto, unfolding(wire::specs::Reading::transaction_at))]
 fn transaction_of<'a>(reader: &mut Reader<'a>, before: &OpenBatch) -> Result<&'a [u8], WireError>
     ensures reads { Gives (λ x. (x.now, reader.new)) result (transaction_at before.now.transactions reader.old) }
-    ensures short { IfOk result (λ transaction. length transaction.now ≤ 65536) }
+    ensures short { IfOk result (λ transaction. length transaction.now ≤ MAX_TRANSACTION_BYTES) }
     ensures room { IfOk result (λ transaction. IsTrue (has_room before.now.transactions (length transaction.now))) }
 {
-    let len = reader.length()? as usize;
+    let len = reader.u32()? as usize;
     if len > MAX_TRANSACTION_BYTES || !before.has_room(len) {
         return Err(WireError::TooMany);
     }
@@ -28,7 +28,7 @@ fn transactions_of(reader: &mut Reader, batch: &mut OpenBatch) -> Result<(), Wir
     ensures author { batch.new.author ≡ batch.old.author }
     ensures worker { batch.new.worker ≡ batch.old.worker }
 {
-    let count = reader.long_count(MAX_TRANSACTIONS)?;
+    let count = reader.count_u32(MAX_TRANSACTIONS)?;
     for _ in 0..count {
         let transaction = transaction_of(reader, batch)?;
         batch.push(transaction)?;
@@ -41,7 +41,7 @@ pub(crate) fn batch_of(alloc: Global, reader: &mut Reader) -> Result<Batch, Wire
     ensures { Gives (λ x. (x, reader.new)) result (batch_at reader.old) }
 {
     let author = reader.author()?;
-    let worker = reader.number()?;
+    let worker = reader.u16()?;
     let mut open = OpenBatch::new(alloc, author, worker)?;
     transactions_of(reader, &mut open)?;
     Ok(open.close()?)

@@ -2,6 +2,7 @@ use Rattle.std.proofs.Common.{◌≡◌, ◌-◌, ◌++◌, inl, ap, ◌∙◌, 
 use Rattle.diskmodel.specs.Disk.{IsTorn, LeavesOnly}
 use Rattle.journal.specs.Format.{FitsGroup, group_bytes, stands}
 use Rattle.journal.specs.Journal.{IsBeforeOrAfter}
+use Rattle.journal.proofs.Parts.{length-group}
 use Rattle.journal.proofs.Moments.{started, goes_on, from_only}
 use Rattle.journal.proofs.Stops.{torn_behind, staged_by, torn_gate, added}
 use Rattle.journal.proofs.journal.write_group.Goals as goal
@@ -131,7 +132,7 @@ returns-clause-len g c =
     let staged : g.D.Disk.content c.write_at.new.self ≡ file ++ group_bytes c.args.group =
     staged_by file c.requires.ends_closed c.args.group fits c.args.len c.deref.result.now _ c.requires.len bytes_are c.in_ok-write_at.ensures.content in
     let new_is = added file c.requires.ends_closed c.args.group fits c.args.len _ _ _ (λ shut. omega arith) c.requires.len (c.sync.ensures.content ∙ staged) (c.sync-2.ensures.content ∙ c.in_ok-write_at-2.ensures.content) in
-    omega (arith, new_is.size, c.requires.len)
+    omega (arith, new_is.size, c.requires.len, length-group c.args.group)
 
 pub returns-clause-records : goal.returns-clause-records
 returns-clause-records g c =

@@ -15,9 +15,8 @@ loop-rest-smaller c = body_shorter c.loop-rest.rest.now c.in-Some.record.now c.i
 
 pub loop-rest-preserved : goal.loop-rest-preserved
 loop-rest-preserved c =
-    let same : c.new-bytes.result ≡ c.in-Some.record.now = c.new-bytes.ensures ∙ c.in_ok-from_slice.ensures.items in
     body_more c.args.gate c.loop-rest.records.items c.push.new.self.items c.loop-rest.rest.now c.in-Some.record.now c.in-Some.after.now _ c.loop-rest.invariant c.in-Some.ensures
-    (c.in_ok-push.ensures.items ∙ ap (λ (bytes : List ℕ). c.loop-rest.records.items ++ kept_at c.args.gate bytes ∷ []) same)
+    (c.in_ok-push.ensures.items ∙ ap (λ (bytes : List ℕ). c.loop-rest.records.items ++ kept_at c.args.gate bytes ∷ []) c.in_ok-bytes.ensures)
 
 pub returns : goal.returns
 returns c =

@@ -10,7 +10,7 @@ invariant_of-self-2 c =
     record {
       kept = kept_as _ _ _ _ _ _ _ _ _ _ _ _ _
           (kept_cut _ _ _ _ _ _ _ c.args.len c.args.self.now.kept c.requires)
-          (c.push_reserved.ensures.items ∙ ap (λ (calls : List Call). calls ++ Cut c.args.len ∷ []) c.reserve.ensures.items)
+          (c.push_reserved.ensures.items ∙ ap (λ (calls : List Call). calls ++ Cut c.args.len ∷ []) c.grow.ensures.items)
           refl
           (c.note.ensures.smallest ∙ ap (min c.args.self.now.lengths.smallest) len)
           (c.note.ensures.greatest ∙ ap (max c.args.self.now.lengths.greatest) len)

@@ -11,7 +11,7 @@ invariant_of-self-2 c =
     record {
       kept = kept_as _ _ _ _ _ _ _ _ _ _ _ _ _
           (kept_sync _ _ _ _ _ _ _ c.args.self.now.kept)
-          (c.push_reserved.ensures.items ∙ ap (λ (calls : List Call). calls ++ Synced ∷ []) c.reserve.ensures.items)
+          (c.push_reserved.ensures.items ∙ ap (λ (calls : List Call). calls ++ Synced ∷ []) c.grow.ensures.items)
           (search rules)
           (ap (λ (both : Lengths). both.smallest) c.only-self.ensures ∙ len)
           (ap (λ (both : Lengths). both.greatest) c.only-self.ensures ∙ len)

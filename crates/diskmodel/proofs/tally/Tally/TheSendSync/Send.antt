@@ -1,6 +1,6 @@
 -- The count owns nothing, so it may go to another thread.
 use denote.Param.Send.{IsSend, owning_send}
-use Rattle.diskmodel.specs.contracts.fault_count.FaultCount.{the_row, the_type}
+use Rattle.diskmodel.specs.contracts.tally.Tally.{the_row, the_type}
 
 pub send : IsSend the_row
 send = owning_send the_type tt (λ d. tt) (λ k x w. tt)

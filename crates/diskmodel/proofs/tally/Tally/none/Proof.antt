@@ -21,11 +21,11 @@ use denote.Triple.Entry.{on_entry, alive}
 use denote.Triple.Spec.{Meets, triple_of}
 use denote.Triple.Table.{entered}
 use denote.Triple.Walked.{says, Stays, walk_of, Walks, ends_at, walked, walk_Meets}
-use Rattle.diskmodel.specs.contracts.fault_count.FaultCount.none.Key.{name as own_name}
-use Rattle.diskmodel.specs.contracts.fault_count.FaultCount.none as agreed
-use Rattle.diskmodel.specs.contracts.fault_count.FaultCount as counter
-use Rattle.diskmodel.proofs.fault_count.FaultCount.none.Statement as claim
-use Rattle.diskmodel.proofs.fault_count.FaultCount.none.Code as body
+use Rattle.diskmodel.specs.contracts.tally.Tally.none.Key.{name as own_name}
+use Rattle.diskmodel.specs.contracts.tally.Tally.none as agreed
+use Rattle.diskmodel.specs.contracts.tally.Tally as counter
+use Rattle.diskmodel.proofs.tally.Tally.none.Statement as claim
+use Rattle.diskmodel.proofs.tally.Tally.none.Code as body
 
 abbrev keeps : Stays (agreed.ended).signature.params (agreed.ended).kept
 keeps = tt

@@ -1,5 +1,5 @@
 use Rattle.journal.proofs.Written.{written_stand, one_more}
-use Rattle.journal.proofs.reading.written_groups_stand.Goals as goal
+use Rattle.journal.proofs.laws.written_groups_stand.Goals as goal
 
 pub returns-clause-stand : goal.returns-clause-stand
 returns-clause-stand c = written_stand

@@ -28,11 +28,11 @@ use denote.Triple.Entry.{on_entry, alive, Args}
 use denote.Triple.Spec.{Meets, triple_of}
 use denote.Triple.Table.{entered}
 use denote.Triple.Walked.{says, stay_none_ref, Stays, walk_of, Walks, ends_at, walked, Goes-none_ref, walk_Meets}
-use Rattle.diskmodel.specs.contracts.fault_count.FaultCount.one_more.Key.{name as own_name}
-use Rattle.diskmodel.specs.contracts.fault_count.FaultCount.one_more as agreed
-use Rattle.diskmodel.specs.contracts.fault_count.FaultCount as counter
-use Rattle.diskmodel.proofs.fault_count.FaultCount.one_more.Statement as claim
-use Rattle.diskmodel.proofs.fault_count.FaultCount.one_more.Code as body
+use Rattle.diskmodel.specs.contracts.tally.Tally.one_more.Key.{name as own_name}
+use Rattle.diskmodel.specs.contracts.tally.Tally.one_more as agreed
+use Rattle.diskmodel.specs.contracts.tally.Tally as counter
+use Rattle.diskmodel.proofs.tally.Tally.one_more.Statement as claim
+use Rattle.diskmodel.proofs.tally.Tally.one_more.Code as body
 
 abbrev keeps : Stays (agreed.ended).signature.params (agreed.ended).kept
 keeps = (stay_none_ref (0 ∷ []) tt (plain (λ _. counter.the_row)) yes, tt)

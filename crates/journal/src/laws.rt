@@ -1,0 +1,40 @@
+//! What the bytes of a journal stand for, said of all bytes.
+
+ghost use Rattle.std.specs.Prelude.{◌≡◌, ◌↔◌, ℕ, ◌≤◌, ◌<◌, ◌^◌, List, [], ◌∷◌, ◌++◌, length, map, Ok, Err};
+ghost use Rattle.std.specs.List.{All};
+ghost use Rattle.diskmodel.specs.Outcomes.{AreBytes};
+ghost use Rattle.journal.specs.declared.layout.TheConstants.{CLOSED, OPEN, LENGTH_BYTES, MAX_GROUP_RECORDS, MAX_GROUP_BYTES, MAX_JOURNAL_BYTES};
+ghost use Rattle.journal.specs.declared.record.Record.{Record};
+ghost use Rattle.journal.specs.Format.{FitsGroup, Gated, IsOpen, in_turn, file_with, file_bytes, all_kept, stands, AreGroups, IsDamagedAt};
+
+/// The limits and the fixed bytes of the format, in numbers.
+pub fn layout_in_numbers()
+    ensures length { LENGTH_BYTES ≡ 4 }
+    ensures group_records { MAX_GROUP_RECORDS ≡ 1024 }
+    ensures group_bytes { MAX_GROUP_BYTES ≡ 4194304 }
+    ensures journal_bytes { MAX_JOURNAL_BYTES ≡ 2 ^ 40 }
+    ensures closed { CLOSED ≡ 0 }
+    ensures opened { OPEN ≡ 1 }
+{}
+
+/// Groups behind open gates, with a closed gate behind the last, stand for their records, each with
+/// the place of its group's gate, whatever follows; and bytes that stand for records are such
+/// groups, but for those of at most one byte, which stand for none.
+pub fn groups_stand()
+    ensures stand { (groups : List Gated) (behind : List ℕ) → All IsOpen groups → stands (in_turn groups ++ CLOSED ∷ behind) ≡ Ok (all_kept 0 (map (λ group. group.records) groups)) }
+    ensures only { (bytes : List ℕ) (records : List Record) → AreBytes bytes → 2 ≤ length bytes → stands bytes ≡ Ok records → AreGroups bytes records }
+    ensures short { (bytes : List ℕ) → length bytes < 2 → stands bytes ≡ Ok [] }
+{}
+
+/// Bytes are damaged at a place exactly where groups behind open gates end there, and an open gate
+/// there has no whole group behind it.
+pub fn damage_is_found()
+    ensures { (bytes : List ℕ) (place : ℕ) → AreBytes bytes → (stands bytes ≡ Err place) ↔ IsDamagedAt bytes place }
+{}
+
+/// The bytes of groups within their limits, with anything behind them, stand for the records of these
+/// groups, each with the place of its group's gate. To append a group is to write one group more.
+pub fn written_groups_stand()
+    ensures stand { (groups : List (List (List ℕ))) (behind : List ℕ) → All FitsGroup groups → stands (file_bytes groups ++ behind) ≡ Ok (all_kept 0 groups) }
+    ensures one_more { (groups : List (List (List ℕ))) (group : List (List ℕ)) → file_with (file_bytes groups) group ≡ file_bytes (groups ++ group ∷ []) }
+{}
