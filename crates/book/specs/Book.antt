@@ -1,9 +1,10 @@
 -- The book: what a validator accepted, what of it was taken and settled, and what may go out.
-use Rattle.std.specs.Prelude.{◌≡◌, ℕ, ◌+◌, ◌^◌, List, [], ◌∷◌, ◌++◌, Option, Some, None, Bool, true, nat_le, if◌then◌else◌}
+use Rattle.std.specs.Prelude.{◌≡◌, ℕ, ◌+◌, List, [], ◌∷◌, ◌++◌, Option, Some, None, Bool, true, nat_le, if◌then◌else◌}
 use Rattle.wire.specs.declared.output.Output.{Output}
 use Rattle.journal.specs.Format.{contents}
 use Rattle.sigface.specs.declared.signature.Sign.{Ghosts}
 use Rattle.book.specs.declared.book.Book.{Book}
+use Rattle.book.specs.declared.book.TheConstants.{MAX_ACCEPTED}
 use Rattle.wire.specs.Events.{Event}
 use Rattle.book.specs.Record.{record_of}
 use Rattle.book.specs.declared.refusal.Refusal.{Refusal}
@@ -65,7 +66,7 @@ releasable book = if book.down then None else settled_head book.settled book.que
 abbrev pub MayAnswer : Standing → Event → Refusal → Type 0
 MayAnswer book event Memory = Unit {0}
 MayAnswer book event Down = book.down ≡ true
-MayAnswer book event StoreFull = Admits book.validator event New × (book.accepted ≡ 2 ^ 48)
+MayAnswer book event StoreFull = Admits book.validator event New × (book.accepted ≡ MAX_ACCEPTED)
 MayAnswer book event TooOld = Admits book.validator event (Refused TooOld)
 MayAnswer book event MissingParents = Admits book.validator event (Refused MissingParents)
 MayAnswer book event MissingBatch = Admits book.validator event (Refused MissingBatch)

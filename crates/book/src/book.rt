@@ -3,6 +3,7 @@
 ghost use Rattle.std.specs.Prelude.{◌≡◌, ◌+◌, ◌≤◌, ◌^◌, length};
 ghost use Rattle.journal.specs.Format.{contents};
 ghost use Rattle.book.specs.Pending.{EachFits};
+ghost use Rattle.book.specs.declared.book.TheConstants.{MAX_ACCEPTED};
 
 use crate::pending::{drop_front, first_group, push_record, record_of};
 use crate::queue::{Queued, enqueue};
@@ -43,7 +44,7 @@ pub struct Book<S: Sign> {
     settled: u64,
     down: bool,
     ghost each_fits: { EachFits (contents pending.items) },
-    ghost few: { accepted ≤ 2 ^ 48 },
+    ghost few: { accepted ≤ MAX_ACCEPTED },
     ghost order: { settled + length pending.items ≤ accepted },
 }
 

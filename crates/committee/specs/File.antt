@@ -2,6 +2,7 @@
 use Rattle.std.specs.Prelude.{codes, pos, negsuc, ℕ, ◌≤◌, length, IsTrue, AllPairs, ◌≢◌, ◌&&◌, nat_le, ℤ, List, [], ◌∷◌, Option, Some, None, option_map, option_and_then, if◌then◌else◌}
 use Rattle.toml.specs.Data.{Data, as_integer, Items, no_items, item, Members, get_member, as_array}
 use Rattle.wire.specs.declared.keys.Key.{Key}
+use Rattle.committee.specs.declared.limits.TheConstants.{MIN_DEPTH, MAX_DEPTH, DEFAULT_DEPTH, MIN_WORKERS, MAX_WORKERS, DEFAULT_WORKERS, MIN_HELD_BATCHES, MAX_HELD_BATCHES, DEFAULT_HELD_BATCHES}
 use Rattle.committee.specs.Sizes.{is_size}
 
 -- a committee: the keys of its members in the order of their numbers, the depth in rounds, how many
@@ -16,9 +17,9 @@ pub record Charter : Type 0 where
 pub record IsCharter (charter : Charter) : Type 0 where
   pub size : IsTrue (is_size (length charter.keys))
   pub distinct : AllPairs (λ one other. one ≢ other) charter.keys
-  pub depth : (2 ≤ charter.depth) × (charter.depth ≤ 1000)
-  pub workers : (1 ≤ charter.workers) × (charter.workers ≤ 16)
-  pub batches : (1 ≤ charter.batches) × (charter.batches ≤ 1048576)
+  pub depth : (MIN_DEPTH ≤ charter.depth) × (charter.depth ≤ MAX_DEPTH)
+  pub workers : (MIN_WORKERS ≤ charter.workers) × (charter.workers ≤ MAX_WORKERS)
+  pub batches : (MIN_HELD_BATCHES ≤ charter.batches) × (charter.batches ≤ MAX_HELD_BATCHES)
 
 -- the elements of an array
 abbrev pub elements : Items → List Data
@@ -42,12 +43,12 @@ limit least greatest default (Some value) = option_and_then (number_within least
 
 -- the depth is 2 to 1000 rounds, 50 by default
 abbrev pub depth_in : Members → Option ℕ
-depth_in file = limit 2 1000 50 (get_member (codes "depth") file)
+depth_in file = limit MIN_DEPTH MAX_DEPTH DEFAULT_DEPTH (get_member (codes "depth") file)
 
 -- there are 1 to 16 workers, 1 by default
 abbrev pub workers_in : Members → Option ℕ
-workers_in file = limit 1 16 1 (get_member (codes "workers") file)
+workers_in file = limit MIN_WORKERS MAX_WORKERS DEFAULT_WORKERS (get_member (codes "workers") file)
 
 -- there are 1 to 1048576 batches, 1048576 by default
 abbrev pub batches_in : Members → Option ℕ
-batches_in file = limit 1 1048576 1048576 (get_member (codes "batches") file)
+batches_in file = limit MIN_HELD_BATCHES MAX_HELD_BATCHES DEFAULT_HELD_BATCHES (get_member (codes "batches") file)

@@ -6,6 +6,8 @@ ghost use Rattle.toml.specs.Parse.{parse_document};
 ghost use Rattle.toml.specs.View.{table_view};
 ghost use Rattle.committee.specs.Answer.{has_bad_size, answer, answer_to};
 ghost use Rattle.committee.specs.Sizes.{dishonest_of, quorum_of, support_of};
+ghost use Rattle.committee.specs.declared.limits.TheConstants.{MIN_DEPTH, MAX_DEPTH, MIN_WORKERS, MAX_WORKERS, MIN_HELD_BATCHES, MAX_HELD_BATCHES};
+ghost use Rattle.committee.specs.declared.members.TheConstants.{MIN_MEMBERS, MAX_MEMBERS, MAX_DISHONEST};
 
 use crate::error::CommitteeError;
 use crate::keys::{keys_of, repeats};
@@ -67,8 +69,8 @@ impl Committee {
     pub fn size(&self) -> u16
         ensures value { result ≡ length self.now.keys }
         ensures exact { result ≡ 3 * dishonest_of result + 1 }
-        ensures least { 4 ≤ result }
-        ensures greatest { result ≤ 31 }
+        ensures least { MIN_MEMBERS ≤ result }
+        ensures greatest { result ≤ MAX_MEMBERS }
     {
         self.keys.len() as u16
     }
@@ -99,8 +101,8 @@ impl Committee {
     /// The depth, in rounds: how far below a leader a certificate may be to be ordered with it.
     pub fn depth(&self) -> u64
         ensures value { result ≡ self.now.depth }
-        ensures least { 2 ≤ result }
-        ensures greatest { result ≤ 1000 }
+        ensures least { MIN_DEPTH ≤ result }
+        ensures greatest { result ≤ MAX_DEPTH }
     {
         self.depth
     }
@@ -108,8 +110,8 @@ impl Committee {
     /// How many workers each member has.
     pub fn workers(&self) -> u16
         ensures value { result ≡ self.now.workers }
-        ensures least { 1 ≤ result }
-        ensures greatest { result ≤ 16 }
+        ensures least { MIN_WORKERS ≤ result }
+        ensures greatest { result ≤ MAX_WORKERS }
     {
         self.workers
     }
@@ -117,8 +119,8 @@ impl Committee {
     /// How many batches a member holds at most.
     pub fn batches(&self) -> u32
         ensures value { result ≡ self.now.batches }
-        ensures least { 1 ≤ result }
-        ensures greatest { result ≤ 1048576 }
+        ensures least { MIN_HELD_BATCHES ≤ result }
+        ensures greatest { result ≤ MAX_HELD_BATCHES }
     {
         self.batches
     }
@@ -134,7 +136,7 @@ impl Committee {
     // How many members may be dishonest: f.
     fn dishonest(&self) -> u16
         ensures value { result ≡ dishonest_of (length self.now.keys) }
-        ensures small { result ≤ 10 }
+        ensures small { result ≤ MAX_DISHONEST }
     {
         (self.keys.len() as u16 - 1) / 3
     }

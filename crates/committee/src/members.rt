@@ -13,6 +13,12 @@ const MIN_DISHONEST: usize = 1;
 /// The dishonest members that a committee is made for, at most.
 const MAX_DISHONEST: usize = 10;
 
+/// The members of a committee, at least.
+pub const MIN_MEMBERS: u16 = 3 * MIN_DISHONEST as u16 + 1;
+
+/// The members of a committee, at most.
+pub const MAX_MEMBERS: u16 = 3 * MAX_DISHONEST as u16 + 1;
+
 /// The elements of the list of members, or None where there is no such list.
 pub(crate) fn members_in(table: &Table) -> Option<&[Value]>
     ensures { option_map (λ elements. map view elements.now) result ≡ members_in (table_view table.now) }

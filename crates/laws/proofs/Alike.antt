@@ -26,7 +26,7 @@ use Rattle.wire.specs.declared.output.Output.TheVariants as output
 use Rattle.wire.specs.declared.references.BatchReference.{BatchReference}
 use Rattle.wire.specs.declared.references.ParentReference.{ParentReference}
 use Rattle.wire.specs.declared.votes.VoteEntry.{VoteEntry}
-use Rattle.model.specs.Admitting.{when◌gives◌else◌, admit, is_new, is_own, batch_answer, ack_answer, header_answer, header_outputs, batch_outputs, vote_outputs, order_outputs, pieces, may_name, held_batch_answer, held_answer, same_header, IsTaken, IsLegal}
+use Rattle.model.specs.Admitting.{when◌gives◌else◌, admit, is_new, is_own, batch_answer, ack_answer, header_answer, header_outputs, batch_outputs, vote_outputs, order_outputs, pieces, may_name, held_batch_answer, held_header_answer, held_answer, held_certificate_answer, same_header, IsTaken, IsLegal}
 use Rattle.model.specs.Histories.{History, batches, headers, coins, as_vote, as_coin}
 use Rattle.model.specs.Holdings.{ledger_of, ledger_at, batch_digest, has_acked, is_available, voted_header, voted_digest, is_vote_on, counted_vote, own_vote, counted_at, entry_of, completed, slots, order, floor, is_low, is_full, is_held, all_held}
 use Rattle.laws.specs.Laws.{added, AnswersAlike}
@@ -128,10 +128,7 @@ ack_alike node one other alike ack = rw (alike.same_batches, alike.same_acks ack
 
 abbrev pub header_on : Node → Header → Bool → Bool → Option Header → Admission
 header_on node header held named first =
-    when first gives (λ other.
-        if same_digest (header_digest other.body) (header_digest header.body) then Known (header_outputs node other)
-        else if is_own node header.body.author then Refused AlreadyProposed
-        else Refused Equivocation)
+    when first gives (λ other. held_header_answer node other header)
     else if not held then Refused MissingParents
     else if not named then Refused MissingBatch
     else New (header_outputs node header)
@@ -325,10 +322,7 @@ outputs_alike node one other event alike adds also same =
 -- an answer whose outputs count only where it is new
 abbrev certificate_on : Certificate → Bool → List Output → Option Certificate → Admission
 certificate_on certificate held outputs first =
-    when first gives (λ other.
-        if not (same_digest (certificate_digest other.header) (certificate_digest certificate.header)) then Refused CertConflict
-        else if same_header other.header certificate.header then Known []
-        else Refused DigestClash)
+    when first gives (λ other. held_certificate_answer other certificate)
     else if not held then Refused MissingParents
     else New outputs
 
@@ -448,11 +442,14 @@ coin_alike node one other sender coin taken alike =
 abbrev vote_on_slot : Vote → Bool → List Output → Option Certificate → Admission
 vote_on_slot vote counted outputs slot = when slot gives (λ held. held_answer held vote) else if counted then Known [] else New outputs
 
+abbrev vote_to_header : Vote → (Header → Bool) → (Header → List Output) → Option Certificate → Header → Admission
+vote_to_header vote counted outputs slot header =
+    if not (same_digest (header_digest header.body) vote.header) then Refused NotOurs
+    else vote_on_slot vote (counted header) (outputs header) slot
+
 abbrev vote_on_header : Vote → (Header → Bool) → (Header → List Output) → Option Certificate → Option Header → Admission
 vote_on_header vote counted outputs slot first =
-    when first gives (λ header.
-        if not (same_digest (header_digest header.body) vote.header) then Refused NotOurs
-        else vote_on_slot vote (counted header) (outputs header) slot)
+    when first gives (λ header. vote_to_header vote counted outputs slot header)
     else Refused NotOurs
 
 abbrev vote_by : Node → Vote → (Header → Bool) → (Header → List Output) → Bool → Option Certificate → Option Header → Admission

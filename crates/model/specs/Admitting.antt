@@ -5,6 +5,7 @@ use Rattle.std.specs.Option.{option_map_or, option_to_list}
 use Rattle.std.specs.Str.{bytes_eq}
 use Rattle.wire.specs.Batches.{batch_body}
 use Rattle.wire.specs.Grammar.{IsMessage}
+use Rattle.wire.specs.declared.limits.TheConstants.{MAX_ORDER_DIGESTS}
 use Rattle.header.specs.Checks.{fault_of, accepts_all}
 use Rattle.std.specs.Cmp.Lexicographic.{pointwise}
 use Rattle.wire.specs.declared.message.Message.TheVariants as message
@@ -37,11 +38,11 @@ header_outputs node header =
 
 -- the piece of this number, from 0 on, of a list that follows so many digests of the order
 abbrev pub piece_at : ℕ → List Digest → ℕ → Output
-piece_at start digests piece = output.Order (start + 16000 * piece) (take 16000 (drop (16000 * piece) digests))
+piece_at start digests piece = output.Order (start + MAX_ORDER_DIGESTS * piece) (take MAX_ORDER_DIGESTS (drop (MAX_ORDER_DIGESTS * piece) digests))
 
--- the list in pieces of 16,000 digests, but for the last one
+-- the list in pieces of as many digests as an output may have, but for the last one
 abbrev pub pieces : ℕ → List Digest → List Output
-pieces start digests = map (piece_at start digests) (range_with_len 0 ((length digests + 15999) / 16000))
+pieces start digests = map (piece_at start digests) (range_with_len 0 ((length digests + (MAX_ORDER_DIGESTS - 1)) / MAX_ORDER_DIGESTS))
 
 -- what an event adds to the order
 abbrev pub order_outputs : Node → History → Event → List Output
@@ -79,13 +80,17 @@ may_name node history header named =
     option_map_or (λ batch. batch.worker == named.worker) (batch_at history named.digest) false
     && (not (is_own node header.body.author) || is_available node history named.digest)
 
+-- where the header's author and round have this vote already
+abbrev pub held_header_answer : Node → Header → Header → Admission
+held_header_answer node held header =
+    if same_digest (header_digest held.body) (header_digest header.body) then Known (header_outputs node held)
+    else if is_own node header.body.author then Refused AlreadyProposed
+    else Refused Equivocation
+
 abbrev pub header_answer : Node → History → Header → Admission
 header_answer node history header =
     if is_low (floor node history) header.body.round then Refused TooOld
-    else when voted_header history header.body.round header.body.author.0 gives (λ held.
-        if same_digest (header_digest held.body) (header_digest header.body) then Known (header_outputs node held)
-        else if is_own node header.body.author then Refused AlreadyProposed
-        else Refused Equivocation)
+    else when voted_header history header.body.round header.body.author.0 gives (λ held. held_header_answer node held header)
     else if not (all_held (slots node history) (floor node history) header.body) then Refused MissingParents
     else if not (list_all (may_name node history header) header.body.batches) then Refused MissingBatch
     else New (header_outputs node header)
@@ -95,24 +100,28 @@ abbrev pub vote_outputs : Node → History → Event → Header → List Output
 vote_outputs node history event header =
     map output.Certificate (option_to_list (completed node (history ++ event ∷ []) header)) ++ order_outputs node history event
 
--- for a vote on an own header by this member, where no own certificate of the round is held
-abbrev pub counted_answer : Node → History → Event → Header → ℕ → Admission
-counted_answer node history event header voter =
-    if is_some (counted_vote node history header.body voter) then Known [] else New (vote_outputs node history event header)
-
 -- for a vote, where this own certificate of its round is held
 abbrev pub held_answer : Certificate → Vote → Admission
 held_answer held vote =
     if same_digest (header_digest held.header) vote.header then Known (output.Certificate held ∷ []) else Refused CertConflict
 
+-- for a vote on an own header by this member, where no own certificate of the round is held
+abbrev pub counted_answer : Node → History → Event → Header → ℕ → Admission
+counted_answer node history event header voter =
+    if is_some (counted_vote node history header.body voter) then Known [] else New (vote_outputs node history event header)
+
+-- for a vote, where this own header of its round is held
+abbrev pub own_header_answer : Node → History → Event → Header → Vote → Admission
+own_header_answer node history event header vote =
+    if not (same_digest (header_digest header.body) vote.header) then Refused NotOurs
+    else when slots node history vote.round node.own.0 gives (λ held. held_answer held vote)
+    else counted_answer node history event header vote.voter.0
+
 abbrev pub vote_answer : Node → History → Event → Vote → Admission
 vote_answer node history event vote =
     if not (is_own node vote.author) then Refused NotOurs
     else if is_low (floor node history) vote.round then Refused TooOld
-    else when voted_header history vote.round node.own.0 gives (λ header.
-        if not (same_digest (header_digest header.body) vote.header) then Refused NotOurs
-        else when slots node history vote.round node.own.0 gives (λ held. held_answer held vote)
-        else counted_answer node history event header vote.voter.0)
+    else when voted_header history vote.round node.own.0 gives (λ header. own_header_answer node history event header vote)
     else Refused NotOurs
 
 -- two references name the same batch and worker
@@ -128,13 +137,17 @@ same_header one other =
     ((one.author.0 == other.author.0) && (one.round == other.round))
     && (pointwise same_batch one.batches other.batches && pointwise same_parent one.parents other.parents)
 
+-- where the certificate's slot holds this one already
+abbrev pub held_certificate_answer : Certificate → Certificate → Admission
+held_certificate_answer held certificate =
+    if not (same_digest (certificate_digest held.header) (certificate_digest certificate.header)) then Refused CertConflict
+    else if same_header held.header certificate.header then Known []
+    else Refused DigestClash
+
 abbrev pub certificate_answer : Node → History → Event → Certificate → Admission
 certificate_answer node history event certificate =
     if is_low (floor node history) certificate.header.round then Refused TooOld
-    else when slots node history certificate.header.round certificate.header.author.0 gives (λ held.
-        if not (same_digest (certificate_digest held.header) (certificate_digest certificate.header)) then Refused CertConflict
-        else if same_header held.header certificate.header then Known []
-        else Refused DigestClash)
+    else when slots node history certificate.header.round certificate.header.author.0 gives (λ held. held_certificate_answer held certificate)
     else if not (all_held (slots node history) (floor node history) certificate.header) then Refused MissingParents
     else New (order_outputs node history event)
 

@@ -1,6 +1,7 @@
 -- What may be given out at a history, and what of a history a node keeps.
 use Rattle.std.specs.Prelude.{◌≡◌, ◌<◌, ◌≤◌, ℕ, ◌&&◌, nat_lt, Bool, false, List, ◌++◌, map, flat_map, filter, length, take, drop, Option, None, Contains, if◌then◌else◌}
 use Rattle.std.specs.Option.{option_map_or}
+use Rattle.wire.specs.declared.limits.TheConstants.{MAX_ORDER_DIGESTS}
 use Rattle.wire.specs.declared.output.Output.TheVariants as output
 use Rattle.model.specs.Admitting.{is_own, batch_outputs, header_outputs}
 use Rattle.model.specs.Histories.{History, batches, headers, coins}
@@ -23,10 +24,10 @@ given node history =
     ++ flat_map (header_outputs node) (headers history)
     ++ map output.Certificate (filter (is_given node history) (certificates node history))
 
--- digests are a piece of an order: 1 to 16,000 that stand there from a place on
+-- digests are a piece of an order: one or more, as many as an output may have, that stand there from a place on
 pub record IsPiece (order : List Digest) (start : ℕ) (digests : List Digest) : Type 0 where
   pub some : 0 < length digests
-  pub few : length digests ≤ 16000
+  pub few : length digests ≤ MAX_ORDER_DIGESTS
   pub stands : digests ≡ take (length digests) (drop start order)
 
 -- what may be given out: what is given, and each piece of the order

@@ -1,7 +1,9 @@
 -- What a node proposes.
-use Rattle.std.specs.Prelude.{◌-◌, ◌^◌, ◌==◌, ◌&&◌, ◌||◌, not, nat_lt, Bool, List, [], ◌∷◌, map, take, filter_map, fold, Option, Some, None, is_some, if◌then◌else◌}
+use Rattle.std.specs.Prelude.{◌-◌, ◌==◌, ◌&&◌, ◌||◌, not, nat_lt, Bool, List, [], ◌∷◌, map, take, filter_map, fold, Option, Some, None, is_some, if◌then◌else◌}
 use Rattle.std.specs.List.{list_any}
 use Rattle.wire.specs.References.{digest_before}
+use Rattle.wire.specs.declared.limits.TheConstants.{MAX_BATCHES}
+use Rattle.wire.specs.declared.round.TheConstants.Round.{MAX as MAX_ROUND}
 use Rattle.model.specs.Histories.{History, batches, headers}
 use Rattle.model.specs.Holdings.{batch_digest, is_available, voted_header, slots, round}
 use Rattle.model.specs.Nodes.{Node, size_of}
@@ -39,12 +41,12 @@ nameable node history = fold placed [] (filter_map (to_name node history) (batch
 abbrev pub as_parent : Certificate → ParentReference
 as_parent certificate = record { author = certificate.header.author; certificate = certificate_digest certificate.header }
 
--- the header of the node's round: over all certificates of the round below, with the least 128 batches
+-- the header of the node's round: over all certificates of the round below, with the least batches that may be named, up to a header's limit
 abbrev pub proposal : Node → History → HeaderBody
 proposal node history = record {
   author = node.own;
   round = round node history;
-  batches = take 128 (nameable node history);
+  batches = take MAX_BATCHES (nameable node history);
   parents = map as_parent (round_of (size_of node) (slots node history) (round node history - 1));
 }
 
@@ -55,5 +57,5 @@ signed node body = record { body = body; signature = node.sign (header_digest bo
 -- the header that the node proposes: none where its round has one, or is past the greatest round
 abbrev pub propose : Node → History → Option Header
 propose node history =
-    if is_some (voted_header history (round node history) node.own.0) || nat_lt (2 ^ 48) (round node history) then None
+    if is_some (voted_header history (round node history) node.own.0) || nat_lt MAX_ROUND (round node history) then None
     else Some (signed node (proposal node history))

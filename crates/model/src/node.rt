@@ -3,6 +3,7 @@
 ghost use Rattle.std.specs.Prelude.{◌≡◌, ◌<◌, ◌≤◌};
 ghost use Rattle.model.specs.Nodes.{node_view, quorum, size_of};
 ghost use Rattle.model.specs.Admitting.{is_own};
+ghost use Rattle.committee.specs.declared.members.TheConstants.{MAX_MEMBERS};
 
 use committee::Committee;
 use sigface::Sign;
@@ -24,7 +25,7 @@ impl<S: Sign> Node<S> {
     pub fn size(&self) -> u16
         ensures value { result ≡ size_of (node_view S.signature_of self.now) }
         ensures least { 0 < result }
-        ensures greatest { result ≤ 31 }
+        ensures greatest { result ≤ MAX_MEMBERS }
     {
         self.committee.size()
     }

@@ -4,6 +4,7 @@ ghost use Rattle.std.specs.Prelude.{◌≡◌, ◌≤◌, IfOk, IfSome, filter_m
 ghost use Rattle.model.specs.Histories.{headers};
 ghost use Rattle.model.specs.Holdings as holdings;
 ghost use Rattle.model.specs.Nodes.{node_view, numbers};
+ghost use Rattle.wire.specs.declared.limits.TheConstants.{MAX_VOTES};
 
 use crate::histories::{coins, headers, received};
 use crate::holdings::{counted_vote, is_full};
@@ -42,7 +43,7 @@ fn votes_of<S: Sign>(
     header: &HeaderBody,
     size: u16,
 ) -> Result<VoteEntries, AllocError>
-    requires { size ≤ 31 }
+    requires { size ≤ MAX_VOTES }
     ensures { IfOk result (λ found. found ≡ filter_map (holdings.entry_on (node_view S.signature_of node.now) history.now header.now) (numbers size)) }
 {
     let mut found = VoteEntries::new(alloc);

@@ -63,7 +63,7 @@ fn part_from(digests: &[Digest], place: usize) -> &[Digest]
 }
 
 fn order_digests(alloc: Global, digests: &[Digest]) -> Result<OrderDigests, AllocError>
-    requires { length digests.now ≤ 16000 }
+    requires { length digests.now ≤ MAX_ORDER_DIGESTS }
     ensures { IfOk result (λ found. found ≡ digests.now) }
 {
     let mut found = OrderDigests::new(alloc);

@@ -3,6 +3,7 @@
 ghost use Rattle.std.specs.Prelude.{◌≡◌, ◌≤◌, ◌&&◌, not, IfOk, IfSome, IsTrue, is_some, length, map, option_map, take};
 ghost use Rattle.std.specs.List.{list_any};
 ghost use Rattle.model.specs.Holdings as holdings;
+ghost use Rattle.wire.specs.declared.limits.TheConstants.{MAX_PARENTS};
 ghost use Rattle.model.specs.Nodes.{node_view};
 ghost use Rattle.model.specs.Proposing as proposing;
 ghost use Rattle.model.specs.Slots.{same_digest, slots_of, round_of};
@@ -130,7 +131,7 @@ pub fn nameable<S: Sign>(
 
 /// Batches that rise by digest, as a header names them.
 fn named(alloc: Global, batches: &[BatchReference]) -> Result<BatchReferences, AllocError>
-    requires few { length batches.now ≤ 128 }
+    requires few { length batches.now ≤ MAX_BATCHES }
     requires order { IsTrue (batches_rise batches.now) }
     ensures { IfOk result (λ found. found ≡ batches.now) }
 {
@@ -147,7 +148,7 @@ fn named_batches<S: Sign>(
     node: &Node<S>,
     history: &[Event],
 ) -> Result<BatchReferences, AllocError>
-    ensures { IfOk result (λ found. found ≡ take 128 (proposing.nameable (node_view S.signature_of node.now) history.now)) }
+    ensures { IfOk result (λ found. found ≡ take MAX_BATCHES (proposing.nameable (node_view S.signature_of node.now) history.now)) }
 {
     let nameable = nameable(alloc, node, history)?;
     named(alloc, first_of(&nameable, MAX_BATCHES))
@@ -181,7 +182,7 @@ fn parents_of(
     certificates: &[Certificate],
     round: u64,
 ) -> Result<ParentReferences, AllocError>
-    requires { size ≤ 31 }
+    requires { size ≤ MAX_PARENTS }
     ensures { IfOk result (λ found. found ≡ map proposing.as_parent (round_of size (slots_of certificates.now) round)) }
 {
     let mut found = ParentReferences::new(alloc);

@@ -6,12 +6,14 @@ use Rattle.header.proofs.checked.check.Goals as goal
 
 pub invariant_of-result : goal.invariant_of-result
 invariant_of-result g c =
-    let event : Event = record { sender = c.args.sender; message = c.args.message } in
-    (record {
-      charter = c.args.committee.now;
-      committee = c.limits_hold.ensures;
-      passed = passes-accepts_all c.args.committee.now (g.V.Verify.accepts c.args.verifier.now) event (sym c.in_ok-digested.ensures.refused);
-    }, c.in_ok-digested.ensures.digests)
+    let event : Event = record { sender = c.args.sender; message = c.args.message } in (
+      record {
+        charter = c.args.committee.now;
+        committee = c.limits_hold.ensures;
+        passed = passes-accepts_all c.args.committee.now (g.V.Verify.accepts c.args.verifier.now) event (sym c.in_ok-digested.ensures.refused);
+      },
+      c.in_ok-digested.ensures.digests,
+    )
 
 pub returns-clause-passed_before : goal.returns-clause-passed_before
 returns-clause-passed_before g c =
