@@ -19,6 +19,11 @@ use wire::Output;
 /// Records that one run may accept.
 pub const MAX_ACCEPTED: u64 = 1 << 48;
 
+/// The limit of a run in numbers.
+pub fn limits_in_numbers()
+    ensures accepted { MAX_ACCEPTED ≡ 2 ^ 48 }
+{}
+
 /// Outputs of one event, at most.
 const MAX_OUTPUTS: usize = 1;
 

@@ -8,7 +8,7 @@ mod queue;
 mod refusal;
 mod validator;
 
-pub use book::{Book, MAX_ACCEPTED, Receipt};
+pub use book::{Book, MAX_ACCEPTED, Receipt, limits_in_numbers};
 pub use pending::EVENT_RECORD;
 pub use refusal::Refusal;
 pub use validator::{Admission, Step, Validator};

@@ -213,7 +213,7 @@ impl Disk for MemDisk {
         ensures recorded { OnOk result (Adds (Call.Wrote at bytes.now) self.old.history self.new.history) }
         ensures heeds { Heeds CallKind.Write self.old self.new result }
 
-        // It fails only where it has been told to, or memory was refused.
+        // It fails only where it has been told to, or a list without room was refused it.
         ensures succeeds { OnErr result (Contains (counts_for (told_of self.old) CallKind.Write) 1 ⊎ IsRefused (room_for (length bytes.now)) self.old.refusals self.new.refusals) }
     {
         self.fail_if_told(CallKind::Write)?;

@@ -116,7 +116,7 @@ pub fn check<V: Verify>(
     ensures checked { IfOk result (λ checked. checked ≡ record { sender = sender; message = message }) }
     ensures passed { IfOk result (λ checked. fault_of committee.now (V.accepts verifier.now) checked ≡ None) }
     // So it passes where signatures aren't tested, too.
-    ensures passed_before { IfOk result (λ checked. fault_of committee.now accepts_all checked ≡ None) }
+    ensures passed_unsigned { IfOk result (λ checked. fault_of committee.now accepts_all checked ≡ None) }
     ensures refused { IfErr result (λ error. fault_of committee.now (V.accepts verifier.now) (record { sender = sender; message = message }) ≡ Some error) }
     ensures no_memory { ¬ IsErrOf result CheckError.Memory }
 {

@@ -161,7 +161,7 @@ pub record HasGroup (bytes : List ℕ) : Type 0 where
   pub fits : FitsGroup records
   pub written : bytes ≡ sized_body records ++ next ∷ rest
 
--- groups behind open gates end at this place, where an open gate has no whole group behind it
+-- of two bytes or more: groups behind open gates end at this place, where an open gate has no whole group behind it
 pub record IsDamagedAt (bytes : List ℕ) (place : ℕ) : Type 0 where
   pub long : 2 ≤ length bytes
   pub groups : List Gated

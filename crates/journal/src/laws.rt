@@ -26,7 +26,7 @@ pub fn groups_stand()
     ensures short { (bytes : List ℕ) → length bytes < 2 → stands bytes ≡ Ok [] }
 {}
 
-/// Bytes are damaged at a place exactly where groups behind open gates end there, and an open gate
+/// Bytes, two or more, are damaged at a place exactly where groups behind open gates end there, and an open gate
 /// there has no whole group behind it.
 pub fn damage_is_found()
     ensures { (bytes : List ℕ) (place : ℕ) → AreBytes bytes → (stands bytes ≡ Err place) ↔ IsDamagedAt bytes place }

@@ -36,8 +36,7 @@ numbers size = range_with_len 0 size
 abbrev pub node_view : {S : Type 0} → (S → Digest → Signature) → declared.Node S → Node
 node_view signature_of node = record { own = node.own; charter = node.committee; sign = signature_of node.signer }
 
--- a node's signer and a verifier belong together: the signer's key is the node's member's, and what the node signs is accepted
--- for that key
+-- a node's signer and a verifier belong together: this is the key of the node's member, and what the node signs is accepted for it
 pub record AreTied (node : Node) (key : Key) (accepts : Accepts) : Type 0 where
   pub own_key : slice_get node.charter.keys node.own.0 ≡ Some key
   pub accepted : AreAccepted accepts key node.sign

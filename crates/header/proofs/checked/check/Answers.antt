@@ -15,7 +15,7 @@ invariant_of-result g c =
       c.in_ok-digested.ensures.digests,
     )
 
-pub returns-clause-passed_before : goal.returns-clause-passed_before
-returns-clause-passed_before g c =
+pub returns-clause-passed_unsigned : goal.returns-clause-passed_unsigned
+returns-clause-passed_unsigned g c =
     let event : Event = record { sender = c.args.sender; message = c.args.message } in
     passes-accepts_all c.args.committee.now (g.V.Verify.accepts c.args.verifier.now) event (sym c.in_ok-digested.ensures.refused)
