@@ -1,6 +1,7 @@
 -- The book: what a validator accepted, what of it was taken and settled, and what may go out.
 use Rattle.std.specs.Prelude.{◌≡◌, ℕ, ◌+◌, List, [], ◌∷◌, ◌++◌, Option, Some, None, Bool, true, nat_le, if◌then◌else◌}
 use Rattle.wire.specs.declared.output.Output.{Output}
+use Rattle.committee.specs.File.{Charter}
 use Rattle.journal.specs.Format.{contents}
 use Rattle.sigface.specs.declared.signature.Sign.{Ghosts}
 use Rattle.book.specs.declared.book.Book.{Book}
@@ -17,6 +18,8 @@ use Rattle.book.specs.Queue.{queue_of, ticketed}
 pub record Standing : Type 0 where
   -- which signatures the validator gives
   pub signs : Signs
+  -- the validator's committee
+  pub charter : Charter
   -- what the validator keeps
   pub validator : State
   -- the records that were accepted and not taken, oldest first
@@ -32,6 +35,7 @@ pub record Standing : Type 0 where
 abbrev pub standing : {S : Type 0} {signing : Ghosts S} → Book S signing → Standing
 standing {signing} book = record {
   signs = signing.signature_of book.validator.signer;
+  charter = book.validator.committee;
   validator = book.validator.tables;
   pending = contents book.pending.items;
   queue = queue_of book.queue.items;

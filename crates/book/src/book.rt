@@ -9,6 +9,7 @@ use crate::pending::{drop_front, first_group, push_record, record_of};
 use crate::queue::{Queued, enqueue};
 use crate::refusal::Refusal;
 use crate::validator::{Step, Validator};
+use committee::Committee;
 use header::Checked;
 use journal::{Group, Synced};
 use sigface::Sign;
@@ -54,8 +55,9 @@ pub struct Book<S: Sign> {
 }
 
 impl<S: Sign> Book<S> {
-    ghost use Rattle.std.specs.Prelude.{◌≢◌, ◌⊎◌, ◌∷◌, [], ◌++◌, ◌<◌, false, true, take, drop, IsTrue, IsNone, IsSome, IfOk, IfErr, IfSome, OnOk, OnErr, IsErrOf, MatchOption, MatchResult, ◌↔◌, is_some, if◌then◌else◌};
+    ghost use Rattle.std.specs.Prelude.{◌≢◌, ◌⊎◌, ◌∷◌, [], ◌++◌, ◌<◌, false, true, take, drop, IsTrue, IsNone, IsSome, None, IfOk, IfErr, IfSome, OnOk, OnErr, IsErrOf, MatchOption, MatchResult, ◌↔◌, is_some, if◌then◌else◌};
     ghost use Rattle.std.specs.FinMap as map;
+    ghost use Rattle.header.specs.Checks.{fault_of, accepts_all};
     ghost use Rattle.book.specs.declared.validator.Admission.TheVariants.{New, Known};
     ghost use Rattle.book.specs.Admission.{Admits, IsKnownKind};
     ghost use Rattle.book.specs.Book.{standing, with_new, with_known, releasable, MayAnswer};
@@ -63,7 +65,7 @@ impl<S: Sign> Book<S> {
 
     /// A book over this validator that has accepted nothing.
     pub fn new(alloc: Global, validator: Validator<S>) -> Book<S>
-        ensures { standing result ≡ record { signs = S.signature_of validator.signer; validator = validator.tables; pending = []; queue = []; accepted = 0; settled = 0; down = false } }
+        ensures { standing result ≡ record { signs = S.signature_of validator.signer; charter = validator.committee; validator = validator.tables; pending = []; queue = []; accepted = 0; settled = 0; down = false } }
     {
         Book {
             alloc,
@@ -76,10 +78,19 @@ impl<S: Sign> Book<S> {
         }
     }
 
-    /// Takes an event. A new one gets a record, which is pending from now on; its outputs, and those of an event
-    /// that was accepted before, go out once all that was accepted is settled. A refusal changes nothing.
+    /// The committee of its validator.
+    pub fn committee(&self) -> &Committee
+        ensures { result.now ≡ (standing self.now).charter }
+    {
+        self.validator.committee()
+    }
+
+    /// Takes an event, which passed the checks under the book's committee. A new one gets a record, which is
+    /// pending from now on; its outputs, and those of an event that was accepted before, go out once all that was
+    /// accepted is settled. A refusal changes nothing.
     pub fn accept(&mut self, event: Checked) -> Result<Receipt, Refusal>
-        requires { IsKnownKind (standing self.old).validator.own event }
+        requires kind { IsKnownKind (standing self.old).validator.own event }
+        requires passed { fault_of (standing self.old).charter accepts_all event ≡ None }
         // It is down exactly where it was told so.
         ensures down { IsErrOf result Refusal.Down ↔ IsTrue (standing self.old).down }
         ensures new { IfOk result (λ receipt. IsTrue receipt.new → Admits (standing self.old).validator event New × (standing self.new ≡ with_new (standing self.old) event)) }

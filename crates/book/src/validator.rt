@@ -1,12 +1,14 @@
 //! The validator: what it answers an event, and what it keeps.
 
-ghost use Rattle.std.specs.Prelude.{◌≡◌, ◌⊎◌, ◌↔◌, [], ◌∷◌, All, IsTrue, IfOk, OnOk, OnErr, MatchResult, if◌then◌else◌};
+ghost use Rattle.std.specs.Prelude.{◌≡◌, ◌⊎◌, ◌↔◌, [], ◌∷◌, All, IsTrue, IfOk, OnOk, OnErr, MatchResult, None, length, if◌then◌else◌};
 ghost use Rattle.std.specs.Bool.{OnTrue};
 ghost use Rattle.std.specs.FinMap as map;
+ghost use Rattle.header.specs.Checks.{fault_of, accepts_all};
 ghost use Rattle.book.specs.Admission.{Admits, AdmitsHeader, AdmitsVote, IsHeld, IsKnownKind, digest_of, vote_for, outputs_for, with_header};
 ghost use Rattle.book.specs.Step.{admission_of, outputs_of, state_after};
 
 use crate::refusal::Refusal;
+use committee::Committee;
 use header::Checked;
 use sigface::Sign;
 use std::alloc::{AllocError, Global};
@@ -43,6 +45,7 @@ pub enum Step {
 pub struct Validator<S: Sign> {
     alloc: Global,
     signer: S,
+    committee: Committee,
     tables: Tables,
 }
 
@@ -65,15 +68,18 @@ impl Model for Tables {
 }
 
 impl<S: Sign> Validator<S> {
-    /// The validator of this number, in a committee of so many members, that has taken no event.
-    pub fn new(alloc: Global, own: Author, members: u16, signer: S) -> Validator<S>
+    /// The validator of this number in a committee, that has taken no event.
+    pub fn new(alloc: Global, own: Author, committee: Committee, signer: S) -> Validator<S>
         ensures signer { result.signer ≡ signer }
-        ensures tables { result.tables ≡ record { own = own; members = members; votes = map.empty } }
+        ensures charter { result.committee ≡ committee }
+        ensures tables { result.tables ≡ record { own = own; members = length committee.keys; votes = map.empty } }
     {
+        let tables = Tables::new(alloc, own, committee.size());
         Validator {
             alloc,
             signer,
-            tables: Tables::new(alloc, own, members),
+            committee,
+            tables,
         }
     }
 
@@ -82,6 +88,13 @@ impl<S: Sign> Validator<S> {
         ensures { result ≡ self.now.tables.own }
     {
         self.tables.own()
+    }
+
+    /// Its committee.
+    pub fn committee(&self) -> &Committee
+        ensures { result.now ≡ self.now.committee }
+    {
+        &self.committee
     }
 
     /// What an event is answered. It changes nothing.
@@ -104,10 +117,11 @@ impl<S: Sign> Validator<S> {
         matches!(self.admission(event), Admission::New)
     }
 
-    /// Takes an event. Only a new one changes what the validator keeps, and a refusal leaves it as it was. The
-    /// signer stays.
+    /// Takes an event, which passed the checks under the validator's committee. Only a new one changes what the
+    /// validator keeps, and a refusal leaves it as it was. The signer and the committee stay.
     pub fn step(&mut self, event: Checked) -> Result<Step, Refusal>
-        requires { IsKnownKind self.old.tables.own event }
+        requires kind { IsKnownKind self.old.tables.own event }
+        requires passed { fault_of self.old.committee accepts_all event ≡ None }
         ensures answer { MatchResult result (λ step. Admits self.old.tables event (admission_of step)) (λ e. (e ≡ Refusal.Memory) ⊎ Admits self.old.tables event (Admission.Refused e)) }
         ensures outputs { IfOk result (λ step. outputs_of step ≡ outputs_for (S.signature_of self.old.signer) self.old.tables.own event) }
         ensures state { IfOk result (λ step. self.new ≡ record self.old { tables = state_after step self.old.tables event }) }

@@ -1,7 +1,8 @@
 //! The simulated node: its journal and its book.
 
-ghost use Rattle.std.specs.Prelude.{◌≡◌, ℕ, List, IsTrue, IfOk};
+ghost use Rattle.std.specs.Prelude.{◌≡◌, ℕ, List, None, IsTrue, IfOk};
 ghost use Rattle.std.specs.List.{list_all};
+ghost use Rattle.header.specs.Checks.{fault_of, accepts_all};
 ghost use Rattle.book.specs.Admission.{IsKnownKind};
 ghost use Rattle.book.specs.Book.{standing};
 ghost use Rattle.simulator.specs.declared.settings.TheConstants.{OWN};
@@ -13,7 +14,7 @@ use crate::answer::{Answer, FlushError};
 use crate::ending::Ending;
 use crate::live::{Appended, LiveJournal};
 use crate::opening::{Opened, open};
-use crate::settings::OWN;
+use crate::settings::{OWN, read_committee};
 use book::Book;
 use committee::Committee;
 use diskmodel::{CallKind, MemDisk, StopDisk};
@@ -64,16 +65,18 @@ pub struct Node {
 }
 
 impl Node {
-    ghost use Rattle.std.specs.Prelude.{Some, None, MatchOption};
+    ghost use Rattle.std.specs.Prelude.{Some, MatchOption};
     ghost use Rattle.book.specs.Book.{releasable};
     ghost use Rattle.simulator.specs.Node.{book_of, disk_of};
 
-    /// The node after what is on a disk, and how many events that is.
+    /// The node of a committee after what is on a disk, and how many events that is.
     pub(crate) fn open(
         alloc: Global,
-        committee: &Committee,
+        committee: Committee,
         disk: MemDisk,
-    ) -> Result<(Node, u64), Ending> {
+    ) -> Result<(Node, u64), Ending>
+        ensures { IfOk result (λ opened. (book_of opened.0).charter ≡ committee) }
+    {
         match open(alloc, committee, disk) {
             Ok(
                 Opened {
@@ -90,9 +93,17 @@ impl Node {
         }
     }
 
-    /// Submits a checked header of another member.
+    /// Its committee.
+    pub(crate) fn committee(&self) -> &Committee
+        ensures { result.now ≡ (book_of self.now).charter }
+    {
+        self.book.committee()
+    }
+
+    /// Submits a header of another member, which passed the checks under the node's committee.
     pub(crate) fn submit(&mut self, event: Checked) -> Answer<'static>
-        requires { IsKnownKind OWN event }
+        requires kind { IsKnownKind OWN event }
+        requires passed { fault_of (book_of self.old).charter accepts_all event ≡ None }
     {
         match self.book.accept(event) {
             Ok(receipt) if receipt.new => Answer::New(receipt.ticket),
@@ -164,13 +175,9 @@ impl Node {
         store.into_disk()
     }
 
-    /// Stops the machine and opens the node again; answers how many events were found.
-    pub(crate) fn stop(
-        self,
-        alloc: Global,
-        committee: &Committee,
-        stopping: Stopping,
-    ) -> Result<(Node, u64), Ending> {
+    /// Stops the machine and opens the node again, whose committee is read anew; answers how many events were
+    /// found.
+    pub(crate) fn stop(self, alloc: Global, stopping: Stopping) -> Result<(Node, u64), Ending> {
         let Node { store, book } = self;
         let mut disk = match stopping {
             Stopping::Lose => losing(alloc, store.into_disk())?,
@@ -179,7 +186,7 @@ impl Node {
             Stopping::Gate(byte) => interrupted(alloc, store, book, GATE_SYNC, byte)?,
         };
         disk.stop();
-        Node::open(alloc, committee, disk)
+        Node::open(alloc, read_committee(alloc)?, disk)
     }
 }
 

@@ -1,6 +1,7 @@
 //! Opening the node: the journal's records, and the validator after their events.
 
-ghost use Rattle.std.specs.Prelude.{◌≡◌, ◌+◌, ◌*◌, [], ◌∷◌, length, vec_len, IfOk, IfSome};
+ghost use Rattle.std.specs.Prelude.{◌≡◌, ◌+◌, ◌*◌, [], ◌∷◌, None, length, vec_len, IfOk, IfSome};
+ghost use Rattle.header.specs.Checks.{fault_of, accepts_all};
 ghost use Rattle.book.specs.Admission.{IsKnownKind};
 ghost use Rattle.journal.specs.Format.{FitsGroup};
 ghost use Rattle.simulator.specs.Events.{IsOfHeader};
@@ -35,18 +36,19 @@ pub struct Opened<D: Disk> {
     pub events: u64,
 }
 
-/// Opens the node on a disk. An empty journal gets the configuration.
+/// Opens the node of a committee on a disk. An empty journal gets the configuration.
 pub fn open<D: Disk>(
     alloc: Global,
-    committee: &Committee,
+    committee: Committee,
     disk: D,
 ) -> Result<Opened<D>, Failed<JournalError, D>>
-    ensures { IfOk result (λ opened. opened.validator.tables.own ≡ OWN) }
+    ensures own { IfOk result (λ opened. opened.validator.tables.own ≡ OWN) }
+    ensures charter { IfOk result (λ opened. opened.validator.committee ≡ committee) }
 {
     let (journal, records) = LiveJournal::open(alloc, disk)?;
     let Some((first, events)) = records.split_first() else {
-        let journal = write_configuration(alloc, committee, journal)?;
-        let validator = Validator::new(alloc, OWN, committee.size(), signer(OWN));
+        let journal = write_configuration(alloc, &committee, journal)?;
+        let validator = Validator::new(alloc, OWN, committee, signer(OWN));
         return Ok(Opened {
             journal,
             validator,
@@ -126,19 +128,20 @@ fn configuration(alloc: Global, committee: &Committee) -> Result<Vec<u8>, AllocE
     Ok(record)
 }
 
-// The validator after the events of these records, of which the first is the configuration.
+// The committee's validator after the events of these records, of which the first is the configuration.
 fn replay(
     alloc: Global,
-    committee: &Committee,
+    committee: Committee,
     first: &Record,
     events: &[Record],
 ) -> Result<Validator<HashSign>, JournalError>
-    ensures { IfOk result (λ validator. validator.tables.own ≡ OWN) }
+    ensures own { IfOk result (λ validator. validator.tables.own ≡ OWN) }
+    ensures charter { IfOk result (λ validator. validator.committee ≡ committee) }
 {
-    check_configuration(alloc, committee, first, events)?;
-    let mut validator = Validator::new(alloc, OWN, committee.size(), signer(OWN));
+    check_configuration(alloc, &committee, first, events)?;
+    let mut validator = Validator::new(alloc, OWN, committee, signer(OWN));
     for record in events {
-        replay_event(alloc, committee, &mut validator, record)?;
+        replay_event(alloc, &mut validator, record)?;
     }
     Ok(validator)
 }
@@ -174,15 +177,15 @@ fn has_shape(bytes: &[u8]) -> bool {
 // Takes the event of a record, which has to be new.
 fn replay_event(
     alloc: Global,
-    committee: &Committee,
     validator: &mut Validator<HashSign>,
     record: &Record,
 ) -> Result<(), JournalError>
     requires { validator.old.tables.own ≡ OWN }
-    ensures { validator.new.tables.own ≡ OWN }
+    ensures own { validator.new.tables.own ≡ OWN }
+    ensures charter { validator.new.committee ≡ validator.old.committee }
 {
     let damaged = JournalError::Damaged(record.gate);
-    let Some(event) = event_of(alloc, committee, record.bytes.as_slice())? else {
+    let Some(event) = event_of(alloc, validator.committee(), record.bytes.as_slice())? else {
         return Err(damaged);
     };
     match validator.step(event) {
@@ -200,14 +203,15 @@ fn replay_event(
     }
 }
 
-// The event of a record: a header of another member that passes the checks. Its signature was tested before it
-// was recorded.
+// The event of a record: a header of another member that passes the committee's checks. Its signature was tested
+// before it was recorded.
 fn event_of(
     alloc: Global,
     committee: &Committee,
     bytes: &[u8],
 ) -> Result<Option<Checked>, AllocError>
     ensures kind { IfOk result (λ found. IfSome found (IsKnownKind OWN)) }
+    ensures passed { IfOk result (λ found. IfSome found (λ event. fault_of committee.now accepts_all event ≡ None)) }
     ensures header { IfOk result (λ found. IfSome found IsOfHeader) }
 {
     let [EVENT_RECORD, high, low, message @ ..] = bytes else {

@@ -9,7 +9,6 @@ use crate::ending::Ending;
 use crate::gathered::Gathered;
 use crate::node::Node;
 use crate::settings::{OWN, read_committee};
-use committee::Committee;
 use diskmodel::MemDisk;
 use header::check;
 use script::{Command, Form, FormError, Labels, define_header, parse};
@@ -87,8 +86,7 @@ fn play<R: Read + Drop, W: Write>(
     number: &mut u64,
 ) -> Result<Node, Ending> {
     let disk = MemDisk::new(alloc, Vec::new(alloc))?;
-    let committee = read_committee(alloc)?;
-    let (mut node, _) = Node::open(alloc, &committee, disk)?;
+    let (mut node, _) = Node::open(alloc, read_committee(alloc)?, disk)?;
     let mut labels = Labels::new(alloc);
     let mut reader = BufReader::new(alloc, reader)?;
     let mut line = Vec::new(alloc);
@@ -100,7 +98,7 @@ fn play<R: Read + Drop, W: Write>(
         let Some(command) = parse(&line) else {
             return Err(Ending::BadCommand);
         };
-        let (next, answer) = obey(alloc, &committee, node, &mut labels, command)?;
+        let (next, answer) = obey(alloc, node, &mut labels, command)?;
         node = next;
         gathered.add(answer)?;
     }
@@ -131,7 +129,6 @@ fn next_line<R: Read + Drop, W: Write>(
 // Carries out a command. Those that a node doesn't take yet are bad ones.
 fn obey<'a>(
     alloc: Global,
-    committee: &Committee,
     mut node: Node,
     labels: &'a mut Labels,
     command: Command<'_>,
@@ -143,7 +140,7 @@ fn obey<'a>(
         }
         Command::Header(label) => {
             let answer = match header_of(labels, label)? {
-                Ok(header) => submit(committee, &mut node, header)?,
+                Ok(header) => submit(&mut node, header)?,
                 Err(error) => Answer::Unread(error),
             };
             Ok((node, answer))
@@ -163,7 +160,7 @@ fn obey<'a>(
             Ok((node, answer))
         }
         Command::Stop(stopping) => {
-            let (node, events) = node.stop(alloc, committee, stopping)?;
+            let (node, events) = node.stop(alloc, stopping)?;
             Ok((node, Answer::Reopened(events)))
         }
         _ => Err(Ending::BadCommand),
@@ -191,16 +188,17 @@ fn header_of(labels: &Labels, label: &str) -> Result<Result<Header, WireError>, 
 }
 
 // Submits a header as from its author. There are no own headers yet.
-fn submit(
-    committee: &Committee,
-    node: &mut Node,
-    header: Header,
-) -> Result<Answer<'static>, Ending> {
+fn submit(node: &mut Node, header: Header) -> Result<Answer<'static>, Ending> {
     let author = header.body.author;
     if author == OWN {
         return Err(Ending::BadCommand);
     }
-    match check(committee, &HashVerify, author, Message::Header(header)) {
+    match check(
+        node.committee(),
+        &HashVerify,
+        author,
+        Message::Header(header),
+    ) {
         Ok(event) => Ok(node.submit(event)),
         Err(error) => Ok(Answer::Unchecked(error)),
     }

@@ -1,6 +1,7 @@
 //! Commands to a book of member 0, whose groups are written to the disk.
 
-ghost use Rattle.std.specs.Prelude.{◌≡◌, IsTrue};
+ghost use Rattle.std.specs.Prelude.{◌≡◌, None, IsTrue, IfOk};
+ghost use Rattle.header.specs.Checks.{fault_of, accepts_all};
 ghost use Rattle.book.specs.Admission.{IsKnownKind};
 ghost use Rattle.book.specs.Book.{standing};
 ghost use Rattle.journal.specs.Journal.{IsAlive};
@@ -8,7 +9,7 @@ ghost use Rattle.test_store.specs.declared.books.TheConstants.{OWN};
 
 use crate::Store;
 use crate::disks::tell_if;
-use crate::headers::{event, header, tell_output, vote};
+use crate::headers::{committee, event, header, tell_output, vote};
 use crate::words::{Told, Word, bad, put, put_number};
 use book::Refusal::{
     Down, Equivocation, Memory, MissingBatch, MissingParents, NotOurs, StoreFull, TooOld,
@@ -33,13 +34,18 @@ pub struct OwnBook {
 
 impl OwnBook {
     /// A book that has accepted nothing.
-    pub fn new(alloc: Global) -> OwnBook {
-        let book = Book::new(
-            alloc,
-            Validator::new(alloc, OWN, 4, HashSign::new(Key([1; 32]))),
-        );
-        OwnBook { book }
+    pub fn new(alloc: Global) -> Result<OwnBook, AllocError> {
+        let book = Book::new(alloc, own_validator(alloc)?);
+        Ok(OwnBook { book })
     }
+}
+
+/// The validator of this member, which has taken no event.
+fn own_validator(alloc: Global) -> Result<Validator<HashSign>, AllocError>
+    ensures { IfOk result (λ validator. validator.tables.own ≡ OWN) }
+{
+    let signer = HashSign::new(Key([1; 32]));
+    Ok(Validator::new(alloc, OWN, committee(alloc)?, signer))
 }
 
 impl Store {
@@ -51,16 +57,21 @@ impl Store {
             ("down", []) => tell_if(answer, self.book.book.is_down()),
             ("fault", []) => self.book.book.fail(),
             ("refusals", []) => tell_refusals(answer),
-            _ => match event_of(self.alloc, name, words)? {
-                Some(event) if name == "step" => step(self.alloc, event, answer),
-                Some(event) => self.accept(event, answer),
+            _ => match message_of(self.alloc, name, words)? {
+                Some((sender, message)) if name == "step" => {
+                    return step(self.alloc, sender, message, answer);
+                }
+                Some((sender, message)) => self.accept(sender, message, answer),
                 None => bad(answer),
             },
         }
         Ok(())
     }
 
-    fn accept(&mut self, event: Checked, answer: &mut String) {
+    fn accept(&mut self, sender: Author, message: Message, answer: &mut String) {
+        let Some(event) = event(self.book.book.committee(), sender, message) else {
+            return bad(answer);
+        };
         if !is_known_kind(&event) {
             return bad(answer);
         }
@@ -82,7 +93,7 @@ impl Store {
 
     fn release(&mut self, answer: &mut String) {
         match self.book.book.release() {
-            Some(output) => tell_output(self.alloc, answer, &output),
+            Some(output) => tell_output(self.book.book.committee(), answer, &output),
             None => put(answer, "none\n"),
         }
     }
@@ -138,12 +149,16 @@ fn is_known_kind(event: &Checked) -> bool
     }
 }
 
-/// The event of a command: a vote, or a header over the certificates of some members.
-fn event_of(alloc: Global, name: &str, words: &[Word]) -> Result<Option<Checked>, AllocError> {
+/// The message of a command with its sender: a vote, or a header over the certificates of some members.
+fn message_of(
+    alloc: Global,
+    name: &str,
+    words: &[Word],
+) -> Result<Option<(Author, Message)>, AllocError> {
     match (name, words) {
         ("vote", [Word::Number(author), Word::Number(round)]) => {
             Ok(match slot(*author, *round) {
-                Some((author, round)) => event(alloc, Author(1), vote(author, round)),
+                Some((author, round)) => Some((Author(1), vote(author, round))),
                 None => None,
             })
         }
@@ -157,7 +172,7 @@ fn event_of(alloc: Global, name: &str, words: &[Word]) -> Result<Option<Checked>
         ) => match slot(*author, *round) {
             Some((author, round)) => {
                 let header = header(alloc, name, author, round, members)?;
-                Ok(event(alloc, author, header))
+                Ok(Some((author, header)))
             }
             None => Ok(None),
         },
@@ -170,19 +185,32 @@ fn slot(author: u64, round: u64) -> Option<(Author, Round)> {
     Some((author, Round::new(round).ok()?))
 }
 
-/// Puts an event to a validator without a book.
-fn step(alloc: Global, event: Checked, answer: &mut String) {
-    let mut validator = Validator::new(alloc, OWN, 4, HashSign::new(Key([1; 32])));
-    if !is_known_kind(&event) {
-        return bad(answer);
+/// Puts a message to a validator without a book.
+fn step(alloc: Global, sender: Author, message: Message, answer: &mut String) -> Told {
+    let mut validator = own_validator(alloc)?;
+    let Some(event) = event(validator.committee(), sender, message) else {
+        bad(answer);
+        return Ok(());
+    };
+    if is_known_kind(&event) {
+        take_step(&mut validator, event, answer);
+    } else {
+        bad(answer);
     }
+    Ok(())
+}
+
+fn take_step(validator: &mut Validator<HashSign>, event: Checked, answer: &mut String)
+    requires kind { IsKnownKind validator.old.tables.own event }
+    requires passed { fault_of validator.old.committee accepts_all event ≡ None }
+{
     let (own, sender) = (validator.own().0, event.sender().0);
     let (admission, is_new) = (validator.admission(&event), validator.is_new(&event));
     let _ = writeln!(answer, "from {sender} to {own}: {admission:?} {is_new}");
     match validator.step(event) {
         Ok(Step::New(outputs)) => {
             for output in &outputs {
-                tell_output(alloc, answer, output);
+                tell_output(validator.committee(), answer, output);
             }
         }
         Ok(Step::Known(_)) => put(answer, "known\n"),

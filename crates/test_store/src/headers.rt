@@ -1,5 +1,8 @@
 //! The messages of the cases, and the committee whose members send them.
 
+ghost use Rattle.std.specs.Prelude.{◌≡◌, None, IfSome};
+ghost use Rattle.header.specs.Checks.{fault_of, accepts_all};
+
 use committee::Committee;
 use header::{CheckError, Checked, check, recheck};
 use sigface::HashVerify;
@@ -19,6 +22,11 @@ const FOUR: &str = "members = [
 
 /// The digest of what nobody holds.
 const FOREIGN: Digest = Digest([7; 32]);
+
+/// The committee of the cases. Its file is sound, so only memory can be wanting.
+pub fn committee(alloc: Global) -> Result<Committee, AllocError> {
+    Committee::read(alloc, FOUR).map_err(|_| AllocError)
+}
 
 /// A header over these members' certificates, with a signature of zeros. They are the genesis ones, but for a
 /// header of the name `foreign`, and one of the name `batch` names a batch.
@@ -70,19 +78,21 @@ pub fn vote(author: Author, round: Round) -> Message {
     })
 }
 
-/// The message as an event from its sender, its signature not tested.
-pub fn event(alloc: Global, sender: Author, message: Message) -> Option<Checked> {
-    recheck(&Committee::read(alloc, FOUR).ok()?, sender, message).ok()
+/// The message as an event from its sender, if it passes the checks, its signature not tested.
+pub fn event(committee: &Committee, sender: Author, message: Message) -> Option<Checked>
+    ensures { IfSome result (λ event. fault_of committee.now accepts_all event ≡ None) }
+{
+    recheck(committee, sender, message).ok()
 }
 
 /// Tells what is put out: a vote of member 0, whether it passes the checks, and whether it does with another
 /// signature.
-pub fn tell_output(alloc: Global, answer: &mut String, output: &Output) {
+pub fn tell_output(committee: &Committee, answer: &mut String, output: &Output) {
     if let Output::Vote(vote) = output {
         let (round, author) = (vote.round.number(), vote.author.0);
         let mut changed = *vote;
         changed.signature.0[63] ^= 1;
-        let (own, other) = (refusal(alloc, *vote), refusal(alloc, changed));
+        let (own, other) = (refusal(committee, *vote), refusal(committee, changed));
         let _ = writeln!(
             answer,
             "vote for {author} in {round}: {own:?}, changed {other:?}"
@@ -91,9 +101,6 @@ pub fn tell_output(alloc: Global, answer: &mut String, output: &Output) {
 }
 
 /// Why a vote of member 0 is refused, if it is.
-fn refusal(alloc: Global, vote: Vote) -> Option<CheckError> {
-    match Committee::read(alloc, FOUR) {
-        Ok(committee) => check(&committee, &HashVerify, Author(0), Message::Vote(vote)).err(),
-        Err(_) => Some(CheckError::Memory),
-    }
+fn refusal(committee: &Committee, vote: Vote) -> Option<CheckError> {
+    check(committee, &HashVerify, Author(0), Message::Vote(vote)).err()
 }

@@ -28,7 +28,7 @@ struct Store {
 impl Store {
     fn new(alloc: Global) -> Result<Store, AllocError> {
         let disk = MemDisk::new(alloc, Vec::new(alloc))?;
-        let book = OwnBook::new(alloc);
+        let book = OwnBook::new(alloc)?;
         Ok(Store { alloc, disk, book })
     }
 }
@@ -36,7 +36,7 @@ impl Store {
 impl Subject for Store {
     fn begin(&mut self, _title: &str) -> Told {
         self.disk = MemDisk::new(self.alloc, Vec::new(self.alloc))?;
-        self.book = OwnBook::new(self.alloc);
+        self.book = OwnBook::new(self.alloc)?;
         Ok(())
     }
 

@@ -15,3 +15,31 @@ invariant_of-self-in-New-clause-few g c =
 
 pub invariant_of-self-in-New-clause-each_fits : goal.invariant_of-self-in-New-clause-each_fits
 invariant_of-self-in-New-clause-each_fits g c = each-push c.args.self.now.pending.items c.in_ok-record.record c.push_record.new.records.items c.args.self.now.each_fits c.in_ok-record.ensures.fits (rw c.in_ok-reserve.ensures.items at c.push_record.ensures)
+
+pub invariant_of-self : goal.invariant_of-self
+invariant_of-self g c = record {
+  each_fits = rw c.reserve.ensures.items c.args.self.now.each_fits;
+  few = c.args.self.now.few;
+  order = rw c.reserve.ensures.items c.args.self.now.order;
+}
+
+pub invariant_of-self-in-Break-branch-3 : goal.invariant_of-self-in-Break-branch-3
+invariant_of-self-in-Break-branch-3 g c = record {
+  each_fits = rw c.reserve.ensures.items c.args.self.now.each_fits;
+  few = c.args.self.now.few;
+  order = rw c.reserve.ensures.items c.args.self.now.order;
+}
+
+pub invariant_of-self-in-Break-branch-4 : goal.invariant_of-self-in-Break-branch-4
+invariant_of-self-in-Break-branch-4 g c = record {
+  each_fits = rw c.reserve.ensures.items c.args.self.now.each_fits;
+  few = c.args.self.now.few;
+  order = rw c.reserve.ensures.items c.args.self.now.order;
+}
+
+pub invariant_of-self-in-Known : goal.invariant_of-self-in-Known
+invariant_of-self-in-Known g c = record {
+  each_fits = rw c.reserve.ensures.items c.args.self.now.each_fits;
+  few = c.args.self.now.few;
+  order = rw c.reserve.ensures.items c.args.self.now.order;
+}
