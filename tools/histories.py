@@ -1,17 +1,18 @@
 #!/usr/bin/env python3
 """Draws histories of one node's events and writes them as cases for the tests of the definitions.
 
-    tools/histories.py START DEPTH EVENTS > CASES
+    tools/histories.py START DEPTH EVENTS [STAKES] > CASES
 
-START is the value that all is drawn from, DEPTH the committee's depth, EVENTS how many new events a history has. Member 0
-of four members is the node. Each event stands with the answer and the outputs that the rules of docs/FORMATS.md give, as
-this program computes them: it shares nothing with the code of the repository. See docs/FORMATS.md for the language.
+START is the value that all is drawn from, DEPTH the committee's depth, EVENTS how many new events a history has.
+STAKES, as 3,1,1,1, has a stake for each member; without it there are four members with the stake 1. Member 0 is the
+node. Each event stands with the answer and the outputs that the rules of docs/FORMATS.md give, as this program computes
+them: it shares nothing with the code of the repository. See docs/FORMATS.md for the language.
 """
 import hashlib
 import random
 import sys
 
-SIZE, QUORUM, SUPPORT, OWN = 4, 3, 2, 0
+OWN, EQUAL_STAKES = 0, [1, 1, 1, 1]
 MAX_PIECE, MAX_NAMED = 16000, 128
 
 
@@ -53,14 +54,38 @@ class Header:
         self.certificate = sha(b'C', self.digest + u64(round_) + u16(author))
 
 
+class Committee:
+    """The members' stakes. Members are numbered from 0, and weigh together what their stakes sum to."""
+
+    def __init__(self, stakes):
+        self.stakes, self.total = stakes, sum(stakes)
+        self.members = range(len(stakes))
+        self.is_equal = len(set(stakes)) == 1
+
+    def weight(self, members):
+        return sum(self.stakes[member] for member in set(members))
+
+    def is_quorum(self, members):
+        """More than two thirds of the total."""
+        return 3 * self.weight(members) > 2 * self.total
+
+    def is_support(self, members):
+        """At least a third of the total."""
+        return 3 * self.weight(members) >= self.total
+
+    def first_quorum(self):
+        """The members from 0 on, as few as are a quorum."""
+        return next(list(self.members[:last + 1]) for last in self.members if self.is_quorum(self.members[:last + 1]))
+
+
 class Node:
     """What a history of a node holds, and what the node answers. Of the order nothing is kept: it is read afresh."""
 
-    def __init__(self, depth):
-        self.depth = depth
+    def __init__(self, depth, committee):
+        self.depth, self.committee = depth, committee
         self.batches, self.acked = {}, {}
         self.headers, self.counted = {}, {}
-        self.certificates = {(0, a): Header('g%d' % a, a, 0, [], []) for a in range(SIZE)}
+        self.certificates = {(0, a): Header('g%d' % a, a, 0, [], []) for a in committee.members}
         self.voters = {}
         self.coins = []
         self.events = 0
@@ -68,21 +93,24 @@ class Node:
     # ---- the order
 
     def of_round(self, round_):
-        return [self.certificates[round_, a] for a in range(SIZE) if (round_, a) in self.certificates]
+        return [self.certificates[round_, a] for a in self.committee.members if (round_, a) in self.certificates]
 
     def leader(self, wave):
         if wave < 1 or wave > len(self.coins):
             return None
-        return self.certificates.get((2 * wave - 1, self.coins[wave - 1] % SIZE))
+        return self.certificates.get((2 * wave - 1, self.coins[wave - 1] % len(self.committee.members)))
 
     def is_parent(self, parent, child):
         named = [(p.author, p.certificate) for p in child.parents]
         return child.round == parent.round + 1 and (parent.author, parent.certificate) in named
 
+    def supporters(self, leader):
+        return [c.author for c in self.of_round(leader.round + 1) if self.is_parent(leader, c)]
+
     def top(self):
         for wave in range(len(self.coins), 0, -1):
             leader = self.leader(wave)
-            if leader and sum(self.is_parent(leader, c) for c in self.of_round(2 * wave)) >= SUPPORT:
+            if leader and self.committee.is_support(self.supporters(leader)):
                 return wave
         return None
 
@@ -124,7 +152,7 @@ class Node:
         return round_ == 0 or (floor > 0 and round_ <= floor)
 
     def is_full(self, round_):
-        return len(self.of_round(round_)) >= QUORUM
+        return self.committee.is_quorum(c.author for c in self.of_round(round_))
 
     def round(self):
         return 1 + max(round_ for round_, _ in self.certificates if self.is_full(round_))
@@ -142,7 +170,7 @@ class Node:
     def is_available(self, batch):
         if batch.digest not in self.batches or batch.author != OWN:
             return False
-        return len(self.acked.get(batch.digest, set()) | {OWN}) >= QUORUM
+        return self.committee.is_quorum(self.acked.get(batch.digest, set()) | {OWN})
 
     def may_name(self, header, batch):
         held = self.batches.get(batch.digest)
@@ -232,7 +260,7 @@ class Node:
             return self.known([])
         before = self.order()
         counted.add(member)
-        if len(counted) < QUORUM:
+        if not self.committee.is_quorum(counted):
             return self.new([])
         self.certificates[slot], self.voters[slot] = self.headers[slot], sorted(counted)
         return self.new([self.certificate_line(slot)] + self.grown(before))
@@ -268,10 +296,10 @@ class Node:
 class Drawn:
     """A history as it is drawn, and the lines of its case."""
 
-    def __init__(self, start, depth):
+    def __init__(self, start, depth, committee):
         self.random = random.Random(start)
-        self.start = start
-        self.node, self.lines, self.seen = Node(depth), [], {}
+        self.start, self.committee = start, committee
+        self.node, self.lines, self.seen = Node(depth, committee), [], {}
         self.all_headers, self.all_batches = [], []
         self.limit = 1048576
 
@@ -279,19 +307,30 @@ class Drawn:
         return self.random.randrange(count) == 0
 
     def peer(self):
-        return self.random.randrange(1, SIZE)
+        return self.random.choice(self.committee.members[1:])
 
     def of_round(self, round_, purpose, count):
         """A number that stays the same for a round, and differs with the purpose."""
         return random.Random('%d %d %d' % (self.start, round_, purpose)).randrange(count)
 
     def is_late(self, round_, author):
-        late = self.of_round(round_, 1, 9)
-        return late == author or (author == OWN and 3 < late < 7)
+        """One member is late in a round, where the others are a quorum."""
+        drawn = self.of_round(round_, 1, 9)
+        late = OWN if 3 < drawn < 7 else drawn
+        return late == author and self.committee.is_quorum(m for m in self.committee.members if m != late)
 
     def members(self, round_):
         left_out = self.random.randrange(6) if self.one_in(3) else self.of_round(round_, 2, 8)
-        return [member for member in range(SIZE) if member != left_out]
+        members = [member for member in self.committee.members if member != left_out]
+        return members if self.committee.is_equal else self.fewer(members)
+
+    def fewer(self, members):
+        """Leaves out more of these members, as long as the others are a quorum."""
+        for member in self.random.sample(members, len(members)):
+            others = [other for other in members if other != member]
+            if self.committee.is_quorum(others) and self.one_in(2):
+                members = others
+        return members
 
     def take(self, command, answer):
         word, outputs = answer
@@ -302,6 +341,9 @@ class Drawn:
         self.seen[key] = self.seen.get(key, 0) + 1
 
     # ---- forms
+
+    def have_quorum(self, parents):
+        return self.committee.is_quorum(parent.author for parent in parents)
 
     def define(self, header):
         for other in self.all_headers:
@@ -329,16 +371,16 @@ class Drawn:
     def body(self, round_, author, batches):
         held = {c.author: c for c in self.node.of_round(round_ - 1)}
         parents = [held[m] for m in self.members(round_) if m in held]
-        if len(parents) < QUORUM:
+        if not self.have_quorum(parents):
             parents = list(held.values())
-        if len(parents) < QUORUM:
+        if not self.have_quorum(parents):
             return None
         return self.define(Header(self.label(), author, round_, parents, batches))
 
     def misplaced(self, round_, author):
         """A header over the certificates of another round than the one below."""
         parents = self.node.of_round(round_ - 2) if round_ >= 2 else []
-        if len(parents) < QUORUM:
+        if not self.have_quorum(parents):
             return None
         return self.define(Header(self.label(), author, round_, parents, []))
 
@@ -363,9 +405,14 @@ class Drawn:
             self.lines.append('pack %s %d 0 %s' % (batch.label, author, transaction.hex()))
         self.take('batch ' + batch.label, self.node.batch(batch, self.limit))
 
+    def draw_acks(self):
+        """The more members there are, the more acknowledge."""
+        for _ in self.committee.members[3:]:
+            self.draw_ack()
+
     def draw_ack(self):
         if self.all_batches:
-            batch, member = self.random.choice(self.all_batches[-12:]), self.random.randrange(SIZE)
+            batch, member = self.random.choice(self.all_batches[-12:]), self.random.choice(self.committee.members)
             self.take('ack %s %d' % (batch.label, member), self.node.ack(batch, member))
 
     def draw_header(self, author):
@@ -380,13 +427,18 @@ class Drawn:
         if header:
             self.take('header ' + header.label, self.node.header(header))
 
+    def draw_votes(self):
+        """The more members there are, the more vote."""
+        for _ in self.committee.members[3:]:
+            self.draw_vote()
+
     def draw_vote(self):
         header = self.node.headers.get((self.round(), OWN))
         if header and self.one_in(12):
             others = [h for h in self.all_headers if h.round == header.round and h.digest != header.digest]
             header = self.random.choice(others) if others else header
         if header:
-            member = self.random.randrange(SIZE)
+            member = self.random.choice(self.committee.members)
             self.take('vote %s %d' % (header.label, member), self.node.vote(header, member))
 
     def draw_certificate(self):
@@ -403,7 +455,7 @@ class Drawn:
             header = self.body(round_, author, self.drawn_batches(author))
         if header:
             voters = self.members(round_)
-            voters = voters if len(voters) >= QUORUM else list(range(SIZE))
+            voters = voters if self.committee.is_quorum(voters) else list(self.committee.members)
             command = 'cert %s %s' % (header.label, ','.join(map(str, voters)))
             self.take(command, self.node.certificate(header, voters))
 
@@ -427,20 +479,20 @@ class Drawn:
             if self.one_in(2):
                 self.take('header ' + header.label, self.node.header(header))
             else:
-                voters = list(range(QUORUM))
+                voters = self.committee.first_quorum()
                 self.take('cert %s %s' % (header.label, ','.join(map(str, voters))),
                           self.node.certificate(header, voters))
 
     def draw(self, share):
         if self.random.randrange(100) < share:
-            return self.draw_batch() if self.random.randrange(8) < 5 else self.draw_ack()
+            return self.draw_batch() if self.random.randrange(8) < 5 else self.draw_acks()
         draw = self.random.randrange(14)
         if draw < 2:
             self.draw_header(self.peer())
         elif draw < 3:
             self.draw_header(OWN)
         elif draw < 5:
-            self.draw_vote()
+            self.draw_votes()
         elif draw < 11:
             self.draw_certificate()
         elif draw < 13:
@@ -467,8 +519,8 @@ class Drawn:
         self.look()
 
 
-def history(start, depth, events):
-    drawn = Drawn(start, depth)
+def history(start, depth, events, committee):
+    drawn = Drawn(start, depth, committee)
     looks = 0
     for _ in range(40 * events):
         if drawn.node.events >= events:
@@ -483,15 +535,20 @@ def history(start, depth, events):
 
 def main():
     start, depth, events = map(int, sys.argv[1:4])
-    drawn = history(start, depth, events)
+    words = sys.argv[4:5]
+    stakes = [int(stake) for word in words for stake in word.split(',')] or EQUAL_STAKES
+    drawn = history(start, depth, events, Committee(stakes))
     node = drawn.node
-    print('== a random history of %d events, depth %d, start value %d' % (node.events, depth, start))
-    print('# drawn by tools/histories.py %d %d %d' % (start, depth, events))
+    title = ['a random history of %d events' % node.events, 'depth %d' % depth] + ['stakes ' + word for word in words]
+    print('== %s, start value %d' % (', '.join(title), start))
+    print('# drawn by tools/histories.py ' + ' '.join(sys.argv[1:]))
     print('# round %d, floor %d, greatest wave with support %d, leaders %d, ordered %d'
-          % (node.round(), node.floor(), node.top(), len(node.chain()), len(node.order())))
+          % (node.round(), node.floor(), node.top() or 0, len(node.chain()), len(node.order())))
     for word in sorted(drawn.seen):
         print('# %s: %d' % (word, drawn.seen[word]))
     print('set depth %d' % depth)
+    for word in words:
+        print('stakes ' + word)
     print('tell outputs')
     print('\n'.join(drawn.lines))
 

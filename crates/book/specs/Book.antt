@@ -1,7 +1,7 @@
 -- The book: what a validator accepted, what of it was taken and settled, and what may go out.
 use Rattle.std.specs.Prelude.{◌≡◌, ℕ, ◌+◌, List, [], ◌∷◌, ◌++◌, Option, Some, None, Bool, true, nat_le, if◌then◌else◌}
 use Rattle.wire.specs.declared.output.Output.{Output}
-use Rattle.committee.specs.File.{Charter}
+use Rattle.committee.specs.Charter.{Charter}
 use Rattle.journal.specs.Format.{contents}
 use Rattle.sigface.specs.declared.signature.Sign.{Ghosts}
 use Rattle.book.specs.declared.book.Book.{Book}

@@ -16,7 +16,7 @@ use std::marker::Model;
 use votebook::VoteBook;
 use wire::{
     Author, Digest, Header, Message, Output, ParentReference, Round, Vote, certificate_digest,
-    genesis_digest, header_digest,
+    genesis_digest,
 };
 
 /// What a validator answers an event.
@@ -102,9 +102,9 @@ impl<S: Sign> Validator<S> {
         requires { IsKnownKind self.now.tables.own event.now }
         ensures { Admits self.now.tables event.now result }
     {
-        match event.message() {
-            Message::Header(header) => self.tables.header_admission(header),
-            Message::Vote(vote) => self.tables.vote_admission(vote),
+        match (event.message(), event.header_digest()) {
+            (Message::Header(header), Some(digest)) => self.tables.header_admission(header, digest),
+            (Message::Vote(vote), _) => self.tables.vote_admission(vote),
             _ => unreachable!(),
         }
     }
@@ -131,22 +131,29 @@ impl<S: Sign> Validator<S> {
         if let Admission::Refused(refusal) = admission {
             return Err(refusal);
         }
-        match event.message() {
-            Message::Header(header) => self.take_header(header, admission == Admission::New),
+        match (event.message(), event.header_digest()) {
+            (Message::Header(header), Some(digest)) => {
+                self.take_header(header, *digest, admission == Admission::New)
+            }
             _ => unreachable!(),
         }
     }
 
-    // Takes a header that is new or known.
-    fn take_header(&mut self, header: &Header, is_new: bool) -> Result<Step, Refusal>
+    // Takes a header of this digest, which is new or known.
+    fn take_header(
+        &mut self,
+        header: &Header,
+        digest: Digest,
+        is_new: bool,
+    ) -> Result<Step, Refusal>
+        requires digest { digest ≡ digest_of header.now }
         requires new { OnTrue is_new (AdmitsHeader self.old.tables header.now Admission.New) }
         ensures memory { MatchResult result (λ step. admission_of step ≡ (if is_new then Admission.New else Admission.Known)) (λ e. e ≡ Refusal.Memory) }
         ensures outputs { IfOk result (λ step. outputs_of step ≡ Output.Vote (vote_for (S.signature_of self.old.signer) self.old.tables.own header.now) ∷ []) }
         ensures votes { OnOk result (self.new ≡ record self.old { tables = (if is_new then with_header self.old.tables header.now else self.old.tables) }) }
         ensures err { OnErr result (self.new ≡ self.old) }
     {
-        let vote = vote_on(&self.signer, self.own(), header);
-        let digest = vote.header;
+        let vote = vote_on(&self.signer, self.own(), header, digest);
         let mut outputs = Vec::with_capacity(self.alloc, 1)?;
         outputs.push(Output::Vote(vote))?;
         if !is_new {
@@ -186,14 +193,15 @@ impl Tables {
         Ok(())
     }
 
-    fn header_admission(&self, header: &Header) -> Admission
+    fn header_admission(&self, header: &Header, digest: &Digest) -> Admission
+        requires { digest.now ≡ digest_of header.now }
         ensures { AdmitsHeader self.now header.now result }
     {
         if header.body.round.number() == 0 {
             return Admission::Refused(Refusal::TooOld);
         }
         match self.votes.voted(header.body.author, header.body.round) {
-            Some(voted) if voted == header_digest(&header.body) => Admission::Known,
+            Some(voted) if voted == *digest => Admission::Known,
             Some(_) => Admission::Refused(Refusal::Equivocation),
             None
                 if !all_held(
@@ -227,12 +235,13 @@ fn all_held(members: u16, round: Round, parents: &[ParentReference]) -> bool
     true
 }
 
-// The vote of the validator of this number for a header. It signs the certificate's digest, and not the header's.
-fn vote_on<S: Sign>(signer: &S, own: Author, header: &Header) -> Vote
+// The vote of the validator of this number for a header of this digest. It signs the certificate's digest, and not
+// the header's.
+fn vote_on<S: Sign>(signer: &S, own: Author, header: &Header, digest: Digest) -> Vote
+    requires { digest ≡ digest_of header.now }
     ensures { result ≡ vote_for (S.signature_of signer.now) own header.now }
 {
     let (round, author) = (header.body.round, header.body.author);
-    let digest = header_digest(&header.body);
     let signed = certificate_digest(&digest, round, author);
     Vote {
         header: digest,

@@ -1,20 +1,16 @@
--- The bytes that pairs of digits stand for, place by place, and the keys of a growing list of elements.
-use Rattle.std.proofs.Common.{◌≡◌, ℕ, suc, zero, ◌+◌, ◌*◌, ◌<◌, Bool, true, false, List, [], ◌∷◌, ◌++◌, map, take, length, get_or, Some, None, refl, ap, ◌∙◌, sym, arith}
+-- The bytes that pairs of digits stand for, place by place, and keys that differ.
+use Rattle.std.proofs.Common.{◌≡◌, ℕ, suc, zero, ◌+◌, ◌*◌, ◌<◌, false, List, [], ◌∷◌, length, get_or, refl, ap, ◌∙◌, sym, arith}
 use Rattle.std.proofs.lemmas.List.{same_lists}
 use Rattle.std.proofs.lemmas.Grind.{get_or_default_zero}
-use Rattle.std.proofs.lemmas.List.{map-append, take_more}
-use Rattle.std.proofs.lemmas.List.Elements.{filter_map-append}
-use Rattle.std.proofs.lemmas.List.Folds.{list_any-append, list_any_at}
-use Rattle.std.specs.List.{list_any, filter_map}
+use Rattle.std.proofs.lemmas.List.Folds.{list_any_at}
+use Rattle.std.specs.List.{list_any}
 use Rattle.std.proofs.lemmas.List.Kept.{AllPairs-cons}
-use Rattle.std.proofs.lemmas.Bool.{false≢true}
+use Rattle.std.proofs.lemmas.Bool.{false≢true, or_parts}
 use Rattle.std.proofs.lemmas.Cmp.{nat_list_eq_equiv}
 use Rattle.std.specs.Str.{bytes_eq}
-use Rattle.std.specs.Prelude.{◌||◌, ◌≢◌, AllPairs}
-use Rattle.toml.specs.View.{view}
-use Rattle.toml.specs.declared.value.Value.{Value}
+use Rattle.std.specs.Prelude.{◌≢◌, AllPairs}
 use Rattle.wire.specs.declared.keys.Key.{Key}
-use Rattle.committee.specs.Keys.{digit_value, bytes_of, key_of, is_no_key, repeats}
+use Rattle.committee.specs.Keys.{digit_value, bytes_of, repeats}
 
 pub length-bytes_of : (n : ℕ) (text : List ℕ) → length text ≡ 2 * n → length (bytes_of text) ≡ n
 length-bytes_of zero [] h = refl
@@ -42,40 +38,11 @@ are_bytes_of n text bytes whole count each =
     let here : k < length (bytes_of text) = omega arith in
     get_or_default_zero bytes k d h ∙ each k (omega arith) ∙ sym (bytes_of-at text k (omega arith)) ∙ sym (get_or_default_zero (bytes_of text) k d here))
 
--- one more value, seen as its data
-seen_more : (values : List Value) (i : ℕ) (value : Value) → i < length values → value ≡ get_or values i value → map view (take (i + 1) values) ≡ map view (take i values) ++ view value ∷ []
-seen_more values i value within here = rw (take_more values i value within, map-append, ← here)
-
--- an element that is a key adds that key
-pub keys_more : (values : List Value) (i : ℕ) (value : Value) (key : Key) → i < length values → value ≡ get_or values i value → key_of (view value) ≡ Some key
-    → filter_map key_of (map view (take (i + 1) values)) ≡ filter_map key_of (map view (take i values)) ++ key ∷ []
-keys_more values i value key within here is = rw (seen_more values i value within here, filter_map-append, is)
-
--- and doesn't count as none
-pub each_more : (values : List Value) (i : ℕ) (value : Value) (key : Key) → i < length values → value ≡ get_or values i value → key_of (view value) ≡ Some key
-    → list_any is_no_key (map view (take i values)) ≡ false → list_any is_no_key (map view (take (i + 1) values)) ≡ false
-each_more values i value key within here is before = rw (seen_more values i value within here, list_any-append, is, before)
-
-neither : (a b : Bool) → (a || b) ≡ false → (a ≡ false) × (b ≡ false)
-neither false b h = (refl, h)
-neither true b h = absurd cc
-
-or_true : (b : Bool) → (b || true) ≡ true
-or_true true = refl
-or_true false = refl
-
--- an element that is no key is one of the list
-pub no_key_at : (values : List Value) (i : ℕ) (value : Value) → i < length values → value ≡ get_or values i value → key_of (view value) ≡ None
-    → list_any is_no_key (map view values) ≡ true
-no_key_at (v ∷ values) zero value within here is = rw (← here, is)
-no_key_at (v ∷ values) (suc i) value within here is = rw (no_key_at values i value (omega arith) here is) (or_true (is_no_key (view v)))
-no_key_at [] i value within here is = absurd (omega arith)
-
 -- keys of which none stands there twice differ from one another
 pub distinct-keys : (keys : List Key) → repeats keys ≡ false → AllPairs (λ one other. one ≢ other) keys
 distinct-keys [] h = λ i j d before within. absurd (omega arith)
 distinct-keys (key ∷ keys) h =
-    let parts = neither (list_any (λ other. bytes_eq other.0 key.0) keys) (repeats keys) h in
+    let parts = or_parts (list_any (λ other. bytes_eq other.0 key.0) keys) (repeats keys) h in
     AllPairs-cons (λ one other. one ≢ other) key keys
     (λ k d within same. false≢true (sym parts.0 ∙ list_any_at (λ other. bytes_eq other.0 key.0) keys k d within (rw (← same) (nat_list_eq_equiv.refl key.0))))
     (distinct-keys keys parts.1)

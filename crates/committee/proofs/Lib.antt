@@ -1,3 +1,6 @@
-pub mod Overlap
+pub mod Weights
+pub mod ElementLemmas
 pub mod KeyLemmas
 pub mod FileLemmas
+pub mod StakeLemmas
+pub mod AnswerLemmas

@@ -1,13 +1,13 @@
 -- Which committee a file makes, or why none: the first refusal that applies.
-use Rattle.std.specs.Prelude.{Bool, not, ◌||◌, List, [], length, Option, Some, None, is_none, unwrap_or, Result, Ok, Err, if◌then◌else◌}
+use Rattle.std.specs.Prelude.{Bool, not, ◌||◌, nat_le, List, [], length, Option, Some, None, is_none, unwrap_or, Result, Ok, Err, if◌then◌else◌}
 use Rattle.std.specs.List.{list_any, filter_map}
 use Rattle.toml.specs.Data.{Data, Members}
 use Rattle.wire.specs.declared.keys.Key.{Key}
 use Rattle.committee.specs.declared.error.CommitteeError.{CommitteeError}
-use Rattle.committee.specs.declared.error.CommitteeError.TheVariants.{NotToml, BadSize, BadKey, RepeatedKey, BadLimit}
-use Rattle.committee.specs.Sizes.{is_size}
+use Rattle.committee.specs.declared.error.CommitteeError.TheVariants.{NotToml, BadSize, BadKey, RepeatedKey, BadLimit, BadStake}
+use Rattle.committee.specs.Charter.{Charter, quorum_of}
 use Rattle.committee.specs.Keys.{key_of, is_no_key, repeats}
-use Rattle.committee.specs.File.{Charter, members_in, depth_in, workers_in, batches_in}
+use Rattle.committee.specs.File.{members_in, has_stakes, is_size, depth_in, workers_in, batches_in, stakes_in}
 
 -- the elements of the list of members
 abbrev pub listed : Members → List Data
@@ -19,7 +19,7 @@ keys_in file = filter_map key_of (listed file)
 
 -- there is no list of members, or it has no committee's length
 abbrev pub has_bad_size : Members → Bool
-has_bad_size file = is_none (members_in file) || not (is_size (length (listed file)))
+has_bad_size file = is_none (members_in file) || not (is_size (has_stakes file) (length (listed file)))
 
 -- an element of the list is no key
 abbrev pub has_bad_key : Members → Bool
@@ -37,10 +37,17 @@ has_bad_limit file = is_none (depth_in file) || is_none (workers_in file) || is_
 abbrev pub charter_in : Members → Charter
 charter_in file = record {
   keys = keys_in file;
+  stakes = unwrap_or (stakes_in (length (listed file)) file) [];
   depth = unwrap_or (depth_in file) 0;
   workers = unwrap_or (workers_in file) 0;
   batches = unwrap_or (batches_in file) 0;
 }
+
+-- the stakes aren't one whole number within the bounds for each member, or one member's is a quorum alone
+abbrev pub has_bad_stake : Members → Bool
+has_bad_stake file =
+    is_none (stakes_in (length (listed file)) file)
+    || list_any (λ stake. nat_le (quorum_of (charter_in file)) stake) (charter_in file).stakes
 
 -- the first refusal that applies, or else the committee
 abbrev pub answer : Members → Result Charter CommitteeError
@@ -49,6 +56,7 @@ answer file =
     else if has_bad_key file then Err BadKey
     else if has_repeated_key file then Err RepeatedKey
     else if has_bad_limit file then Err BadLimit
+    else if has_bad_stake file then Err BadStake
     else Ok (charter_in file)
 
 -- the answer to a text: that to the file which TOML reads from it, where there is one

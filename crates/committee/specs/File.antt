@@ -1,25 +1,11 @@
 -- What a committee file says.
-use Rattle.std.specs.Prelude.{codes, pos, negsuc, ℕ, ◌≤◌, length, IsTrue, AllPairs, ◌≢◌, ◌&&◌, nat_le, ℤ, List, [], ◌∷◌, Option, Some, None, option_map, option_and_then, if◌then◌else◌}
+use Rattle.std.specs.Prelude.{codes, pos, negsuc, ℕ, ◌%◌, length, replicate, Bool, ◌==◌, ◌&&◌, ◌||◌, not, nat_le, ℤ, List, [], ◌∷◌, Option, Some, None, is_some, is_none, option_map, option_and_then, if◌then◌else◌}
+use Rattle.std.specs.List.{list_any, filter_map}
+use Rattle.std.specs.Option.{option_map_or}
 use Rattle.toml.specs.Data.{Data, as_integer, Items, no_items, item, Members, get_member, as_array}
-use Rattle.wire.specs.declared.keys.Key.{Key}
 use Rattle.committee.specs.declared.limits.TheConstants.{MIN_DEPTH, MAX_DEPTH, DEFAULT_DEPTH, MIN_WORKERS, MAX_WORKERS, DEFAULT_WORKERS, MIN_HELD_BATCHES, MAX_HELD_BATCHES, DEFAULT_HELD_BATCHES}
-use Rattle.committee.specs.Sizes.{is_size}
-
--- a committee: the keys of its members in the order of their numbers, the depth in rounds, how many
--- workers each member has, and how many batches a member holds at most
-pub record Charter : Type 0 where
-  pub keys : List Key
-  pub depth : ℕ
-  pub workers : ℕ
-  pub batches : ℕ
-
--- what holds of each committee: its number of members, that no key stands there twice, and its limits
-pub record IsCharter (charter : Charter) : Type 0 where
-  pub size : IsTrue (is_size (length charter.keys))
-  pub distinct : AllPairs (λ one other. one ≢ other) charter.keys
-  pub depth : (MIN_DEPTH ≤ charter.depth) × (charter.depth ≤ MAX_DEPTH)
-  pub workers : (MIN_WORKERS ≤ charter.workers) × (charter.workers ≤ MAX_WORKERS)
-  pub batches : (MIN_HELD_BATCHES ≤ charter.batches) × (charter.batches ≤ MAX_HELD_BATCHES)
+use Rattle.committee.specs.declared.members.TheConstants.{MIN_MEMBERS, MAX_MEMBERS}
+use Rattle.committee.specs.declared.stakes.TheConstants.{MIN_STAKE, MAX_STAKE, DEFAULT_STAKE}
 
 -- the elements of an array
 abbrev pub elements : Items → List Data
@@ -29,6 +15,14 @@ elements (item element rest) = element ∷ elements rest
 -- the elements of the list of members, where there is such a list
 abbrev pub members_in : Members → Option (List Data)
 members_in file = option_map elements (option_and_then as_array (get_member (codes "members") file))
+
+-- the file says what the members' stakes are
+abbrev pub has_stakes : Members → Bool
+has_stakes file = is_some (get_member (codes "stakes") file)
+
+-- a committee has 4 to 31 members, and where the file doesn't say their stakes 3 f + 1 of them
+abbrev pub is_size : Bool → ℕ → Bool
+is_size staked n = (nat_le MIN_MEMBERS n && nat_le n MAX_MEMBERS) && (staked || (n % 3 == 1))
 
 -- the number itself, where it is a whole one within these bounds
 abbrev pub number_within : ℕ → ℕ → ℤ → Option ℕ
@@ -52,3 +46,23 @@ workers_in file = limit MIN_WORKERS MAX_WORKERS DEFAULT_WORKERS (get_member (cod
 -- there are 1 to 1048576 batches, 1048576 by default
 abbrev pub batches_in : Members → Option ℕ
 batches_in file = limit MIN_HELD_BATCHES MAX_HELD_BATCHES DEFAULT_HELD_BATCHES (get_member (codes "batches") file)
+
+-- the stake that an element of the list of stakes is: a whole number from 1 to 1000000
+abbrev pub stake_in : Data → Option ℕ
+stake_in element = option_and_then (number_within MIN_STAKE MAX_STAKE) (as_integer element)
+
+-- an element is no stake
+abbrev pub is_no_stake : Data → Bool
+is_no_stake element = is_none (stake_in element)
+
+-- the stakes of so many members that a list says, where it has one for each
+abbrev pub stakes_among : ℕ → List Data → Option (List ℕ)
+stakes_among size list =
+    if (length list == size) && not (list_any is_no_stake list) then Some (filter_map stake_in list) else None
+
+-- the stakes of so many members: what the file says, where that is a list of such numbers, and 1 of each where it says
+-- nothing
+abbrev pub stakes_in : ℕ → Members → Option (List ℕ)
+stakes_in size file =
+    option_map_or (λ value. option_and_then (λ items. stakes_among size (elements items)) (as_array value)) (get_member (codes "stakes") file)
+    (Some (replicate size DEFAULT_STAKE))

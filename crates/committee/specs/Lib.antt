@@ -1,5 +1,6 @@
-pub mod Sizes
+pub mod Charter
 pub mod Shared
+pub mod Sets
 pub mod Keys
 pub mod File
 pub mod Answer

@@ -1,27 +1,53 @@
--- What two lists of members share, and the two laws on it.
-use Rattle.std.specs.Prelude.{◌≡◌, ◌≢◌, ℕ, ◌+◌, ◌*◌, ◌<◌, ◌≤◌, List, length, filter, All, AllPairs, nat_eq}
-use Rattle.std.specs.List.{list_any}
-use Rattle.committee.specs.Sizes.{quorum_of, support_of}
+-- What two sets of members of one committee share, and what else holds of the sizes.
+use Rattle.std.specs.Prelude.{◌≡◌, ℕ, ◌+◌, ◌*◌, ◌<◌, ◌≤◌, ◌&&◌, Bool, true, length, count_by, All}
+use Rattle.committee.specs.Charter.{Charter, IsCharter, numbers, weight, total_of, tolerated_of, quorum_of, support_of}
 
--- some of n members, none twice
-pub record AreMembers (n : ℕ) (members : List ℕ) : Type 0 where
-  pub each : All (λ member. member < n) members
-  pub distinct : AllPairs (λ one other. one ≢ other) members
-
--- those of the first list that stand in the second one too
-abbrev pub shared : List ℕ → List ℕ → List ℕ
-shared first second = filter (λ member. list_any (nat_eq member) second) first
-
--- two quorums of a committee of 3 f + 1 share more than f members, so an honest one
+-- two quorums share members who weigh more than is tolerated, so an honest one
 abbrev pub QuorumsOverlap : Type 0
-QuorumsOverlap = (n f : ℕ) (first second : List ℕ) → n ≡ 3 * f + 1
-    → AreMembers n first → quorum_of n ≤ length first
-    → AreMembers n second → quorum_of n ≤ length second
-    → f < length (shared first second)
+QuorumsOverlap = (charter : Charter) (first second : ℕ → Bool) → IsCharter charter
+    → quorum_of charter ≤ weight charter first
+    → quorum_of charter ≤ weight charter second
+    → tolerated_of charter < weight charter (λ member. first member && second member)
 
--- a quorum of a committee of 3 f + 1 shares a member with all that are enough for support
+-- a quorum shares a member with all who are enough for support
 abbrev pub QuorumMeetsSupport : Type 0
-QuorumMeetsSupport = (n f : ℕ) (quorum support : List ℕ) → n ≡ 3 * f + 1
-    → AreMembers n quorum → quorum_of n ≤ length quorum
-    → AreMembers n support → support_of n ≤ length support
-    → 0 < length (shared quorum support)
+QuorumMeetsSupport = (charter : Charter) (quorum support : ℕ → Bool) → IsCharter charter
+    → quorum_of charter ≤ weight charter quorum
+    → support_of charter ≤ weight charter support
+    → 0 < weight charter (λ member. quorum member && support member)
+
+-- a member of whom something holds
+pub record Holder (charter : Charter) (test : ℕ → Bool) : Type 0 where
+  pub member : ℕ
+  pub within : member < length charter.keys
+  pub holds : test member ≡ true
+
+-- what weighs something holds of some member
+abbrev pub WeighsIfSome : Type 0
+WeighsIfSome = (charter : Charter) (holds : ℕ → Bool) → 0 < weight charter holds → Holder charter holds
+
+-- a quorum is more than half
+abbrev pub QuorumIsMost : Type 0
+QuorumIsMost = (charter : Charter) → total_of charter < 2 * quorum_of charter
+
+-- support is more than what is tolerated
+abbrev pub SupportIsHonest : Type 0
+SupportIsHonest = (charter : Charter) → IsCharter charter → tolerated_of charter < support_of charter
+
+-- the honest members are a quorum
+abbrev pub HonestAreQuorum : Type 0
+HonestAreQuorum = (charter : Charter) → IsCharter charter → quorum_of charter + tolerated_of charter ≤ total_of charter
+
+-- where each of 3 f + 1 members has the stake 1, they are counted: a quorum is 2 f + 1 of them, support f + 1, and f are
+-- tolerated
+pub record EqualSizes (charter : Charter) (f : ℕ) : Type 0 where
+  pub total : total_of charter ≡ length charter.keys
+  pub quorum : quorum_of charter ≡ 2 * f + 1
+  pub support : support_of charter ≡ f + 1
+  pub tolerated : tolerated_of charter ≡ f
+  pub weight : (holds : ℕ → Bool) → weight charter holds ≡ count_by holds (numbers (length charter.keys))
+
+abbrev pub EqualStakes : Type 0
+EqualStakes = (charter : Charter) (f : ℕ) → IsCharter charter
+    → All (λ stake. stake ≡ 1) charter.stakes → length charter.keys ≡ 3 * f + 1
+    → EqualSizes charter f

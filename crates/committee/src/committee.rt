@@ -1,53 +1,61 @@
 //! The committee.
 
-ghost use Rattle.std.specs.Prelude.{◌≡◌, ◌≢◌, ◌+◌, ◌*◌, ◌<◌, ◌≤◌, ◌↔◌, false, length, AllPairs, IsSome, IsErrOf, IfOk, IfErr, slice_get, option_copied};
+ghost use Rattle.std.specs.Prelude.{◌≡◌, ◌≢◌, ◌+◌, ◌*◌, ◌<◌, ◌≤◌, ◌↔◌, false, length, AllPairs, IsSome, IfSome, IsErrOf, IfOk, IfErr, slice_get, option_copied};
 ghost use Rattle.toml.specs.Errors.{IsBlank};
 ghost use Rattle.toml.specs.Parse.{parse_document};
 ghost use Rattle.toml.specs.View.{table_view};
 ghost use Rattle.committee.specs.Answer.{has_bad_size, answer, answer_to};
-ghost use Rattle.committee.specs.Sizes.{dishonest_of, quorum_of, support_of};
+ghost use Rattle.committee.specs.Charter.{weight, total_of, tolerated_of, quorum_of, support_of};
+ghost use Rattle.committee.specs.Sets.{has};
 ghost use Rattle.committee.specs.declared.limits.TheConstants.{MIN_DEPTH, MAX_DEPTH, MIN_WORKERS, MAX_WORKERS, MIN_HELD_BATCHES, MAX_HELD_BATCHES};
-ghost use Rattle.committee.specs.declared.members.TheConstants.{MIN_MEMBERS, MAX_MEMBERS, MAX_DISHONEST};
+ghost use Rattle.committee.specs.declared.members.TheConstants.{MIN_MEMBERS, MAX_MEMBERS};
+ghost use Rattle.committee.specs.declared.stakes.TheConstants.{MIN_STAKE, MAX_STAKE, MAX_TOTAL};
 
 use crate::error::CommitteeError;
 use crate::keys::{keys_of, repeats};
 use crate::limits::{batches_in, depth_in, workers_in};
 use crate::members::{is_size, members_in};
+use crate::sets::MemberSet;
+use crate::stakes::{has_stakes, one_is_quorum, quorum_of, stakes_in, total_of};
 use std::alloc::Global;
 use std::marker::Model;
 use toml::Table;
 use wire::{Author, Key};
 
-/// A committee: 3 f + 1 members with f from 1 to 10, of which at most f may be dishonest, each with a key of
-/// its own, and the limits that all of them keep.
+/// A committee: 4 to 31 members, each with a key of its own and a stake, and the limits that all of them keep.
+/// The members who aren't honest may hold less than a third of the total stake.
 #[derive(Debug, Drop)]
 pub struct Committee {
     keys: Vec<Key>,
+    stakes: Vec<u64>,
     depth: u64,
     workers: u16,
     batches: u32,
 }
 
 impl Model for Committee {
-    ghost use Rattle.committee.specs.File.{Charter, IsCharter};
+    ghost use Rattle.committee.specs.Charter.{Charter, IsCharter};
 
     ghost Value = { Charter };
 
-    ghost view = { λ c. record { keys = c.keys.items; depth = c.depth; workers = c.workers; batches = c.batches } };
+    ghost view = { λ c. record { keys = c.keys.items; stakes = c.stakes.items; depth = c.depth; workers = c.workers; batches = c.batches } };
 
-    ghost invariant = { λ c. IsCharter (record { keys = c.keys.items; depth = c.depth; workers = c.workers; batches = c.batches }) };
+    ghost invariant = { λ c. IsCharter (record { keys = c.keys.items; stakes = c.stakes.items; depth = c.depth; workers = c.workers; batches = c.batches }) };
 }
 
 impl Committee {
-    ghost use Rattle.committee.specs.File.{IsCharter};
+    ghost use Rattle.committee.specs.Charter.{IsCharter};
 
     /// Reads a committee from the text of a TOML file: a list `members` of keys in 64 digits 0 to 9 and a to
     /// f, and where they are there the whole numbers `depth` (2 to 1000 rounds, else 50), `workers` (1 to 16,
-    /// else 1) and `batches` (1 to 1048576, else 1048576). Other keys of the file are ignored.
+    /// else 1) and `batches` (1 to 1048576, else 1048576), and the list `stakes` of whole numbers (1 to 1000000,
+    /// else 1 each), one a member. There are 4 to 31 members, and without `stakes` 3 f + 1. Other keys of the
+    /// file are ignored.
     ///
     /// # Errors
-    /// The first that applies: `NotToml`, `BadSize`, `BadKey`, `RepeatedKey`, `BadLimit`; or `Memory`, where
-    /// a growth was refused, in place of any other answer. A text of white space and comments takes no memory.
+    /// The first that applies: `NotToml`, `BadSize`, `BadKey`, `RepeatedKey`, `BadLimit`, `BadStake`; or
+    /// `Memory`, where a growth was refused, in place of any other answer. A text of white space and comments
+    /// takes no memory.
     pub fn read(alloc: Global, text: &str) -> Result<Committee, CommitteeError>
         ensures ok { IfOk result (λ committee. answer_to (parse_document text.now) ≡ Ok committee) }
         ensures refused { IfErr result (λ error. error ≢ CommitteeError.Memory → answer_to (parse_document text.now) ≡ Err error) }
@@ -65,28 +73,66 @@ impl Committee {
         }
     }
 
-    /// How many members there are: 3 f + 1. They are numbered from 0.
+    /// How many members there are. They are numbered from 0.
     pub fn size(&self) -> u16
         ensures value { result ≡ length self.now.keys }
-        ensures exact { result ≡ 3 * dishonest_of result + 1 }
         ensures least { MIN_MEMBERS ≤ result }
         ensures greatest { result ≤ MAX_MEMBERS }
     {
         self.keys.len() as u16
     }
 
-    /// How many members are a quorum: 2 f + 1.
-    pub fn quorum(&self) -> u16
-        ensures { result ≡ quorum_of (length self.now.keys) }
+    /// The stake of a member, or None for a number that is no member's.
+    pub fn stake(&self, author: Author) -> Option<u64>
+        ensures value { result ≡ slice_get self.now.stakes author.0 }
+        ensures member { IsSome result ↔ (author.0 < length self.now.keys) }
+        ensures limits { IfSome result (λ stake. (MIN_STAKE ≤ stake) × (stake ≤ MAX_STAKE)) }
     {
-        2 * self.dishonest() + 1
+        self.stakes.get(author.0 as usize).copied()
     }
 
-    /// How many members are support, so that an honest one is among them: f + 1.
-    pub fn support(&self) -> u16
-        ensures { result ≡ support_of (length self.now.keys) }
+    /// The stake of all members.
+    pub fn total(&self) -> u64
+        ensures value { result ≡ total_of self.now }
+        ensures least { MIN_MEMBERS ≤ result }
+        ensures greatest { result ≤ MAX_TOTAL }
     {
-        self.dishonest() + 1
+        total_of(&self.stakes)
+    }
+
+    /// What the members who aren't honest may weigh together: less than a third of the total.
+    pub fn tolerated(&self) -> u64
+        ensures { result ≡ tolerated_of self.now }
+    {
+        (self.total() - 1) / 3
+    }
+
+    /// What a quorum weighs at least: more than two thirds of the total.
+    pub fn quorum(&self) -> u64
+        ensures { result ≡ quorum_of self.now }
+    {
+        quorum_of(self.total())
+    }
+
+    /// What support weighs at least, so that an honest member is among it: a third of the total.
+    pub fn support(&self) -> u64
+        ensures { result ≡ support_of self.now }
+    {
+        (self.total() + 2) / 3
+    }
+
+    /// What the members in a set weigh: the sum of their stakes.
+    pub fn weight(&self, members: &MemberSet) -> u64
+        ensures value { result ≡ weight self.now (has members.now) }
+        ensures most { result ≤ total_of self.now }
+    {
+        let mut weight = 0;
+        for (i, stake) in self.stakes.iter().enumerate() {
+            if members.contains(Author(i as u16)) {
+                weight += *stake;
+            }
+        }
+        weight
     }
 
     /// The key of a member, or None for a number that is no member's.
@@ -125,20 +171,12 @@ impl Committee {
         self.batches
     }
 
-    /// What holds of each committee: its size, that no key stands there twice, and its limits. The call does
-    /// nothing.
+    /// What holds of each committee: its size, that no key stands there twice, its stakes, and its limits. The
+    /// call does nothing.
     pub fn limits_hold(&self)
         ensures { IsCharter self.now }
     {
         let _ = &self.keys;
-    }
-
-    // How many members may be dishonest: f.
-    fn dishonest(&self) -> u16
-        ensures value { result ≡ dishonest_of (length self.now.keys) }
-        ensures small { result ≤ MAX_DISHONEST }
-    {
-        (self.keys.len() as u16 - 1) / 3
     }
 }
 
@@ -151,7 +189,7 @@ fn committee_in(alloc: Global, table: &Table) -> Result<Committee, CommitteeErro
         Some(elements) => elements,
         None => return Err(CommitteeError::BadSize),
     };
-    if !is_size(elements.len()) {
+    if !is_size(has_stakes(table), elements.len()) {
         return Err(CommitteeError::BadSize);
     }
     let keys = keys_of(alloc, elements)?;
@@ -165,8 +203,13 @@ fn committee_in(alloc: Global, table: &Table) -> Result<Committee, CommitteeErro
     ) else {
         return Err(CommitteeError::BadLimit);
     };
+    let stakes = stakes_in(alloc, elements.len(), table)?;
+    if one_is_quorum(&stakes) {
+        return Err(CommitteeError::BadStake);
+    }
     Ok(Committee {
         keys,
+        stakes,
         depth,
         workers: workers as u16,
         batches: batches as u32,

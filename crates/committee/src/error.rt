@@ -15,7 +15,7 @@ pub enum CommitteeError {
     /// The text is no TOML.
     #[error("2 NotToml")]
     NotToml,
-    /// There are no members, or not 3 f + 1 of them with f from 1 to 10.
+    /// There are no members, or not 4 to 31 of them, or where the file has no stakes not 3 f + 1 of them.
     #[error("3 BadSize")]
     BadSize,
     /// A member is no key of 64 digits 0 to 9 and a to f.
@@ -27,6 +27,9 @@ pub enum CommitteeError {
     /// A limit is no whole number within its bounds.
     #[error("6 BadLimit")]
     BadLimit,
+    /// The stakes aren't one whole number within its bounds for each member, or one member's is a quorum.
+    #[error("7 BadStake")]
+    BadStake,
 }
 
 impl<T: Drop> From<AllocFailed<T>> for CommitteeError {

@@ -1,24 +1,53 @@
-//! What quorums and support of one committee share. The calls do nothing: their contracts are laws.
+//! What quorums and support of one committee share and weigh. The calls do nothing: their contracts are laws.
 
 ghost use Rattle.std.specs.Prelude.{◌≡◌};
-ghost use Rattle.committee.specs.Shared.{QuorumsOverlap, QuorumMeetsSupport};
+ghost use Rattle.committee.specs.Shared.{QuorumsOverlap, QuorumMeetsSupport, WeighsIfSome, QuorumIsMost, SupportIsHonest, HonestAreQuorum, EqualStakes};
 ghost use Rattle.committee.specs.declared.limits.TheConstants.{MIN_DEPTH, MAX_DEPTH, DEFAULT_DEPTH, MIN_WORKERS, MAX_WORKERS, DEFAULT_WORKERS, MIN_HELD_BATCHES, MAX_HELD_BATCHES, DEFAULT_HELD_BATCHES};
 ghost use Rattle.committee.specs.declared.members.TheConstants.{MIN_MEMBERS, MAX_MEMBERS};
+ghost use Rattle.committee.specs.declared.stakes.TheConstants.{MIN_STAKE, MAX_STAKE, DEFAULT_STAKE};
 
-/// Two quorums of a committee share more members than may be dishonest.
+/// Two quorums of a committee share members who weigh more than is tolerated.
 pub fn quorums_overlap()
     ensures { QuorumsOverlap }
 {}
 
-/// A quorum of a committee shares a member with each set of `support` members.
+/// A quorum of a committee shares a member with all who are enough for support.
 pub fn quorum_meets_support()
     ensures { QuorumMeetsSupport }
+{}
+
+/// What weighs something holds of some member.
+pub fn weighs_if_some()
+    ensures { WeighsIfSome }
+{}
+
+/// A quorum is more than half.
+pub fn quorum_is_most()
+    ensures { QuorumIsMost }
+{}
+
+/// Support is more than what is tolerated.
+pub fn support_is_honest()
+    ensures { SupportIsHonest }
+{}
+
+/// The honest members are a quorum.
+pub fn honest_are_quorum()
+    ensures { HonestAreQuorum }
+{}
+
+/// Where each of 3 f + 1 members has the stake 1, they are counted.
+pub fn equal_stakes()
+    ensures { EqualStakes }
 {}
 
 /// The limits in numbers.
 pub fn limits_in_numbers()
     ensures least_members { MIN_MEMBERS ≡ 4 }
     ensures most_members { MAX_MEMBERS ≡ 31 }
+    ensures least_stake { MIN_STAKE ≡ 1 }
+    ensures greatest_stake { MAX_STAKE ≡ 1000000 }
+    ensures stake { DEFAULT_STAKE ≡ 1 }
     ensures least_depth { MIN_DEPTH ≡ 2 }
     ensures greatest_depth { MAX_DEPTH ≡ 1000 }
     ensures depth { DEFAULT_DEPTH ≡ 50 }

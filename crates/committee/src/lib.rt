@@ -1,5 +1,5 @@
-//! The committee: its members' keys and its limits, read from a TOML file, and how many members it takes
-//! to decide.
+//! The committee: its members' keys and stakes and its limits, read from a TOML file, and what those weigh who
+//! decide.
 #![tactic(auto)]
 
 mod committee;
@@ -8,12 +8,19 @@ mod keys;
 mod laws;
 mod limits;
 mod members;
+mod sets;
+mod stakes;
 
 pub use committee::Committee;
 pub use error::CommitteeError;
-pub use laws::{limits_in_numbers, quorum_meets_support, quorums_overlap};
+pub use laws::{
+    equal_stakes, honest_are_quorum, limits_in_numbers, quorum_is_most, quorum_meets_support,
+    quorums_overlap, support_is_honest, weighs_if_some,
+};
 pub use limits::{
     DEFAULT_DEPTH, DEFAULT_HELD_BATCHES, DEFAULT_WORKERS, MAX_DEPTH, MAX_HELD_BATCHES, MAX_WORKERS,
     MIN_DEPTH, MIN_HELD_BATCHES, MIN_WORKERS,
 };
 pub use members::{MAX_MEMBERS, MIN_MEMBERS};
+pub use sets::MemberSet;
+pub use stakes::{DEFAULT_STAKE, MAX_STAKE, MIN_STAKE};

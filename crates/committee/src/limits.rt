@@ -34,7 +34,7 @@ pub const MAX_HELD_BATCHES: u32 = 1_048_576;
 /// The limit on the batches that a member holds, where the file has none.
 pub const DEFAULT_HELD_BATCHES: u32 = 1_048_576;
 
-fn number_within(number: i64, least: u64, greatest: u64) -> Option<u64>
+pub(crate) fn number_within(number: i64, least: u64, greatest: u64) -> Option<u64>
     ensures { result ≡ number_within least greatest number }
 {
     if number < 0 {

@@ -2,22 +2,15 @@
 
 ghost use Rattle.std.specs.Prelude.{◌≡◌, map, option_map};
 ghost use Rattle.toml.specs.View.{view, table_view};
-ghost use Rattle.committee.specs.File.{members_in};
-ghost use Rattle.committee.specs.Sizes.{is_size};
+ghost use Rattle.committee.specs.File.{members_in, is_size};
 
 use toml::{Table, Value};
 
-/// The dishonest members that a committee is made for, at least.
-const MIN_DISHONEST: usize = 1;
-
-/// The dishonest members that a committee is made for, at most.
-const MAX_DISHONEST: usize = 10;
-
 /// The members of a committee, at least.
-pub const MIN_MEMBERS: u16 = 3 * MIN_DISHONEST as u16 + 1;
+pub const MIN_MEMBERS: u16 = 4;
 
 /// The members of a committee, at most.
-pub const MAX_MEMBERS: u16 = 3 * MAX_DISHONEST as u16 + 1;
+pub const MAX_MEMBERS: u16 = 31;
 
 /// The elements of the list of members, or None where there is no such list.
 pub(crate) fn members_in(table: &Table) -> Option<&[Value]>
@@ -32,10 +25,11 @@ pub(crate) fn members_in(table: &Table) -> Option<&[Value]>
     }
 }
 
-/// Whether a committee may have so many members.
-pub(crate) fn is_size(members: usize) -> bool
-    ensures { result ≡ is_size members }
+/// Whether a committee may have so many members: 4 to 31, and without stakes 3 f + 1.
+pub(crate) fn is_size(staked: bool, members: usize) -> bool
+    ensures { result ≡ is_size staked members }
 {
-    let dishonest = members.saturating_sub(1) / 3;
-    members == 3 * dishonest + 1 && MIN_DISHONEST <= dishonest && dishonest <= MAX_DISHONEST
+    MIN_MEMBERS as usize <= members
+        && members <= MAX_MEMBERS as usize
+        && (staked || members % 3 == 1)
 }

@@ -1,9 +1,8 @@
 -- The tests of an incoming message, in their order, and which refusal each stands for.
-use Rattle.std.specs.Prelude.{◌≡◌, Bool, true, false, ◌==◌, nat_lt, nat_le, ℕ, List, [], ◌∷◌, ◌++◌, length, Option, Some, None, slice_get, if◌then◌else◌}
+use Rattle.std.specs.Prelude.{◌≡◌, Bool, true, false, ◌==◌, nat_lt, nat_le, ℕ, List, [], ◌∷◌, ◌++◌, length, Option, Some, None, unwrap_or, slice_get, sum_by, if◌then◌else◌}
 use Rattle.std.specs.List.{list_all}
 use Rattle.std.specs.Option.{option_map_or}
-use Rattle.committee.specs.File.{Charter, IsCharter}
-use Rattle.committee.specs.Sizes.{quorum_of}
+use Rattle.committee.specs.Charter.{Charter, IsCharter, quorum_of}
 use Rattle.wire.specs.Batches.{Contents}
 use Rattle.wire.specs.Digests.{header_digest_of, certificate_digest_of}
 use Rattle.wire.specs.Events.{Event}
@@ -48,6 +47,10 @@ accepts_all key digest signature = true
 abbrev pub is_member : Charter → Author → Bool
 is_member charter author = nat_lt author.0 (length charter.keys)
 
+-- what an author weighs in the tests of parents and of votes: its stake, and 1 if it is no member
+abbrev pub named_weight : Charter → Author → ℕ
+named_weight charter author = unwrap_or (slice_get charter.stakes author.0) 1
+
 -- a number is that of a worker
 abbrev pub is_worker : Charter → ℕ → Bool
 is_worker charter worker = nat_lt worker charter.workers
@@ -68,7 +71,7 @@ vote_signed header round author = record { 0 = certificate_digest_of header roun
 -- of what a header and a certificate have in common
 abbrev pub body_tests : Charter → HeaderBody → List Test
 body_tests charter body =
-    test (nat_le (quorum_of (length charter.keys)) (length body.parents)) TooFewParents
+    test (nat_le (quorum_of charter) (sum_by (λ parent. named_weight charter parent.author) body.parents)) TooFewParents
     ∷ test (nat_le (length body.parents) (length charter.keys)) TooManyParents
     ∷ test (list_all (λ parent. is_member charter parent.author) body.parents) UnknownAuthor
     ∷ test (list_all (λ batch. is_worker charter batch.worker) body.batches) UnknownWorker
@@ -108,7 +111,7 @@ vote_tests charter accepts sender vote =
 -- signature
 abbrev pub votes_tests : Charter → Accepts → Digest → List VoteEntry → List Test
 votes_tests charter accepts digest votes =
-    test (nat_le (quorum_of (length charter.keys)) (length votes)) TooFewVotes
+    test (nat_le (quorum_of charter) (sum_by (λ vote. named_weight charter vote.voter) votes)) TooFewVotes
     ∷ test (list_all (λ vote. is_member charter vote.voter) votes) UnknownAuthor
     ∷ test (list_all (λ vote. is_signed charter accepts vote.voter digest vote.signature) votes) BadSignature
     ∷ []

@@ -1,5 +1,5 @@
 -- The digests of a message.
-use Rattle.std.specs.Prelude.{List, Option, Some, None}
+use Rattle.std.specs.Prelude.{Option, Some, None}
 use Rattle.wire.specs.Batches.{Contents}
 use Rattle.wire.specs.Digests.{batch_digest_of, header_digest_of, certificate_digest_of}
 use Rattle.wire.specs.declared.header.HeaderBody.{HeaderBody}

@@ -17,13 +17,13 @@ pub enum CheckError {
     /// A signature isn't good for its member's key.
     #[error("4 BadSignature")]
     BadSignature,
-    /// There are fewer parents than a quorum.
+    /// The parents' authors weigh less than a quorum. One who is no member weighs 1 here.
     #[error("5 TooFewParents")]
     TooFewParents,
     /// There are more parents than members.
     #[error("6 TooManyParents")]
     TooManyParents,
-    /// There are fewer votes than a quorum.
+    /// The voters weigh less than a quorum. One who is no member weighs 1 here.
     #[error("7 TooFewVotes")]
     TooFewVotes,
     /// A batch's worker is none of the committee's.

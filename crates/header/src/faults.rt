@@ -1,10 +1,12 @@
 //! The tests of each kind of message, in their order: the first that fails is the answer.
 
-ghost use Rattle.std.specs.Prelude.{◌≡◌, IfOk};
+ghost use Rattle.std.specs.Prelude.{◌≡◌, ◌≤◌, length, sum_by, IfOk};
 ghost use Rattle.std.specs.List.{list_all};
 ghost use Rattle.std.specs.Result.{result_err};
 ghost use Rattle.wire.specs.Events.{Event};
-ghost use Rattle.header.specs.Checks.{first_failing, is_member, is_worker, is_signed, body_tests, batch_tests, ack_tests, header_tests, vote_tests, votes_tests, certificate_tests, message_tests, fault_of};
+ghost use Rattle.header.specs.Checks.{first_failing, is_member, named_weight, is_worker, is_signed, body_tests, batch_tests, ack_tests, header_tests, vote_tests, votes_tests, certificate_tests, message_tests, fault_of};
+ghost use Rattle.committee.specs.declared.stakes.TheConstants.{MAX_STAKE};
+ghost use Rattle.wire.specs.declared.limits.TheConstants.{MAX_PARENTS, MAX_VOTES};
 ghost use Rattle.header.specs.Digested.{digest_of_batch, digest_of_header, digest_of_certificate, digested_of};
 
 use crate::digested::Digested;
@@ -13,13 +15,42 @@ use committee::Committee;
 use sigface::Verify;
 use wire::{
     Author, Batch, BatchAck, BatchReference, Certificate, Digest, Header, HeaderBody, Message,
-    ParentReference, Signature, Vote, VoteEntry, batch_digest, certificate_digest, header_digest,
+    ParentReference, ParentReferences, Signature, Vote, VoteEntries, VoteEntry, batch_digest,
+    certificate_digest, header_digest,
 };
 
 fn is_member(committee: &Committee, author: Author) -> bool
     ensures { result ≡ is_member committee.now author }
 {
     author.0 < committee.size()
+}
+
+// What an author weighs: one who is no member 1, since the test of membership comes later.
+fn named_weight(committee: &Committee, author: Author) -> u64
+    ensures value { result ≡ named_weight committee.now author }
+    ensures most { result ≤ MAX_STAKE }
+{
+    committee.stake(author).unwrap_or(1)
+}
+
+fn weight_of_parents(committee: &Committee, parents: &ParentReferences) -> u64
+    ensures { result ≡ sum_by (λ parent. named_weight committee.now parent.author) parents.now }
+{
+    let mut weight = 0;
+    for parent in parents.as_slice() {
+        weight += named_weight(committee, parent.author);
+    }
+    weight
+}
+
+fn weight_of_votes(committee: &Committee, votes: &VoteEntries) -> u64
+    ensures { result ≡ sum_by (λ vote. named_weight committee.now vote.voter) votes.now }
+{
+    let mut weight = 0;
+    for vote in votes.as_slice() {
+        weight += named_weight(committee, vote.voter);
+    }
+    weight
 }
 
 fn is_worker(committee: &Committee, worker: u16) -> bool
@@ -80,7 +111,7 @@ fn test_body(committee: &Committee, body: &HeaderBody) -> Result<(), CheckError>
     ensures { result_err result ≡ first_failing (body_tests committee.now body.now) }
 {
     let (parents, batches) = (body.parents.as_slice(), body.batches.as_slice());
-    if parents.len() < committee.quorum() as usize {
+    if weight_of_parents(committee, &body.parents) < committee.quorum() {
         return Err(CheckError::TooFewParents);
     }
     if parents.len() > committee.size() as usize {
@@ -169,13 +200,14 @@ fn test_votes<V: Verify>(
     committee: &Committee,
     verifier: &V,
     digest: &Digest,
-    votes: &[VoteEntry],
+    votes: &VoteEntries,
 ) -> Result<(), CheckError>
     ensures { result_err result ≡ first_failing (votes_tests committee.now (V.accepts verifier.now) digest.now votes.now) }
 {
-    if votes.len() < committee.quorum() as usize {
+    if weight_of_votes(committee, votes) < committee.quorum() {
         return Err(CheckError::TooFewVotes);
     }
+    let votes = votes.as_slice();
     if !voters_are_members(committee, votes) {
         return Err(CheckError::UnknownAuthor);
     }
@@ -200,12 +232,7 @@ fn test_certificate<V: Verify>(
     test_body(committee, body)?;
     let header = header_digest(body);
     let certificate_digest = certificate_digest(&header, body.round, body.author);
-    test_votes(
-        committee,
-        verifier,
-        &certificate_digest,
-        certificate.votes.as_slice(),
-    )?;
+    test_votes(committee, verifier, &certificate_digest, &certificate.votes)?;
     Ok(Digested::Certificate {
         header,
         certificate: certificate_digest,

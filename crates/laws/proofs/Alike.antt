@@ -1,7 +1,7 @@
 -- What is answered at two histories that are alike.
 use Rattle.std.proofs.Common.{◌≡◌, ℕ, suc, ◌≤◌, arith, Bool, true, false, List, [], ◌∷◌, ◌++◌, Option, Some, None, inl, inr, refl, ap, sym, ◌∙◌}
 use Rattle.std.proofs.Math.Path.{fun_ext}
-use Rattle.std.specs.Prelude.{find, filter_map, count_by, length, map, drop, ◌+◌, ◌-◌, ◌*◌, ◌==◌, ◌&&◌, ◌||◌, not, nat_le, nat_lt, slice_get, is_some, option_map, option_and_then, if◌then◌else◌}
+use Rattle.std.specs.Prelude.{find, length, map, drop, ◌+◌, ◌-◌, ◌*◌, ◌==◌, ◌&&◌, ◌||◌, not, nat_le, nat_lt, slice_get, is_some, option_map, option_and_then, if◌then◌else◌}
 use Rattle.std.specs.List.{list_all}
 use Rattle.std.specs.Option.{option_map_or, option_or, option_to_list}
 use Rattle.std.proofs.lemmas.Bool.{cases_Bool, cases_lt, and_from, eqb-true, lt-ltb, le-leb}
@@ -25,19 +25,19 @@ use Rattle.wire.specs.declared.output.Output.{Output}
 use Rattle.wire.specs.declared.output.Output.TheVariants as output
 use Rattle.wire.specs.declared.references.BatchReference.{BatchReference}
 use Rattle.wire.specs.declared.references.ParentReference.{ParentReference}
-use Rattle.wire.specs.declared.votes.VoteEntry.{VoteEntry}
-use Rattle.model.specs.Admitting.{when◌gives◌else◌, admit, is_new, is_own, batch_answer, ack_answer, header_answer, header_outputs, batch_outputs, vote_outputs, order_outputs, pieces, may_name, held_batch_answer, held_header_answer, held_answer, held_certificate_answer, same_header, IsTaken, IsLegal}
+use Rattle.model.specs.Admitting.{when◌gives◌else◌, admit, is_new, is_own, batch_answer, ack_answer, header_answer, header_outputs, batch_outputs, vote_outputs, order_outputs, pieces, may_name, held_batch_answer, held_header_answer, held_answer, held_certificate_answer, IsTaken, IsLegal}
 use Rattle.model.specs.Histories.{History, batches, headers, coins, as_vote, as_coin}
-use Rattle.model.specs.Holdings.{ledger_of, ledger_at, batch_digest, has_acked, is_available, voted_header, voted_digest, is_vote_on, counted_vote, own_vote, counted_at, entry_of, completed, slots, order, floor, is_low, is_full, is_held, all_held}
+use Rattle.model.specs.Holdings.{ledger_of, ledger_at, batch_digest, has_acked, holds, is_available, voted_header, voted_digest, is_vote_on, counted_vote, own_vote, counted_at, completed, slots, order, floor, is_low, is_full, is_held, all_held}
 use Rattle.laws.specs.Laws.{added, AnswersAlike}
-use Rattle.model.specs.Nodes.{Node, size_of, quorum, numbers}
+use Rattle.committee.specs.Charter.{weight}
+use Rattle.model.specs.Nodes.{Node, quorum}
 use Rattle.model.specs.Ordering.{leader, is_directly_committed, top, order_by}
 use Rattle.model.specs.Slots.{Slots, same_digest, header_digest, certificate_digest, is_of_slot, slots_of}
 use Rattle.model.specs.declared.admission.Admission.{Admission}
 use Rattle.model.specs.declared.admission.Admission.TheVariants.{New, Known, Refused}
-use Rattle.model.specs.declared.refusal.Refusal.TheVariants.{TooOld, MissingParents, MissingBatch, Equivocation, CertConflict, DigestClash, AlreadyProposed, NotOurs, CoinOutOfTurn, CoinEarly, CoinConflict, StoreFull}
+use Rattle.model.specs.declared.refusal.Refusal.TheVariants.{TooOld, MissingParents, MissingBatch, Equivocation, AlreadyProposed, NotOurs, CoinOutOfTurn, CoinEarly, CoinConflict, StoreFull}
 use Rattle.laws.proofs.Closed.{in_place, coins_later, or_right}
-use Rattle.laws.proofs.FromRounds.{AgreeFrom, round_from, leader_from, top_from, since_from}
+use Rattle.laws.proofs.FromRounds.{AgreeFrom, leader_from, top_from, since_from}
 use Rattle.laws.proofs.Growing.{directly_committed_kept}
 use Rattle.laws.proofs.Legal.{Adds, legal-push}
 use Rattle.laws.proofs.Lists.{given_or_none, found_passes}
@@ -101,8 +101,8 @@ has_own node batches digest = option_map_or (λ batch. batch.author.0 == node.ow
 
 pub available_alike : (node : Node) (one other : History) → ReadAlike node one other → (digest : Digest) → is_available node one digest ≡ is_available node other digest
 available_alike node one other alike digest =
-    ap (λ (l : List Contents). has_own node l digest && nat_le (quorum node) (count_by (λ member. (member == node.own.0) || has_acked one digest member) (numbers (size_of node)))) alike.same_batches
-    ∙ ap (λ (f : ℕ → Bool). has_own node (batches other) digest && nat_le (quorum node) (count_by (λ member. (member == node.own.0) || f member) (numbers (size_of node))))
+    ap (λ (l : List Contents). has_own node l digest && nat_le (quorum node) (weight node.charter (holds node one digest))) alike.same_batches
+    ∙ ap (λ (f : ℕ → Bool). has_own node (batches other) digest && nat_le (quorum node) (weight node.charter (λ member. (member == node.own.0) || f member)))
     (fun_ext (λ member. alike.same_acks digest member))
 
 may_name_alike : (node : Node) (one other : History) → ReadAlike node one other → (header : Header) → may_name node one header ≡ may_name node other header
@@ -426,8 +426,8 @@ coin_alike node one other sender coin taken alike =
       | inl turn ↦
           let is = eqb-true _ _ turn in
           let within = floor_within node other in
-          ap (λ (l : List Certificate). coin_by own coin in_turn (nat_le (quorum node) (length l)) found (outputs one))
-          (round_from (size_of node) (floor node other) (slots node one) (slots node other) (agree_from node one other alike) round (omega (arith, is, within)))
+          ap (λ (f : ℕ → Option Certificate). coin_by own coin in_turn (nat_le (quorum node) (weight node.charter (λ author. is_some (f author)))) found (outputs one))
+          (fun_ext (λ author. (agree_from node one other alike).same round author (omega (arith, is, within))))
       | inr not ↦
           ap (λ b. coin_by own coin b (full one) found (outputs one)) not ∙ out_of_turn own (full one) (full other) coin found (outputs one)
           ∙ sym (ap (λ b. coin_by own coin b (full other) found (outputs one)) not)
@@ -485,8 +485,8 @@ counted_alike node one other alike round header high held also voter =
 pub completed_alike : (node : Node) (one other : History) (event : Event) → (header : Header) → ((voter : ℕ) → counted_vote node one header.body voter ≡ counted_vote node other header.body voter)
     → completed node (one ++ event ∷ []) header ≡ completed node (other ++ event ∷ []) header
 completed_alike node one other event header same =
-    ap (λ (make : ℕ → Option VoteEntry). with_votes node header (filter_map make (numbers (size_of node))))
-    (fun_ext (λ voter. ap (option_map entry_of)
+    ap (with_votes node header)
+    (fun_ext (λ voter.
     (counted_vote-push node one event header.body voter
     ∙ ap (λ o. option_or o (find (is_vote_on header.body voter) (option_to_list (as_vote event.message)))) (same voter)
     ∙ sym (counted_vote-push node other event header.body voter))))

@@ -13,7 +13,8 @@ use Rattle.model.specs.Admitting.{is_new, header_answer, vote_answer, certificat
 use Rattle.model.specs.Histories.{History, headers, coins, as_header, as_coin}
 use Rattle.model.specs.Holdings.{ledger_of, ledger_at, completed, certificates, genesis, slots, floor, is_low, is_held, all_held}
 use Rattle.laws.specs.Laws.{added}
-use Rattle.model.specs.Nodes.{Node, size_of, numbers}
+use Rattle.committee.specs.Charter.{numbers}
+use Rattle.model.specs.Nodes.{Node, size_of}
 use Rattle.model.specs.Ordering.{top, floor_by}
 use Rattle.model.specs.Slots.{Slots, same_digest, certificate_digest, is_of_slot, slots_of, is_named, is_parent}
 use Rattle.model.specs.Words.{Author, Certificate, Event, Header, HeaderBody, Message, ParentReference, Vote}

@@ -1,14 +1,13 @@
 -- Slots that hold the same from a round on: paths, leaders and what leaders order are the same there.
 use Rattle.std.proofs.Common.{◌≡◌, ℕ, zero, suc, ◌+◌, ◌-◌, ◌*◌, ◌%◌, ◌<◌, ◌≤◌, Bool, true, false, List, [], ◌∷◌, ◌++◌, Option, Some, None, inl, inr, refl, ap, sym, ◌∙◌, subst, arith}
 use Rattle.std.proofs.Math.Path.{fun_ext}
-use Rattle.std.specs.Prelude.{not, length, map, Contains, filter, filter_map, flat_map, count_by, nat_le, ◌&&◌, slice_get, option_and_then}
+use Rattle.std.specs.Prelude.{not, length, map, Contains, filter, filter_map, flat_map, nat_le, ◌&&◌, slice_get, option_and_then}
 use Rattle.std.specs.List.{list_any, range_with_len}
 use Rattle.std.specs.Option.{option_map_or}
 use Rattle.std.proofs.lemmas.Bool.{cases_Bool, cases_lt, leb-true, true≢false}
 use Rattle.std.proofs.lemmas.Option.{none-some}
 use Rattle.std.proofs.lemmas.List.Elements.{filter-append, Contains-push_cases}
-use Rattle.committee.specs.Sizes.{support_of}
-use Rattle.model.specs.Nodes.{numbers}
+use Rattle.committee.specs.Charter.{numbers, weight, support_of}
 use Rattle.model.specs.Ordering.{Ledger, size_in, reaches_in, leader, has_support, is_directly_committed, top_to, top, is_past, is_ordered_by, segment, segments, newer_to, newer_at, newer}
 use Rattle.model.specs.Slots.{Slots, certificate_digest, round_of, is_parent, has_path, reaches}
 use Rattle.model.specs.Words.{Certificate, Digest}
@@ -65,7 +64,8 @@ leader_from low one other agree wave above =
 
 support_from : (low : ℕ) (one : Ledger) (other : Slots) → AgreeFrom low one.slots other → (c : Certificate) → low ≤ c.header.round → has_support one c ≡ has_support (with_slots one other) c
 support_from low one other agree c above =
-    ap (λ l. nat_le (support_of (size_in one)) (count_by (is_parent c) l)) (round_from (size_in one) low one.slots other agree (c.header.round + 1) (omega (arith, above)))
+    ap (λ (f : ℕ → Option Certificate). nat_le (support_of one.charter) (weight one.charter (λ m. option_map_or (is_parent c) (f m) false)))
+    (fun_ext (λ m. agree.same (c.header.round + 1) m (omega (arith, above))))
 
 committed_from : (low : ℕ) (one : Ledger) (other : Slots) → 0 < size_in one → AgreeFrom low one.slots other → (wave : ℕ) → low ≤ 2 * wave + 1 → is_directly_committed one (suc wave) ≡ is_directly_committed (with_slots one other) (suc wave)
 committed_from low one other some agree wave above =

@@ -20,7 +20,8 @@ use Rattle.model.specs.Giving.{is_given, given}
 use Rattle.model.specs.Histories.{History, batches, headers, received, as_batch, as_header, as_certificate}
 use Rattle.model.specs.Holdings.{voted_header, voted_digest, completed, certificates, genesis, order}
 use Rattle.laws.specs.Laws.{OrderGrows, GivenGrows}
-use Rattle.model.specs.Nodes.{Node, size_of, numbers}
+use Rattle.committee.specs.Charter.{numbers}
+use Rattle.model.specs.Nodes.{Node, size_of}
 use Rattle.model.specs.Slots.{is_of_slot, same_digest, header_digest}
 use Rattle.laws.proofs.Legal.{Adds, legal-grows}
 use Rattle.laws.proofs.Lists.{given_or_none, Contains-nothing, Contains-cases, Contains-first, Contains-later, Contains-made, Contains-makes, filter_map-push, nothing_found}

@@ -1,13 +1,14 @@
 -- What paths, leaders and the order keep where slots fill with certificates that are nobody's parents yet.
 use Rattle.std.proofs.Common.{◌≡◌, ℕ, zero, suc, ◌+◌, ◌-◌, ◌*◌, ◌%◌, ◌<◌, ◌≤◌, Bool, true, false, List, [], ◌∷◌, ◌++◌, length, Option, Some, None, inl, inr, refl, ap, sym, ◌∙◌, subst, arith}
-use Rattle.std.specs.Prelude.{not, Contains, filter, filter_map, flat_map, count_by, nat_le, ◌&&◌, ◌||◌, slice_get}
+use Rattle.std.specs.Prelude.{not, Contains, filter, filter_map, flat_map, nat_le, ◌&&◌, ◌||◌, slice_get}
 use Rattle.std.specs.List.{list_any, range_with_len}
+use Rattle.std.specs.Option.{option_map_or}
 use Rattle.std.proofs.lemmas.Bool.{cases_Bool, leb-true, le-leb}
 use Rattle.std.proofs.lemmas.Option.{same_Some, none-some, slice_get_within}
 use Rattle.std.proofs.lemmas.List.{append-nil, append_assoc}
 use Rattle.std.proofs.lemmas.List.Elements.{filter-append}
-use Rattle.std.proofs.lemmas.List.Sums.{length-filter}
-use Rattle.model.specs.Nodes.{numbers}
+use Rattle.committee.specs.Charter.{numbers}
+use Rattle.committee.proofs.Weights.{weight-within}
 use Rattle.model.specs.Ordering.{Ledger, size_in, leader, is_directly_committed, is_past, is_ordered_by, segment, segments}
 use Rattle.model.specs.Slots.{Slots, is_of_slot, round_of, is_parent, has_path, reaches}
 use Rattle.model.specs.Words.{Certificate}
@@ -74,28 +75,10 @@ picked_same before after test other (a ∷ authors) old new =
       ]
     ]
 
--- and counts at least as many
-picked_more : {X : Type 0} (before after : ℕ → Option X) (test : X → Bool) (authors : List ℕ)
-    → ((a : ℕ) (x : X) → before a ≡ Some x → after a ≡ Some x)
-    → length (filter test (filter_map before authors)) ≤ length (filter test (filter_map after authors))
-picked_more before after test [] old = omega arith
-picked_more before after test (a ∷ authors) old =
-    let rest = picked_more before after test authors old in
-    elim (given_or_none (before a)) [
-      | inl found ↦
-          let kept = old a found.0 found.1 in
-          elim (cases_Bool (test found.0)) [ inl passes ↦ rw (found.1, kept, passes) (omega (arith, rest)) | inr fails ↦ rw (found.1, kept, fails) rest ]
-      | inr none ↦ elim (given_or_none (after a)) [
-        | inl fresh ↦ elim (cases_Bool (test fresh.0)) [ inl passes ↦ rw (none, fresh.1, passes) (omega (arith, rest)) | inr fails ↦ rw (none, fresh.1, fails) rest ]
-        | inr nothing ↦ rw (none, nothing) rest
-      ]
-    ]
-
-pub counted_more : {X : Type 0} (before after : ℕ → Option X) (test : X → Bool) (authors : List ℕ)
-    → ((a : ℕ) (x : X) → before a ≡ Some x → after a ≡ Some x)
-    → count_by test (filter_map before authors) ≤ count_by test (filter_map after authors)
-counted_more before after test authors old =
-    omega (arith, picked_more before after test authors old, length-filter test (filter_map before authors), length-filter test (filter_map after authors))
+-- what passed among what is held passes where all that is kept
+pub passes_also : {X : Type 0} (before after : Option X) (test : X → Bool) → ((x : X) → before ≡ Some x → after ≡ Some x) → option_map_or test before false ≡ true → option_map_or test after false ≡ true
+passes_also (Some x) after test kept passes = ap (λ o. option_map_or test o false) (kept x refl) ∙ passes
+passes_also None after test kept passes = absurd cc
 
 -- nothing that is held passes a test
 none_passes : {X : Type 0} (held : ℕ → Option X) (test : X → Bool) (authors : List ℕ) → ((a : ℕ) (x : X) → held a ≡ Some x → test x ≡ false) → list_any test (filter_map held authors) ≡ false
@@ -258,7 +241,9 @@ directly_committed_kept before after ext more wave is =
           let also = leader_kept before after ext more wave found.0 found.1 in
           let supported = rw found.1 at is in
           let enough = leb-true _ _ supported in
-          let more_of = counted_more (before.slots (found.0.header.round + 1)) (after (found.0.header.round + 1)) (is_parent found.0) (numbers (size_in before)) (λ a c held. ext.kept (found.0.header.round + 1) a c held) in
+          let above = found.0.header.round + 1 in
+          let more_of = weight-within before.charter (λ m. option_map_or (is_parent found.0) (before.slots above m) false) (λ m. option_map_or (is_parent found.0) (after above m) false)
+          (λ m within. passes_also (before.slots above m) (after above m) (is_parent found.0) (λ c held. ext.kept above m c held)) in
           rw also (le-leb _ _ (omega (arith, enough, more_of)))
       | inr none ↦ let nothing = rw none at is in absurd cc
     ]

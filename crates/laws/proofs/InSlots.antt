@@ -17,12 +17,13 @@ use Rattle.model.specs.Admitting.{IsLegal}
 use Rattle.model.specs.Histories.{History, headers, received, as_header, as_vote, as_certificate}
 use Rattle.model.specs.Holdings.{voted_header, completed, certificates, genesis, slots}
 use Rattle.laws.specs.Laws.{added, OneCertificate}
-use Rattle.model.specs.Nodes.{Node, size_of, numbers}
+use Rattle.committee.specs.Charter.{numbers}
+use Rattle.model.specs.Nodes.{Node, size_of}
 use Rattle.model.specs.Slots.{is_of_slot, slots_of}
 use Rattle.laws.proofs.Legal.{Adds, legal-induction}
 use Rattle.laws.proofs.Lists.{filter_map-push, Contains-nothing, Contains-cases, Contains-made, Contains-makes}
 use Rattle.laws.proofs.NewEvents.{new_header-unvoted, new_vote, new_certificate-free}
-use Rattle.laws.proofs.SlotsGrow.{completed-same, completed-other, completed-header, unvoted-incomplete, many, slots_grow}
+use Rattle.laws.proofs.SlotsGrow.{completed-same, completed-other, completed-header, unvoted-incomplete, slots_grow}
 use Rattle.laws.proofs.Votes.{of_its_slot, slot_is, one_header, each_headed}
 
 -- a certificate behind one more event was there, or the event adds it to a slot that held nothing
@@ -65,7 +66,7 @@ made_more node history sender (message.Header new) adds certificate header insid
         | inl none ↦ absurd (Contains-nothing header none)
         | inr same ↦
             let unvoted = new_header-unvoted node history new adds.new in
-            let incomplete = unvoted-incomplete node history new (many node adds.legal.sound) (λ voter. each_headed node history adds.legal new.body voter unvoted) in
+            let incomplete = unvoted-incomplete node history new adds.legal.sound (λ voter. each_headed node history adds.legal new.body voter unvoted) in
             absurd (none-some certificate (sym incomplete ∙ ap (completed node history) same ∙ before))
       ]
     ]

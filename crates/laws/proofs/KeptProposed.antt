@@ -1,12 +1,13 @@
 -- What is kept of a history decides what is proposed at it.
 use Rattle.std.proofs.Common.{◌≡◌, ℕ, ◌-◌, ◌^◌, ◌≤◌, arith, Bool, true, false, List, [], map, take, Option, Some, None, ap, sym, ◌∙◌}
 use Rattle.std.proofs.Math.Path.{fun_ext}
-use Rattle.std.specs.Prelude.{filter_map, fold, length, not, ◌==◌, ◌&&◌, ◌||◌, nat_le, nat_lt, is_some, if◌then◌else◌}
+use Rattle.std.specs.Prelude.{filter_map, fold, not, ◌==◌, ◌&&◌, ◌||◌, nat_le, nat_lt, is_some, if◌then◌else◌}
 use Rattle.std.proofs.lemmas.Grind.{common_steps}
 use Rattle.model.specs.Giving.{Kept}
 use Rattle.model.specs.Histories.{History, batches}
 use Rattle.model.specs.Holdings.{batch_digest, is_available, voted_header, slots, floor, round, is_low, is_full}
 use Rattle.laws.specs.Laws.{KeptProposes}
+use Rattle.committee.specs.Charter.{weight}
 use Rattle.model.specs.Nodes.{Node, size_of, quorum}
 use Rattle.model.specs.Proposing.{was_named, is_nameable, to_name, placed, nameable, as_parent, signed}
 use Rattle.model.specs.Slots.{round_of}
@@ -35,7 +36,8 @@ round_at_most : (node : Node) (one other : History) → ReadAlike node one other
 round_at_most node one other alike =
     let r = round node one - 1 in
     let full : is_full node (slots node other) r ≡ true =
-    ap (λ (l : List Certificate). nat_le (quorum node) (length l)) (sym (below_same node one other alike r (below_alike node one other alike))) ∙ below_full node one alike.legal.sound in
+    ap (λ (f : ℕ → Option Certificate). nat_le (quorum node) (weight node.charter (λ author. is_some (f author))))
+    (fun_ext (λ author. sym ((agree_from node one other alike).same r author (below_alike node one other alike)))) ∙ below_full node one alike.legal.sound in
     let above = round_above node other alike.also.sound r full in
     omega (arith, above)
 

@@ -19,3 +19,5 @@ mod PutOut
 mod SameKept
 mod SlotsGrow
 mod Votes
+mod Weighing
+mod ProposedTaken

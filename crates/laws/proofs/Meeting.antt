@@ -1,21 +1,18 @@
 -- Every certificate far enough above a committed leader reaches it.
-use Rattle.std.proofs.Common.{◌≡◌, ℕ, zero, suc, ◌+◌, ◌-◌, ◌*◌, ◌<◌, ◌≤◌, Bool, true, List, [], ◌∷◌, map, length, Option, Some, inl, inr, refl, ap, sym, ◌∙◌, subst, arith}
-use Rattle.std.specs.Prelude.{All, AllPairs, Contains, ◌≢◌, filter, filter_map, count_by, nat_eq, nat_le, ◌==◌, ◌&&◌}
+use Rattle.std.proofs.Common.{◌≡◌, ℕ, zero, suc, ◌+◌, ◌-◌, ◌<◌, ◌≤◌, Bool, true, List, [], ◌∷◌, map, length, Some, inl, inr, refl, ap, sym, ◌∙◌, subst, arith}
+use Rattle.std.specs.Prelude.{Contains, filter, nat_eq, nat_le, ◌==◌, ◌&&◌, false}
 use Rattle.std.specs.List.{list_any, range_with_len}
+use Rattle.std.specs.Option.{option_map_or}
 use Rattle.std.proofs.lemmas.Bool.{cases_Bool, and_parts, and_from, eqb-true, leb-true, le-leb}
 use Rattle.std.proofs.lemmas.Option.{same_Some}
-use Rattle.std.proofs.lemmas.List.{length-map}
-use Rattle.std.proofs.lemmas.List.Elements.{All-nil, All-cons, All-weaker, All-contains}
-use Rattle.std.proofs.lemmas.List.Kept.{AllPairs-cons}
-use Rattle.std.proofs.lemmas.List.Sums.{length-filter}
-use Rattle.committee.specs.Shared.{AreMembers, QuorumMeetsSupport}
-use Rattle.committee.specs.Sizes.{quorum_of, support_of}
-use Rattle.model.specs.Nodes.{numbers}
+use Rattle.committee.specs.Charter.{Charter, IsCharter, numbers, weight, quorum_of, support_of}
+use Rattle.committee.proofs.Weights.{some_of_weight}
 use Rattle.model.specs.Slots.{Slots, round_of, is_named, is_parent, has_path, reaches}
 use Rattle.model.specs.Words.{Certificate, ParentReference}
 use Rattle.laws.proofs.Growing.{AreInPlace, IsIn, is_in}
 use Rattle.laws.proofs.Lists.{given_or_none, Contains-nothing, Contains-cases, Contains-first, Contains-later, Contains-made, Contains-makes}
 use Rattle.laws.proofs.Votes.{slot_is, of_its_slot}
+use Rattle.laws.proofs.Weighing.{quorum_meets}
 
 -- ---- tests of lists
 
@@ -35,15 +32,6 @@ any_to test (y ∷ xs) passes =
       | inr other ↦ let later = rw other at passes in let found = any_to test xs later in (found.0, Contains-later y xs found.0 found.1, found.2)
     ]
 
--- where something is picked, an element passes
-picked_one : {X : Type 0} (test : X → Bool) (xs : List X) → 0 < length (filter test xs) → (x : X) × Contains xs x × (test x ≡ true)
-picked_one test [] some = absurd (omega (arith, some))
-picked_one test (y ∷ xs) some =
-    elim (cases_Bool (test y)) [
-      | inl here ↦ (y, Contains-first xs y, here)
-      | inr other ↦ let later = rw other at some in let found = picked_one test xs later in (found.0, Contains-later y xs found.0 found.1, found.2)
-    ]
-
 -- an element of a list that was picked passes, and was there before
 pub picked_was : {X : Type 0} (test : X → Bool) (xs : List X) (x : X) → Contains (filter test xs) x → Contains xs x × (test x ≡ true)
 picked_was test [] x inside = absurd (Contains-nothing x inside)
@@ -57,11 +45,6 @@ picked_was test (y ∷ xs) x inside =
           ]
       | inr other ↦ let inside' = rw other at inside in let was = picked_was test xs x inside' in (Contains-later y xs x was.0, was.1)
     ]
-
--- a list that isn't empty has an element
-pub some_element : {X : Type 0} (xs : List X) → 0 < length xs → (x : X) × Contains xs x
-some_element [] some = absurd (omega (arith, some))
-some_element (x ∷ xs) some = (x, Contains-first xs x)
 
 -- what an element is mapped to comes from one
 pub mapped_from : {X Y : Type 0} (f : X → Y) (xs : List X) (y : Y) → Contains (map f xs) y → (x : X) × Contains xs x × (f x ≡ y)
@@ -115,112 +98,80 @@ path_above n slots placed (suc steps) child parent end held member held_parent h
 
 -- ---- quorums
 
+-- a member is the author of what a certificate's header names as a parent
+abbrev pub is_named_by : Certificate → ℕ → Bool
+is_named_by c member = list_any (λ p. p.author.0 == member) c.header.parents
+
 -- the certificates of a round above a base have members as authors, and name a quorum of others, all of which are held
-pub record IsRooted (n : ℕ) (slots : Slots) (round author : ℕ) (c : Certificate) : Type 0 where
-  pub member : author < n
-  pub quorum : quorum_of n ≤ length c.header.parents
-  pub members : AreMembers n (map (λ p. p.author.0) c.header.parents)
+pub record IsRooted (charter : Charter) (slots : Slots) (round author : ℕ) (c : Certificate) : Type 0 where
+  pub member : author < length charter.keys
+  pub quorum : quorum_of charter ≤ weight charter (is_named_by c)
   pub held : (p : ParentReference) → Contains c.header.parents p → (parent : Certificate) × (slots (round - 1) p.author.0 ≡ Some parent) × (is_named parent p ≡ true)
 
--- the authors of certificates that are picked of slots in a row
-abbrev authors_of : (ℕ → Option Certificate) → (Certificate → Bool) → ℕ → ℕ → List ℕ
-authors_of held test from count = map (λ c. c.header.author.0) (filter test (filter_map held (range_with_len from count)))
-
-pub record AreBetween (from end : ℕ) (authors : List ℕ) : Type 0 where
-  pub each : All (λ a. (from ≤ a) × (a < end)) authors
-  pub distinct : AllPairs (λ one other. one ≢ other) authors
-
-wider : (from end : ℕ) (authors : List ℕ) → AreBetween (from + 1) end authors → AreBetween from end authors
-wider from end authors h = record {
-  each = All-weaker (λ a. (from + 1 ≤ a) × (a < end)) (λ a. (from ≤ a) × (a < end)) (λ a x. (omega (arith, x.0), x.1)) authors h.each;
-  distinct = h.distinct;
-}
-
-one_more_author : (from end author : ℕ) (authors : List ℕ) → author ≡ from → from < end → AreBetween (from + 1) end authors → AreBetween from end (author ∷ authors)
-one_more_author from end author authors is less h = record {
-  each = All-cons (λ a. (from ≤ a) × (a < end)) author authors (omega (arith, is), omega (arith, is, less)) (wider from end authors h).each;
-  distinct = AllPairs-cons (λ one other. one ≢ other) author authors
-      (All-weaker (λ a. (from + 1 ≤ a) × (a < end)) (λ a. author ≢ a) (λ a x same. omega (arith, x.0, is, same)) authors h.each) h.distinct;
-}
-
-picked_authors : (held : ℕ → Option Certificate) (test : Certificate → Bool) → ((a : ℕ) (c : Certificate) → held a ≡ Some c → c.header.author.0 ≡ a) → (from count : ℕ)
-    → AreBetween from (from + count) (authors_of held test from count)
-picked_authors held test own from zero = record { each = All-nil (λ a. (from ≤ a) × (a < from + zero)); distinct = λ i j d lt within. absurd (omega (arith, within)) }
-picked_authors held test own from (suc count) =
-    let ends : from + 1 + count ≡ from + suc count = omega arith in
-    let rest = subst (λ e. AreBetween (from + 1) e (authors_of held test (from + 1) count)) ends (picked_authors held test own (from + 1) count) in
-    elim (given_or_none (held from)) [
-      | inl found ↦ elim (cases_Bool (test found.0)) [
-        | inl passes ↦ rw (found.1, passes) (one_more_author from (from + suc count) found.0.header.author.0 (authors_of held test (from + 1) count) (own from found.0 found.1) (omega arith) rest)
-        | inr fails ↦ rw (found.1, fails) (wider from (from + suc count) (authors_of held test (from + 1) count) rest)
-      ]
-      | inr none ↦ rw none (wider from (from + suc count) (authors_of held test (from + 1) count) rest)
-    ]
+-- a member supports a certificate in slots
+abbrev pub supports_in : Slots → Certificate → ℕ → Bool
+supports_in slots c member = option_map_or (is_parent c) (slots (c.header.round + 1) member) false
 
 -- a certificate has support in slots
-abbrev pub is_supported : ℕ → Slots → Certificate → Bool
-is_supported n slots c = nat_le (support_of n) (count_by (is_parent c) (round_of n slots (c.header.round + 1)))
-
--- what supports a leader, as members
-abbrev supporters : ℕ → Slots → Certificate → List ℕ
-supporters n slots leader = map (λ c. c.header.author.0) (filter (is_parent leader) (round_of n slots (leader.header.round + 1)))
+abbrev pub is_supported : Charter → Slots → Certificate → Bool
+is_supported charter slots c = nat_le (support_of charter) (weight charter (supports_in slots c))
 
 -- a certificate two rounds above a leader with support has a parent that supports it
-meets : (n f : ℕ) (slots : Slots) → n ≡ 3 * f + 1 → QuorumMeetsSupport → AreInPlace slots → (leader c : Certificate) → is_supported n slots leader ≡ true
-    → c.header.round ≡ leader.header.round + 2 → IsRooted n slots c.header.round c.header.author.0 c
-    → (middle : Certificate) × IsIn slots middle × (middle.header.author.0 < n) × (is_parent leader middle ≡ true) × (is_parent middle c ≡ true)
-meets n f slots size law placed leader c supported above rooted =
+meets : (charter : Charter) → IsCharter charter → (slots : Slots) → AreInPlace slots → (leader c : Certificate) → is_supported charter slots leader ≡ true
+    → c.header.round ≡ leader.header.round + 2 → IsRooted charter slots c.header.round c.header.author.0 c
+    → (middle : Certificate) × IsIn slots middle × (middle.header.author.0 < length charter.keys) × (is_parent leader middle ≡ true) × (is_parent middle c ≡ true)
+meets charter sound slots placed leader c supported above rooted =
     let round = leader.header.round + 1 in
-    let named = map (λ p. p.author.0) c.header.parents in
-    let own : (a : ℕ) (d : Certificate) → slots round a ≡ Some d → d.header.author.0 ≡ a = λ a d held. (slot_is round a d.header (placed round a d held)).1 in
-    let between = picked_authors (slots round) (is_parent leader) own 0 n in
-    let members : AreMembers n (supporters n slots leader) = record {
-      each = All-weaker (λ a. (0 ≤ a) × (a < 0 + n)) (λ a. a < n) (λ a x. omega (arith, x.1)) (supporters n slots leader) between.each;
-      distinct = between.distinct;
-    } in
-    let enough = leb-true _ _ supported in
-    let many : support_of n ≤ length (supporters n slots leader) =
-    omega (arith, enough, length-filter (is_parent leader) (round_of n slots round), length-map (filter (is_parent leader) (round_of n slots round)) (λ (d : Certificate). d.header.author.0)) in
-    let quorum : quorum_of n ≤ length named = omega (arith, rooted.quorum, length-map c.header.parents (λ (p : ParentReference). p.author.0)) in
-    let some = law n f named (supporters n slots leader) size rooted.members quorum members many in
-    let both = picked_one (λ m. list_any (nat_eq m) (supporters n slots leader)) named some in
-    let also = any_to (nat_eq both.0) (supporters n slots leader) both.2 in
-    let parent = mapped_from (λ (p : ParentReference). p.author.0) c.header.parents both.0 both.1 in
-    let support = mapped_from (λ (d : Certificate). d.header.author.0) (filter (is_parent leader) (round_of n slots round)) also.0 also.1 in
-    let middle = support.0 in
-    let picked = picked_was (is_parent leader) (round_of n slots round) middle support.1 in
-    let made = Contains-made (slots round) (numbers n) middle picked.0 in
-    let place = slot_is round made.0 middle.header (placed round made.0 middle made.2) in
-    let in_middle = is_in slots round made.0 middle placed made.2 in
-    let same_author : parent.0.author.0 ≡ middle.header.author.0 = parent.2 ∙ eqb-true both.0 also.0 also.2 ∙ sym support.2 in
-    let held = rooted.held parent.0 parent.1 in
-    let below : c.header.round - 1 ≡ middle.header.round = omega (arith, above, place.0) in
-    let same : held.0 ≡ middle = same_Some held.0 middle
-    (sym held.1 ∙ ap (λ r. slots r parent.0.author.0) below ∙ ap (slots middle.header.round) same_author ∙ in_middle) in
-    let member : middle.header.author.0 < n = subst (λ a. a < n) (sym support.2) (All-contains (λ a. a < n) (supporters n slots leader) also.0 members.each also.1) in
-    let names : list_any (is_named middle) c.header.parents ≡ true =
-    any_from (is_named middle) c.header.parents parent.0 parent.1 (ap (λ d. is_named d parent.0) (sym same) ∙ held.2) in
-    let next : middle.header.round + 1 ≡ c.header.round = omega (arith, above, place.0) in
-    (middle, in_middle, member, picked.1, and_from (middle.header.round + 1 == c.header.round) (list_any (is_named middle) c.header.parents) (equal_numbers (middle.header.round + 1) c.header.round next) names)
+    let some = quorum_meets charter (is_named_by c) (supports_in slots leader) sound rooted.quorum (leb-true _ _ supported) in
+    let both = some_of_weight charter (λ m. is_named_by c m && supports_in slots leader m) some in
+    let parts = and_parts (is_named_by c both.member) (supports_in slots leader both.member) both.holds in
+    let parent = any_to (λ p. p.author.0 == both.member) c.header.parents parts.0 in
+    let by : parent.0.author.0 ≡ both.member = eqb-true parent.0.author.0 both.member parent.2 in
+    elim (given_or_none (slots round both.member)) [
+      | inl middle ↦
+          let supporting = rw middle.1 at parts.1 in
+          let place = slot_is round both.member middle.0.header (placed round both.member middle.0 middle.1) in
+          let held = rooted.held parent.0 parent.1 in
+          let below : c.header.round - 1 ≡ round = omega (arith, above) in
+          let same : held.0 ≡ middle.0 = same_Some held.0 middle.0 (sym held.1 ∙ ap (λ r. slots r parent.0.author.0) below ∙ ap (slots round) by ∙ middle.1) in
+          let names : list_any (is_named middle.0) c.header.parents ≡ true =
+          any_from (is_named middle.0) c.header.parents parent.0 parent.1 (ap (λ d. is_named d parent.0) (sym same) ∙ held.2) in
+          let next : middle.0.header.round + 1 ≡ c.header.round = omega (arith, above, place.0) in (
+            middle.0,
+            is_in slots round both.member middle.0 placed middle.1,
+            subst (λ a. a < length charter.keys) (sym place.1) both.within,
+            supporting,
+            and_from (middle.0.header.round + 1 == c.header.round) (list_any (is_named middle.0) c.header.parents) (equal_numbers (middle.0.header.round + 1) c.header.round next) names,
+          )
+      | inr none ↦ let nothing = rw none at parts.1 in absurd cc
+    ]
+
+-- a rooted certificate names some parent
+names_some : (charter : Charter) (slots : Slots) (round author : ℕ) (c : Certificate) → IsRooted charter slots round author c → (p : ParentReference) × Contains c.header.parents p
+names_some charter slots round author c rooted =
+    let some = some_of_weight charter (is_named_by c) (omega (arith, rooted.quorum)) in
+    let named = any_to (λ p. p.author.0 == some.member) c.header.parents some.holds in
+    (named.0, named.1)
 
 -- ---- every certificate above reaches the leader
 
 -- slots above a round are rooted
-abbrev pub AreRooted : ℕ → Slots → ℕ → Type 0
-AreRooted n slots base = (round author : ℕ) (c : Certificate) → slots round author ≡ Some c → base < round → IsRooted n slots round author c
+abbrev pub AreRooted : Charter → Slots → ℕ → Type 0
+AreRooted charter slots base = (round author : ℕ) (c : Certificate) → slots round author ≡ Some c → base < round → IsRooted charter slots round author c
 
-path_to_leader : (n f : ℕ) (slots : Slots) → n ≡ 3 * f + 1 → QuorumMeetsSupport → AreInPlace slots → (leader : Certificate) → IsIn slots leader → leader.header.author.0 < n → is_supported n slots leader ≡ true
-    → AreRooted n slots (leader.header.round + 1) → (above : ℕ) (c : Certificate) → IsIn slots c → c.header.round ≡ leader.header.round + (2 + above) → has_path n slots (2 + above) c leader ≡ true
-path_to_leader n f slots size law placed leader held member supported rooted zero c in_slot round =
+path_to_leader : (charter : Charter) → IsCharter charter → (slots : Slots) → AreInPlace slots → (leader : Certificate) → IsIn slots leader → leader.header.author.0 < length charter.keys → is_supported charter slots leader ≡ true
+    → AreRooted charter slots (leader.header.round + 1) → (above : ℕ) (c : Certificate) → IsIn slots c → c.header.round ≡ leader.header.round + (2 + above) → has_path (length charter.keys) slots (2 + above) c leader ≡ true
+path_to_leader charter sound slots placed leader held member supported rooted zero c in_slot round =
+    let n = length charter.keys in
     let root = rooted c.header.round c.header.author.0 c in_slot (omega (arith, round)) in
-    let middle = meets n f slots size law placed leader c supported (omega (arith, round)) root in
+    let middle = meets charter sound slots placed leader c supported (omega (arith, round)) root in
     let start : has_path n slots 0 leader leader ≡ true = of_its_slot leader.header in
     let one = path_above n slots placed 0 middle.0 leader leader middle.1 middle.2 held held middle.3 start in
     path_above n slots placed 1 c middle.0 leader in_slot root.member middle.1 held middle.4 one
-path_to_leader n f slots size law placed leader held_leader member supported rooted (suc above) c in_slot round =
+path_to_leader charter sound slots placed leader held_leader member supported rooted (suc above) c in_slot round =
+    let n = length charter.keys in
     let root = rooted c.header.round c.header.author.0 c in_slot (omega (arith, round)) in
-    let quorum = root.quorum in
-    let p = some_element c.header.parents (omega (arith, quorum)) in
+    let p = names_some charter slots c.header.round c.header.author.0 c root in
     let held = root.held p.0 p.1 in
     let parent = held.0 in
     let place = slot_is (c.header.round - 1) p.0.author.0 parent.header (placed (c.header.round - 1) p.0.author.0 parent held.1) in
@@ -229,15 +180,15 @@ path_to_leader n f slots size law placed leader held_leader member supported roo
     let next : parent.header.round + 1 ≡ c.header.round = omega (arith, place.0, round) in
     let names : is_parent parent c ≡ true = and_from _ _ (equal_numbers (parent.header.round + 1) c.header.round next)
     (any_from (is_named parent) c.header.parents p.0 p.1 held.2) in
-    let path = path_to_leader n f slots size law placed leader held_leader member supported rooted above parent in_parent lower in
+    let path = path_to_leader charter sound slots placed leader held_leader member supported rooted above parent in_parent lower in
     let longer = path_above n slots placed (2 + above) c parent leader in_slot root.member in_parent held_leader names path in
     let same : suc (2 + above) ≡ 2 + suc above = omega arith in
     subst (λ k. has_path n slots k c leader ≡ true) same longer
 
 -- so it does
-pub reaches_leader : (n f : ℕ) (slots : Slots) → n ≡ 3 * f + 1 → QuorumMeetsSupport → AreInPlace slots → (leader : Certificate) → IsIn slots leader → leader.header.author.0 < n → is_supported n slots leader ≡ true
-    → AreRooted n slots (leader.header.round + 1) → (c : Certificate) → IsIn slots c → leader.header.round + 2 ≤ c.header.round → reaches n slots c leader ≡ true
-reaches_leader n f slots size law placed leader held member supported rooted c in_slot above =
+pub reaches_leader : (charter : Charter) → IsCharter charter → (slots : Slots) → AreInPlace slots → (leader : Certificate) → IsIn slots leader → leader.header.author.0 < length charter.keys → is_supported charter slots leader ≡ true
+    → AreRooted charter slots (leader.header.round + 1) → (c : Certificate) → IsIn slots c → leader.header.round + 2 ≤ c.header.round → reaches (length charter.keys) slots c leader ≡ true
+reaches_leader charter sound slots placed leader held member supported rooted c in_slot above =
     let steps : c.header.round - leader.header.round ≡ 2 + (c.header.round - (leader.header.round + 2)) = omega (arith, above) in
-    let path = path_to_leader n f slots size law placed leader held member supported rooted (c.header.round - (leader.header.round + 2)) c in_slot (omega (arith, above)) in
-    and_from _ _ (le-leb _ _ (omega (arith, above))) (subst (λ k. has_path n slots k c leader ≡ true) (sym steps) path)
+    let path = path_to_leader charter sound slots placed leader held member supported rooted (c.header.round - (leader.header.round + 2)) c in_slot (omega (arith, above)) in
+    and_from _ _ (le-leb _ _ (omega (arith, above))) (subst (λ k. has_path (length charter.keys) slots k c leader ≡ true) (sym steps) path)

@@ -1,19 +1,18 @@
 -- The order of a legal history begins that of each history that it begins.
 use Rattle.std.proofs.Common.{◌≡◌, ℕ, suc, ◌+◌, ◌-◌, ◌*◌, ◌<◌, ◌≤◌, true, List, [], ◌∷◌, ◌++◌, map, length, Some, None, inl, inr, refl, ap, sym, ◌∙◌, subst, arith, append_assoc}
-use Rattle.std.specs.Prelude.{All, Contains, ◌≢◌, filter_map, nat_le, nat_lt, ◌==◌, ◌&&◌}
+use Rattle.std.specs.Prelude.{All, AllPairs, Contains, ◌≢◌, sum_by, filter_map, nat_le, nat_lt, ◌==◌}
 use Rattle.std.specs.List.{list_all}
 use Rattle.std.specs.Option.{option_map_or, option_to_list}
 use Rattle.std.specs.Str.{bytes_eq}
-use Rattle.std.proofs.lemmas.Bool.{cases_Bool, and_parts, and_from, eqb-true, leb-true, ltb-true}
+use Rattle.std.proofs.lemmas.Bool.{cases_Bool, and_parts, and_from, leb-true, ltb-true}
 use Rattle.std.proofs.lemmas.Option.{same_Some, none-some}
 use Rattle.std.proofs.lemmas.Slice.Eq.{bytes_eq-Decides}
 use Rattle.std.proofs.lemmas.List.{append-nil}
 use Rattle.std.proofs.lemmas.List.Elements.{All-nil, All-cons, All-weaker, All-contains, Contains-append_cases}
 use Rattle.std.proofs.lemmas.List.Kept.{AllPairs-cons}
-use Rattle.committee.proofs.Overlap.{overlap}
-use Rattle.committee.specs.Shared.{AreMembers, QuorumMeetsSupport}
-use Rattle.committee.specs.Sizes.{quorum_of, dishonest_of}
-use Rattle.header.specs.Checks.{Test, test, first_failing, accepts_all, is_member, is_signed, header_signed, vote_signed, body_tests, votes_tests}
+use Rattle.committee.proofs.Weights.{weight-listed}
+use Rattle.committee.specs.Charter.{numbers, weight, quorum_of}
+use Rattle.header.specs.Checks.{Test, test, first_failing, accepts_all, is_member, named_weight, is_signed, header_signed, vote_signed, body_tests, votes_tests}
 use Rattle.header.specs.declared.error.CheckError.TheVariants.{BadSignature}
 use Rattle.wire.specs.Digests.{header_digest_of}
 use Rattle.wire.specs.References.{parents_rise}
@@ -22,7 +21,7 @@ use Rattle.model.specs.Admitting.{IsTaken, IsLegal}
 use Rattle.model.specs.Histories.{History, headers, received, coins, as_header, as_certificate, as_coin}
 use Rattle.model.specs.Holdings.{ledger_of, ledger_at, completed, certificates, genesis, slots, order, floor, is_held, all_held}
 use Rattle.laws.specs.Laws.{Begins, OrderGrows}
-use Rattle.model.specs.Nodes.{Node, IsNode, size_of, numbers}
+use Rattle.model.specs.Nodes.{Node, IsNode, size_of}
 use Rattle.model.specs.Ordering.{top, leader, order_by}
 use Rattle.model.specs.Slots.{same_digest, certificate_digest, is_of_slot, is_named}
 use Rattle.model.specs.Words.{Author, Certificate, Event, Header, HeaderBody, Message, ParentReference}
@@ -30,23 +29,24 @@ use Rattle.laws.proofs.Closed.{in_place, closed, extends, newly, added_by, kept_
 use Rattle.laws.proofs.InSlots.{genesis_is}
 use Rattle.laws.proofs.Legal.{Adds, legal-grows}
 use Rattle.laws.proofs.Lists.{given_or_none, Contains-made, found_passes}
-use Rattle.laws.proofs.Meeting.{AreRooted, same_number}
+use Rattle.laws.proofs.Meeting.{AreRooted, is_named_by, same_number}
 use Rattle.laws.proofs.OrderLonger.{IsLonger, order_longer, leader_place, is_top_of}
 use Rattle.laws.proofs.SlotsGrow.{completed-header}
 use Rattle.laws.proofs.Votes.{slot_is}
+use Rattle.laws.proofs.Weighing.{named_weigh}
 
 -- ---- what the checks say of a header
 
 -- it has a member as its author, and names a quorum of members, rising
 pub record IsSound (node : Node) (body : HeaderBody) : Type 0 where
   pub member : body.author.0 < size_of node
-  pub quorum : quorum_of (size_of node) ≤ length body.parents
+  pub quorum : quorum_of node.charter ≤ sum_by (λ p. named_weight node.charter p.author) body.parents
   pub members : list_all (λ p. is_member node.charter p.author) body.parents ≡ true
   pub rise : parents_rise body.parents ≡ true
 
 sound_by : (node : Node) (body : HeaderBody) (rest : List Test) → is_member node.charter body.author ≡ true → first_failing (body_tests node.charter body ++ rest) ≡ None → parents_rise body.parents ≡ true → IsSound node body
 sound_by node body rest member none rise =
-    elim (cases_Bool (nat_le (quorum_of (size_of node)) (length body.parents))) [
+    elim (cases_Bool (nat_le (quorum_of node.charter) (sum_by (λ p. named_weight node.charter p.author) body.parents))) [
       | inr few ↦ let bad = rw few at none in absurd cc
       | inl quorum ↦ elim (cases_Bool (nat_le (length body.parents) (size_of node))) [
         | inr more ↦ let bad = rw (quorum, more) at none in absurd cc
@@ -127,28 +127,39 @@ sound node history legal certificate inside above =
 -- ---- rooted certificates
 
 -- the authors of parents that rise are above the first one
-above_first : (p : ParentReference) (rest : List ParentReference) → parents_rise (p ∷ rest) ≡ true → All (λ a. p.author.0 < a) (map (λ q. q.author.0) rest)
-above_first p [] rise = All-nil (λ a. p.author.0 < a)
+above_first : (p : ParentReference) (rest : List ParentReference) → parents_rise (p ∷ rest) ≡ true → All (λ q. p.author.0 < q.author.0) rest
+above_first p [] rise = All-nil (λ q. p.author.0 < q.author.0)
 above_first p (q ∷ rest) rise =
     let parts = and_parts (nat_lt p.author.0 q.author.0) (parents_rise (q ∷ rest)) rise in
     let less = ltb-true _ _ parts.0 in
-    All-cons (λ a. p.author.0 < a) q.author.0 (map (λ r. r.author.0) rest) less
-    (All-weaker (λ a. q.author.0 < a) (λ a. p.author.0 < a) (λ a more. omega (arith, less, more)) (map (λ r. r.author.0) rest) (above_first q rest parts.1))
+    All-cons (λ r. p.author.0 < r.author.0) q rest less
+    (All-weaker (λ r. q.author.0 < r.author.0) (λ r. p.author.0 < r.author.0) (λ r more. omega (arith, less, more)) rest (above_first q rest parts.1))
 
 rest_rises : (p : ParentReference) (rest : List ParentReference) → parents_rise (p ∷ rest) ≡ true → parents_rise rest ≡ true
 rest_rises p [] rise = refl
 rest_rises p (q ∷ rest) rise = (and_parts (nat_lt p.author.0 q.author.0) (parents_rise (q ∷ rest)) rise).1
 
-parent_members : (node : Node) (parents : List ParentReference) → list_all (λ p. is_member node.charter p.author) parents ≡ true → parents_rise parents ≡ true → AreMembers (size_of node) (map (λ p. p.author.0) parents)
-parent_members node [] members rise = record { each = All-nil (λ a. a < size_of node); distinct = λ i j d lt within. absurd (omega (arith, within)) }
-parent_members node (p ∷ rest) members rise =
+-- so each member is named once
+apart : (parents : List ParentReference) → parents_rise parents ≡ true → AllPairs (λ one other. one.author.0 ≢ other.author.0) parents
+apart [] rise = λ i j d lt within. absurd (omega (arith, within))
+apart (p ∷ rest) rise =
+    AllPairs-cons (λ one other. one.author.0 ≢ other.author.0) p rest
+    (All-weaker (λ q. p.author.0 < q.author.0) (λ q. p.author.0 ≢ q.author.0) (λ q less same. omega (arith, less, same)) rest (above_first p rest rise))
+    (apart rest (rest_rises p rest rise))
+
+each_member : (node : Node) (parents : List ParentReference) → list_all (λ p. is_member node.charter p.author) parents ≡ true → All (λ p. p.author.0 < length node.charter.keys) parents
+each_member node [] members = All-nil (λ p. p.author.0 < length node.charter.keys)
+each_member node (p ∷ rest) members =
     let parts = and_parts (is_member node.charter p.author) (list_all (λ q. is_member node.charter q.author) rest) members in
-    let later = parent_members node rest parts.1 (rest_rises p rest rise) in
-    record {
-      each = All-cons (λ a. a < size_of node) p.author.0 (map (λ q. q.author.0) rest) (ltb-true _ _ parts.0) later.each;
-      distinct = AllPairs-cons (λ one other. one ≢ other) p.author.0 (map (λ q. q.author.0) rest)
-          (All-weaker (λ a. p.author.0 < a) (λ a. p.author.0 ≢ a) (λ a less same. omega (arith, less, same)) (map (λ q. q.author.0) rest) (above_first p rest rise)) later.distinct;
-    }
+    All-cons (λ q. q.author.0 < length node.charter.keys) p rest (ltb-true _ _ parts.0) (each_member node rest parts.1)
+
+-- and together they are a quorum
+names_quorum : (node : Node) → IsNode node → (c : Certificate) → IsSound node c.header → quorum_of node.charter ≤ weight node.charter (is_named_by c)
+names_quorum node legal c is =
+    let parents = c.header.parents in
+    let listed = weight-listed node.charter (λ (p : ParentReference). p.author.0) parents (each_member node parents is.members) (apart parents is.rise) in
+    let stakes = named_weigh node.charter legal.charter.staked parents is.members in
+    omega (arith, is.quorum, listed, stakes)
 
 same_digests : (one other : List ℕ) → bytes_eq one other ≡ true → bytes_eq other one ≡ true
 same_digests one other same = (bytes_eq-Decides other one).1 (sym ((bytes_eq-Decides one other).0 same))
@@ -197,7 +208,7 @@ floor_below node history wave last legal is_top is_last round above =
     omega (arith, is, place.0, above, some, depth)
 
 rooted_at : (node : Node) (history : History) (event : Event) → Adds node history event → (wave : ℕ) (last : Certificate) → top (ledger_at node history) ≡ Some wave
-    → leader (ledger_at node history) wave ≡ Some last → AreRooted (size_of node) (slots node (history ++ event ∷ [])) (last.header.round + 1)
+    → leader (ledger_at node history) wave ≡ Some last → AreRooted node.charter (slots node (history ++ event ∷ [])) (last.header.round + 1)
 rooted_at node history event adds wave last is_top is_last round author c held above =
     let n = size_of node in
     let later = history ++ event ∷ [] in
@@ -215,27 +226,18 @@ rooted_at node history event adds wave last is_top is_last round author c held a
     let low : floor node history < round - 1 = floor_below node history wave last adds.legal is_top is_last round above in
     record {
       member = subst (λ a. a < n) place.1 is.member;
-      quorum = is.quorum;
-      members = parent_members node c.header.parents is.members is.rise;
+      quorum = names_quorum node adds.legal.sound c is;
       held = λ p among. parent_held node history event adds round p
           (ap (λ r. is_held (slots node history) (floor node history) r p) (sym place.0) ∙ all_to (is_held (slots node history) (floor node history) c.header.round) c.header.parents p all among) low;
     }
 
 -- ---- the order
 
--- a quorum meets all that are enough for support
-pub quorum_meets : QuorumMeetsSupport
-quorum_meets n f quorum support size members enough members' enough' = omega (arith, overlap n quorum support members members')
-
 -- what one more event makes longer
 pub longer : (node : Node) (history : History) (event : Event) → Adds node history event → IsLonger (ledger_at node history) (slots node (history ++ event ∷ []))
 longer node history event adds =
-    let n = size_of node in
-    let f = dishonest_of n in
     record {
-      f = f;
-      size = eqb-true _ _ (and_parts (n == 3 * f + 1) (nat_le 1 f && nat_le f 10) adds.legal.sound.charter.size).0;
-      meets = quorum_meets;
+      sound = adds.legal.sound.charter;
       ext = extends node history event (closed node history adds.legal) adds;
       rooted = rooted_at node history event adds;
     }

@@ -7,7 +7,7 @@ use Rattle.std.proofs.lemmas.Option.{same_Some, none-some}
 use Rattle.std.proofs.lemmas.List.{append_assoc, append-nil, length-append, map-append}
 use Rattle.std.proofs.lemmas.Nat.{mod_below}
 use Rattle.std.proofs.lemmas.List.Elements.{Contains-push_cases}
-use Rattle.committee.specs.Shared.{QuorumMeetsSupport}
+use Rattle.committee.specs.Charter.{IsCharter}
 use Rattle.laws.specs.Laws.{Begins}
 use Rattle.model.specs.Ordering.{Ledger, size_in, reaches_in, leader, has_support, is_directly_committed, top_to, top, segments, committed, newer_to, newer_at, newer, last_wave, order_by}
 use Rattle.model.specs.Slots.{Slots, certificate_digest, reaches}
@@ -16,6 +16,7 @@ use Rattle.laws.proofs.Growing.{AreInPlace, Extends, IsIn, grown, segments_same,
 use Rattle.laws.proofs.Lists.{given_or_none, Contains-nothing}
 use Rattle.laws.proofs.Meeting.{AreRooted, is_supported, reaches_leader}
 use Rattle.laws.proofs.Votes.{slot_is}
+use Rattle.laws.proofs.Weighing.{size_some}
 
 -- ---- the greatest wave that is directly committed
 
@@ -131,21 +132,18 @@ since ledger base previous = map (λ c. certificate_digest c.header) (segments l
 
 -- what is given of a ledger, and of slots that extend its own
 pub record IsLonger (before : Ledger) (after : Slots) : Type 0 where
-  pub f : ℕ
-  pub size : size_in before ≡ 3 * f + 1
-  pub meets : QuorumMeetsSupport
+  pub sound : IsCharter before.charter
   pub ext : Extends before.slots after
   -- what stands above a leader that was committed names a quorum that is held
-  pub rooted : (wave : ℕ) (c : Certificate) → top before ≡ Some wave → leader before wave ≡ Some c → AreRooted (size_in before) after (c.header.round + 1)
+  pub rooted : (wave : ℕ) (c : Certificate) → top before ≡ Some wave → leader before wave ≡ Some c → AreRooted before.charter after (c.header.round + 1)
 
 -- a leader that was committed is reached from all that stands above it
 reached_from : (before : Ledger) (after : Slots) → IsLonger before after → (wave : ℕ) (last c : Certificate) → top before ≡ Some (suc wave) → leader before (suc wave) ≡ Some last
-    → is_supported (size_in before) after last ≡ true → IsIn after c → last.header.round + 2 ≤ c.header.round → reaches (size_in before) after c last ≡ true
+    → is_supported before.charter after last ≡ true → IsIn after c → last.header.round + 2 ≤ c.header.round → reaches (size_in before) after c last ≡ true
 reached_from before after longer wave last c is_top is_last supported held above =
-    let size = longer.size in
     let held_last = leader_in before (suc wave) last longer.ext.placed_before is_last in
-    reaches_leader (size_in before) longer.f after longer.size longer.meets longer.ext.placed_after last (longer.ext.kept last.header.round last.header.author.0 last held_last)
-    (leader_place before wave last (omega (arith, size)) longer.ext.placed_before is_last).1 supported (longer.rooted (suc wave) last is_top is_last) c held above
+    reaches_leader before.charter longer.sound after longer.ext.placed_after last (longer.ext.kept last.header.round last.header.author.0 last held_last)
+    (leader_place before wave last (size_some before.charter longer.sound) longer.ext.placed_before is_last).1 supported (longer.rooted (suc wave) last is_top is_last) c held above
 
 -- the newer leaders committed with one that was held are as before
 newer_same : (before : Ledger) (after : Slots) → Extends before.slots after → (more : List ℕ) (base wave : ℕ) (last : Certificate) → wave ≤ length before.coins → IsIn before.slots last
@@ -179,13 +177,13 @@ not_old base wave less = grind (arith, less)
 
 -- behind the leaders that were committed come only leaders of later waves
 newer_longer : (before : Ledger) (after : Slots) → IsLonger before after → (more : List ℕ) (base wave : ℕ) (last : Certificate) → base ≤ wave → top before ≡ Some (suc wave)
-    → leader before (suc wave) ≡ Some last → is_supported (size_in before) after last ≡ true → suc wave ≤ length before.coins
+    → leader before (suc wave) ≡ Some last → is_supported before.charter after last ≡ true → suc wave ≤ length before.coins
     → (higher : ℕ) (c : Certificate) → wave < higher → IsIn after c → last.header.round + 2 ≤ c.header.round
     → newer_to (grown before after more) base higher c ≡ newer_to before base wave last ++ newer_to (grown before after more) (suc wave) higher c
 newer_longer before after longer more base wave last low is_top is_last supported within zero c less held above = absurd (omega (arith, less))
 newer_longer before after longer more base wave last low is_top is_last supported within (suc higher) c less held above =
     let held_last = leader_in before (suc wave) last longer.ext.placed_before is_last in
-    let size = longer.size in
+    let size = size_some before.charter longer.sound in
     let past : nat_le (suc higher) base ≡ false = not_old base (suc higher) (omega (arith, low, less)) in
     elim (cases_lt wave higher) [
       | inr lowest ↦
@@ -205,8 +203,8 @@ newer_longer before after longer more base wave last low is_top is_last supporte
             | inl earlier ↦ elim (cases_Bool (reaches (size_in before) after c earlier.0)) [
               | inr missed ↦ rw (past, young, earlier.1, missed) lower
               | inl reached ↦
-                  let place = leader_place (grown before after more) higher earlier.0 (omega (arith, size)) longer.ext.placed_after earlier.1 in
-                  let place' = leader_place before wave last (omega (arith, size)) longer.ext.placed_before is_last in
+                  let place = leader_place (grown before after more) higher earlier.0 size longer.ext.placed_after earlier.1 in
+                  let place' = leader_place before wave last size longer.ext.placed_before is_last in
                   let held_earlier = leader_in (grown before after more) (suc higher) earlier.0 longer.ext.placed_after earlier.1 in
                   let under = newer_longer before after longer more base wave last low is_top is_last supported within higher earlier.0 below held_earlier
                   (omega (arith, place.0, place'.0, below)) in
@@ -242,7 +240,7 @@ newer_joined before after longer more base wave last low is_top is_last =
     let supported = directly_committed_leader (grown before after more) (suc wave) stays in
     let also = leader_kept before after longer.ext more (suc wave) last is_last in
     let same_last : supported.0 ≡ last = same_Some supported.0 last (sym supported.1 ∙ also) in
-    let support : is_supported (size_in before) after last ≡ true = ap (is_supported (size_in before) after) (sym same_last) ∙ supported.2 in
+    let support : is_supported before.charter after last ≡ true = ap (is_supported before.charter after) (sym same_last) ∙ supported.2 in
     let is_newer : (b : ℕ) → newer (grown before after more) b ≡ newer_at (grown before after more) b above.0 = λ b. ap (λ o. option_map_or (newer_at (grown before after more) b) o []) above.1 in
     let was : newer before base ≡ newer_at before base (suc wave) = ap (λ o. option_map_or (newer_at before base) o []) is_top in
     let rest = newer (grown before after more) (suc wave) in
@@ -273,11 +271,11 @@ newer_joined before after longer more base wave last low is_top is_last =
                 ∙ newer_same before after longer.ext more base wave last (omega (arith, within)) (leader_in before (suc wave) last longer.ext.placed_before is_last)
                 ∙ sym (append-nil first) ∙ ap (λ l. first ++ l) (sym (is_newer (suc wave) ∙ none)) ∙ ap (λ l. l ++ rest) (sym (was ∙ was_first))
             | inl higher ↦
-                let size = longer.size in
+                let size = size_some before.charter longer.sound in
                 let next : above.0 ≡ suc (above.0 - 1) = omega (arith, higher) in
                 let found' : leader (grown before after more) (suc (above.0 - 1)) ≡ Some found.0 = ap (leader (grown before after more)) (sym next) ∙ found.1 in
-                let place = leader_place (grown before after more) (above.0 - 1) found.0 (omega (arith, size)) longer.ext.placed_after found' in
-                let place' = leader_place before wave last (omega (arith, size)) longer.ext.placed_before is_last in
+                let place = leader_place (grown before after more) (above.0 - 1) found.0 size longer.ext.placed_after found' in
+                let place' = leader_place before wave last size longer.ext.placed_before is_last in
                 let held = leader_in (grown before after more) above.0 found.0 longer.ext.placed_after found.1 in
                 let young' = not_old (suc wave) above.0 higher in
                 let some : newer_at (grown before after more) (suc wave) above.0 ≡ newer_to (grown before after more) (suc wave) (above.0 - 1) found.0 =

@@ -1,6 +1,6 @@
 -- What is proposed at a legal history passes the checks, and is new there.
 use Rattle.std.proofs.Common.{◌≡◌, ℕ, zero, suc, ◌+◌, ◌-◌, ◌*◌, ◌^◌, ◌<◌, ◌≤◌, arith, Bool, true, false, List, [], ◌∷◌, ◌++◌, map, take, length, Option, Some, None, ◌⊎◌, inl, inr, refl, ap, sym, ◌∙◌, subst}
-use Rattle.std.specs.Prelude.{Contains, filter, filter_map, fold, max, find, not, ◌==◌, ◌&&◌, nat_le, nat_lt}
+use Rattle.std.specs.Prelude.{Contains, filter, filter_map, fold, max, find, not, ◌==◌, nat_le, nat_lt, is_some, sum_by}
 use Rattle.std.specs.List.{list_all, range_with_len}
 use Rattle.std.specs.Option.{option_map_or, option_or, option_to_list}
 use Rattle.std.specs.Str.{bytes_eq}
@@ -11,16 +11,20 @@ use Rattle.std.proofs.lemmas.List.{length-append, length-map}
 use Rattle.std.proofs.lemmas.List.Elements.{All-contains, Contains-append_cases, Contains-append_left, Contains-push_cases}
 use Rattle.std.proofs.lemmas.List.FromFn.{length-range_with_len}
 use Rattle.std.proofs.lemmas.Slice.Eq.{bytes_eq-Decides}
-use Rattle.committee.specs.Sizes.{quorum_of, dishonest_of}
-use Rattle.header.specs.Checks.{Accepts, test, fault_of, accepts_all, is_member, is_worker, is_signed, header_signed}
+use Rattle.committee.specs.Charter.{numbers, stake_of, weight, quorum_of}
+use Rattle.committee.proofs.Weights.{weight-same, weight-within, weight-all, some_of_weight}
+use Rattle.header.specs.Checks.{Accepts, test, fault_of, accepts_all, named_weight, is_member, is_worker, is_signed, header_signed}
+use Rattle.wire.specs.Batches.{IsBatch}
+use Rattle.wire.specs.Fields.{IsDigest, IsNumber}
+use Rattle.wire.specs.Grammar.{IsMessage}
 use Rattle.wire.specs.References.{digest_before}
-use Rattle.wire.specs.declared.keys.Key.{Key}
+use Rattle.wire.proofs.DigestLemmas.{are_digest_bytes}
 use Rattle.wire.specs.declared.message.Message.TheVariants as message
 use Rattle.model.specs.Admitting.{admit, is_new, is_own, batch_answer, coin_answer, header_answer, header_outputs, may_name, IsTaken, IsLegal}
 use Rattle.model.specs.Histories.{History, batches, headers, received, coins, as_batch, as_coin}
 use Rattle.model.specs.Holdings.{ledger_at, batch_digest, batch_at, is_available, voted_header, completed, certificates, genesis, slots, floor, round, is_low, is_full, is_held, all_held}
-use Rattle.laws.specs.Laws.{own_event, vote_event, ProposalsAreNew, ProposalsPass, OwnVotesPass}
-use Rattle.model.specs.Nodes.{Node, IsNode, AreTied, size_of, quorum, numbers}
+use Rattle.laws.specs.Laws.{own_event, ProposalsAreNew, ProposalsPass, OwnVotesPass}
+use Rattle.model.specs.Nodes.{Node, IsNode, AreTied, size_of}
 use Rattle.model.specs.Ordering.{top}
 use Rattle.model.specs.Proposing.{is_nameable, to_name, placed, nameable, as_parent, proposal, signed, propose}
 use Rattle.model.specs.Slots.{Slots, same_digest, header_digest, certificate_digest, is_of_slot, round_of}
@@ -30,8 +34,9 @@ use Rattle.laws.proofs.Alike.{floor_of, header_by}
 use Rattle.laws.proofs.Closed.{in_place, kept_slot, coins_later, or_right}
 use Rattle.laws.proofs.Legal.{Adds, legal-induction}
 use Rattle.laws.proofs.Lists.{given_or_none, filter_map-push, found-push, Contains-nothing, Contains-cases, Contains-first, Contains-later, Contains-made, nothing_found, found_passes}
-use Rattle.laws.proofs.Meeting.{picked_was, mapped_from, some_element, same_number}
+use Rattle.laws.proofs.Meeting.{picked_was, mapped_from, number_in, same_number}
 use Rattle.laws.proofs.OrderLonger.{is_top_of}
+use Rattle.laws.proofs.Weighing.{quorum_within, made_weigh, sum_mapped}
 use Rattle.laws.proofs.Votes.{slot_is, of_its_slot}
 
 -- ---- lists
@@ -100,31 +105,17 @@ is_one first (x ∷ xs) =
       ]
     ]
 
--- what there is of slots that hold at least what others held
-held_more : (before after : ℕ → Option Certificate) (authors : List ℕ) → ((a : ℕ) (c : Certificate) → before a ≡ Some c → after a ≡ Some c)
-    → length (filter_map before authors) ≤ length (filter_map after authors)
-held_more before after [] kept = omega arith
-held_more before after (a ∷ authors) kept =
-    let rest = held_more before after authors kept in
-    elim (given_or_none (before a)) [
-      | inl found ↦ let also = kept a found.0 found.1 in rw (found.1, also) (omega (arith, rest))
-      | inr none ↦ elim (given_or_none (after a)) [ inl new ↦ rw (none, new.1) (omega (arith, rest)) | inr nothing ↦ rw (none, nothing) rest ]
-    ]
+-- a slot that held something holds something
+holds_more : (before after : Option Certificate) → ((c : Certificate) → before ≡ Some c → after ≡ Some c) → is_some before ≡ true → is_some after ≡ true
+holds_more (Some c) after kept some = ap is_some (kept c refl)
+holds_more None after kept some = absurd cc
 
+-- no more is made of numbers than there are
 held_at_most : (held : ℕ → Option Certificate) (authors : List ℕ) → length (filter_map held authors) ≤ length authors
 held_at_most held [] = omega arith
 held_at_most held (a ∷ authors) =
     let rest = held_at_most held authors in
     elim (given_or_none (held a)) [ inl found ↦ rw found.1 (omega (arith, rest)) | inr none ↦ rw none (omega (arith, rest)) ]
-
-held_by_all : (held : ℕ → Option Certificate) (authors : List ℕ) → ((a : ℕ) → Contains authors a → held a ≡ None → ⊥) → length (filter_map held authors) ≡ length authors
-held_by_all held [] each = refl
-held_by_all held (a ∷ authors) each =
-    let rest = held_by_all held authors (λ b inside. each b (Contains-later a authors b inside)) in
-    elim (given_or_none (held a)) [
-      | inl found ↦ rw found.1 (ap (λ k. suc k) rest)
-      | inr none ↦ absurd (each a (Contains-first authors a) none)
-    ]
 
 number_below : (from count k : ℕ) → Contains (range_with_len from count) k → k < from + count
 number_below from zero k inside = absurd (Contains-nothing k inside)
@@ -142,7 +133,8 @@ same_bytes bytes = (bytes_eq-Decides bytes bytes).1 refl
 full_stays : (node : Node) (history : History) (event : Event) → Adds node history event → (r : ℕ) → is_full node (slots node history) r ≡ true → is_full node (slots node (history ++ event ∷ [])) r ≡ true
 full_stays node history event adds r full =
     let enough = leb-true _ _ full in
-    let more = held_more (slots node history r) (slots node (history ++ event ∷ []) r) (numbers (size_of node)) (λ a c. kept_slot node history event adds r a c) in
+    let more = weight-within node.charter (λ a. is_some (slots node history r a)) (λ a. is_some (slots node (history ++ event ∷ []) r a))
+    (λ a within. holds_more (slots node history r a) (slots node (history ++ event ∷ []) r a) (λ c. kept_slot node history event adds r a c)) in
     le-leb _ _ (omega (arith, enough, more))
 
 new_coin-turn : (node : Node) (history : History) (event : Event) (coin : Coin) → is_new (coin_answer node history event coin) ≡ true → (coin.wave == length (coins history) + 1) ≡ true
@@ -183,27 +175,16 @@ full_first node wave within = absurd (omega (arith, within))
 each_full : (node : Node) (history : History) → IsLegal node history → AreFull node history
 each_full node = legal-induction node (AreFull node) (full_first node) (full_push node)
 
--- the numbers of a committee
-record IsSized (node : Node) : Type 0 where
-  some : 0 < quorum node
-  within : quorum node ≤ size_of node
-
-sized : (node : Node) → IsNode node → IsSized node
-sized node sound =
-    let n = size_of node in
-    let f = dishonest_of n in
-    let is = eqb-true _ _ (and_parts (n == 3 * f + 1) (nat_le 1 f && nat_le f 10) sound.charter.size).0 in
-    record { some = omega arith; within = omega (arith, is) }
-
 -- a round that is full has a certificate, and so the node's round is above it
 some_held : (node : Node) (history : History) → IsNode node → (r : ℕ) → is_full node (slots node history) r ≡ true → (c : Certificate) × Contains (certificates node history) c × (c.header.round ≡ r)
 some_held node history sound r full =
-    let enough = leb-true _ _ full in
-    let least = (sized node sound).some in
-    let one = some_element (round_of (size_of node) (slots node history) r) (omega (arith, enough, least)) in
-    let made = Contains-made (slots node history r) (numbers (size_of node)) one.0 one.1 in
-    let found = found_passes (λ d. is_of_slot r made.0 d.header) (certificates node history) one.0 made.2 in
-    (one.0, found.1, (slot_is r made.0 one.0.header found.0).0)
+    let some = some_of_weight node.charter (λ a. is_some (slots node history r a)) (omega (arith, leb-true _ _ full)) in
+    elim (given_or_none (slots node history r some.member)) [
+      | inl one ↦
+          let found = found_passes (λ d. is_of_slot r some.member d.header) (certificates node history) one.0 one.1 in
+          (one.0, found.1, (slot_is r some.member one.0.header found.0).0)
+      | inr none ↦ let nothing = rw none at some.holds in absurd cc
+    ]
 
 abbrev full_rounds : Node → History → List ℕ
 full_rounds node history = filter (is_full node (slots node history)) (map (λ c. c.header.round) (certificates node history))
@@ -236,10 +217,15 @@ below_full node history sound =
     ∙ elim (is_one 0 (full_rounds node history)) [
       | inr one ↦ (picked_was (is_full node (slots node history)) (map (λ c. c.header.round) (certificates node history)) top_round one).1
       | inl none ↦
-          let all = held_by_all (slots node history 0) (numbers n) (genesis_held node history) in
-          let many = length-range_with_len 0 n in
-          let within = (sized node sound).within in
-          ap (is_full node (slots node history)) none ∙ le-leb _ _ (omega (arith, all, many, within))
+          let first : (a : ℕ) → a < n → is_some (slots node history 0 a) ≡ true =
+          λ a within. elim (given_or_none (slots node history 0 a)) [
+            | inl there ↦ rw there.1 refl
+            | inr missing ↦ absurd (genesis_held node history a (number_in 0 n a (omega arith) (omega (arith, within))) missing)
+          ] in
+          let all = weight-same node.charter (λ a. is_some (slots node history 0 a)) (λ _. true) first in
+          let whole = weight-all node.charter sound.charter.staked in
+          let within = quorum_within node.charter sound.charter in
+          ap (is_full node (slots node history)) none ∙ le-leb _ _ (omega (arith, all, whole, within))
     ]
 
 above_floor : (floor round : ℕ) → 0 < round → (floor ≡ 0) ⊎ (floor < round) → is_low floor round ≡ false
@@ -389,15 +375,26 @@ all_placed_from list (y ∷ xs) x inside =
       ]
     ]
 
+-- what a batch is that came
+batch_limits : (m : Message) (batch : Contents) → IsMessage m → as_batch m ≡ Some batch → IsBatch batch
+batch_limits (message.Batch new) batch keeps is = subst IsBatch (same_Some new batch is) keeps
+batch_limits (message.BatchAck ack) batch keeps is = absurd (none-some batch is)
+batch_limits (message.Header header) batch keeps is = absurd (none-some batch is)
+batch_limits (message.Vote vote) batch keeps is = absurd (none-some batch is)
+batch_limits (message.Certificate certificate) batch keeps is = absurd (none-some batch is)
+batch_limits (message.Coin coin) batch keeps is = absurd (none-some batch is)
+
 -- what is named of a batch
-record IsNamed (node : Node) (history : History) (named : BatchReference) : Type 0 where
+pub record IsNamed (node : Node) (history : History) (named : BatchReference) : Type 0 where
+  pub digest : IsDigest named.digest
+  pub number : IsNumber named.worker
   batch : Contents
   held : batch_at history named.digest ≡ Some batch
   worker : batch.worker ≡ named.worker
   known : is_worker node.charter named.worker ≡ true
   available : is_available node history named.digest ≡ true
 
-batches_named : (node : Node) (history : History) → IsLegal node history → (named : BatchReference) → Contains (proposal node history).batches named → IsNamed node history named
+pub batches_named : (node : Node) (history : History) → IsLegal node history → (named : BatchReference) → Contains (proposal node history).batches named → IsNamed node history named
 batches_named node history legal named inside =
     let made = filter_map (to_name node history) (batches history) in
     elim (all_placed_from [] made named (taken_from 128 (nameable node history) named inside)) [
@@ -406,13 +403,15 @@ batches_named node history legal named inside =
           let from = Contains-made (to_name node history) (batches history) named among in
           let batch = from.0 in
           let event = Contains-made (λ e. as_batch e.message) history batch from.1 in
-          let worker = passed_batch node event.0.sender event.0.message batch (All-contains (IsTaken node) history event.0 legal.taken event.1) event.2 in
+          let taken = All-contains (IsTaken node) history event.0 legal.taken event.1 in
+          let limits = batch_limits event.0.message batch taken.message event.2 in
+          let worker = passed_batch node event.0.sender event.0.message batch taken event.2 in
           elim (cases_Bool (is_nameable node history batch)) [
             | inl may ↦
                 let is = rw may at from.2 in
                 let same : record { digest = batch_digest batch; worker = batch.worker } ≡ named = same_Some (record { digest = batch_digest batch; worker = batch.worker }) named is in
                 let parts = and_parts _ _ (and_parts (batch.author.0 == node.own.0) _ may).1 in
-                subst (IsNamed node history) same (record { batch = batch; held = one_batch node history legal batch from.1; worker = refl; known = worker; available = parts.0 })
+                subst (IsNamed node history) same (record { digest = are_digest_bytes _; number = limits.worker; batch = batch; held = one_batch node history legal batch from.1; worker = refl; known = worker; available = parts.0 })
             | inr not ↦ let nothing = rw not at from.2 in absurd (none-some named nothing)
           ]
     ]
@@ -420,11 +419,12 @@ batches_named node history legal named inside =
 -- ---- the proposal
 
 -- it has an own header's parts
-record IsProposal (node : Node) (history : History) (header : Header) : Type 0 where
-  is : signed node (proposal node history) ≡ header
-  free : voted_header history (round node history) node.own.0 ≡ None
+pub record IsProposal (node : Node) (history : History) (header : Header) : Type 0 where
+  pub within : round node history ≤ 2 ^ 48
+  pub is : signed node (proposal node history) ≡ header
+  pub free : voted_header history (round node history) node.own.0 ≡ None
 
-proposed : (node : Node) (history : History) (header : Header) → propose node history ≡ Some header → IsProposal node history header
+pub proposed : (node : Node) (history : History) (header : Header) → propose node history ≡ Some header → IsProposal node history header
 proposed node history header is =
     elim (given_or_none (voted_header history (round node history) node.own.0)) [
       | inl found ↦ let nothing = rw found.1 at is in absurd (none-some header nothing)
@@ -432,15 +432,29 @@ proposed node history header is =
           let is' = rw none at is in
           elim (cases_Bool (nat_lt (2 ^ 48) (round node history))) [
             | inl past ↦ let nothing = rw past at is' in absurd (none-some header nothing)
-            | inr within ↦ let is'' = rw within at is' in record { is = same_Some (signed node (proposal node history)) header is''; free = none }
+            | inr within ↦ let is'' = rw within at is' in record { within = grind (arith, within); is = same_Some (signed node (proposal node history)) header is''; free = none }
           ]
     ]
 
 signature_taken : (node : Node) → IsNode node → (header : Header) → header.body.author ≡ node.own → is_signed node.charter accepts_all header.body.author (header_signed header.body) header.signature ≡ true
 signature_taken node sound header own =
-    let none : Key = record { 0 = [] } in
-    let key = slice_get-get_or node.charter.keys node.own.0 none sound.member in
-    ap (λ (a : Author). is_signed node.charter accepts_all a (header_signed header.body) header.signature) own ∙ rw key refl
+    ap (λ (a : Author). is_signed node.charter accepts_all a (header_signed header.body) header.signature) own ∙ rw sound.own_key refl
+
+-- the certificates of a round as parents weigh what their authors do
+below_weighs : (node : Node) (history : History) → IsNode node → (r : ℕ)
+    → sum_by (λ p. named_weight node.charter p.author) (map as_parent (round_of (size_of node) (slots node history) r)) ≡ weight node.charter (λ a. is_some (slots node history r a))
+below_weighs node history sound r =
+    let charter = node.charter in
+    let weigh : Certificate → ℕ = λ c. named_weight charter c.header.author in
+    sum_mapped as_parent (λ p. named_weight charter p.author) (round_of (size_of node) (slots node history) r)
+    ∙ made_weigh charter (slots node history r) weigh
+    (λ m c held within.
+    let place = slot_is r m c.header (in_place node history r m c held) in
+    let there : c.header.author.0 < length charter.stakes = omega (arith, place.1, within, sound.charter.staked) in
+    let is = slice_get-get_or charter.stakes c.header.author.0 0 there in
+    let here : named_weight charter c.header.author ≡ stake_of charter c.header.author.0 = rw is refl in
+    here ∙ ap (stake_of charter) place.1)
+    0 (size_of node) (omega arith)
 
 passes : (node : Node) (history : History) (accepts : Accepts) → IsLegal node history → is_signed node.charter accepts node.own (header_signed (proposal node history)) (node.sign (header_digest (proposal node history))) ≡ true
     → fault_of node.charter accepts (own_event node (signed node (proposal node history))) ≡ None
@@ -454,7 +468,8 @@ passes node history accepts legal signature =
     let size = length-map below as_parent in
     let most = held_at_most (slots node history (round node history - 1)) (numbers n) in
     let many = length-range_with_len 0 n in
-    let quorum : nat_le (quorum_of n) (length body.parents) ≡ true = le-leb _ _ (omega (arith, enough, size)) in
+    let quorum : nat_le (quorum_of node.charter) (sum_by (λ p. named_weight node.charter p.author) body.parents) ≡ true =
+    le-leb _ _ (omega (arith, enough, below_weighs node history legal.sound (round node history - 1))) in
     let few : nat_le (length body.parents) n ≡ true = le-leb _ _ (omega (arith, most, size, many)) in
     let members : list_all (λ p. is_member node.charter p.author) body.parents ≡ true =
     all_from (λ p. is_member node.charter p.author) body.parents (λ p inside. lt-ltb _ _ (parents_below node history p inside).member) in
@@ -498,14 +513,14 @@ proposals_are_new node history header legal is =
 -- ---- signatures
 
 -- where the node's signer belongs to the verifier, what the node signs is taken as its member's
-pub is_own_signature : (node : Node) (key : Key) (accepts : Accepts) → AreTied node key accepts → (digest : Digest) → is_signed node.charter accepts node.own digest (node.sign digest) ≡ true
-is_own_signature node key accepts tied digest = ap (λ o. option_map_or (λ k. accepts k digest (node.sign digest)) o false) tied.own_key ∙ tied.accepted digest
+pub is_own_signature : (node : Node) (accepts : Accepts) → IsNode node → AreTied node accepts → (digest : Digest) → is_signed node.charter accepts node.own digest (node.sign digest) ≡ true
+is_own_signature node accepts sound tied digest = ap (λ o. option_map_or (λ k. accepts k digest (node.sign digest)) o false) sound.own_key ∙ tied digest
 
 pub proposals_pass : ProposalsPass
-proposals_pass node history header key accepts legal tied is =
+proposals_pass node history header accepts legal tied is =
     let parts = proposed node history header is in
     subst (λ h. fault_of node.charter accepts (own_event node h) ≡ None) parts.is
-    (passes node history accepts legal (is_own_signature node key accepts tied (header_digest (proposal node history))))
+    (passes node history accepts legal (is_own_signature node accepts legal.sound tied (header_digest (proposal node history))))
 
 -- a header that was taken is by a member
 author_taken : (node : Node) (sender : Author) (header : Header) → IsTaken node (record { sender = sender; message = message.Header header }) → is_member node.charter header.body.author ≡ true
@@ -520,9 +535,9 @@ author_taken node sender header taken =
     ]
 
 pub own_votes_pass : OwnVotesPass
-own_votes_pass node sender header key accepts sound tied taken =
+own_votes_pass node sender header accepts sound tied taken =
     let member : is_member node.charter node.own ≡ true = lt-ltb _ _ sound.member in
     let author = author_taken node sender header taken in
     let own = same_number node.own.0 in
-    let signature = is_own_signature node key accepts tied (certificate_digest header.body) in
+    let signature = is_own_signature node accepts sound tied (certificate_digest header.body) in
     rw (member, author, own, signature) refl

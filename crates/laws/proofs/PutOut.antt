@@ -17,7 +17,8 @@ use Rattle.model.specs.Giving.{is_given, given, IsPiece, MayGive}
 use Rattle.model.specs.Histories.{History, batches, headers, coins, received, as_batch, as_header}
 use Rattle.model.specs.Holdings.{batch_digest, batch_at, has_own_batch, has_acked, is_low, is_full, all_held, own_vote, counted_vote, voted_header, voted_digest, completed, certificates, genesis, slots, order, floor}
 use Rattle.laws.specs.Laws.{PutsOutGiven, OutputsGiven}
-use Rattle.model.specs.Nodes.{Node, size_of, numbers}
+use Rattle.committee.specs.Charter.{numbers}
+use Rattle.model.specs.Nodes.{Node, size_of}
 use Rattle.model.specs.Slots.{same_digest, header_digest, certificate_digest, is_of_slot}
 use Rattle.model.specs.Words.{Author, BatchAck, Certificate, Coin, Contents, Digest, Event, Header, HeaderBody, Message, Output, Vote}
 use Rattle.laws.proofs.Lists.{given_or_none, Contains-cases, Contains-first, Contains-nothing, Contains-makes, filter_map-push, found_passes}

@@ -1,5 +1,6 @@
 -- What is kept of a history decides what is answered at it.
 use Rattle.std.proofs.Common.{◌≡◌, ℕ, suc, ◌+◌, ◌-◌, ◌*◌, ◌%◌, ◌<◌, ◌≤◌, arith, true, false, List, Option, Some, None, inl, inr, ap, sym, ◌∙◌}
+use Rattle.std.specs.Option.{option_map_or}
 use Rattle.std.specs.Prelude.{length, slice_get, nat_lt, if◌then◌else◌}
 use Rattle.std.proofs.lemmas.Bool.{cases_Bool, leb-true, le-leb}
 use Rattle.std.proofs.lemmas.Option.{same_Some, none-some}
@@ -8,14 +9,15 @@ use Rattle.model.specs.Giving.{Kept, unless_low, kept}
 use Rattle.model.specs.Histories.{History, coins}
 use Rattle.model.specs.Holdings.{ledger_of, ledger_at, voted_header, voted_digest, counted_at, slots, floor, is_low}
 use Rattle.laws.specs.Laws.{KeptDecides}
-use Rattle.model.specs.Nodes.{Node, size_of, numbers}
+use Rattle.committee.proofs.Weights.{weight-within}
+use Rattle.model.specs.Nodes.{Node, size_of}
 use Rattle.model.specs.Ordering.{Ledger, size_in, leader, is_directly_committed, top}
 use Rattle.model.specs.Slots.{Slots, is_parent}
 use Rattle.model.specs.Words.{Certificate}
 use Rattle.laws.proofs.Alike.{ReadAlike, floor_of, read_alike}
 use Rattle.laws.proofs.Closed.{in_place}
 use Rattle.laws.proofs.FromRounds.{with_slots}
-use Rattle.laws.proofs.Growing.{counted_more}
+use Rattle.laws.proofs.Growing.{passes_also}
 use Rattle.laws.proofs.Lists.{given_or_none}
 use Rattle.laws.proofs.OrderGrows.{members_some}
 use Rattle.laws.proofs.OrderLonger.{directly_committed_leader, is_top_of, leader_place, top_above}
@@ -45,7 +47,9 @@ committed_also one other wave also place is =
     let c = lead.0 in
     let round = place c lead.1 in
     let enough = leb-true _ _ lead.2 in
-    let more = counted_more (one.slots (c.header.round + 1)) (other (c.header.round + 1)) (is_parent c) (numbers (size_in one)) (λ a d held. also (c.header.round + 1) a d (omega (arith, round)) held) in
+    let above = c.header.round + 1 in
+    let more = weight-within one.charter (λ m. option_map_or (is_parent c) (one.slots above m) false) (λ m. option_map_or (is_parent c) (other above m) false)
+    (λ m within. passes_also (one.slots above m) (other above m) (is_parent c) (λ d held. also above m d (omega (arith, round)) held)) in
     elim (given_or_none (slice_get one.coins wave)) [
       | inl coin ↦
           let held = rw coin.1 at lead.1 in

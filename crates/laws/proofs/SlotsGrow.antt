@@ -1,13 +1,13 @@
 -- The certificates of a legal history.
-use Rattle.std.proofs.Common.{◌≡◌, ℕ, zero, suc, ◌+◌, ◌*◌, ◌≤◌, ◌<◌, Bool, true, false, cond, List, [], ◌∷◌, ◌++◌, map, length, Option, Some, None, inl, inr, refl, ap, sym, ◌∙◌, arith}
+use Rattle.std.proofs.Common.{◌≡◌, ℕ, Bool, true, false, cond, List, [], ◌∷◌, ◌++◌, map, Option, Some, None, inl, inr, refl, ap, sym, ◌∙◌, arith}
 use Rattle.std.proofs.Math.Path.{fun_ext}
-use Rattle.std.specs.Prelude.{find, filter_map, Contains, ◌==◌, ◌&&◌, nat_le, option_map, option_and_then, if◌then◌else◌}
-use Rattle.std.specs.List.{range_with_len}
+use Rattle.std.specs.Prelude.{find, filter_map, Contains, ◌==◌, ◌&&◌, nat_le, is_some, option_map, option_and_then, if◌then◌else◌}
 use Rattle.std.specs.Option.{option_or, option_to_list}
 use Rattle.std.proofs.lemmas.Bool.{and_parts, cases_Bool, eqb-true, leb-true, true≢false}
 use Rattle.std.proofs.lemmas.Option.{same_Some}
 use Rattle.std.proofs.lemmas.List.Folds.{find-append}
-use Rattle.committee.specs.Sizes.{dishonest_of}
+use Rattle.committee.specs.Charter.{numbers, weight}
+use Rattle.committee.proofs.Weights.{weight-same}
 use Rattle.wire.specs.Events.{Event}
 use Rattle.wire.specs.declared.header.Certificate.{Certificate}
 use Rattle.wire.specs.declared.header.Header.{Header}
@@ -16,17 +16,17 @@ use Rattle.wire.specs.declared.header.Vote.{Vote}
 use Rattle.wire.specs.declared.keys.Author.{Author}
 use Rattle.wire.specs.declared.message.Message.{Message}
 use Rattle.wire.specs.declared.message.Message.TheVariants as message
-use Rattle.wire.specs.declared.votes.VoteEntry.{VoteEntry}
 use Rattle.model.specs.Admitting.{is_own}
 use Rattle.model.specs.Histories.{History, headers, votes, received, as_header, as_vote, as_certificate}
-use Rattle.model.specs.Holdings.{voted_header, is_vote_on, counted_vote, entry_of, entry_on, votes_on, completed, genesis, slots}
+use Rattle.model.specs.Holdings.{voted_header, is_vote_on, counted_vote, has_voted, entry_of, completed, genesis, slots}
 use Rattle.laws.specs.Laws.{added, SlotsGrow}
-use Rattle.model.specs.Nodes.{Node, IsNode, size_of, quorum, numbers}
+use Rattle.model.specs.Nodes.{Node, IsNode, size_of, quorum}
 use Rattle.model.specs.Slots.{is_of_slot, slots_of}
 use Rattle.laws.proofs.Legal.{Adds, legal-last}
 use Rattle.laws.proofs.Lists.{given_or_none, filter_map-push, Contains-first, Contains-later, found_passes}
 use Rattle.laws.proofs.NewEvents.{new_header-unvoted, new_vote, new_certificate-free}
 use Rattle.laws.proofs.Votes.{IsOnly, of_its_slot, slot_is, voted_header-push, one_header, each_headed, neither}
+use Rattle.laws.proofs.Weighing.{alone_below}
 
 -- a member's vote behind one more event: the one before, or that of the event
 pub counted_vote-push : (node : Node) (history : History) (event : Event) (header : HeaderBody) (voter : ℕ)
@@ -47,21 +47,18 @@ or_assoc : {X : Type 0} (one two three : Option X) → option_or (option_or one 
 or_assoc (Some x) two three = refl
 or_assoc None two three = refl
 
+-- the certificate of a header with these votes of members
+abbrev pub with_votes : Node → Header → (ℕ → Option Vote) → Option Certificate
+with_votes node header counted =
+    if (header.body.author.0 == node.own.0) && nat_le (quorum node) (weight node.charter (λ voter. is_some (counted voter)))
+    then Some (record { header = header.body; votes = filter_map (λ voter. option_map entry_of (counted voter)) (numbers (size_of node)) }) else None
+
 -- an event without a vote on a header leaves its votes as they are, and so its certificate
-pub votes_on-same : (node : Node) (history : History) (event : Event) (header : HeaderBody) → ((voter : ℕ) → find (is_vote_on header voter) (option_to_list (as_vote event.message)) ≡ None)
-    → votes_on node (history ++ event ∷ []) header ≡ votes_on node history header
-votes_on-same node history event header none =
-    ap (λ (make : ℕ → Option VoteEntry). filter_map make (numbers (size_of node)))
-    (fun_ext (λ voter. ap (option_map entry_of) (counted_vote-push node history event header voter ∙ ap (option_or (counted_vote node history header voter)) (none voter) ∙ or_none (counted_vote node history header voter))))
-
--- the certificate of a header with these votes
-abbrev pub with_votes : Node → Header → List VoteEntry → Option Certificate
-with_votes node header votes =
-    if (header.body.author.0 == node.own.0) && nat_le (quorum node) (length votes) then Some (record { header = header.body; votes = votes }) else None
-
 pub completed-same : (node : Node) (history : History) (event : Event) (header : Header) → ((voter : ℕ) → find (is_vote_on header.body voter) (option_to_list (as_vote event.message)) ≡ None)
     → completed node (history ++ event ∷ []) header ≡ completed node history header
-completed-same node history event header none = ap (with_votes node header) (votes_on-same node history event header.body none)
+completed-same node history event header none =
+    ap (with_votes node header)
+    (fun_ext (λ voter. counted_vote-push node history event header.body voter ∙ ap (option_or (counted_vote node history header.body voter)) (none voter) ∙ or_none (counted_vote node history header.body voter)))
 
 -- a vote for another slot isn't on a header
 pub not_on : (vote : Vote) (header : HeaderBody) (voter : ℕ) → is_of_slot vote.round vote.author.0 header ≡ false → find (is_vote_on header voter) (vote ∷ []) ≡ None
@@ -70,45 +67,28 @@ not_on vote header voter other = rw other refl
 -- an own certificate is that of its header
 pub completed-header : (node : Node) (history : History) (header : Header) (certificate : Certificate) → completed node history header ≡ Some certificate → certificate.header ≡ header.body
 completed-header node history header certificate made =
-    elim (cases_Bool ((header.body.author.0 == node.own.0) && nat_le (quorum node) (length (votes_on node history header.body)))) [
+    elim (cases_Bool ((header.body.author.0 == node.own.0) && nat_le (quorum node) (weight node.charter (has_voted node history header.body)))) [
       | inl is ↦ let here = rw is at made in ap (λ (c : Certificate). c.header) (sym (same_Some _ _ here))
       | inr not ↦ let here = rw not at made in absurd cc
     ]
 
--- of numbers in a row one thing at most is made where only one of them makes any
-none_made : {X : Type 0} (make : ℕ → Option X) (own : ℕ) → ((k : ℕ) → (k == own) ≡ false → make k ≡ None) → (from count : ℕ) → own < from → filter_map make (range_with_len from count) ≡ []
-none_made make own else_none from zero less = refl
-none_made make own else_none from (suc count) less =
-    let other : (from == own) ≡ false = grind (arith, less) in
-    let here = else_none from other in
-    let later = none_made make own else_none (from + 1) count (omega (arith, less)) in
-    rw here later
+-- where no other member voted on an own header, the node itself alone did
+alone_voted : (node : Node) (history : History) (header : HeaderBody) → ((voter : ℕ) → find (is_vote_on header voter) (votes history) ≡ None) → (voter : ℕ) → has_voted node history header voter ≡ (voter == node.own.0)
+alone_voted node history header none voter =
+    elim (cases_Bool (voter == node.own.0)) [ inl own ↦ rw own refl | inr other ↦ let gone = none voter in rw (other, gone) refl ]
 
-few_made : {X : Type 0} (make : ℕ → Option X) (own : ℕ) → ((k : ℕ) → (k == own) ≡ false → make k ≡ None) → (from count : ℕ) → length (filter_map make (range_with_len from count)) ≤ 1
-few_made make own else_none from zero = omega arith
-few_made make own else_none from (suc count) =
-    elim (cases_Bool (from == own)) [
-      | inl is ↦
-          let same : from ≡ own = eqb-true from own is in
-          let later = none_made make own else_none (from + 1) count (omega (arith, same)) in
-          elim (given_or_none (make from)) [ inl made ↦ rw (made.1, later) (omega arith) | inr none ↦ rw (none, later) (omega arith) ]
-      | inr other ↦
-          let here = else_none from other in
-          let later = few_made make own else_none (from + 1) count in
-          rw here later
-    ]
-
--- no certificate is made of a header on which no other member voted
-pub unvoted-incomplete : (node : Node) (history : History) (header : Header) → 1 < quorum node → ((voter : ℕ) → find (is_vote_on header.body voter) (votes history) ≡ None)
+-- no certificate is made of a header on which no other member voted: one member alone is no quorum
+pub unvoted-incomplete : (node : Node) (history : History) (header : Header) → IsNode node → ((voter : ℕ) → find (is_vote_on header.body voter) (votes history) ≡ None)
     → completed node history header ≡ None
-unvoted-incomplete node history header many none =
-    let few = few_made (entry_on node history header.body) node.own.0
-    (λ voter other. let gone = none voter in rw (other, gone) refl) 0 (size_of node) in
-    elim (cases_Bool ((header.body.author.0 == node.own.0) && nat_le (quorum node) (length (votes_on node history header.body)))) [
+unvoted-incomplete node history header sound none =
+    let voted = has_voted node history header.body in
+    let alone = weight-same node.charter voted (λ voter. voter == node.own.0) (λ voter within. alone_voted node history header.body none voter) in
+    let few = alone_below node.charter sound.charter node.own.0 sound.member in
+    elim (cases_Bool ((header.body.author.0 == node.own.0) && nat_le (quorum node) (weight node.charter voted))) [
       | inl is ↦
-          let parts = and_parts (header.body.author.0 == node.own.0) (nat_le (quorum node) (length (votes_on node history header.body))) is in
+          let parts = and_parts (header.body.author.0 == node.own.0) (nat_le (quorum node) (weight node.charter voted)) is in
           let enough = leb-true _ _ parts.1 in
-          absurd (omega (arith, few, many, enough))
+          absurd (omega (arith, alone, few, enough))
       | inr not ↦ rw not refl
     ]
 
@@ -238,14 +218,6 @@ voted_header-unvoted node history event header round author is no_vote unvoted i
       | inr other ↦ rw other (ap (option_and_then (completed node history)) (or_none (voted_header history round author)))
     ]
 
--- a quorum is more than one
-pub many : (node : Node) → IsNode node → 1 < quorum node
-many node sound =
-    let f = dishonest_of (size_of node) in
-    let parts = and_parts (size_of node == 3 * f + 1) (nat_le 1 f && nat_le f 10) sound.charter.size in
-    let least : 1 ≤ f = leb-true 1 f (and_parts (nat_le 1 f) (nat_le f 10) parts.1).0 in
-    omega (arith, least)
-
 -- the certificate of a header in its slot, and in another one
 in_its_slot : (node : Node) (history : History) (header : Header) (round author : ℕ) → is_of_slot round author header.body ≡ true
     → slots_of (option_to_list (completed node history header)) round author ≡ completed node history header
@@ -315,7 +287,7 @@ slots_more node history sender (message.BatchAck ack) adds before after round au
 slots_more node history sender (message.Header header) adds before after round author =
     let event : Event = record { sender = sender; message = message.Header header } in
     let unvoted = new_header-unvoted node history header adds.new in
-    let incomplete = unvoted-incomplete node history header (many node adds.legal.sound) (λ voter. each_headed node history adds.legal header.body voter unvoted) in
+    let incomplete = unvoted-incomplete node history header adds.legal.sound (λ voter. each_headed node history adds.legal header.body voter unvoted) in
     slot_more node history event round author before after None (unchanged _ _ _ _ (voted_header-unvoted node history event header round author refl refl unvoted incomplete))
 slots_more node history sender (message.Vote vote) adds before after round author =
     let event : Event = record { sender = sender; message = message.Vote vote } in

@@ -3,7 +3,6 @@ use Rattle.std.specs.Prelude.{◌≡◌, ℕ, Option, Some, None, ◌≤◌, tru
 use Rattle.std.specs.Option.{option_or, option_to_list}
 use Rattle.wire.specs.declared.message.Message.TheVariants as message
 use Rattle.header.specs.Checks.{Accepts, fault_of, accepts_all}
-use Rattle.wire.specs.declared.keys.Key.{Key}
 use Rattle.model.specs.Admitting.{admit, header_outputs, IsTaken, IsLegal}
 use Rattle.model.specs.Giving.{MayGive, kept}
 use Rattle.model.specs.Histories.{History, batches, acks, headers, votes, received, coins, as_batch, as_ack, as_header, as_vote, as_certificate, as_coin}
@@ -157,9 +156,14 @@ abbrev pub ProposalsAreNew : Type 0
 ProposalsAreNew = (node : Node) (history : History) (header : Header) → IsLegal node history → propose node history ≡ Some header
     → (fault_of node.charter accepts_all (own_event node header) ≡ None) × (admit node history (own_event node header) ≡ New (header_outputs node header))
 
+-- and the history with it is legal: what is proposed keeps all limits too
+abbrev pub ProposalsAreLegal : Type 0
+ProposalsAreLegal = (node : Node) (history : History) (header : Header) → IsLegal node history → propose node history ≡ Some header
+    → IsLegal node (history ++ own_event node header ∷ [])
+
 -- what is proposed at a legal history passes the checks with its signature too, where the node's signer belongs to the verifier
 abbrev pub ProposalsPass : Type 0
-ProposalsPass = (node : Node) (history : History) (header : Header) (key : Key) (accepts : Accepts) → IsLegal node history → AreTied node key accepts
+ProposalsPass = (node : Node) (history : History) (header : Header) (accepts : Accepts) → IsLegal node history → AreTied node accepts
     → propose node history ≡ Some header → fault_of node.charter accepts (own_event node header) ≡ None
 
 -- the vote that a node gives a header that it took, as it comes to another node
@@ -168,5 +172,5 @@ vote_event node header = record { sender = node.own; message = message.Vote (own
 
 -- the node's vote for a header that it took passes the checks with its signature, where its signer belongs to the verifier
 abbrev pub OwnVotesPass : Type 0
-OwnVotesPass = (node : Node) (sender : Author) (header : Header) (key : Key) (accepts : Accepts) → IsNode node → AreTied node key accepts
+OwnVotesPass = (node : Node) (sender : Author) (header : Header) (accepts : Accepts) → IsNode node → AreTied node accepts
     → IsTaken node (record { sender = sender; message = message.Header header }) → fault_of node.charter accepts (vote_event node header.body) ≡ None

@@ -1,7 +1,7 @@
 //! Laws of legal histories, proved of the definitions: each is what a function without a body ensures.
 #![tactic(auto)]
 
-ghost use Rattle.laws.specs.Laws.{OneVote, OneCertificate, OneMore, SlotsGrow, AnswersAlike, KeptDecides, KeptFollows, KeptProposes, OutputsGiven, OrderGrows, OrderLengthens, GivenGrows, ProposalsAreNew, ProposalsPass, OwnVotesPass};
+ghost use Rattle.laws.specs.Laws.{OneVote, OneCertificate, OneMore, SlotsGrow, AnswersAlike, KeptDecides, KeptFollows, KeptProposes, OutputsGiven, OrderGrows, OrderLengthens, GivenGrows, ProposalsAreNew, ProposalsAreLegal, ProposalsPass, OwnVotesPass};
 
 /// A legal history has one vote an author and round.
 pub fn one_vote()
@@ -69,6 +69,11 @@ pub fn given_grows()
 /// What is proposed at a legal history passes the checks, whatever its signature, and is new there.
 pub fn proposals_are_new()
     ensures { ProposalsAreNew }
+{}
+
+/// A legal history with what is proposed at it is legal: the proposal keeps all limits, passes the checks and is new.
+pub fn proposals_are_legal()
+    ensures { ProposalsAreLegal }
 {}
 
 /// What is proposed at a legal history passes the checks with its signature too, where the node's signer belongs to

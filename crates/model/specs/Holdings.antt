@@ -1,12 +1,13 @@
 -- What a history holds: batches and whether they are available, votes, certificates, the order and the rounds.
-use Rattle.std.specs.Prelude.{ℕ, ◌+◌, ◌-◌, ◌==◌, ◌&&◌, ◌||◌, nat_le, nat_lt, max, Bool, false, List, [], ◌++◌, map, fold, length, filter, filter_map, find, count_by, Option, Some, None, option_map, option_and_then, if◌then◌else◌}
+use Rattle.std.specs.Prelude.{ℕ, ◌+◌, ◌-◌, ◌==◌, ◌&&◌, ◌||◌, nat_le, nat_lt, max, Bool, false, List, [], ◌++◌, map, fold, filter, filter_map, find, Option, Some, None, is_some, option_map, option_and_then, if◌then◌else◌}
 use Rattle.std.specs.List.{list_any, list_all}
 use Rattle.std.specs.Option.{option_map_or}
 use Rattle.wire.specs.Digests.{batch_digest_of}
+use Rattle.committee.specs.Charter.{numbers, weight}
 use Rattle.model.specs.Histories.{History, batches, acks, headers, votes, received, coins}
-use Rattle.model.specs.Nodes.{Node, size_of, quorum, numbers}
+use Rattle.model.specs.Nodes.{Node, size_of, quorum}
 use Rattle.model.specs.Ordering.{Ledger, order_by, floor_by}
-use Rattle.model.specs.Slots.{Slots, same_digest, header_digest, certificate_digest, is_of_slot, slots_of, round_of}
+use Rattle.model.specs.Slots.{Slots, same_digest, header_digest, certificate_digest, is_of_slot, slots_of}
 use Rattle.model.specs.Words.{Certificate, Contents, Digest, Header, HeaderBody, ParentReference, Vote, VoteEntry}
 
 -- ---- batches
@@ -26,11 +27,14 @@ has_own_batch node history digest = option_map_or (λ batch. batch.author.0 == n
 abbrev pub has_acked : History → Digest → ℕ → Bool
 has_acked history digest member = list_any (λ ack. same_digest ack.batch digest && (ack.author.0 == member)) (acks history)
 
--- an own batch is available: with the node itself, a quorum of members hold it
+-- a member holds an own batch: the node itself, and who has acknowledged it
+abbrev pub holds : Node → History → Digest → ℕ → Bool
+holds node history digest member = (member == node.own.0) || has_acked history digest member
+
+-- an own batch is available: the members who hold it are a quorum
 abbrev pub is_available : Node → History → Digest → Bool
 is_available node history digest =
-    has_own_batch node history digest
-    && nat_le (quorum node) (count_by (λ member. (member == node.own.0) || has_acked history digest member) (numbers (size_of node)))
+    has_own_batch node history digest && nat_le (quorum node) (weight node.charter (holds node history digest))
 
 -- ---- votes
 
@@ -83,10 +87,14 @@ votes_on node history header = filter_map (entry_on node history header) (number
 abbrev pub genesis : ℕ → Certificate
 genesis author = record { header = record { author = record { 0 = author }; round = 0; batches = []; parents = [] }; votes = [] }
 
--- the certificate of an own header, if its votes are a quorum
+-- a member's vote on an own header counts
+abbrev pub has_voted : Node → History → HeaderBody → ℕ → Bool
+has_voted node history header voter = is_some (counted_vote node history header voter)
+
+-- the certificate of an own header, if those who voted for it are a quorum
 abbrev pub completed : Node → History → Header → Option Certificate
 completed node history header =
-    if (header.body.author.0 == node.own.0) && nat_le (quorum node) (length (votes_on node history header.body))
+    if (header.body.author.0 == node.own.0) && nat_le (quorum node) (weight node.charter (has_voted node history header.body))
     then Some (record { header = header.body; votes = votes_on node history header.body }) else None
 
 -- all certificates: those of the genesis, those received, and the own ones
@@ -117,9 +125,9 @@ floor node history = floor_by (ledger_at node history)
 abbrev pub is_low : ℕ → ℕ → Bool
 is_low floor round = (round == 0) || (nat_lt 0 floor && nat_le round floor)
 
--- a quorum of authors has certificates of a round
+-- the authors who have certificates of a round are a quorum
 abbrev pub is_full : Node → Slots → ℕ → Bool
-is_full node slots round = nat_le (quorum node) (length (round_of (size_of node) slots round))
+is_full node slots round = nat_le (quorum node) (weight node.charter (λ author. is_some (slots round author)))
 
 -- 1 plus the greatest round of which a quorum of authors has certificates
 abbrev pub round_by : Node → List Certificate → ℕ

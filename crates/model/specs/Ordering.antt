@@ -1,9 +1,8 @@
 -- Leaders, which of them are committed, and the order. The waves are counted from 1.
-use Rattle.std.specs.Prelude.{ℕ, zero, suc, ◌+◌, ◌-◌, ◌*◌, ◌%◌, ◌&&◌, not, nat_le, Bool, false, List, [], ◌∷◌, ◌++◌, map, length, filter, flat_map, count_by, Option, Some, None, slice_get, option_and_then, if◌then◌else◌}
+use Rattle.std.specs.Prelude.{ℕ, zero, suc, ◌+◌, ◌-◌, ◌*◌, ◌%◌, ◌&&◌, not, nat_le, Bool, false, List, [], ◌∷◌, ◌++◌, map, length, filter, flat_map, Option, Some, None, slice_get, option_and_then, if◌then◌else◌}
 use Rattle.std.specs.List.{range_with_len}
 use Rattle.std.specs.Option.{option_map_or}
-use Rattle.committee.specs.File.{Charter}
-use Rattle.committee.specs.Sizes.{support_of}
+use Rattle.committee.specs.Charter.{Charter, weight, support_of}
 use Rattle.model.specs.Slots.{Slots, certificate_digest, round_of, is_parent, reaches}
 use Rattle.model.specs.Words.{Certificate, Digest}
 
@@ -26,11 +25,14 @@ abbrev pub leader : Ledger → ℕ → Option Certificate
 leader ledger zero = None
 leader ledger (suc wave) = option_and_then (λ coin. ledger.slots (2 * wave + 1) (coin % size_in ledger)) (slice_get ledger.coins wave)
 
--- support: enough certificates of the next round have it as a parent
+-- a member supports a certificate: its own of the next round has it as a parent
+abbrev pub supports : Ledger → Certificate → ℕ → Bool
+supports ledger certificate member =
+    option_map_or (is_parent certificate) (ledger.slots (certificate.header.round + 1) member) false
+
+-- support: those who support it weigh enough
 abbrev pub has_support : Ledger → Certificate → Bool
-has_support ledger certificate =
-    nat_le (support_of (size_in ledger))
-    (count_by (is_parent certificate) (round_of (size_in ledger) ledger.slots (certificate.header.round + 1)))
+has_support ledger certificate = nat_le (support_of ledger.charter) (weight ledger.charter (supports ledger certificate))
 
 -- a wave has a leader with support: it is committed by itself, and with it each leader that it reaches
 abbrev pub is_directly_committed : Ledger → ℕ → Bool

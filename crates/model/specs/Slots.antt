@@ -3,7 +3,7 @@ use Rattle.std.specs.Prelude.{ℕ, zero, suc, ◌+◌, ◌-◌, ◌==◌, ◌&&�
 use Rattle.std.specs.List.{list_any}
 use Rattle.std.specs.Str.{bytes_eq}
 use Rattle.wire.specs.Digests.{header_digest_of, certificate_digest_of}
-use Rattle.model.specs.Nodes.{numbers}
+use Rattle.committee.specs.Charter.{numbers}
 use Rattle.model.specs.Words.{Certificate, Digest, HeaderBody, ParentReference}
 
 -- what each slot holds, by round and author

@@ -23,23 +23,23 @@ pub struct Node<S: Sign> {
 impl<S: Sign> Node<S> {
     /// How many members its committee has.
     pub fn size(&self) -> u16
-        ensures value { result ≡ size_of (node_view S.signature_of self.now) }
+        ensures value { result ≡ size_of (node_view S.own_key S.signature_of self.now) }
         ensures least { 0 < result }
         ensures greatest { result ≤ MAX_MEMBERS }
     {
         self.committee.size()
     }
 
-    /// How many of them are a quorum.
-    pub fn quorum(&self) -> usize
-        ensures { result ≡ quorum (node_view S.signature_of self.now) }
+    /// What members weigh who are a quorum.
+    pub fn quorum(&self) -> u64
+        ensures { result ≡ quorum (node_view S.own_key S.signature_of self.now) }
     {
-        self.committee.quorum() as usize
+        self.committee.quorum()
     }
 
     /// An author is the node itself.
     pub fn is_own(&self, author: Author) -> bool
-        ensures { result ≡ is_own (node_view S.signature_of self.now) author }
+        ensures { result ≡ is_own (node_view S.own_key S.signature_of self.now) author }
     {
         author == self.own
     }

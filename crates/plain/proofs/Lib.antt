@@ -1,2 +1,4 @@
 pub mod Ranges
 mod Voters
+pub mod Sets
+pub mod Items

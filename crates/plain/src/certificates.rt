@@ -1,15 +1,18 @@
 //! The certificates of a history, and its round.
 
-ghost use Rattle.std.specs.Prelude.{◌≡◌, ◌≤◌, IfOk, IfSome, filter_map, map};
+ghost use Rattle.std.specs.Prelude.{◌≡◌, ◌≤◌, ℕ, ◌&&◌, nat_lt, length, IfOk, IfSome, filter_map, map};
 ghost use Rattle.model.specs.Histories.{headers};
 ghost use Rattle.model.specs.Holdings as holdings;
-ghost use Rattle.model.specs.Nodes.{node_view, numbers};
+ghost use Rattle.committee.specs.Charter.{numbers, weight};
+ghost use Rattle.committee.specs.Sets.{has};
+ghost use Rattle.model.specs.Nodes.{node_view};
 ghost use Rattle.wire.specs.declared.limits.TheConstants.{MAX_VOTES};
 
 use crate::histories::{coins, headers, received};
 use crate::holdings::{counted_vote, is_full};
 use crate::ledger::Ledger;
 use crate::ordering::{floor_by, order_by};
+use committee::MemberSet;
 use model::{Event, Node};
 use sigface::Sign;
 use std::alloc::{AllocError, Global};
@@ -22,7 +25,7 @@ fn entry_on<S: Sign>(
     header: &HeaderBody,
     voter: u16,
 ) -> Option<VoteEntry>
-    ensures value { result ≡ holdings.entry_on (node_view S.signature_of node.now) history.now header.now voter }
+    ensures value { result ≡ holdings.entry_on (node_view S.own_key S.signature_of node.now) history.now header.now voter }
     ensures voter { IfSome result (λ entry. entry.voter.0 ≡ voter) }
 {
     match counted_vote(node, history, header, voter) {
@@ -44,7 +47,7 @@ fn votes_of<S: Sign>(
     size: u16,
 ) -> Result<VoteEntries, AllocError>
     requires { size ≤ MAX_VOTES }
-    ensures { IfOk result (λ found. found ≡ filter_map (holdings.entry_on (node_view S.signature_of node.now) history.now header.now) (numbers size)) }
+    ensures { IfOk result (λ found. found ≡ filter_map (holdings.entry_on (node_view S.own_key S.signature_of node.now) history.now header.now) (numbers size)) }
 {
     let mut found = VoteEntries::new(alloc);
     for voter in 0..size {
@@ -62,27 +65,49 @@ pub fn votes_on<S: Sign>(
     history: &[Event],
     header: &HeaderBody,
 ) -> Result<VoteEntries, AllocError>
-    ensures { IfOk result (λ found. found ≡ holdings.votes_on (node_view S.signature_of node.now) history.now header.now) }
+    ensures { IfOk result (λ found. found ≡ holdings.votes_on (node_view S.own_key S.signature_of node.now) history.now header.now) }
 {
     votes_of(alloc, node, history, header, node.size())
 }
 
-/// The certificate of an own header, if its votes are a quorum.
+/// The members whose votes on an own header count.
+#[tactic(auto, using(crate::proofs::Sets::in_more, crate::proofs::Sets::out_more))]
+fn voters_on<S: Sign>(node: &Node<S>, history: &[Event], header: &HeaderBody) -> MemberSet
+    ensures { (member : ℕ) → has result member ≡ (nat_lt member (length node.now.committee.keys) && holdings.has_voted (node_view S.own_key S.signature_of node.now) history.now header.now member) }
+{
+    let size = node.size();
+    let mut voted = MemberSet::none();
+    for voter in 0..size {
+        if counted_vote(node, history, header, voter).is_some() {
+            voted.insert(Author(voter));
+        }
+    }
+    voted
+}
+
+/// What the members weigh whose votes on an own header count.
+fn weight_of_voters<S: Sign>(node: &Node<S>, history: &[Event], header: &HeaderBody) -> u64
+    ensures { result ≡ weight node.now.committee (holdings.has_voted (node_view S.own_key S.signature_of node.now) history.now header.now) }
+{
+    node.committee.weight(&voters_on(node, history, header))
+}
+
+/// The certificate of an own header, if those who voted for it are a quorum.
 pub fn completed<S: Sign>(
     alloc: Global,
     node: &Node<S>,
     history: &[Event],
     header: &Header,
 ) -> Result<Option<Certificate>, AllocError>
-    ensures { IfOk result (λ found. found ≡ holdings.completed (node_view S.signature_of node.now) history.now header.now) }
+    ensures { IfOk result (λ found. found ≡ holdings.completed (node_view S.own_key S.signature_of node.now) history.now header.now) }
 {
     if !node.is_own(header.body.author) {
         return Ok(None);
     }
-    let votes = votes_on(alloc, node, history, &header.body)?;
-    if votes.len() < node.quorum() {
+    if weight_of_voters(node, history, &header.body) < node.quorum() {
         return Ok(None);
     }
+    let votes = votes_on(alloc, node, history, &header.body)?;
     let header = header.body.try_clone()?;
     Ok(Some(Certificate { header, votes }))
 }
@@ -111,7 +136,7 @@ fn own<S: Sign>(
     node: &Node<S>,
     history: &[Event],
 ) -> Result<Vec<Certificate>, AllocError>
-    ensures { IfOk result (λ found. found.items ≡ filter_map (holdings.completed (node_view S.signature_of node.now) history.now) (headers history.now)) }
+    ensures { IfOk result (λ found. found.items ≡ filter_map (holdings.completed (node_view S.own_key S.signature_of node.now) history.now) (headers history.now)) }
 {
     let mut found = Vec::new(alloc);
     let headers = headers(alloc, history)?;
@@ -129,7 +154,7 @@ pub fn certificates<S: Sign>(
     node: &Node<S>,
     history: &[Event],
 ) -> Result<Vec<Certificate>, AllocError>
-    ensures { IfOk result (λ found. found.items ≡ holdings.certificates (node_view S.signature_of node.now) history.now) }
+    ensures { IfOk result (λ found. found.items ≡ holdings.certificates (node_view S.own_key S.signature_of node.now) history.now) }
 {
     let mut found = first(alloc, node.size())?;
     found.append(&mut received(alloc, history)?)?;
@@ -143,7 +168,7 @@ pub fn order<S: Sign>(
     node: &Node<S>,
     history: &[Event],
 ) -> Result<Vec<Digest>, AllocError>
-    ensures { IfOk result (λ found. found.items ≡ holdings.order (node_view S.signature_of node.now) history.now) }
+    ensures { IfOk result (λ found. found.items ≡ holdings.order (node_view S.own_key S.signature_of node.now) history.now) }
 {
     let certificates = certificates(alloc, node, history)?;
     let coins = coins(alloc, history)?;
@@ -157,7 +182,7 @@ pub fn order<S: Sign>(
 
 /// The floor.
 pub fn floor<S: Sign>(alloc: Global, node: &Node<S>, history: &[Event]) -> Result<u64, AllocError>
-    ensures { IfOk result (λ floor. floor ≡ holdings.floor (node_view S.signature_of node.now) history.now) }
+    ensures { IfOk result (λ floor. floor ≡ holdings.floor (node_view S.own_key S.signature_of node.now) history.now) }
 {
     let certificates = certificates(alloc, node, history)?;
     let coins = coins(alloc, history)?;
@@ -166,31 +191,27 @@ pub fn floor<S: Sign>(alloc: Global, node: &Node<S>, history: &[Event]) -> Resul
         certificates: &certificates,
         coins: &coins,
     };
-    floor_by(alloc, &ledger)
+    Ok(floor_by(&ledger))
 }
 
 /// 1 plus the greatest round of which a quorum of authors has certificates.
-pub fn round_by<S: Sign>(
-    alloc: Global,
-    node: &Node<S>,
-    certificates: &[Certificate],
-) -> Result<u64, AllocError>
-    ensures { IfOk result (λ round. round ≡ holdings.round_by (node_view S.signature_of node.now) certificates.now) }
+pub fn round_by<S: Sign>(node: &Node<S>, certificates: &[Certificate]) -> u64
+    ensures { result ≡ holdings.round_by (node_view S.own_key S.signature_of node.now) certificates.now }
 {
     let mut greatest = 0;
     for certificate in certificates {
         let round = certificate.header.round.number();
-        if is_full(alloc, node, certificates, round)? {
-            greatest = round.max(greatest);
+        if is_full(node, certificates, round) {
+            greatest = greatest.max(round);
         }
     }
-    Ok(1 + greatest)
+    1 + greatest
 }
 
 /// The node's round.
 pub fn round<S: Sign>(alloc: Global, node: &Node<S>, history: &[Event]) -> Result<u64, AllocError>
-    ensures { IfOk result (λ round. round ≡ holdings.round (node_view S.signature_of node.now) history.now) }
+    ensures { IfOk result (λ round. round ≡ holdings.round (node_view S.own_key S.signature_of node.now) history.now) }
 {
     let certificates = certificates(alloc, node, history)?;
-    round_by(alloc, node, &certificates)
+    Ok(round_by(node, &certificates))
 }

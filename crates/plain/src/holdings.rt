@@ -1,18 +1,20 @@
 //! What a history holds: batches and whether they are available, votes, certificates, and rounds.
 
-ghost use Rattle.std.specs.Prelude.{◌≡◌, ◌==◌, ◌||◌, IfOk, IfSome, count_by, find, length, option_copied};
+ghost use Rattle.std.specs.Prelude.{◌≡◌, ℕ, ◌&&◌, nat_lt, is_some, IfSome, find, length, option_copied};
 ghost use Rattle.model.specs.Histories.{votes};
 ghost use Rattle.model.specs.Holdings as holdings;
-ghost use Rattle.model.specs.Nodes.{node_view, numbers};
+ghost use Rattle.committee.specs.Charter.{weight};
+ghost use Rattle.committee.specs.Sets.{has};
+ghost use Rattle.model.specs.Nodes.{node_view};
 ghost use Rattle.model.specs.Slots.{slots_of};
 
-use crate::slots::{digest_of, is_of_slot, round_of, slot};
+use crate::slots::{digest_of, is_of_slot, slot};
+use committee::{Committee, MemberSet};
 use model::{Event, Node};
 use sigface::Sign;
-use std::alloc::{AllocError, Global};
 use wire::{
-    Batch, Certificate, Digest, Header, HeaderBody, Message, ParentReference, Vote, batch_digest,
-    header_digest,
+    Author, Batch, Certificate, Digest, Header, HeaderBody, Message, ParentReference, Vote,
+    batch_digest, header_digest,
 };
 
 /// The batch of a digest, if it is held.
@@ -31,7 +33,7 @@ pub fn batch_at<'a>(history: &'a [Event], digest: &Digest) -> Option<&'a Batch>
 
 /// The node has an own batch of this digest.
 pub fn has_own_batch<S: Sign>(node: &Node<S>, history: &[Event], digest: &Digest) -> bool
-    ensures { result ≡ holdings.has_own_batch (node_view S.signature_of node.now) history.now digest.now }
+    ensures { result ≡ holdings.has_own_batch (node_view S.own_key S.signature_of node.now) history.now digest.now }
 {
     match batch_at(history, digest) {
         None => false,
@@ -53,20 +55,34 @@ pub fn has_acked(history: &[Event], digest: &Digest, member: u16) -> bool
     false
 }
 
-/// How many members hold an own batch, with the node itself.
-fn holders<S: Sign>(node: &Node<S>, history: &[Event], digest: &Digest) -> usize
-    ensures { result ≡ count_by (λ member. (member == node.now.own.0) || holdings.has_acked history.now digest.now member) (numbers (length node.now.committee.keys)) }
+/// The members who hold an own batch: the node itself, and who has acknowledged it.
+#[tactic(auto, using(crate::proofs::Sets::in_more, crate::proofs::Sets::out_more))]
+fn holders<S: Sign>(node: &Node<S>, history: &[Event], digest: &Digest) -> MemberSet
+    ensures { (member : ℕ) → has result member ≡ (nat_lt member (length node.now.committee.keys) && holdings.holds (node_view S.own_key S.signature_of node.now) history.now digest.now member) }
 {
-    (0..node.size())
-        .filter(|member| *member == node.own.0 || has_acked(history, digest, *member))
-        .count()
+    let size = node.size();
+    let mut held = MemberSet::none();
+    for member in 0..size {
+        if member == node.own.0 || has_acked(history, digest, member) {
+            held.insert(Author(member));
+        }
+    }
+    held
+}
+
+/// What the members weigh who hold an own batch.
+fn weight_of_holders<S: Sign>(node: &Node<S>, history: &[Event], digest: &Digest) -> u64
+    ensures { result ≡ weight node.now.committee (holdings.holds (node_view S.own_key S.signature_of node.now) history.now digest.now) }
+{
+    node.committee.weight(&holders(node, history, digest))
 }
 
 /// An own batch is available.
 pub fn is_available<S: Sign>(node: &Node<S>, history: &[Event], digest: &Digest) -> bool
-    ensures { result ≡ holdings.is_available (node_view S.signature_of node.now) history.now digest.now }
+    ensures { result ≡ holdings.is_available (node_view S.own_key S.signature_of node.now) history.now digest.now }
 {
-    has_own_batch(node, history, digest) && node.quorum() <= holders(node, history, digest)
+    has_own_batch(node, history, digest)
+        && node.quorum() <= weight_of_holders(node, history, digest)
 }
 
 /// The header that has the vote for an author and round.
@@ -104,7 +120,7 @@ pub fn is_vote_on(header: &HeaderBody, voter: u16, vote: &Vote) -> bool
 
 /// The node's own vote for a header.
 pub fn own_vote<S: Sign>(node: &Node<S>, header: &HeaderBody) -> Vote
-    ensures { result ≡ holdings.own_vote (node_view S.signature_of node.now) header.now }
+    ensures { result ≡ holdings.own_vote (node_view S.own_key S.signature_of node.now) header.now }
 {
     Vote {
         header: header_digest(header),
@@ -137,7 +153,7 @@ pub fn counted_vote<S: Sign>(
     header: &HeaderBody,
     voter: u16,
 ) -> Option<Vote>
-    ensures value { result ≡ holdings.counted_vote (node_view S.signature_of node.now) history.now header.now voter }
+    ensures value { result ≡ holdings.counted_vote (node_view S.own_key S.signature_of node.now) history.now header.now voter }
     ensures voter { IfSome result (λ vote. vote.voter.0 ≡ voter) }
 {
     if voter == node.own.0 {
@@ -153,7 +169,7 @@ pub fn counted_at<S: Sign>(
     round: u64,
     voter: u16,
 ) -> Option<Vote>
-    ensures { result ≡ holdings.counted_at (node_view S.signature_of node.now) history.now round voter }
+    ensures { result ≡ holdings.counted_at (node_view S.own_key S.signature_of node.now) history.now round voter }
 {
     match voted_header(history, round, node.own.0) {
         None => None,
@@ -168,16 +184,33 @@ pub fn is_low(floor: u64, round: u64) -> bool
     round == 0 || (floor > 0 && round <= floor)
 }
 
-/// A quorum of authors has certificates of a round.
-pub fn is_full<S: Sign>(
-    alloc: Global,
-    node: &Node<S>,
-    certificates: &[Certificate],
-    round: u64,
-) -> Result<bool, AllocError>
-    ensures { IfOk result (λ full. full ≡ holdings.is_full (node_view S.signature_of node.now) (slots_of certificates.now) round) }
+/// The members who have certificates of a round.
+#[tactic(auto, using(crate::proofs::Sets::in_more, crate::proofs::Sets::out_more))]
+fn authors_of(committee: &Committee, certificates: &[Certificate], round: u64) -> MemberSet
+    ensures { (member : ℕ) → has result member ≡ (nat_lt member (length committee.now.keys) && is_some (slots_of certificates.now round member)) }
 {
-    Ok(node.quorum() <= round_of(alloc, node.size(), certificates, round)?.len())
+    let size = committee.size();
+    let mut held = MemberSet::none();
+    for author in 0..size {
+        if slot(certificates, round, author).is_some() {
+            held.insert(Author(author));
+        }
+    }
+    held
+}
+
+/// What the members weigh who have certificates of a round.
+fn weight_of_authors(committee: &Committee, certificates: &[Certificate], round: u64) -> u64
+    ensures { result ≡ weight committee.now (λ author. is_some (slots_of certificates.now round author)) }
+{
+    committee.weight(&authors_of(committee, certificates, round))
+}
+
+/// The authors who have certificates of a round are a quorum.
+pub fn is_full<S: Sign>(node: &Node<S>, certificates: &[Certificate], round: u64) -> bool
+    ensures { result ≡ holdings.is_full (node_view S.own_key S.signature_of node.now) (slots_of certificates.now) round }
+{
+    node.quorum() <= weight_of_authors(&node.committee, certificates, round)
 }
 
 /// A parent of a header of a round is held.

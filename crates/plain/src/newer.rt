@@ -66,18 +66,18 @@ pub fn newer_at(
 pub fn newer(alloc: Global, ledger: &Ledger, base: u64) -> Result<Vec<Certificate>, AllocError>
     ensures { IfOk result (λ found. found.items ≡ newer (ledger_view ledger.now) base) }
 {
-    match top(alloc, ledger)? {
+    match top(ledger) {
         None => Ok(Vec::new(alloc)),
         Some(wave) => newer_at(alloc, ledger, base, wave),
     }
 }
 
 /// The greatest wave that is directly committed, or 0.
-pub fn last_wave(alloc: Global, ledger: &Ledger) -> Result<u64, AllocError>
-    ensures { IfOk result (λ wave. wave ≡ last_wave (ledger_view ledger.now)) }
+pub fn last_wave(ledger: &Ledger) -> u64
+    ensures { result ≡ last_wave (ledger_view ledger.now) }
 {
-    match top(alloc, ledger)? {
-        None => Ok(0),
-        Some(wave) => Ok(wave),
+    match top(ledger) {
+        None => 0,
+        Some(wave) => wave,
     }
 }

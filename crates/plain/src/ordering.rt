@@ -1,15 +1,17 @@
 //! Leaders, which of them are committed, and the order.
 
-ghost use Rattle.std.specs.Prelude.{◌≡◌, ◌<◌, ◌≤◌, IfOk, IfSome, None, count_by, length, option_copied};
-ghost use Rattle.model.specs.Slots.{is_parent};
-ghost use Rattle.model.specs.Ordering.{leader, has_support, is_directly_committed, top_to, top, chain, is_past, rounds_to, is_ordered_by, segment, segments, committed, order_by, floor_by};
+ghost use Rattle.std.specs.Prelude.{◌≡◌, ◌<◌, ◌≤◌, ℕ, ◌&&◌, nat_lt, IfOk, IfSome, None, length, option_copied};
+ghost use Rattle.committee.specs.Charter.{weight};
+ghost use Rattle.committee.specs.Sets.{has};
+ghost use Rattle.model.specs.Ordering.{size_in, leader, supports, has_support, is_directly_committed, top_to, top, chain, is_past, rounds_to, is_ordered_by, segment, segments, committed, order_by, floor_by};
 ghost use Rattle.plain.specs.Ledgers.{ledger_view};
 
 use crate::ledger::{Ledger, reaches_in, round_in, size_in};
 use crate::newer::{newer, newer_at};
 use crate::slots::{digest_of, is_parent, slot};
+use committee::MemberSet;
 use std::alloc::{AllocError, Global};
-use wire::{Certificate, Digest};
+use wire::{Author, Certificate, Digest};
 
 /// The leader of a wave.
 pub fn leader<'a>(ledger: &Ledger<'a>, wave: u64) -> Option<&'a Certificate>
@@ -28,57 +30,79 @@ pub fn leader<'a>(ledger: &Ledger<'a>, wave: u64) -> Option<&'a Certificate>
     }
 }
 
-/// A certificate has support.
-pub fn has_support(
-    alloc: Global,
-    ledger: &Ledger,
-    certificate: &Certificate,
-) -> Result<bool, AllocError>
-    ensures { IfOk result (λ found. found ≡ has_support (ledger_view ledger.now) certificate.now) }
+/// A member supports a certificate: its own of the next round has it as a parent.
+pub fn supports(ledger: &Ledger, certificate: &Certificate, member: u16) -> bool
+    ensures { result ≡ supports (ledger_view ledger.now) certificate.now member }
 {
-    let above = round_in(alloc, ledger, certificate.header.round.number() + 1)?;
-    Ok(ledger.committee.support() as usize <= children_among(certificate, &above))
+    match slot(
+        ledger.certificates,
+        certificate.header.round.number() + 1,
+        member,
+    ) {
+        None => false,
+        Some(child) => is_parent(certificate, child),
+    }
 }
 
-fn children_among(certificate: &Certificate, others: &[Certificate]) -> usize
-    ensures { result ≡ count_by (is_parent certificate.now) others.now }
+/// The members who support a certificate.
+#[tactic(auto, using(crate::proofs::Sets::in_more, crate::proofs::Sets::out_more))]
+fn supporters(ledger: &Ledger, certificate: &Certificate) -> MemberSet
+    ensures { (member : ℕ) → has result member ≡ (nat_lt member (size_in (ledger_view ledger.now)) && supports (ledger_view ledger.now) certificate.now member) }
 {
-    others
-        .iter()
-        .filter(|child| is_parent(certificate, child))
-        .count()
+    let size = ledger.committee.size();
+    let mut supporting = MemberSet::none();
+    for member in 0..size {
+        if supports(ledger, certificate, member) {
+            supporting.insert(Author(member));
+        }
+    }
+    supporting
+}
+
+/// What the members weigh who support a certificate.
+fn weight_of_supporters(ledger: &Ledger, certificate: &Certificate) -> u64
+    ensures { result ≡ weight (ledger_view ledger.now).charter (supports (ledger_view ledger.now) certificate.now) }
+{
+    ledger.committee.weight(&supporters(ledger, certificate))
+}
+
+/// A certificate has support.
+pub fn has_support(ledger: &Ledger, certificate: &Certificate) -> bool
+    ensures { result ≡ has_support (ledger_view ledger.now) certificate.now }
+{
+    ledger.committee.support() <= weight_of_supporters(ledger, certificate)
 }
 
 /// A wave has a leader with support.
-pub fn is_directly_committed(alloc: Global, ledger: &Ledger, wave: u64) -> Result<bool, AllocError>
-    ensures { IfOk result (λ found. found ≡ is_directly_committed (ledger_view ledger.now) wave) }
+pub fn is_directly_committed(ledger: &Ledger, wave: u64) -> bool
+    ensures { result ≡ is_directly_committed (ledger_view ledger.now) wave }
 {
     match leader(ledger, wave) {
-        None => Ok(false),
-        Some(leader) => has_support(alloc, ledger, leader),
+        None => false,
+        Some(leader) => has_support(ledger, leader),
     }
 }
 
 /// The greatest wave up to one that is directly committed.
-pub fn top_to(alloc: Global, ledger: &Ledger, wave: u64) -> Result<Option<u64>, AllocError>
-    ensures value { IfOk result (λ found. found ≡ top_to (ledger_view ledger.now) wave) }
-    ensures within { IfOk result (λ found. IfSome found (λ top. (0 < top) × (top ≤ wave))) }
+pub fn top_to(ledger: &Ledger, wave: u64) -> Option<u64>
+    ensures value { result ≡ top_to (ledger_view ledger.now) wave }
+    ensures within { IfSome result (λ top. (0 < top) × (top ≤ wave)) }
 {
     if wave == 0 {
-        return Ok(None);
+        return None;
     }
-    if is_directly_committed(alloc, ledger, wave)? {
-        return Ok(Some(wave));
+    if is_directly_committed(ledger, wave) {
+        return Some(wave);
     }
-    top_to(alloc, ledger, wave - 1)
+    top_to(ledger, wave - 1)
 }
 
 /// The greatest wave that is directly committed.
-pub fn top(alloc: Global, ledger: &Ledger) -> Result<Option<u64>, AllocError>
-    ensures value { IfOk result (λ found. found ≡ top (ledger_view ledger.now)) }
-    ensures within { IfOk result (λ found. IfSome found (λ top. (0 < top) × (top ≤ length ledger.now.coins.now))) }
+pub fn top(ledger: &Ledger) -> Option<u64>
+    ensures value { result ≡ top (ledger_view ledger.now) }
+    ensures within { IfSome result (λ top. (0 < top) × (top ≤ length ledger.now.coins.now)) }
 {
-    top_to(alloc, ledger, ledger.coins.len() as u64)
+    top_to(ledger, ledger.coins.len() as u64)
 }
 
 /// The leaders that are committed with that of a wave.
@@ -189,11 +213,11 @@ pub fn order_by(alloc: Global, ledger: &Ledger) -> Result<Vec<Digest>, AllocErro
 }
 
 /// The floor.
-pub fn floor_by(alloc: Global, ledger: &Ledger) -> Result<u64, AllocError>
-    ensures { IfOk result (λ floor. floor ≡ floor_by (ledger_view ledger.now)) }
+pub fn floor_by(ledger: &Ledger) -> u64
+    ensures { result ≡ floor_by (ledger_view ledger.now) }
 {
-    match top(alloc, ledger)? {
-        None => Ok(0),
-        Some(wave) => Ok((2 * wave - 1).saturating_sub(ledger.committee.depth())),
+    match top(ledger) {
+        None => 0,
+        Some(wave) => (2 * wave - 1).saturating_sub(ledger.committee.depth()),
     }
 }

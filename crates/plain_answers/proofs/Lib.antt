@@ -1,4 +1,2 @@
-mod Items
 mod Lasts
 mod Parents
-mod Placing

@@ -4,6 +4,7 @@ ghost use Rattle.std.specs.Prelude.{◌≡◌, ◌<◌, ◌++◌, ◌∷◌, [],
 ghost use Rattle.std.specs.Str.{bytes_eq};
 ghost use Rattle.std.specs.List.{list_all};
 ghost use Rattle.model.specs.Admitting as admitting;
+ghost use Rattle.model.specs.Holdings as holdings;
 ghost use Rattle.model.specs.Nodes.{node_view};
 ghost use Rattle.wire.specs.Batches.{batch_body};
 ghost use Rattle.wire.specs.Events as incoming;
@@ -39,7 +40,7 @@ fn held_batch_answer<S: Sign>(
     held: &Batch,
     batch: &Batch,
 ) -> Result<Admission, AllocError>
-    ensures { IfOk result (λ answer. answer ≡ admitting.held_batch_answer (node_view S.signature_of node.now) held.now batch.now) }
+    ensures { IfOk result (λ answer. answer ≡ admitting.held_batch_answer (node_view S.own_key S.signature_of node.now) held.now batch.now) }
 {
     if same_body(held, batch) {
         return Ok(Admission::Known(batch_outputs(alloc, node, held)?));
@@ -54,7 +55,7 @@ pub fn batch_answer<S: Sign>(
     history: &[Event],
     batch: &Batch,
 ) -> Result<Admission, AllocError>
-    ensures { IfOk result (λ answer. answer ≡ admitting.batch_answer (node_view S.signature_of node.now) history.now batch.now) }
+    ensures { IfOk result (λ answer. answer ≡ admitting.batch_answer (node_view S.own_key S.signature_of node.now) history.now batch.now) }
 {
     if let Some(held) = batch_at(history, &batch_digest(batch)) {
         return held_batch_answer(alloc, node, held, batch);
@@ -72,7 +73,7 @@ pub fn ack_answer<S: Sign>(
     history: &[Event],
     ack: &BatchAck,
 ) -> Admission
-    ensures { result ≡ admitting.ack_answer (node_view S.signature_of node.now) history.now ack.now }
+    ensures { result ≡ admitting.ack_answer (node_view S.own_key S.signature_of node.now) history.now ack.now }
 {
     if !has_own_batch(node, history, &ack.batch) {
         return Admission::Refused(Refusal::NotOurs);
@@ -90,7 +91,7 @@ pub fn may_name<S: Sign>(
     header: &Header,
     named: &BatchReference,
 ) -> bool
-    ensures { result ≡ admitting.may_name (node_view S.signature_of node.now) history.now header.now named.now }
+    ensures { result ≡ admitting.may_name (node_view S.own_key S.signature_of node.now) history.now header.now named.now }
 {
     match batch_at(history, &named.digest) {
         Some(batch) if batch.worker() == named.worker => {
@@ -106,7 +107,7 @@ fn may_name_all<S: Sign>(
     header: &Header,
     named: &[BatchReference],
 ) -> bool
-    ensures { result ≡ list_all (admitting.may_name (node_view S.signature_of node.now) history.now header.now) named.now }
+    ensures { result ≡ list_all (admitting.may_name (node_view S.own_key S.signature_of node.now) history.now header.now) named.now }
 {
     named
         .iter()
@@ -120,7 +121,7 @@ pub fn header_answer<S: Sign>(
     history: &[Event],
     header: &Header,
 ) -> Result<Admission, AllocError>
-    ensures { IfOk result (λ answer. answer ≡ admitting.header_answer (node_view S.signature_of node.now) history.now header.now) }
+    ensures { IfOk result (λ answer. answer ≡ admitting.header_answer (node_view S.own_key S.signature_of node.now) history.now header.now) }
 {
     let floor = floor(alloc, node, history)?;
     let body = &header.body;
@@ -151,7 +152,7 @@ fn order_outputs<S: Sign>(
     node: &Node<S>,
     arrival: &Arrival,
 ) -> Result<Outputs, AllocError>
-    ensures { IfOk result (λ outputs. outputs ≡ admitting.order_outputs (node_view S.signature_of node.now) arrival.now.history.now arrival.now.event.now) }
+    ensures { IfOk result (λ outputs. outputs ≡ admitting.order_outputs (node_view S.own_key S.signature_of node.now) arrival.now.history.now arrival.now.event.now) }
 {
     let mut outputs = Outputs::new(alloc);
     push_order(alloc, node, &mut outputs, arrival)?;
@@ -165,7 +166,7 @@ fn vote_outputs<S: Sign>(
     arrival: &Arrival,
     header: &Header,
 ) -> Result<Outputs, AllocError>
-    ensures { IfOk result (λ outputs. outputs ≡ admitting.vote_outputs (node_view S.signature_of node.now) arrival.now.history.now arrival.now.event.now header.now) }
+    ensures { IfOk result (λ outputs. outputs ≡ admitting.vote_outputs (node_view S.own_key S.signature_of node.now) arrival.now.history.now arrival.now.event.now header.now) }
 {
     let mut outputs = Outputs::new(alloc);
     if let Some(certificate) = completed(alloc, node, arrival.events, header)? {
@@ -183,7 +184,7 @@ fn counted_answer<S: Sign>(
     header: &Header,
     voter: u16,
 ) -> Result<Admission, AllocError>
-    ensures { IfOk result (λ answer. answer ≡ admitting.counted_answer (node_view S.signature_of node.now) arrival.now.history.now arrival.now.event.now header.now voter) }
+    ensures { IfOk result (λ answer. answer ≡ admitting.counted_answer (node_view S.own_key S.signature_of node.now) arrival.now.history.now arrival.now.event.now header.now voter) }
 {
     if counted_vote(node, arrival.history, &header.body, voter).is_some() {
         return Ok(Admission::Known(Outputs::new(alloc)));
@@ -210,7 +211,7 @@ pub fn vote_answer<S: Sign>(
     arrival: &Arrival,
     vote: &Vote,
 ) -> Result<Admission, AllocError>
-    ensures { IfOk result (λ answer. answer ≡ admitting.vote_answer (node_view S.signature_of node.now) arrival.now.history.now arrival.now.event.now vote.now) }
+    ensures { IfOk result (λ answer. answer ≡ admitting.vote_answer (node_view S.own_key S.signature_of node.now) arrival.now.history.now arrival.now.event.now vote.now) }
 {
     if !node.is_own(vote.author) {
         return Ok(Admission::Refused(Refusal::NotOurs));
@@ -249,7 +250,7 @@ pub fn certificate_answer<S: Sign>(
     arrival: &Arrival,
     certificate: &Certificate,
 ) -> Result<Admission, AllocError>
-    ensures { IfOk result (λ answer. answer ≡ admitting.certificate_answer (node_view S.signature_of node.now) arrival.now.history.now arrival.now.event.now certificate.now) }
+    ensures { IfOk result (λ answer. answer ≡ admitting.certificate_answer (node_view S.own_key S.signature_of node.now) arrival.now.history.now arrival.now.event.now certificate.now) }
 {
     let floor = floor(alloc, node, arrival.history)?;
     let header = &certificate.header;
@@ -272,6 +273,19 @@ pub fn certificate_answer<S: Sign>(
     Ok(Admission::New(order_outputs(alloc, node, arrival)?))
 }
 
+/// The authors who have certificates of a round of a history are a quorum.
+fn is_full_at<S: Sign>(
+    alloc: Global,
+    node: &Node<S>,
+    history: &[Event],
+    round: u64,
+) -> Result<bool, AllocError>
+    ensures { IfOk result (λ full. full ≡ holdings.is_full (node_view S.own_key S.signature_of node.now) (holdings.slots (node_view S.own_key S.signature_of node.now) history.now) round) }
+{
+    let certificates = certificates(alloc, node, history)?;
+    Ok(is_full(node, &certificates, round))
+}
+
 /// What a coin is answered.
 pub fn coin_answer<S: Sign>(
     alloc: Global,
@@ -279,7 +293,7 @@ pub fn coin_answer<S: Sign>(
     arrival: &Arrival,
     coin: &Coin,
 ) -> Result<Admission, AllocError>
-    ensures { IfOk result (λ answer. answer ≡ admitting.coin_answer (node_view S.signature_of node.now) arrival.now.history.now arrival.now.event.now coin.now) }
+    ensures { IfOk result (λ answer. answer ≡ admitting.coin_answer (node_view S.own_key S.signature_of node.now) arrival.now.history.now arrival.now.event.now coin.now) }
 {
     let event = arrival.event;
     if !node.is_own(event.sender) {
@@ -296,8 +310,7 @@ pub fn coin_answer<S: Sign>(
     if wave != coins.len() as u64 + 1 {
         return Ok(Admission::Refused(Refusal::CoinOutOfTurn));
     }
-    let certificates = certificates(alloc, node, arrival.history)?;
-    if !is_full(alloc, node, &certificates, 2 * wave + 1)? {
+    if !is_full_at(alloc, node, arrival.history, 2 * wave + 1)? {
         return Ok(Admission::Refused(Refusal::CoinEarly));
     }
     Ok(Admission::New(order_outputs(alloc, node, arrival)?))
@@ -309,7 +322,7 @@ pub fn admit<S: Sign>(
     node: &Node<S>,
     arrival: &Arrival,
 ) -> Result<Admission, AllocError>
-    ensures { IfOk result (λ answer. answer ≡ admitting.admit (node_view S.signature_of node.now) arrival.now.history.now arrival.now.event.now) }
+    ensures { IfOk result (λ answer. answer ≡ admitting.admit (node_view S.own_key S.signature_of node.now) arrival.now.history.now arrival.now.event.now) }
 {
     let event = arrival.event;
     match &event.message {
@@ -332,7 +345,7 @@ pub fn admit_last<S: Sign>(
     events: &[Event],
 ) -> Result<Admission, AllocError>
     requires { 0 < length events.now }
-    ensures { (history : List incoming.Event) (event : incoming.Event) → events.now ≡ history ++ event ∷ [] → IfOk result (λ answer. answer ≡ admitting.admit (node_view S.signature_of node.now) history event) }
+    ensures { (history : List incoming.Event) (event : incoming.Event) → events.now ≡ history ++ event ∷ [] → IfOk result (λ answer. answer ≡ admitting.admit (node_view S.own_key S.signature_of node.now) history event) }
 {
     match events.split_last() {
         None => unreachable!(),
@@ -354,7 +367,7 @@ pub fn answers<S: Sign>(
     node: &Node<S>,
     events: Vec<Event>,
 ) -> Result<Vec<Admission>, AllocError>
-    ensures { IfOk result (λ found. found.items ≡ admitting.answers (node_view S.signature_of node.now) [] events.items) }
+    ensures { IfOk result (λ found. found.items ≡ admitting.answers (node_view S.own_key S.signature_of node.now) [] events.items) }
 {
     let mut history = Vec::new(alloc);
     let mut found = Vec::new(alloc);
@@ -375,7 +388,7 @@ pub fn each_new<S: Sign>(
     node: &Node<S>,
     events: Vec<Event>,
 ) -> Result<bool, AllocError>
-    ensures { IfOk result (λ found. found ≡ admitting.each_new (node_view S.signature_of node.now) [] events.items) }
+    ensures { IfOk result (λ found. found ≡ admitting.each_new (node_view S.own_key S.signature_of node.now) [] events.items) }
 {
     let mut history = Vec::new(alloc);
     for event in events {

@@ -20,7 +20,7 @@ fn is_low_at<S: Sign>(
     history: &[Event],
     round: u64,
 ) -> Result<bool, AllocError>
-    ensures { IfOk result (λ low. low ≡ holdings.is_low (holdings.floor (node_view S.signature_of node.now) history.now) round) }
+    ensures { IfOk result (λ low. low ≡ holdings.is_low (holdings.floor (node_view S.own_key S.signature_of node.now) history.now) round) }
 {
     Ok(is_low(floor(alloc, node, history)?, round))
 }
@@ -33,7 +33,7 @@ pub fn kept_vote<S: Sign>(
     round: u64,
     author: u16,
 ) -> Result<Option<Digest>, AllocError>
-    ensures { IfOk result (λ found. found ≡ (kept (node_view S.signature_of node.now) history.now).votes round author) }
+    ensures { IfOk result (λ found. found ≡ (kept (node_view S.own_key S.signature_of node.now) history.now).votes round author) }
 {
     if is_low_at(alloc, node, history, round)? {
         return Ok(None);
@@ -48,7 +48,7 @@ pub fn kept_header<'a, S: Sign>(
     history: &'a [Event],
     round: u64,
 ) -> Result<Option<&'a Header>, AllocError>
-    ensures { IfOk result (λ found. option_copied found ≡ (kept (node_view S.signature_of node.now) history.now).own_headers round) }
+    ensures { IfOk result (λ found. option_copied found ≡ (kept (node_view S.own_key S.signature_of node.now) history.now).own_headers round) }
 {
     if is_low_at(alloc, node, history, round)? {
         return Ok(None);
@@ -64,7 +64,7 @@ pub fn kept_counted<S: Sign>(
     round: u64,
     voter: u16,
 ) -> Result<Option<Vote>, AllocError>
-    ensures { IfOk result (λ found. found ≡ (kept (node_view S.signature_of node.now) history.now).counted round voter) }
+    ensures { IfOk result (λ found. found ≡ (kept (node_view S.own_key S.signature_of node.now) history.now).counted round voter) }
 {
     if is_low_at(alloc, node, history, round)? {
         return Ok(None);
@@ -80,7 +80,7 @@ pub fn kept_slot<S: Sign>(
     round: u64,
     author: u16,
 ) -> Result<Option<Certificate>, AllocError>
-    ensures { IfOk result (λ found. found ≡ (kept (node_view S.signature_of node.now) history.now).slots round author) }
+    ensures { IfOk result (λ found. found ≡ (kept (node_view S.own_key S.signature_of node.now) history.now).slots round author) }
 {
     if round < floor(alloc, node, history)? {
         return Ok(None);

@@ -21,7 +21,7 @@ pub fn batch_outputs<S: Sign>(
     node: &Node<S>,
     batch: &Batch,
 ) -> Result<Outputs, AllocError>
-    ensures { IfOk result (λ outputs. outputs ≡ admitting.batch_outputs (node_view S.signature_of node.now) batch.now) }
+    ensures { IfOk result (λ outputs. outputs ≡ admitting.batch_outputs (node_view S.own_key S.signature_of node.now) batch.now) }
 {
     let mut outputs = Outputs::new(alloc);
     if node.is_own(batch.author()) {
@@ -43,7 +43,7 @@ pub fn header_outputs<S: Sign>(
     node: &Node<S>,
     header: &Header,
 ) -> Result<Outputs, AllocError>
-    ensures { IfOk result (λ outputs. outputs ≡ admitting.header_outputs (node_view S.signature_of node.now) header.now) }
+    ensures { IfOk result (λ outputs. outputs ≡ admitting.header_outputs (node_view S.own_key S.signature_of node.now) header.now) }
 {
     let mut outputs = Outputs::new(alloc);
     if node.is_own(header.body.author) {
@@ -127,7 +127,7 @@ pub fn push_order<S: Sign>(
     outputs: &mut Outputs,
     arrival: &Arrival,
 ) -> Result<(), AllocError>
-    ensures { OnOk result (outputs.new ≡ outputs.old ++ admitting.order_outputs (node_view S.signature_of node.now) arrival.now.history.now arrival.now.event.now) }
+    ensures { OnOk result (outputs.new ≡ outputs.old ++ admitting.order_outputs (node_view S.own_key S.signature_of node.now) arrival.now.history.now arrival.now.event.now) }
 {
     let before = order(alloc, node, arrival.history)?;
     let after = order(alloc, node, arrival.events)?;

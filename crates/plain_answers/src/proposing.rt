@@ -31,7 +31,7 @@ fn names(batches: &[BatchReference], digest: &Digest) -> bool
 
 /// An own header has named the batch of this digest.
 pub fn was_named<S: Sign>(node: &Node<S>, history: &[Event], digest: &Digest) -> bool
-    ensures { result ≡ proposing.was_named (node_view S.signature_of node.now) history.now digest.now }
+    ensures { result ≡ proposing.was_named (node_view S.own_key S.signature_of node.now) history.now digest.now }
 {
     for event in history {
         if let Message::Header(header) = &event.message {
@@ -52,21 +52,21 @@ fn digest_of_batch(batch: &Batch) -> Digest
 
 /// An own batch is available, and no own header has named it.
 fn is_waiting<S: Sign>(node: &Node<S>, history: &[Event], digest: &Digest) -> bool
-    ensures { result ≡ holdings.is_available (node_view S.signature_of node.now) history.now digest.now && not (proposing.was_named (node_view S.signature_of node.now) history.now digest.now) }
+    ensures { result ≡ holdings.is_available (node_view S.own_key S.signature_of node.now) history.now digest.now && not (proposing.was_named (node_view S.own_key S.signature_of node.now) history.now digest.now) }
 {
     is_available(node, history, digest) && !was_named(node, history, digest)
 }
 
 /// An own batch may be named.
 fn is_nameable<S: Sign>(node: &Node<S>, history: &[Event], batch: &Batch) -> bool
-    ensures { result ≡ proposing.is_nameable (node_view S.signature_of node.now) history.now batch.now }
+    ensures { result ≡ proposing.is_nameable (node_view S.own_key S.signature_of node.now) history.now batch.now }
 {
     node.is_own(batch.author()) && is_waiting(node, history, &digest_of_batch(batch))
 }
 
 /// An own batch that may be named, as a header names it.
 pub fn to_name<S: Sign>(node: &Node<S>, history: &[Event], batch: &Batch) -> Option<BatchReference>
-    ensures { result ≡ proposing.to_name (node_view S.signature_of node.now) history.now batch.now }
+    ensures { result ≡ proposing.to_name (node_view S.own_key S.signature_of node.now) history.now batch.now }
 {
     if !is_nameable(node, history, batch) {
         return None;
@@ -116,7 +116,7 @@ pub fn nameable<S: Sign>(
     node: &Node<S>,
     history: &[Event],
 ) -> Result<Vec<BatchReference>, AllocError>
-    ensures value { IfOk result (λ found. found.items ≡ proposing.nameable (node_view S.signature_of node.now) history.now) }
+    ensures value { IfOk result (λ found. found.items ≡ proposing.nameable (node_view S.own_key S.signature_of node.now) history.now) }
     ensures order { IfOk result (λ found. IsTrue (batches_rise found.items)) }
 {
     let mut found = Vec::new(alloc);
@@ -148,7 +148,7 @@ fn named_batches<S: Sign>(
     node: &Node<S>,
     history: &[Event],
 ) -> Result<BatchReferences, AllocError>
-    ensures { IfOk result (λ found. found ≡ take MAX_BATCHES (proposing.nameable (node_view S.signature_of node.now) history.now)) }
+    ensures { IfOk result (λ found. found ≡ take MAX_BATCHES (proposing.nameable (node_view S.own_key S.signature_of node.now) history.now)) }
 {
     let nameable = nameable(alloc, node, history)?;
     named(alloc, first_of(&nameable, MAX_BATCHES))
@@ -208,8 +208,8 @@ fn proposal<S: Sign>(
     history: &[Event],
     round: Round,
 ) -> Result<HeaderBody, AllocError>
-    requires { round ≡ holdings.round (node_view S.signature_of node.now) history.now }
-    ensures { IfOk result (λ body. body ≡ proposing.proposal (node_view S.signature_of node.now) history.now) }
+    requires { round ≡ holdings.round (node_view S.own_key S.signature_of node.now) history.now }
+    ensures { IfOk result (λ body. body ≡ proposing.proposal (node_view S.own_key S.signature_of node.now) history.now) }
 {
     let batches = named_batches(alloc, node, history)?;
     let certificates = certificates(alloc, node, history)?;
@@ -225,7 +225,7 @@ fn proposal<S: Sign>(
 
 /// A header with the node's signature.
 fn signed<S: Sign>(node: &Node<S>, body: HeaderBody) -> Header
-    ensures { result ≡ proposing.signed (node_view S.signature_of node.now) body }
+    ensures { result ≡ proposing.signed (node_view S.own_key S.signature_of node.now) body }
 {
     let signature = node.signer.sign(&digest_of_header(&body));
     Header { body, signature }
@@ -244,7 +244,7 @@ pub fn propose<S: Sign>(
     node: &Node<S>,
     history: &[Event],
 ) -> Result<Option<Header>, AllocError>
-    ensures { IfOk result (λ found. found ≡ proposing.propose (node_view S.signature_of node.now) history.now) }
+    ensures { IfOk result (λ found. found ≡ proposing.propose (node_view S.own_key S.signature_of node.now) history.now) }
 {
     let number = round(alloc, node, history)?;
     if has_header(history, number, node.own.0) {

@@ -6,6 +6,7 @@ mod frames;
 mod members;
 mod messages;
 mod numbers;
+mod stakes;
 mod tables;
 mod words;
 

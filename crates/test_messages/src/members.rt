@@ -38,10 +38,10 @@ pub fn read_committee(
 }
 
 fn tell_committee(committee: &Committee, answer: &mut String) -> Told {
-    let (size, quorum) = (committee.size() as u64, committee.quorum() as u64);
+    let (quorum, support) = (committee.quorum(), committee.support());
     list(
         "members",
-        &[size, quorum, committee.support() as u64],
+        &[committee.size() as u64, quorum, support],
         answer,
     )?;
     let (workers, batches) = (committee.workers() as u64, committee.batches() as u64);

@@ -2,7 +2,10 @@
 
 use crate::messages::{tell_body, written};
 use crate::words::{Told, author_of, digest_of, round_of, show};
-use committee::{CommitteeError, quorum_meets_support, quorums_overlap};
+use committee::{
+    CommitteeError, equal_stakes, honest_are_quorum, quorum_is_most, quorum_meets_support,
+    quorums_overlap, support_is_honest, weighs_if_some,
+};
 use header::CheckError;
 use std::alloc::Global;
 use votebook::VoteBook;
@@ -28,6 +31,11 @@ pub fn laws(answer: &mut String) -> Told {
     one_split();
     quorums_overlap();
     quorum_meets_support();
+    weighs_if_some();
+    quorum_is_most();
+    support_is_honest();
+    honest_are_quorum();
+    equal_stakes();
     writeln!(answer, "{}", WireError::Memory)?;
     writeln!(answer, "{}", CommitteeError::Memory)?;
     writeln!(answer, "{}", CheckError::Memory)

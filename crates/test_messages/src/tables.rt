@@ -4,6 +4,7 @@ use crate::frames::{count_ways, feed};
 use crate::members::{add_members, check_both, read_committee, show_key, sign, verify};
 use crate::messages::{beginnings, fill, message, order, spelled_again, written};
 use crate::numbers::{genesis, laws, vote, voted};
+use crate::stakes::{is_among, show_stake, show_total, weigh};
 use crate::words::{Names, Told, author_of, joined, numbers_of, round_of, show, tell};
 use cases::Subject;
 use committee::Committee;
@@ -54,6 +55,9 @@ impl Tables {
             ("members", [count]) => add_members(&mut self.text, *count),
             ("read", []) => self.read(answer),
             ("key", [member]) => show_key(&self.committee, *member, answer),
+            ("total", []) => show_total(&self.committee, answer),
+            ("stake", [member]) => show_stake(&self.committee, *member, answer),
+            ("weigh", members) => weigh(&self.committee, members, answer),
             ("check", [sender]) => check_both(self.alloc, &self.committee, *sender, bytes, answer),
             ("feed", []) => feed(&mut self.reader, bytes, answer),
             ("vote", [author, round]) => vote(&mut self.book, *author, *round, bytes, answer),
@@ -91,6 +95,7 @@ fn plain(alloc: Global, name: &str, numbers: &[u64], bytes: &[u8], answer: &mut 
         ("hash", []) => show(&Sha256::digest(bytes), answer),
         ("sign", [byte]) => sign(*byte, bytes, answer),
         ("verify", [byte]) => verify(*byte, bytes, answer),
+        ("among", [number, members @ ..]) => is_among(*number, members, answer),
         ("laws", []) => laws(answer),
         _ => answer.push_str("bad case\n"),
     }

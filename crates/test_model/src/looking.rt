@@ -128,7 +128,7 @@ fn rest_of_counts(played: &Played, answer: &mut String) -> Result<(), AllocError
 }
 
 fn full(played: &Played, view: &View, round: u64, answer: &mut String) -> Result<(), AllocError> {
-    let is_full = holdings::is_full(played.alloc, &played.node, &view.certificates, round)?;
+    let is_full = holdings::is_full(&played.node, &view.certificates, round);
     yes_or_no(is_full, answer)
 }
 
@@ -182,7 +182,7 @@ fn leaders(
 ) -> Result<(), AllocError> {
     let alloc = played.alloc;
     match words {
-        ["top"] => tops(alloc, ledger, answer),
+        ["top"] => tops(ledger, answer),
         ["by"] => by_ledger(played, ledger, answer),
         ["leader", wave] => match leader(ledger, number(wave)) {
             None => line("none", answer),
@@ -201,9 +201,9 @@ fn leaders(
     }
 }
 
-fn tops(alloc: Global, ledger: &Ledger, answer: &mut String) -> Result<(), AllocError> {
-    let last = last_wave(alloc, ledger)?;
-    match top(alloc, ledger)? {
+fn tops(ledger: &Ledger, answer: &mut String) -> Result<(), AllocError> {
+    let last = last_wave(ledger);
+    match top(ledger) {
         None => writeln!(answer, "top none, {last}"),
         Some(wave) => writeln!(answer, "top {wave}, {last}"),
     }
@@ -211,7 +211,7 @@ fn tops(alloc: Global, ledger: &Ledger, answer: &mut String) -> Result<(), Alloc
 
 /// The order and the floor of certificates and coins.
 fn by_ledger(played: &Played, ledger: &Ledger, answer: &mut String) -> Result<(), AllocError> {
-    let floor = floor_by(played.alloc, ledger)?;
+    let floor = floor_by(ledger);
     write!(answer, "floor {floor}, order")?;
     let digests = order_by(played.alloc, ledger)?;
     order(played, &digests, answer)

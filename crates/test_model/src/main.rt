@@ -5,6 +5,7 @@ mod looking;
 mod played;
 mod searching;
 mod showing;
+mod weighing;
 
 use cases::{Ending, play};
 use played::Played;

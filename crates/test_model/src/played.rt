@@ -3,6 +3,7 @@
 use crate::looking::{look, member, number};
 use crate::searching::passes;
 use crate::showing::{header_label, line, order, outputs};
+use crate::weighing::{committee_of, label_genesis};
 use cases::Subject;
 use committee::Committee;
 use header::check;
@@ -262,24 +263,40 @@ impl Played {
         writeln!(answer, "{each}")
     }
 
+    /// Gives the node a committee whose members have these stakes, with the limits of its last one.
+    fn weigh(&mut self, stakes: &str) -> Result<(), FormError> {
+        let limits = &self.node.committee;
+        let committee = committee_of(self.alloc, stakes, limits.depth(), limits.batches())?;
+        label_genesis(self.alloc, &mut self.labels, committee.size())?;
+        self.node.committee = committee;
+        Ok(())
+    }
+
     /// A command of these tests alone.
-    fn run_own(&mut self, words: &[&str], answer: &mut String) -> Result<(), AllocError> {
+    fn run_own(&mut self, words: &[&str], answer: &mut String) -> Result<(), FormError> {
         match words {
+            ["stakes", stakes] => self.weigh(stakes)?,
             ["tell", "outputs"] => self.tells = true,
             ["gather"] => self.gathers = true,
             ["answers"] => self.answer_all(answer)?,
             ["each-new"] => self.each_is_new(answer)?,
             ["proposal-passes"] => passes(self, answer)?,
             ["coin-from", sender, wave, value] => {
-                let coin = coin(Author(member(sender)), number(wave), number(value));
-                match coin {
-                    Ok((sender, message)) => self.take(sender, message, answer)?,
-                    Err(_) => line("bad case", answer)?,
-                }
+                let sender = Author(member(sender));
+                let (sender, message) = coin(sender, number(wave), number(value))?;
+                self.take(sender, message, answer)?;
             }
             _ => look(self, words, answer)?,
         }
         Ok(())
+    }
+
+    fn run_line(&mut self, text: &str, answer: &mut String) -> Result<(), FormError> {
+        if let Some(command) = parse(text.as_bytes()) {
+            return self.run(command, answer);
+        }
+        let words: Vec<&str> = text.split(' ').collect(self.alloc)?;
+        self.run_own(words.as_slice(), answer)
     }
 }
 
@@ -295,11 +312,7 @@ impl Subject for Played {
     }
 
     fn obey(&mut self, command: &str, answer: &mut String) -> Result<(), AllocError> {
-        let Some(parsed) = parse(command.as_bytes()) else {
-            let words: Vec<&str> = command.split(' ').collect(self.alloc)?;
-            return self.run_own(words.as_slice(), answer);
-        };
-        match self.run(parsed, answer) {
+        match self.run_line(command, answer) {
             Ok(()) => Ok(()),
             Err(FormError::BadCommand) => line("bad case", answer),
             Err(FormError::Unread(error)) => writeln!(answer, "unread {error}"),

@@ -1,3 +1,4 @@
 pub mod RisingLemmas
 pub mod Joining
 pub mod Transactions
+pub mod DigestLemmas

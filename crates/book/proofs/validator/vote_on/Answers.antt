@@ -8,7 +8,7 @@ pub returns : goal.returns
 returns g c =
     let header = c.args.header.now in
     let wrapped : List ℕ → Digest = λ bytes. record { 0 = bytes } in
-    let digest : c.header_digest-digest.result ≡ digest_of header = ap wrapped c.header_digest-digest.ensures in
+    let digest : c.args.digest ≡ digest_of header = c.requires in
     let signed : c.certificate_digest-signed.result ≡ certificate_of header =
-    ap wrapped (c.certificate_digest-signed.ensures ∙ ap (λ bytes. certificate_digest_of bytes header.body.round header.body.author.0) c.header_digest-digest.ensures) in
+    ap wrapped (c.certificate_digest-signed.ensures ∙ ap (λ (d : Digest). certificate_digest_of d.0 header.body.round header.body.author.0) digest) in
     rw (c.sign.ensures, signed, digest)

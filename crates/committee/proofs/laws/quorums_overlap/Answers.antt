@@ -1,6 +1,8 @@
 use Rattle.std.proofs.Common.{arith}
-use Rattle.committee.proofs.Overlap.{overlap}
+use Rattle.std.specs.Prelude.{◌||◌}
+use Rattle.committee.proofs.Weights.{weight-or-and, weight-most}
 use Rattle.committee.proofs.laws.quorums_overlap.Goals as goal
 
 pub returns : goal.returns
-returns c n f first second size members quorum members' quorum' = omega (arith, overlap n first second members members')
+returns c charter first second is quorum quorum' =
+    omega (arith, weight-or-and charter first second, weight-most charter (λ m. first m || second m) is.staked)

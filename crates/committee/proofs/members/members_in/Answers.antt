@@ -1,6 +1,6 @@
 use Rattle.std.proofs.Common.{codes}
 use Rattle.toml.proofs.Views.{table_get}
-use Rattle.committee.proofs.FileLemmas.{elements-items_of}
+use Rattle.committee.proofs.ElementLemmas.{elements-items_of}
 use Rattle.committee.proofs.members.members_in.Goals as goal
 
 pub returns-in-Some-as_array : goal.returns-in-Some-as_array

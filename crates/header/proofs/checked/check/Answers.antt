@@ -1,7 +1,7 @@
-use Rattle.std.proofs.Common.{◌≡◌, None, sym}
+use Rattle.std.proofs.Common.{rules, ◌≡◌, Some, sym, ap, ◌∙◌}
 use Rattle.wire.specs.Events.{Event}
-use Rattle.header.specs.Checks.{fault_of, accepts_all}
-use Rattle.header.proofs.Failing.{passes-accepts_all}
+use Rattle.header.specs.declared.error.CheckError.TheVariants.{Memory}
+use Rattle.header.proofs.Failing.{passes-accepts_all, fault_of-memory}
 use Rattle.header.proofs.checked.check.Goals as goal
 
 pub invariant_of-result : goal.invariant_of-result
@@ -19,3 +19,8 @@ pub returns-clause-passed_unsigned : goal.returns-clause-passed_unsigned
 returns-clause-passed_unsigned g c =
     let event : Event = record { sender = c.args.sender; message = c.args.message } in
     passes-accepts_all c.args.committee.now (g.V.Verify.accepts c.args.verifier.now) event (sym c.in_ok-digested.ensures.refused)
+
+pub returns-in_err-digested-clause-no_memory : goal.returns-in_err-digested-clause-no_memory
+returns-in_err-digested-clause-no_memory g c memory =
+    let error : c.in_err-digested.field-0.0 ≡ Memory = search (rules, rw memory at c.from_residual.ensures.1) in
+    fault_of-memory c.args.committee.now (g.V.Verify.accepts c.args.verifier.now) (record { sender = c.args.sender; message = c.args.message }) (sym c.in_err-digested.ensures.refused ∙ ap Some error)

@@ -1,7 +1,7 @@
 use Rattle.std.proofs.Common.{◌≡◌, ◌-◌, ◌++◌, map}
 use Rattle.std.specs.List.{range_with_len}
 use Rattle.model.specs.Holdings.{genesis}
-use Rattle.model.specs.Nodes.{numbers}
+use Rattle.committee.specs.Charter.{numbers}
 use Rattle.plain.proofs.certificates.first.Given as goal
 
 -- those so far and those of the authors that are left are those of all

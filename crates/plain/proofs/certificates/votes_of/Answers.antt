@@ -8,7 +8,7 @@ use Rattle.plain.proofs.certificates.votes_of.Goals.{in-Some+in_ok-push, in_defa
 
 pub loop-voter-preserved : goal.loop-voter-preserved
 loop-voter-preserved g c =
-    let make = entry_on (node_view g.S.Sign.signature_of c.args.node.now) c.args.history.now c.args.header.now in
+    let make = entry_on (node_view g.S.Sign.own_key g.S.Sign.signature_of c.args.node.now) c.args.history.now c.args.header.now in
     let so_far = c.loop-voter.found in
     let less = c.loop-voter-test.true in
     elim c.match-entry_on.branch [

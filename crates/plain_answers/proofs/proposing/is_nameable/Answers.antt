@@ -9,7 +9,7 @@ use Rattle.plain_answers.proofs.proposing.is_nameable.Goals as goal
 
 pub returns-then-is_own : goal.returns-then-is_own
 returns-then-is_own g c =
-    let node = node_view g.S.Sign.signature_of c.args.node.now in
+    let node = node_view g.S.Sign.own_key g.S.Sign.signature_of c.args.node.now in
     let history = c.args.history.now in
     let waiting = λ (digest : Digest). is_available node history digest && not (was_named node history digest) in
     let own : is_own node c.args.batch.now.author ≡ true =

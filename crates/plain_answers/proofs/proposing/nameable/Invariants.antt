@@ -7,7 +7,7 @@ use Rattle.plain_answers.proofs.proposing.nameable.Given as goal
 -- those so far with those of the batches that are left in their places are all, and they rise
 abbrev pub invariant-loop-batch : goal.invariant-loop-batch
 invariant-loop-batch g l =
-    let node = node_view g.S.Sign.signature_of l.node in
+    let node = node_view g.S.Sign.own_key g.S.Sign.signature_of l.node in
     record {
       all : fold placed l.found.items (filter_map (to_name node l.history) (drop l.batch-index l.batch-items)) ≡ nameable node l.history;
       order : IsTrue (batches_rise l.found.items);

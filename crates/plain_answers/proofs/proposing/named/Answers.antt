@@ -1,6 +1,6 @@
 use Rattle.std.proofs.Common.{◌≡◌, suc, [], ◌++◌, ◌∷◌, get_or, drop, ap, sym, ◌∙◌}
 use Rattle.std.proofs.Math.Seq.{drop-cons}
-use Rattle.plain_answers.proofs.Placing.{follows-front}
+use Rattle.model.proofs.Placing.{follows-front}
 use Rattle.wire.specs.References.{digest_before}
 use Rattle.wire.specs.declared.references.BatchReference.{BatchReference}
 use Rattle.plain_answers.proofs.proposing.named.Goals as goal

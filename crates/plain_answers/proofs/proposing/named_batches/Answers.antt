@@ -1,4 +1,4 @@
-use Rattle.plain_answers.proofs.Placing.{take-rises}
+use Rattle.model.proofs.Placing.{take-rises}
 use Rattle.wire.specs.References.{digest_before}
 use Rattle.plain_answers.proofs.proposing.named_batches.Goals as goal
 

@@ -3,7 +3,7 @@ use Rattle.std.specs.List.{range_with_len}
 use Rattle.std.specs.Prelude.{option_map}
 use Rattle.plain_answers.proofs.Parents.{parent_follows_more, parent_follows_next, mapped_filter}
 use Rattle.plain.proofs.Ranges.{one_more, none_more}
-use Rattle.model.specs.Nodes.{numbers}
+use Rattle.committee.specs.Charter.{numbers}
 use Rattle.model.specs.Proposing.{as_parent}
 use Rattle.model.specs.Slots.{slots_of}
 use Rattle.plain_answers.proofs.proposing.parents_of.Goals as goal

@@ -2,7 +2,7 @@ use Rattle.std.proofs.Common.{◌≡◌, ℕ, ◌-◌, ◌≤◌, ◌++◌, IsTr
 use Rattle.std.specs.List.{range_with_len}
 use Rattle.std.specs.Prelude.{option_map}
 use Rattle.wire.specs.References.{parent_follows}
-use Rattle.model.specs.Nodes.{numbers}
+use Rattle.committee.specs.Charter.{numbers}
 use Rattle.model.specs.Proposing.{as_parent}
 use Rattle.model.specs.Slots.{slots_of}
 use Rattle.plain_answers.proofs.proposing.parents_of.Given as goal

@@ -14,7 +14,7 @@ neither false false x h k = refl
 
 pub returns-in_ok-body-in-Ok : goal.returns-in_ok-body-in-Ok
 returns-in_ok-body-in-Ok g c =
-    let node = node_view g.S.Sign.signature_of c.args.node.now in
+    let node = node_view g.S.Sign.own_key g.S.Sign.signature_of c.args.node.now in
     let history = c.args.history.now in
     let number : c.in_ok-number.number ≡ round node history = c.in_ok-number.ensures in
     let none_yet : is_some (voted_header history (round node history) node.own.0) ≡ false =

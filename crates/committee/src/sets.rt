@@ -1,0 +1,45 @@
+//! Sets of members.
+
+ghost use Rattle.std.specs.Prelude.{◌≡◌, ℕ, ◌<◌, ◌||◌, ◌==◌, false};
+ghost use Rattle.std.specs.Int.{bit_at};
+ghost use Rattle.committee.specs.Sets.{has};
+ghost use Rattle.committee.specs.declared.members.TheConstants.{MAX_MEMBERS};
+
+use wire::Author;
+
+/// A set of members, a bit each.
+#[derive(Clone, Copy, Debug, PartialEq, Eq)]
+pub struct MemberSet {
+    bits: u32,
+}
+
+// Whether the bit of a place is 1. From 32 on there is none.
+fn is_set(bits: u32, place: u16) -> bool
+    ensures { result ≡ (bit_at bits place == 1) }
+{
+    place < u32::BITS as u16 && (bits >> place) & 1 == 1
+}
+
+impl MemberSet {
+    /// The set without a member.
+    pub fn none() -> MemberSet
+        ensures { (member : ℕ) → has result member ≡ false }
+    {
+        MemberSet { bits: 0 }
+    }
+
+    /// Puts a member into the set.
+    pub fn insert(&mut self, member: Author)
+        requires member { member.0 < MAX_MEMBERS }
+        ensures { (other : ℕ) → has self.new other ≡ (has self.old other || (other == member.0)) }
+    {
+        self.bits |= 1 << member.0;
+    }
+
+    /// Whether a member is in the set. A number of 32 or more is in none.
+    pub fn contains(&self, member: Author) -> bool
+        ensures { result ≡ has self.now member.0 }
+    {
+        is_set(self.bits, member.0)
+    }
+}

@@ -1,0 +1,121 @@
+//! The stakes of a committee's members, and the sizes that follow from their total.
+
+ghost use Rattle.std.specs.Prelude.{◌≡◌, ◌≢◌, ◌+◌, ◌*◌, ◌/◌, ◌≤◌, map, sum, replicate, None, Some, IfOk, IfErr, nat_le};
+ghost use Rattle.std.specs.List.{list_any};
+ghost use Rattle.toml.specs.View.{view, table_view};
+ghost use Rattle.committee.specs.File.{has_stakes, stake_in, stakes_among, stakes_in};
+ghost use Rattle.committee.specs.declared.stakes.TheConstants.{DEFAULT_STAKE, MAX_TOTAL};
+
+use crate::error::CommitteeError;
+use crate::limits::number_within;
+use crate::members::MAX_MEMBERS;
+use std::alloc::Global;
+use toml::{Table, Value};
+
+/// The stake of a member, at least.
+pub const MIN_STAKE: u64 = 1;
+
+/// The stake of a member, at most.
+pub const MAX_STAKE: u64 = 1_000_000;
+
+/// The stake of each member where the file has no stakes.
+pub const DEFAULT_STAKE: u64 = 1;
+
+/// The stake of all members, at most.
+pub(crate) const MAX_TOTAL: u64 = MAX_MEMBERS as u64 * MAX_STAKE;
+
+/// Whether the file says the members' stakes, of whatever type.
+pub(crate) fn has_stakes(table: &Table) -> bool
+    ensures { result ≡ has_stakes (table_view table.now) }
+{
+    table.get("stakes").is_some()
+}
+
+fn stake_in(element: &Value) -> Option<u64>
+    ensures { result ≡ stake_in (view element.now) }
+{
+    match element.as_integer() {
+        Some(number) => number_within(number, MIN_STAKE, MAX_STAKE),
+        None => None,
+    }
+}
+
+fn stakes_among(
+    alloc: Global,
+    members: usize,
+    elements: &[Value],
+) -> Result<Vec<u64>, CommitteeError>
+    ensures stakes { IfOk result (λ stakes. stakes_among members (map view elements.now) ≡ Some stakes.items) }
+    ensures cause { IfErr result (λ error. error ≢ CommitteeError.Memory → stakes_among members (map view elements.now) ≡ None) }
+    ensures error { IfErr result (λ error. error ≢ CommitteeError.Memory → error ≡ CommitteeError.BadStake) }
+{
+    if elements.len() != members {
+        return Err(CommitteeError::BadStake);
+    }
+    let mut stakes = Vec::new(alloc);
+    for element in elements {
+        match stake_in(element) {
+            Some(stake) => stakes.push(stake)?,
+            None => return Err(CommitteeError::BadStake),
+        }
+    }
+    Ok(stakes)
+}
+
+fn equal_stakes(alloc: Global, members: usize) -> Result<Vec<u64>, CommitteeError>
+    ensures stakes { IfOk result (λ stakes. stakes.items ≡ replicate members DEFAULT_STAKE) }
+    ensures error { IfErr result (λ error. error ≡ CommitteeError.Memory) }
+{
+    match vec![in alloc; DEFAULT_STAKE; members] {
+        Ok(stakes) => Ok(stakes),
+        Err(_) => Err(CommitteeError::Memory),
+    }
+}
+
+/// The stakes of so many members, or `BadStake` where the file doesn't say one for each.
+pub(crate) fn stakes_in(
+    alloc: Global,
+    members: usize,
+    table: &Table,
+) -> Result<Vec<u64>, CommitteeError>
+    ensures stakes { IfOk result (λ stakes. stakes_in members (table_view table.now) ≡ Some stakes.items) }
+    ensures cause { IfErr result (λ error. error ≢ CommitteeError.Memory → stakes_in members (table_view table.now) ≡ None) }
+    ensures error { IfErr result (λ error. error ≢ CommitteeError.Memory → error ≡ CommitteeError.BadStake) }
+{
+    match table.get("stakes") {
+        Some(value) => match value.as_array() {
+            Some(array) => stakes_among(alloc, members, array.as_slice()),
+            None => Err(CommitteeError::BadStake),
+        },
+        None => equal_stakes(alloc, members),
+    }
+}
+
+/// The sum of the stakes.
+pub(crate) fn total_of(stakes: &[u64]) -> u64
+    requires { sum stakes.now ≤ MAX_TOTAL }
+    ensures { result ≡ sum stakes.now }
+{
+    let mut total = 0;
+    for stake in stakes {
+        total += *stake;
+    }
+    total
+}
+
+/// What a quorum weighs at least, of this total.
+pub(crate) fn quorum_of(total: u64) -> u64
+    requires { total ≤ MAX_TOTAL }
+    ensures { result ≡ 2 * total / 3 + 1 }
+{
+    2 * total / 3 + 1
+}
+
+/// Whether one member's stake is a quorum.
+pub(crate) fn one_is_quorum(stakes: &[u64]) -> bool
+    requires { sum stakes.now ≤ MAX_TOTAL }
+    ensures { result ≡ list_any (λ stake. nat_le (2 * sum stakes.now / 3 + 1) stake) stakes.now }
+{
+    let quorum = quorum_of(total_of(stakes));
+    stakes.iter().any(|stake| quorum <= *stake)
+}
