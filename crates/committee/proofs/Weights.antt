@@ -1,6 +1,6 @@
 -- What members weigh.
 use Rattle.std.proofs.Common.{◌≡◌, ◌≢◌, ℕ, zero, suc, ◌+◌, ◌<◌, ◌≤◌, Bool, true, false, cond, List, [], ◌∷◌, length, get_or, take, refl, ap, sym, ◌∙◌, inl, inr, arith}
-use Rattle.std.specs.Prelude.{◌&&◌, ◌||◌, ◌==◌, sum, sum_by, count_by, All, AllPairs}
+use Rattle.std.specs.Prelude.{◌&&◌, ◌||◌, ◌==◌, not, sum, sum_by, count_by, All, AllPairs}
 use Rattle.std.specs.List.{list_any, range_with_len}
 use Rattle.std.proofs.lemmas.Bool.{cases_Bool, eqb-true, ne_eqb, eq-eqb, cases_lt, and_right}
 use Rattle.std.proofs.lemmas.Cmp.{nat_eq_equiv}
@@ -9,7 +9,7 @@ use Rattle.std.proofs.lemmas.List.{get_or-take, length-take-le}
 use Rattle.std.proofs.lemmas.List.FromFn.{fill_by_all, sum_by-map-range_with_len_more}
 use Rattle.std.proofs.lemmas.List.Sums.{sum_by-cons, sum_by-take-le, sum-map}
 use Rattle.committee.specs.Charter.{Charter, numbers, stake_of, weight, total_of}
-use Rattle.committee.specs.Shared.{Holder}
+use Rattle.committee.specs.Shared.{Holder, QuorumMeetsSupport}
 
 -- ---- sums over the numbers from one on
 
@@ -119,6 +119,14 @@ weight-all charter staked =
     let listed = fill_by_all (stake_of charter) charter.stakes (length charter.keys) 0 staked (λ k within. refl) in
     sym (ap sum listed ∙ sum-map (stake_of charter) (numbers (length charter.keys)))
 
+either : (b : Bool) → (b || not b) ≡ true
+either true = refl
+either false = refl
+
+never_both : (b : Bool) → (b && not b) ≡ false
+never_both true = refl
+never_both false = refl
+
 -- nobody weighs more than all
 pub weight-most : (charter : Charter) (p : ℕ → Bool) → length charter.stakes ≡ length charter.keys → weight charter p ≤ total_of charter
 weight-most charter p staked = omega (arith, weight-within charter p (λ _. true) (λ m within h. refl), weight-all charter staked)
@@ -137,6 +145,30 @@ pub weight-apart : (charter : Charter) (p q : ℕ → Bool) → ((m : ℕ) → (
 weight-apart charter p q apart =
     let none = weight-same charter (λ m. p m && q m) (λ _. false) (λ m within. apart m) ∙ weight-none charter in
     omega (arith, weight-or-and charter p q, none)
+
+-- those of whom something holds and those of whom it doesn't weigh the total together
+pub weight-others : (charter : Charter) (p : ℕ → Bool) → length charter.stakes ≡ length charter.keys → weight charter p + weight charter (λ m. not (p m)) ≡ total_of charter
+weight-others charter p staked =
+    let parts = weight-apart charter p (λ m. not (p m)) (λ m. never_both (p m)) in
+    let all = weight-same charter (λ m. p m || not (p m)) (λ _. true) (λ m within. either (p m)) in
+    omega (arith, parts, all, weight-all charter staked)
+
+excepted : (p q : Bool) → p ≡ true → ((p && not q) || q) ≡ true
+excepted true true is = refl
+excepted true false is = refl
+excepted false q is = absurd cc
+
+-- without those of a second set, a set loses at most what these weigh
+pub weight-without : (charter : Charter) (p q : ℕ → Bool) → weight charter p ≤ weight charter (λ m. p m && not (q m)) + weight charter q
+weight-without charter p q =
+    let within = weight-within charter p (λ m. (p m && not (q m)) || q m) (λ m inside is. excepted (p m) (q m) is) in
+    let parts = weight-or-and charter (λ m. p m && not (q m)) q in
+    omega (arith, within, parts)
+
+-- a quorum shares a member with all who are enough for support
+pub quorum_meets : QuorumMeetsSupport
+quorum_meets charter quorum support is enough enough' =
+    omega (arith, weight-or-and charter quorum support, weight-most charter (λ m. quorum m || support m) is.staked, enough, enough')
 
 differs : (m x : ℕ) → m ≢ x → (m == x) ≡ false
 differs m x other = ne_eqb m x other
@@ -225,3 +257,9 @@ weight_below-most stakes p n within =
     let all = ap sum first ∙ sum-map (λ m. get_or stakes m 0) (range_with_len 0 n) in
     let parts = sum-within (λ m. cond (p m) (get_or stakes m 0) 0) (λ m. get_or stakes m 0) 0 n (λ m low high. implied_test (p m) true (get_or stakes m 0) (λ h. refl)) in
     omega (arith, all, parts, sum_by-take-le (λ s. s) stakes n)
+
+-- so the next one's stake has room beside them
+pub weight_below-room : (stakes : List ℕ) (p : ℕ → Bool) (n : ℕ) → n < length stakes → weight_below stakes p n + get_or stakes n 0 ≤ sum stakes
+weight_below-room stakes p n within =
+    let part = sum-within (λ m. cond (p m) (get_or stakes m 0) 0) (λ m. get_or stakes m 0) 0 n (λ m low high. implied_test (p m) true (get_or stakes m 0) (λ h. refl)) in
+    omega (arith, part, weight_below-more stakes (λ _. true) n, weight_below-most stakes (λ _. true) (n + 1) (omega (arith, within)))

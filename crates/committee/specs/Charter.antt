@@ -37,11 +37,11 @@ total_of charter = sum charter.stakes
 abbrev pub tolerated_of : Charter → ℕ
 tolerated_of charter = (total_of charter - 1) / 3
 
--- a quorum is what weighs so much, more than two thirds of the total
+-- what a quorum weighs at least: more than two thirds of the total
 abbrev pub quorum_of : Charter → ℕ
 quorum_of charter = 2 * total_of charter / 3 + 1
 
--- support is what weighs so much, at least a third of the total: more than is tolerated, so an honest member is among them
+-- what support weighs at least: a third of the total or more, and more than is tolerated, so an honest member is among them
 abbrev pub support_of : Charter → ℕ
 support_of charter = (total_of charter + 2) / 3
 

@@ -1,5 +1,5 @@
--- What two sets of members of one committee share, and what else holds of the sizes.
-use Rattle.std.specs.Prelude.{◌≡◌, ℕ, ◌+◌, ◌*◌, ◌<◌, ◌≤◌, ◌&&◌, Bool, true, length, count_by, All}
+-- What two sets of members of one committee share, who among them is honest, and what else holds of the sizes.
+use Rattle.std.specs.Prelude.{◌≡◌, ℕ, ◌+◌, ◌*◌, ◌<◌, ◌≤◌, ◌&&◌, Bool, true, not, length, count_by, All}
 use Rattle.committee.specs.Charter.{Charter, IsCharter, numbers, weight, total_of, tolerated_of, quorum_of, support_of}
 
 -- two quorums share members who weigh more than is tolerated, so an honest one
@@ -23,31 +23,46 @@ pub record Holder (charter : Charter) (test : ℕ → Bool) : Type 0 where
   pub holds : test member ≡ true
 
 -- what weighs something holds of some member
-abbrev pub WeighsIfSome : Type 0
-WeighsIfSome = (charter : Charter) (holds : ℕ → Bool) → 0 < weight charter holds → Holder charter holds
-
--- a quorum is more than half
-abbrev pub QuorumIsMost : Type 0
-QuorumIsMost = (charter : Charter) → total_of charter < 2 * quorum_of charter
+abbrev pub SomeIfWeighs : Type 0
+SomeIfWeighs = (charter : Charter) (holds : ℕ → Bool) → 0 < weight charter holds → Holder charter holds
 
 -- support is more than what is tolerated
 abbrev pub SupportIsHonest : Type 0
 SupportIsHonest = (charter : Charter) → IsCharter charter → tolerated_of charter < support_of charter
 
--- the honest members are a quorum
+-- where the faulty members weigh no more than is tolerated, all others are a quorum
 abbrev pub HonestAreQuorum : Type 0
-HonestAreQuorum = (charter : Charter) → IsCharter charter → quorum_of charter + tolerated_of charter ≤ total_of charter
+HonestAreQuorum = (charter : Charter) (faulty : ℕ → Bool) → IsCharter charter
+    → weight charter faulty ≤ tolerated_of charter
+    → quorum_of charter ≤ weight charter (λ member. not (faulty member))
 
--- where each of 3 f + 1 members has the stake 1, they are counted: a quorum is 2 f + 1 of them, support f + 1, and f are
--- tolerated
+-- then two quorums share a member who isn't faulty
+abbrev pub QuorumsShareHonest : Type 0
+QuorumsShareHonest = (charter : Charter) (faulty first second : ℕ → Bool) → IsCharter charter
+    → weight charter faulty ≤ tolerated_of charter
+    → quorum_of charter ≤ weight charter first
+    → quorum_of charter ≤ weight charter second
+    → Holder charter (λ member. (first member && second member) && not (faulty member))
+
+-- and among all who are enough for support one isn't faulty
+abbrev pub SupportHasHonest : Type 0
+SupportHasHonest = (charter : Charter) (faulty support : ℕ → Bool) → IsCharter charter
+    → weight charter faulty ≤ tolerated_of charter
+    → support_of charter ≤ weight charter support
+    → Holder charter (λ member. support member && not (faulty member))
+
+-- of 3 f + 1 members of stake 1 a quorum is 2 f + 1, support f + 1, and f are tolerated
 pub record EqualSizes (charter : Charter) (f : ℕ) : Type 0 where
-  pub total : total_of charter ≡ length charter.keys
   pub quorum : quorum_of charter ≡ 2 * f + 1
   pub support : support_of charter ≡ f + 1
   pub tolerated : tolerated_of charter ≡ f
-  pub weight : (holds : ℕ → Bool) → weight charter holds ≡ count_by holds (numbers (length charter.keys))
 
+-- members are counted: the total is how many there are, and a set of them weighs how many it has
+pub record AreCounted (charter : Charter) : Type 0 where
+  pub total : total_of charter ≡ length charter.keys
+  pub weight : (holds : ℕ → Bool) → weight charter holds ≡ count_by holds (numbers (length charter.keys))
+  pub sizes : (f : ℕ) → length charter.keys ≡ 3 * f + 1 → EqualSizes charter f
+
+-- where each member has the stake 1 they are counted
 abbrev pub EqualStakes : Type 0
-EqualStakes = (charter : Charter) (f : ℕ) → IsCharter charter
-    → All (λ stake. stake ≡ 1) charter.stakes → length charter.keys ≡ 3 * f + 1
-    → EqualSizes charter f
+EqualStakes = (charter : Charter) → IsCharter charter → All (λ stake. stake ≡ 1) charter.stakes → AreCounted charter

@@ -23,7 +23,7 @@ use toml::Table;
 use wire::{Author, Key};
 
 /// A committee: 4 to 31 members, each with a key of its own and a stake, and the limits that all of them keep.
-/// The members who aren't honest may hold less than a third of the total stake.
+/// No member's stake is a quorum. The members who aren't honest may hold less than a third of the total stake.
 #[derive(Debug, Drop)]
 pub struct Committee {
     keys: Vec<Key>,
@@ -114,7 +114,7 @@ impl Committee {
         quorum_of(self.total())
     }
 
-    /// What support weighs at least, so that an honest member is among it: a third of the total.
+    /// What support weighs at least, so that an honest member is among it: at least a third of the total.
     pub fn support(&self) -> u64
         ensures { result ≡ support_of self.now }
     {

@@ -1,10 +1,10 @@
-//! What quorums and support of one committee share and weigh. The calls do nothing: their contracts are laws.
+//! What quorums and support of one committee share and weigh, and who among them is honest. The calls do nothing: their contracts are laws.
 
 ghost use Rattle.std.specs.Prelude.{◌≡◌};
-ghost use Rattle.committee.specs.Shared.{QuorumsOverlap, QuorumMeetsSupport, WeighsIfSome, QuorumIsMost, SupportIsHonest, HonestAreQuorum, EqualStakes};
+ghost use Rattle.committee.specs.Shared.{QuorumsOverlap, QuorumMeetsSupport, SomeIfWeighs, SupportIsHonest, HonestAreQuorum, QuorumsShareHonest, SupportHasHonest, EqualStakes};
 ghost use Rattle.committee.specs.declared.limits.TheConstants.{MIN_DEPTH, MAX_DEPTH, DEFAULT_DEPTH, MIN_WORKERS, MAX_WORKERS, DEFAULT_WORKERS, MIN_HELD_BATCHES, MAX_HELD_BATCHES, DEFAULT_HELD_BATCHES};
 ghost use Rattle.committee.specs.declared.members.TheConstants.{MIN_MEMBERS, MAX_MEMBERS};
-ghost use Rattle.committee.specs.declared.stakes.TheConstants.{MIN_STAKE, MAX_STAKE, DEFAULT_STAKE};
+ghost use Rattle.committee.specs.declared.stakes.TheConstants.{MIN_STAKE, MAX_STAKE, DEFAULT_STAKE, MAX_TOTAL};
 
 /// Two quorums of a committee share members who weigh more than is tolerated.
 pub fn quorums_overlap()
@@ -17,13 +17,8 @@ pub fn quorum_meets_support()
 {}
 
 /// What weighs something holds of some member.
-pub fn weighs_if_some()
-    ensures { WeighsIfSome }
-{}
-
-/// A quorum is more than half.
-pub fn quorum_is_most()
-    ensures { QuorumIsMost }
+pub fn some_if_weighs()
+    ensures { SomeIfWeighs }
 {}
 
 /// Support is more than what is tolerated.
@@ -31,12 +26,22 @@ pub fn support_is_honest()
     ensures { SupportIsHonest }
 {}
 
-/// The honest members are a quorum.
+/// Where the faulty members weigh no more than is tolerated, all others are a quorum.
 pub fn honest_are_quorum()
     ensures { HonestAreQuorum }
 {}
 
-/// Where each of 3 f + 1 members has the stake 1, they are counted.
+/// Where the faulty members weigh no more than is tolerated, two quorums share a member who isn't faulty.
+pub fn quorums_share_honest()
+    ensures { QuorumsShareHonest }
+{}
+
+/// Where the faulty members weigh no more than is tolerated, one of all who are enough for support isn't faulty.
+pub fn support_has_honest()
+    ensures { SupportHasHonest }
+{}
+
+/// Where each member has the stake 1, they are counted.
 pub fn equal_stakes()
     ensures { EqualStakes }
 {}
@@ -48,6 +53,7 @@ pub fn limits_in_numbers()
     ensures least_stake { MIN_STAKE ≡ 1 }
     ensures greatest_stake { MAX_STAKE ≡ 1000000 }
     ensures stake { DEFAULT_STAKE ≡ 1 }
+    ensures greatest_total { MAX_TOTAL ≡ 31000000 }
     ensures least_depth { MIN_DEPTH ≡ 2 }
     ensures greatest_depth { MAX_DEPTH ≡ 1000 }
     ensures depth { DEFAULT_DEPTH ≡ 50 }

@@ -14,8 +14,8 @@ mod stakes;
 pub use committee::Committee;
 pub use error::CommitteeError;
 pub use laws::{
-    equal_stakes, honest_are_quorum, limits_in_numbers, quorum_is_most, quorum_meets_support,
-    quorums_overlap, support_is_honest, weighs_if_some,
+    equal_stakes, honest_are_quorum, limits_in_numbers, quorum_meets_support, quorums_overlap,
+    quorums_share_honest, some_if_weighs, support_has_honest, support_is_honest,
 };
 pub use limits::{
     DEFAULT_DEPTH, DEFAULT_HELD_BATCHES, DEFAULT_WORKERS, MAX_DEPTH, MAX_HELD_BATCHES, MAX_WORKERS,
@@ -23,4 +23,4 @@ pub use limits::{
 };
 pub use members::{MAX_MEMBERS, MIN_MEMBERS};
 pub use sets::MemberSet;
-pub use stakes::{DEFAULT_STAKE, MAX_STAKE, MIN_STAKE};
+pub use stakes::{DEFAULT_STAKE, MAX_STAKE, MAX_TOTAL, MIN_STAKE};

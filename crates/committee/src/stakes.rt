@@ -22,7 +22,7 @@ pub const MAX_STAKE: u64 = 1_000_000;
 pub const DEFAULT_STAKE: u64 = 1;
 
 /// The stake of all members, at most.
-pub(crate) const MAX_TOTAL: u64 = MAX_MEMBERS as u64 * MAX_STAKE;
+pub const MAX_TOTAL: u64 = MAX_MEMBERS as u64 * MAX_STAKE;
 
 /// Whether the file says the members' stakes, of whatever type.
 pub(crate) fn has_stakes(table: &Table) -> bool

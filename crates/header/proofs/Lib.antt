@@ -1,1 +1,3 @@
 pub mod Failing
+pub mod Naming
+pub mod Passing

@@ -5,6 +5,8 @@ mod checked;
 mod digested;
 mod error;
 mod faults;
+mod laws;
 
 pub use checked::{Checked, check, recheck};
 pub use error::CheckError;
+pub use laws::{ones_are_counted, passed_have_quorums};

@@ -1,14 +1,13 @@
 -- What members weigh: those whose certificates a round has, those whom a header names, and the sizes of a committee.
 use Rattle.std.proofs.Common.{◌≡◌, ℕ, zero, suc, ◌+◌, ◌<◌, ◌≤◌, true, cond, List, [], ◌∷◌, map, length, Option, Some, inl, inr, refl, ◌∙◌, arith}
-use Rattle.std.specs.Prelude.{◌||◌, ◌==◌, filter_map, sum_by, is_some}
+use Rattle.std.specs.Prelude.{◌==◌, filter_map, sum_by, is_some}
 use Rattle.std.specs.List.{list_all, range_with_len}
-use Rattle.std.proofs.lemmas.Bool.{and_parts, ltb-true}
-use Rattle.std.proofs.lemmas.Option.{slice_get-get_or}
 use Rattle.std.proofs.lemmas.List.Sums.{sum_by-cons}
 use Rattle.committee.specs.Charter.{Charter, IsCharter, stake_of, weight, total_of, quorum_of}
-use Rattle.committee.specs.Shared.{QuorumMeetsSupport}
-use Rattle.committee.proofs.Weights.{weight-most, weight-or-and, weight-one}
+pub use Rattle.committee.proofs.Weights.{quorum_meets}
+use Rattle.committee.proofs.Weights.{weight-most, weight-one}
 use Rattle.header.specs.Checks.{is_member, named_weight}
+use Rattle.header.proofs.Naming.{named_stakes}
 use Rattle.model.specs.Words.{ParentReference}
 use Rattle.laws.proofs.Lists.{given_or_none}
 
@@ -36,13 +35,6 @@ alone_below charter sound own member =
     let one = weight-one charter own member in
     let less = sound.shared own 0 (omega (arith, member, sound.staked)) in
     omega (arith, one, less)
-
--- a quorum shares a member with all who are enough for support
-pub quorum_meets : QuorumMeetsSupport
-quorum_meets charter quorum support sound enough enough' =
-    let parts = weight-or-and charter quorum support in
-    let most = weight-most charter (λ m. quorum m || support m) sound.staked in
-    omega (arith, parts, most, enough, enough')
 
 -- ---- sums over what is held
 
@@ -73,16 +65,7 @@ sum_mapped f weigh (x ∷ xs) =
     let other = sum_by-cons (λ y. weigh (f y)) x xs in
     omega (arith, rest, one, other)
 
--- members who are named weigh their stakes
+-- parents that name members weigh these members' stakes
 pub named_weigh : (charter : Charter) → length charter.stakes ≡ length charter.keys → (parents : List ParentReference) → list_all (λ p. is_member charter p.author) parents ≡ true
     → sum_by (λ p. named_weight charter p.author) parents ≡ sum_by (λ p. stake_of charter p.author.0) parents
-named_weigh charter staked [] members = refl
-named_weigh charter staked (p ∷ parents) members =
-    let parts = and_parts (is_member charter p.author) (list_all (λ q. is_member charter q.author) parents) members in
-    let rest = named_weigh charter staked parents parts.1 in
-    let within : p.author.0 < length charter.stakes = omega (arith, ltb-true _ _ parts.0, staked) in
-    let is = slice_get-get_or charter.stakes p.author.0 0 within in
-    let here : named_weight charter p.author ≡ stake_of charter p.author.0 = rw is refl in
-    let one = sum_by-cons (λ q. named_weight charter q.author) p parents in
-    let other = sum_by-cons (λ q. stake_of charter q.author.0) p parents in
-    omega (arith, here, rest, one, other)
+named_weigh charter staked parents members = named_stakes charter (λ (p : ParentReference). p.author) staked parents members

@@ -26,7 +26,7 @@ pub record IsNode (node : Node) : Type 0 where
 abbrev pub size_of : Node → ℕ
 size_of node = length node.charter.keys
 
--- what members of its committee weigh who are a quorum
+-- what members of its committee who are a quorum weigh at least
 abbrev pub quorum : Node → ℕ
 quorum node = quorum_of node.charter
 

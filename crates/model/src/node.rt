@@ -30,7 +30,7 @@ impl<S: Sign> Node<S> {
         self.committee.size()
     }
 
-    /// What members weigh who are a quorum.
+    /// What members who are a quorum weigh at least.
     pub fn quorum(&self) -> u64
         ensures { result ≡ quorum (node_view S.own_key S.signature_of self.now) }
     {

@@ -8,8 +8,8 @@ use Rattle.committee.specs.declared.sets.MemberSet.{MemberSet}
 use Rattle.committee.proofs.Weights.{weight-same}
 
 -- a number of whom something holds is added
-pub in_more : (test : ℕ → Bool) (so_far k m : ℕ) → test so_far ≡ true → ((nat_lt m so_far && test m) || (m == so_far)) ≡ (nat_lt m (so_far + 1) && test m)
-in_more test so_far k m holds = grind (arith, holds)
+pub in_more : (test : ℕ → Bool) (so_far m : ℕ) → test so_far ≡ true → ((nat_lt m so_far && test m) || (m == so_far)) ≡ (nat_lt m (so_far + 1) && test m)
+in_more test so_far m holds = grind (arith, holds)
 
 -- one of whom it doesn't is left out
 pub out_more : (test : ℕ → Bool) (so_far m : ℕ) → test so_far ≡ false → (nat_lt m so_far && test m) ≡ (nat_lt m (so_far + 1) && test m)

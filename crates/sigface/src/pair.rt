@@ -3,6 +3,7 @@
 ghost use Rattle.std.specs.Prelude.{◌≡◌, ◌↔◌, ◌∷◌, ◌++◌, IsTrue};
 ghost use Rattle.std.proofs.lemmas.Cmp.{nat_list_eq_equiv};
 ghost use Rattle.sha2.specs.Sha256.{sha256};
+ghost use Rattle.sigface.specs.PairBytes.{pair_signature-bytes};
 ghost use Rattle.sigface.specs.Pair.{pair_signature, is_pair_signature};
 ghost use Rattle.sigface.specs.Tied.{AreAccepted};
 
@@ -82,6 +83,8 @@ impl Sign for HashSign {
     }
 
     ghost good_for_key = { λ signer digest. nat_list_eq_equiv.refl (pair_signature signer digest).0 };
+
+    ghost has_bytes = { pair_signature-bytes };
 }
 
 impl Verify for HashVerify {

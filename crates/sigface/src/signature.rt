@@ -1,6 +1,7 @@
 //! What signers and verifiers promise.
 
 ghost use Rattle.std.specs.Prelude.{◌≡◌, Bool, IsTrue};
+ghost use Rattle.wire.specs.Fields.{IsSignature};
 ghost use Rattle.wire.specs.declared.keys.Digest.{Digest};
 ghost use Rattle.wire.specs.declared.keys.Key.{Key};
 ghost use Rattle.wire.specs.declared.keys.Signature.{Signature};
@@ -39,4 +40,7 @@ pub trait Sign {
 
     /// Each signature is good for the signer's key.
     ghost good_for_key: { (signer : Self) (digest : Digest) → IsTrue (good (own_key signer) digest (signature_of signer digest)) };
+
+    /// Each signature has 64 bytes.
+    ghost has_bytes: { (signer : Self) (digest : Digest) → IsSignature (signature_of signer digest) };
 }

@@ -1,6 +1,7 @@
 //! Opening the node: the journal's records, and the validator after their events.
 
 ghost use Rattle.std.specs.Prelude.{◌≡◌, ◌+◌, ◌*◌, [], ◌∷◌, None, length, vec_len, IfOk, IfSome};
+ghost use Rattle.committee.specs.Charter.{total_of};
 ghost use Rattle.header.specs.Checks.{fault_of, accepts_all};
 ghost use Rattle.book.specs.Admission.{IsKnownKind};
 ghost use Rattle.journal.specs.Format.{FitsGroup};
@@ -146,16 +147,22 @@ fn replay(
     Ok(validator)
 }
 
-// The first record is this node's configuration, alone in its group.
+// The first record is this node's configuration, alone in its group. No record has stakes, so that of a committee
+// with a stake other than 1 is none of its own.
 fn check_configuration(
     alloc: Global,
     committee: &Committee,
     first: &Record,
     events: &[Record],
-) -> Result<(), JournalError> {
+) -> Result<(), JournalError>
+    ensures ones { IfOk result (λ _. total_of committee.now ≡ length committee.now.keys) }
+{
     let bytes = first.bytes.as_slice();
     if !has_shape(bytes) || events.iter().any(|record| record.gate == first.gate) {
         return Err(JournalError::Damaged(first.gate));
+    }
+    if committee.total() != committee.size() as u64 {
+        return Err(JournalError::ConfigMismatch);
     }
     if configuration(alloc, committee)?.as_slice() != bytes {
         return Err(JournalError::ConfigMismatch);

@@ -3,10 +3,10 @@
 use crate::messages::{tell_body, written};
 use crate::words::{Told, author_of, digest_of, round_of, show};
 use committee::{
-    CommitteeError, equal_stakes, honest_are_quorum, quorum_is_most, quorum_meets_support,
-    quorums_overlap, support_is_honest, weighs_if_some,
+    CommitteeError, equal_stakes, honest_are_quorum, quorum_meets_support, quorums_overlap,
+    quorums_share_honest, some_if_weighs, support_has_honest, support_is_honest,
 };
-use header::CheckError;
+use header::{CheckError, ones_are_counted, passed_have_quorums};
 use std::alloc::Global;
 use votebook::VoteBook;
 use wire::{Certificate, Message, WireError, genesis_digest};
@@ -31,11 +31,14 @@ pub fn laws(answer: &mut String) -> Told {
     one_split();
     quorums_overlap();
     quorum_meets_support();
-    weighs_if_some();
-    quorum_is_most();
+    some_if_weighs();
     support_is_honest();
     honest_are_quorum();
+    quorums_share_honest();
+    support_has_honest();
     equal_stakes();
+    passed_have_quorums();
+    ones_are_counted();
     writeln!(answer, "{}", WireError::Memory)?;
     writeln!(answer, "{}", CommitteeError::Memory)?;
     writeln!(answer, "{}", CheckError::Memory)

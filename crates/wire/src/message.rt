@@ -34,7 +34,7 @@ pub enum Message {
     Header(Header),
     /// A vote for a proposal.
     Vote(Vote),
-    /// A proposal with a quorum of votes.
+    /// A proposal with the votes of a quorum.
     Certificate(Certificate),
     /// A wave's coin.
     Coin(Coin),

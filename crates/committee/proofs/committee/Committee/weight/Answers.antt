@@ -1,8 +1,8 @@
-use Rattle.std.proofs.Common.{◌≡◌, ◌≤◌, ℕ, ◌+◌, true, false, Bool, cond, List, length, get_or, ap, ◌∙◌, refl, arith}
+use Rattle.std.proofs.Common.{◌≡◌, ◌<◌, ◌≤◌, ℕ, ◌+◌, true, false, Bool, cond, List, length, get_or, ap, ◌∙◌, arith}
 use Rattle.committee.specs.Charter.{Charter, IsCharter, weight as weight_of}
 use Rattle.committee.specs.Sets.{has}
 use Rattle.committee.proofs.StakeLemmas.{total-bounds}
-use Rattle.committee.proofs.Weights.{weight_below, weight_below-more, weight_below-most}
+use Rattle.committee.proofs.Weights.{weight_below, weight_below-more, weight_below-most, weight_below-room}
 use Rattle.committee.proofs.committee.Committee.weight.Goals as goal
 use Rattle.committee.proofs.committee.Committee.weight.Goals.{then-contains, else-contains}
 
@@ -16,11 +16,10 @@ counted stakes p n weight next held before is more =
 pub overflow_add-weight : goal.overflow_add-weight
 overflow_add-weight c =
     let stakes : c.deref-stake-items.result.now ≡ c.args.self.now.stakes = c.deref-stake-items.ensures.value ∙ ap (λ (charter : Charter). charter.stakes) c.self.view_is in
-    let within : c.loop-i.i + 1 ≤ length c.args.self.now.stakes = omega (arith, ap length stakes) in
-    let most = weight_below-most c.args.self.now.stakes (has c.args.members.now) (c.loop-i.i + 1) within in
-    let next = counted c.args.self.now.stakes (has c.args.members.now) c.loop-i.i c.loop-i.weight _ true c.loop-i.invariant c.if-contains.ensures refl in
+    let within : c.loop-i.i < length c.args.self.now.stakes = omega (arith, ap length stakes) in
+    let room = weight_below-room c.args.self.now.stakes (has c.args.members.now) c.loop-i.i within in
     let bound = (total-bounds c.args.self.now (rw (← c.self.view_is) c.self.invariant)).1 in
-    omega (arith, most, next, bound, ap (λ list. get_or list c.loop-i.i 0) stakes)
+    omega (arith, room, c.loop-i.invariant, bound, ap (λ list. get_or list c.loop-i.i 0) stakes)
 
 pub loop-i-preserved : goal.loop-i-preserved
 loop-i-preserved c =

@@ -1,5 +1,5 @@
 use Rattle.committee.proofs.Weights.{some_of_weight}
-use Rattle.committee.proofs.laws.weighs_if_some.Goals as goal
+use Rattle.committee.proofs.laws.some_if_weighs.Goals as goal
 
 pub returns : goal.returns
 returns c charter holds some = some_of_weight charter holds some

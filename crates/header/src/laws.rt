@@ -1,0 +1,14 @@
+//! What holds of messages that passed. The calls do nothing: their contracts are laws.
+
+ghost use Rattle.header.specs.Quorums.{PassedHaveQuorums, OnesAreCounted};
+
+/// The authors of the parents of a header or a certificate that passed are a quorum, and so are the voters of a
+/// certificate.
+pub fn passed_have_quorums()
+    ensures { PassedHaveQuorums }
+{}
+
+/// Where each member has the stake 1, the tests count the parents and the votes.
+pub fn ones_are_counted()
+    ensures { OnesAreCounted }
+{}
