@@ -1,7 +1,8 @@
 -- The order of the lists of headers and certificates.
-use Rattle.std.specs.Prelude.{Bool, List, nat_lt}
+use Rattle.std.specs.Prelude.{Bool, List, [], ◌∷◌, nat_lt, if◌then◌else◌}
 use Rattle.std.specs.Ordering.{nat_cmp, is_lt}
 use Rattle.std.specs.Cmp.Lexicographic.{slice_cmp}
+use Rattle.std.specs.Str.{bytes_eq}
 use Rattle.wire.specs.declared.keys.Author.{Author}
 use Rattle.wire.specs.declared.keys.Digest.{Digest}
 use Rattle.wire.specs.declared.references.BatchReference.{BatchReference}
@@ -20,6 +21,14 @@ batches_rise = rises (λ a b. digest_before a.digest b.digest)
 -- a batch of this digest may come next
 abbrev pub batch_follows : List BatchReference → Digest → Bool
 batch_follows batches digest = follows (λ a. digest_before a.digest digest) batches
+
+-- a batch put in its place among others that rise by digest, once
+abbrev pub placed : List BatchReference → BatchReference → List BatchReference
+placed [] batch = batch ∷ []
+placed (first ∷ rest) batch =
+    if digest_before batch.digest first.digest then batch ∷ first ∷ rest
+    else if bytes_eq first.digest.0 batch.digest.0 then first ∷ rest
+    else first ∷ placed rest batch
 
 -- the parents rise by author
 abbrev pub parents_rise : List ParentReference → Bool

@@ -1,0 +1,26 @@
+//! Why a transaction isn't taken.
+
+ghost use Rattle.std.specs.Prelude.{◌≡◌};
+ghost use Rattle.batchmaker.specs.declared.error.MakeError.TheVariants.{Memory};
+
+use std::alloc::AllocError;
+use thiserror::Error;
+
+/// Why a transaction isn't taken. Printed as its number and its name.
+#[derive(Clone, Copy, Debug, PartialEq, Eq, Error)]
+pub enum MakeError {
+    /// A growth was refused.
+    #[error("1 Memory")]
+    Memory,
+    /// The transaction has more than `MAX_TRANSACTION_BYTES` bytes.
+    #[error("2 TooBig")]
+    TooBig,
+}
+
+impl From<AllocError> for MakeError {
+    ghost from_gives = { λ _ e. e ≡ Memory };
+
+    fn from(_: AllocError) -> MakeError {
+        MakeError::Memory
+    }
+}

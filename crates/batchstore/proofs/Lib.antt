@@ -1,0 +1,5 @@
+pub mod Members
+pub mod Placed
+pub mod Among
+pub mod Listing
+pub mod Steps

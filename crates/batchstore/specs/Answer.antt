@@ -1,0 +1,68 @@
+-- What a store answers, and what it has then.
+use Rattle.std.specs.Prelude.{ℕ, ◌==◌, ◌&&◌, ◌++◌, ◌^◌, not, nat_le, Bool, true, false, List, [], ◌∷◌, length, map, is_none, if◌then◌else◌}
+use Rattle.std.specs.Prelude.{bit_or}
+use Rattle.std.specs.List.{list_any}
+use Rattle.std.specs.Option.{option_map_or}
+use Rattle.std.specs.Str.{bytes_eq}
+use Rattle.wire.specs.Batches.{Contents, batch_body}
+use Rattle.wire.specs.declared.keys.Digest.{Digest}
+use Rattle.wire.specs.declared.references.BatchReference.{BatchReference}
+use Rattle.committee.specs.declared.sets.MemberSet.{MemberSet}
+use Rattle.batchstore.specs.Stock.{Stock, digest_of, held_at}
+use Rattle.batchstore.specs.declared.held.Held.{Held}
+
+-- ---- a batch comes in
+
+-- it is held already
+abbrev pub is_known : Stock → Contents → Bool
+is_known stock batch = option_map_or (λ held. bytes_eq (batch_body held.batch) (batch_body batch)) (held_at stock (digest_of batch)) false
+
+-- another one is held under its digest
+abbrev pub is_clash : Stock → Contents → Bool
+is_clash stock batch = option_map_or (λ held. not (bytes_eq (batch_body held.batch) (batch_body batch))) (held_at stock (digest_of batch)) false
+
+-- none is held under its digest
+abbrev pub is_new : Stock → Contents → Bool
+is_new stock batch = is_none (held_at stock (digest_of batch))
+
+-- no more batches can be held
+abbrev pub is_full : Stock → Bool
+is_full stock = nat_le stock.charter.batches (length stock.held)
+
+-- the set of no member
+abbrev pub no_members : MemberSet
+no_members = record { bits = 0 }
+
+-- the store with one more batch, which nobody has acknowledged and no header has named
+abbrev pub with_batch : Stock → Contents → Stock
+with_batch stock batch = record stock { held = stock.held ++ record { batch = batch; acknowledged = no_members; named = false } ∷ [] }
+
+-- ---- a member acknowledges a batch
+
+-- a set with one member more
+abbrev pub with_member : MemberSet → ℕ → MemberSet
+with_member members member = record { bits = bit_or members.bits (2 ^ member) }
+
+-- the batch of this digest with one member more, and any other batch as it was
+abbrev pub acked_by : Digest → ℕ → Held → Held
+acked_by digest member held =
+    if bytes_eq digest.0 (digest_of held.batch).0 then record held { acknowledged = with_member held.acknowledged member } else held
+
+-- the store where one member more has acknowledged the batch of this digest
+abbrev pub with_ack : Stock → Digest → ℕ → Stock
+with_ack stock digest member = record stock { held = map (acked_by digest member) stock.held }
+
+-- ---- an own header names batches
+
+-- a header names the batch
+abbrev pub is_named_in : List BatchReference → Contents → Bool
+is_named_in references batch = list_any (λ reference. bytes_eq reference.digest.0 (digest_of batch).0) references
+
+-- an own batch that the header names has the mark, and any other batch is as it was
+abbrev pub named_by : ℕ → List BatchReference → Held → Held
+named_by own references held =
+    if (held.batch.author.0 == own) && is_named_in references held.batch then record held { named = true } else held
+
+-- the store behind an own header with these batches
+abbrev pub with_names : Stock → List BatchReference → Stock
+with_names stock references = record stock { held = map (named_by stock.own references) stock.held }

@@ -1,0 +1,20 @@
+-- How a store keeps its batches.
+use Rattle.std.specs.Prelude.{◌≡◌, ℕ, List, map, All}
+use Rattle.wire.specs.declared.keys.Digest.{Digest}
+use Rattle.wire.specs.declared.references.BatchReference.{BatchReference}
+use Rattle.batchstore.specs.Stock.{Stock, IsStock, digest_of, nameable}
+use Rattle.batchstore.specs.declared.held.Held.{Held}
+
+-- a batch is kept under its digest
+abbrev pub IsUnderItsDigest : Digest × Held → Type 0
+IsUnderItsDigest entry = entry.0 ≡ digest_of entry.1.batch
+
+-- a digest and a worker, as a header names a batch
+abbrev pub reference_of : Digest × ℕ → BatchReference
+reference_of entry = record { digest = entry.0; worker = entry.1 }
+
+-- the batches are kept under their digests, and those that may be named are listed beside them
+pub record IsKept (stock : Stock) (entries : List (Digest × Held)) (listed : List (Digest × ℕ)) : Type 0 where
+  pub valid : IsStock stock
+  pub keyed : All IsUnderItsDigest entries
+  pub named : map reference_of listed ≡ nameable stock

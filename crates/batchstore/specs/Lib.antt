@@ -1,0 +1,3 @@
+pub mod Stock
+pub mod Answer
+pub mod Kept

@@ -1,0 +1,14 @@
+//! The batches that a validator holds, in the order of acceptance: each with who acknowledged it, and whether an own
+//! header named it.
+#![tactic(auto)]
+
+mod answers;
+mod held;
+mod laws;
+mod refusal;
+mod store;
+
+pub use answers::{Acked, Put};
+pub use laws::{acknowledgements_add_up, nobody_acknowledged};
+pub use refusal::StoreRefusal;
+pub use store::BatchStore;

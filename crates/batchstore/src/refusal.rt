@@ -1,0 +1,32 @@
+//! Why a store refuses what it is given.
+
+ghost use Rattle.std.specs.Prelude.{◌≡◌};
+ghost use Rattle.batchstore.specs.declared.refusal.StoreRefusal.TheVariants.{Memory};
+
+use std::alloc::AllocFailed;
+use thiserror::Error;
+
+/// Why a store refuses a batch or an acknowledgement. Printed as its number and its name.
+#[derive(Clone, Copy, Debug, PartialEq, Eq, Error)]
+pub enum StoreRefusal {
+    /// A growth was refused.
+    #[error("1 Memory")]
+    Memory,
+    /// Another batch is held under the same digest.
+    #[error("2 DigestClash")]
+    DigestClash,
+    /// As many batches are held as the committee allows.
+    #[error("3 Full")]
+    Full,
+    /// No own batch of the digest is held.
+    #[error("4 NotOurs")]
+    NotOurs,
+}
+
+impl<T: Drop> From<AllocFailed<T>> for StoreRefusal {
+    ghost from_gives = { λ _ e. e ≡ Memory };
+
+    fn from(_: AllocFailed<T>) -> StoreRefusal {
+        StoreRefusal::Memory
+    }
+}

@@ -1,0 +1,364 @@
+//! The store of batches.
+
+ghost use Rattle.std.specs.Prelude.{◌≡◌, ℕ, ◌<◌, ◌==◌, ◌&&◌, ◌||◌, ◌⊎◌, [], ◌∷◌, true, false, Ok, Err, IsTrue, not, nat_le, ◌↔◌, length, take, map, Some, None, slice_get, if◌then◌else◌, IfOk, IfErr, IfSome, OnOk, OnErr, IsErrOf, option_copied, option_map};
+ghost use Rattle.wire.specs.declared.limits.TheConstants.{MAX_BATCHES};
+ghost use Rattle.committee.specs.Charter.{weight, quorum_of};
+ghost use Rattle.committee.specs.Sets.{has};
+ghost use Rattle.committee.specs.declared.members.TheConstants.{MAX_MEMBERS};
+ghost use Rattle.indexmap.specs.IndexMap.{values, set_value_at};
+ghost use Rattle.batchstore.specs.declared.held.Held.{Held};
+ghost use Rattle.batchstore.specs.Kept.{reference_of};
+ghost use Rattle.batchstore.specs.Stock.{is_quorate, Stock, IsStock, digest_of, held_at, batch_in, has_with, has_own, holds, is_available, was_named, nameable};
+ghost use Rattle.batchstore.specs.Answer.{is_known, is_clash, is_new, is_full, with_batch, with_ack, with_names};
+
+use crate::answers::{Acked, Put};
+use crate::held::Held;
+use crate::refusal::StoreRefusal;
+use committee::{Committee, MemberSet};
+use indexmap::IndexMap;
+use std::alloc::{AllocError, Global};
+use std::collections::BTreeMap;
+use std::marker::Model;
+use wire::{Author, Batch, BatchReference, Digest, MAX_BATCHES, batch_digest};
+
+/// The batches that one member of a committee holds. Contracts see the committee, the own member's number, and the
+/// batches in the order of acceptance, each with the other members who acknowledged it and whether an own header named it.
+#[derive(Drop)]
+pub struct BatchStore<'a> {
+    committee: &'a Committee,
+    own: Author,
+    // By the batch digest, in the order of acceptance.
+    held: IndexMap<Digest, Held>,
+    // The workers of the batches that may be named, by the batch digest.
+    nameable: BTreeMap<Digest, u16>,
+}
+
+impl<'a> Model for BatchStore<'a> {
+    ghost use Rattle.indexmap.specs.IndexMap.{values};
+    ghost use Rattle.batchstore.specs.Stock.{Stock};
+    ghost use Rattle.batchstore.specs.Kept.{IsKept};
+
+    ghost Value = { Stock };
+
+    ghost view = { λ s. record { charter = s.committee.now; own = s.own.0; held = values s.held } };
+
+    ghost invariant = { λ s. IsKept (record { charter = s.committee.now; own = s.own.0; held = values s.held }) s.held.entries s.nameable.entries };
+}
+
+// Whether the own member and these others make a quorum.
+fn is_quorum(committee: &Committee, own: Author, others: &MemberSet) -> bool
+    requires { own.0 < MAX_MEMBERS }
+    ensures { result ≡ nat_le (quorum_of committee.now) (weight committee.now (λ member. (member == own.0) || has others.now member)) }
+{
+    let mut holders = *others;
+    holders.insert(own);
+    committee.weight(&holders) >= committee.quorum()
+}
+
+// Whether an own batch may be named with these members, and may not without them.
+fn becomes_nameable(
+    committee: &Committee,
+    own: Author,
+    held: &Held,
+    acknowledged: &MemberSet,
+) -> bool
+    requires { own.0 < MAX_MEMBERS }
+    ensures { result ≡ (not held.now.named && (not (is_quorate committee.now own.0 held.now) && is_quorate committee.now own.0 (record held.now { acknowledged = acknowledged.now }))) }
+{
+    !held.named
+        && !is_quorum(committee, own, &held.acknowledged)
+        && is_quorum(committee, own, acknowledged)
+}
+
+// The first batches of a list by digest, as many as a header may name.
+fn first_references(
+    alloc: Global,
+    nameable: &BTreeMap<Digest, u16>,
+) -> Result<Vec<BatchReference>, AllocError>
+    ensures { IfOk result (λ batches. batches.items ≡ take MAX_BATCHES (map reference_of nameable.now.entries)) }
+{
+    nameable
+        .iter()
+        .map(|(digest, worker)| BatchReference {
+            digest: *digest,
+            worker: *worker,
+        })
+        .take(MAX_BATCHES)
+        .collect(alloc)
+}
+
+// Gives the batch at this place these members.
+fn set_members(held: &mut IndexMap<Digest, Held>, place: usize, members: MemberSet)
+    ensures { (before : Held) → slice_get (values held.old) place ≡ Some before → held.new.entries ≡ set_value_at held.old.entries place (record before { acknowledged = members }) }
+{
+    if let Some(held) = held.get_index_mut(place) {
+        held.acknowledged = members;
+    }
+}
+
+// Gives the batch at this place the mark.
+fn set_mark(held: &mut IndexMap<Digest, Held>, place: usize)
+    ensures { (before : Held) → slice_get (values held.old) place ≡ Some before → held.new.entries ≡ set_value_at held.old.entries place (record before { named = true }) }
+{
+    if let Some(held) = held.get_index_mut(place) {
+        held.named = true;
+    }
+}
+
+impl<'a> BatchStore<'a> {
+    /// A store without a batch, of the member of this number.
+    pub fn new(alloc: Global, committee: &'a Committee, own: Author) -> BatchStore<'a>
+        requires { own.0 < length committee.now.keys }
+        ensures { result ≡ record { charter = committee.now; own = own.0; held = [] } }
+    {
+        committee.limits_hold();
+        BatchStore {
+            committee,
+            own,
+            held: IndexMap::new(alloc),
+            nameable: BTreeMap::new(alloc),
+        }
+    }
+
+    /// Holds a batch from now on, if it is a new one. It computes its digest, and does what `put_digested` does.
+    pub fn put(&mut self, batch: Batch) -> Result<Put, StoreRefusal>
+        ensures known { (result ≡ Ok Put.Known) ↔ IsTrue (is_known self.old batch) }
+        ensures same { result ≡ Ok Put.Known → self.new ≡ self.old }
+        ensures clash { IsErrOf result StoreRefusal.DigestClash ↔ IsTrue (is_clash self.old batch) }
+        ensures full { IsErrOf result StoreRefusal.Full ↔ IsTrue (is_new self.old batch && is_full self.old) }
+        ensures new { result ≡ Ok Put.New → self.new ≡ with_batch self.old batch }
+        ensures ours { ¬ IsErrOf result StoreRefusal.NotOurs }
+        ensures err { OnErr result (self.new ≡ self.old) }
+    {
+        let digest = batch_digest(&batch);
+        self.put_digested(digest, batch)
+    }
+
+    /// Holds a batch of this digest from now on, if it is a new one.
+    ///
+    /// # Errors
+    /// `DigestClash` where another batch is held under its digest, `Full` where it is new and as many are held as the
+    /// committee allows, `Memory` where a growth was refused. They change nothing.
+    pub fn put_digested(&mut self, digest: Digest, batch: Batch) -> Result<Put, StoreRefusal>
+        requires { digest ≡ digest_of batch }
+        ensures known { (result ≡ Ok Put.Known) ↔ IsTrue (is_known self.old batch) }
+        ensures same { result ≡ Ok Put.Known → self.new ≡ self.old }
+        ensures clash { IsErrOf result StoreRefusal.DigestClash ↔ IsTrue (is_clash self.old batch) }
+        ensures full { IsErrOf result StoreRefusal.Full ↔ IsTrue (is_new self.old batch && is_full self.old) }
+        ensures new { result ≡ Ok Put.New → self.new ≡ with_batch self.old batch }
+        ensures ours { ¬ IsErrOf result StoreRefusal.NotOurs }
+        ensures err { OnErr result (self.new ≡ self.old) }
+    {
+        match self.at(&digest) {
+            Some(held) => {
+                if held.batch.body() == batch.body() {
+                    Ok(Put::Known)
+                } else {
+                    Err(StoreRefusal::DigestClash)
+                }
+            }
+            None => {
+                if self.is_full() {
+                    return Err(StoreRefusal::Full);
+                }
+                self.append(digest, batch)?;
+                Ok(Put::New)
+            }
+        }
+    }
+
+    fn is_full(&self) -> bool
+        ensures { result ≡ is_full self.now }
+    {
+        self.held.len() >= self.committee.batches() as usize
+    }
+
+    // Holds a new batch behind the others.
+    fn append(&mut self, digest: Digest, batch: Batch) -> Result<(), StoreRefusal>
+        requires digested { digest ≡ digest_of batch }
+        requires new { held_at self.old digest ≡ None }
+        requires room { is_full self.old ≡ false }
+        ensures ok { OnOk result (self.new ≡ with_batch self.old batch) }
+        ensures err { OnErr result (self.new ≡ self.old) }
+        ensures memory { IfErr result (λ error. error ≡ StoreRefusal.Memory) }
+    {
+        let held = Held {
+            batch,
+            acknowledged: MemberSet::none(),
+            named: false,
+        };
+        self.held.insert(digest, held)?;
+        Ok(())
+    }
+
+    // What is held of the batch of this digest.
+    fn at(&self, digest: &Digest) -> Option<&Held>
+        ensures { option_copied result ≡ held_at self.now digest.now }
+    {
+        self.held.get(digest)
+    }
+
+    // The same, with its place.
+    fn find(&self, digest: &Digest) -> Option<(usize, &Held)>
+        ensures held { option_map (λ found. found.1.now) result ≡ held_at self.now digest.now }
+        ensures place { IfSome result (λ found. slice_get self.now.held found.0 ≡ Some found.1.now) }
+    {
+        match self.held.get_full(digest) {
+            Some((place, _, held)) => Some((place, held)),
+            None => None,
+        }
+    }
+
+    /// Whether the batch of this digest is held, with this worker.
+    pub fn holds(&self, digest: &Digest, worker: u16) -> bool
+        ensures { result ≡ has_with self.now digest.now worker }
+    {
+        match self.at(digest) {
+            Some(held) => held.batch.worker() == worker,
+            None => false,
+        }
+    }
+
+    /// The batch of this digest, if it is held.
+    pub fn get(&self, digest: &Digest) -> Option<&Batch>
+        ensures { option_copied result ≡ batch_in self.now digest.now }
+    {
+        match self.at(digest) {
+            Some(held) => Some(&held.batch),
+            None => None,
+        }
+    }
+
+    /// Counts that a member holds the own batch of this digest.
+    ///
+    /// # Errors
+    /// `NotOurs` where no own batch of the digest is held, `Memory` where a growth was refused. They change nothing.
+    pub fn ack(&mut self, author: Author, digest: &Digest) -> Result<Acked, StoreRefusal>
+        requires member { author.0 < length self.old.charter.keys }
+        ensures not_ours { IsErrOf result StoreRefusal.NotOurs ↔ IsTrue (not (has_own self.old digest.now)) }
+        ensures known { (result ≡ Ok Acked.Known) ↔ IsTrue (has_own self.old digest.now && holds self.old digest.now author.0) }
+        ensures same { result ≡ Ok Acked.Known → self.new ≡ self.old }
+        ensures new { result ≡ Ok Acked.New → self.new ≡ with_ack self.old digest.now author.0 }
+        ensures memory { OnErr result ((result ≡ Err StoreRefusal.NotOurs) ⊎ (result ≡ Err StoreRefusal.Memory)) }
+        ensures err { OnErr result (self.new ≡ self.old) }
+    {
+        match self.acked(author, digest) {
+            None => Err(StoreRefusal::NotOurs),
+            Some(true) => Ok(Acked::Known),
+            Some(false) => {
+                self.count(author, digest)?;
+                Ok(Acked::New)
+            }
+        }
+    }
+
+    // Whether this member holds the own batch of this digest, or none where no own batch of the digest is held.
+    fn acked(&self, author: Author, digest: &Digest) -> Option<bool>
+        ensures { result ≡ (if has_own self.now digest.now then Some (holds self.now digest.now author.0) else None) }
+    {
+        let held = self.at(digest)?;
+        if held.batch.author() != self.own {
+            return None;
+        }
+        Some(author == self.own || held.acknowledged.contains(author))
+    }
+
+    // Counts a member more that holds the own batch of this digest.
+    fn count(&mut self, author: Author, digest: &Digest) -> Result<(), StoreRefusal>
+        requires member { author.0 < length self.old.charter.keys }
+        requires ours { IsTrue (has_own self.old digest.now) }
+        requires other { holds self.old digest.now author.0 ≡ false }
+        ensures ok { OnOk result (self.new ≡ with_ack self.old digest.now author.0) }
+        ensures err { OnErr result (self.new ≡ self.old) }
+        ensures memory { IfErr result (λ error. error ≡ StoreRefusal.Memory) }
+    {
+        let Some((place, held)) = self.find(digest) else {
+            return Ok(());
+        };
+        let worker = held.batch.worker();
+        let mut acknowledged = held.acknowledged;
+        acknowledged.insert(author);
+        if becomes_nameable(self.committee, self.own, held, &acknowledged) {
+            self.nameable.insert(*digest, worker)?;
+        }
+        set_members(&mut self.held, place, acknowledged);
+        Ok(())
+    }
+
+    /// Whether the own batch of this digest is available: the members who hold it are a quorum.
+    pub fn available(&self, digest: &Digest) -> bool
+        ensures { result ≡ is_available self.now digest.now }
+    {
+        match self.at(digest) {
+            Some(held) => {
+                held.batch.author() == self.own
+                    && is_quorum(self.committee, self.own, &held.acknowledged)
+            }
+            None => false,
+        }
+    }
+
+    /// Marks the own batches that an own header names. It takes no memory.
+    pub fn name(&mut self, batches: &[BatchReference])
+        ensures { self.new ≡ with_names self.old batches.now }
+    {
+        for reference in batches {
+            self.name_one(reference);
+        }
+    }
+
+    // Marks the own batch that a header names.
+    fn name_one(&mut self, reference: &BatchReference)
+        ensures { self.new ≡ with_names self.old (reference.now ∷ []) }
+    {
+        let (place, held) = match self.find(&reference.digest) {
+            Some(found) => found,
+            None => return,
+        };
+        if held.batch.author() != self.own {
+            return;
+        }
+        self.nameable.remove(&reference.digest);
+        set_mark(&mut self.held, place);
+    }
+
+    /// Whether an own header has named the batch of this digest.
+    pub fn named(&self, digest: &Digest) -> bool
+        ensures { result ≡ was_named self.now digest.now }
+    {
+        match self.at(digest) {
+            Some(held) => held.named,
+            None => false,
+        }
+    }
+
+    /// The batches that a header may name, rising by digest: the first `MAX_BATCHES` of them. `AllocError` where a
+    /// growth was refused.
+    pub fn least_nameable(&self, alloc: Global) -> Result<Vec<BatchReference>, AllocError>
+        ensures { IfOk result (λ batches. batches.items ≡ take MAX_BATCHES (nameable self.now)) }
+    {
+        first_references(alloc, &self.nameable)
+    }
+
+    /// The committee.
+    pub fn committee(&self) -> &Committee
+        ensures { result.now ≡ self.now.charter }
+    {
+        self.committee
+    }
+
+    /// How many batches are held.
+    pub fn len(&self) -> usize
+        ensures { result ≡ length self.now.held }
+    {
+        self.held.len()
+    }
+
+    /// What holds of each store: its committee is one with the own member, no digest stands there twice, no more batches
+    /// are held than may be, and only own ones have members or the mark. The call does nothing.
+    pub fn limits_hold(&self)
+        ensures { IsStock self.now }
+    {
+        let _ = &self.held;
+    }
+}

@@ -1,0 +1,51 @@
+-- What an assembly answers a vote, and what it is then.
+use Rattle.std.specs.Prelude.{Bool, true, not, ◌||◌, nat_lt, if◌then◌else◌}
+use Rattle.wire.specs.declared.header.Certificate.{Certificate}
+use Rattle.wire.specs.declared.header.HeaderBody.{HeaderBody}
+use Rattle.wire.specs.declared.header.Vote.{Vote}
+use Rattle.committee.specs.Charter.{quorum_of}
+use Rattle.certify.specs.declared.added.Added.{Added}
+use Rattle.certify.specs.declared.added.Added.TheVariants.{Counted, Complete, Again, NotOurs}
+use Rattle.certify.specs.Assembled.{Places, Assembled, is_on, has_voted, with_vote, votes_in, votes_weight}
+
+-- the votes with this one weigh less than a quorum
+abbrev pub is_too_few : Assembled → Vote → Bool
+is_too_few assembled vote =
+    nat_lt (votes_weight assembled.charter (with_vote assembled.places vote)) (quorum_of assembled.charter)
+
+-- the vote is of a voter whose vote is counted, or comes when the certificate is made
+abbrev pub is_again : Assembled → Vote → Bool
+is_again assembled vote = assembled.complete || has_voted assembled.places vote.voter.0
+
+-- the certificate of a header and of the votes in these places
+abbrev pub certificate_of : HeaderBody → Places → Certificate
+certificate_of body places = record { header = body; votes = votes_in places }
+
+-- what is answered
+abbrev pub answer : Assembled → Vote → Added
+answer assembled vote =
+    if not (is_on assembled.header.body vote) then NotOurs
+    else if is_again assembled vote then Again
+    else if is_too_few assembled vote then Counted
+    else Complete (certificate_of assembled.header.body (with_vote assembled.places vote))
+
+-- the votes that are counted behind an answer
+abbrev pub places_after : Added → Places → Vote → Places
+places_after NotOurs places vote = places
+places_after Again places vote = places
+places_after Counted places vote = with_vote places vote
+places_after (Complete certificate) places vote = with_vote places vote
+
+-- whether the certificate is made behind an answer
+abbrev pub complete_after : Added → Bool → Bool
+complete_after NotOurs complete = complete
+complete_after Again complete = complete
+complete_after Counted complete = complete
+complete_after (Complete certificate) complete = true
+
+-- the assembly behind an answer: of the same committee and header
+abbrev pub after : Added → Assembled → Vote → Assembled
+after added assembled vote = record assembled {
+  places = places_after added assembled.places vote;
+  complete = complete_after added assembled.complete;
+}

@@ -1,0 +1,77 @@
+-- The votes on one header, and what they weigh.
+use Rattle.std.specs.Prelude.{◌≡◌, ℕ, ◌==◌, ◌&&◌, ◌<◌, ◌≤◌, Bool, true, false, List, length, replicate, Option, Some, None, is_some, option_map, slice_index_or, slice_set}
+use Rattle.std.specs.List.{filter_map}
+use Rattle.std.specs.Str.{bytes_eq}
+use Rattle.wire.specs.Digests.{header_digest_of}
+use Rattle.wire.specs.declared.header.Header.{Header}
+use Rattle.wire.specs.declared.header.HeaderBody.{HeaderBody}
+use Rattle.wire.specs.declared.header.Vote.{Vote}
+use Rattle.wire.specs.declared.keys.Digest.{Digest}
+use Rattle.wire.specs.declared.keys.Signature.{Signature}
+use Rattle.wire.specs.declared.votes.VoteEntry.{VoteEntry}
+use Rattle.committee.specs.Charter.{Charter, IsCharter, numbers, weight, quorum_of}
+use Rattle.committee.specs.Sets.{has}
+use Rattle.committee.specs.declared.sets.MemberSet.{MemberSet}
+
+-- of each member the signature of its vote, if that is counted
+abbrev pub Places : Type 0
+Places = List (Option Signature)
+
+-- an assembly: the committee, the header, the votes that are counted, and whether they have made a certificate
+pub record Assembled : Type 0 where
+  pub charter : Charter
+  pub header : Header
+  pub places : Places
+  pub complete : Bool
+
+-- a vote is on a header: its header digest, round and author are the header's
+abbrev pub is_on : HeaderBody → Vote → Bool
+is_on body vote =
+    bytes_eq vote.header.0 (header_digest_of body) && ((vote.round == body.round) && (vote.author.0 == body.author.0))
+
+-- ---- the votes
+
+-- the vote of a member is counted
+abbrev pub has_voted : Places → ℕ → Bool
+has_voted places member = is_some (slice_index_or places member None)
+
+-- the places with one vote more
+abbrev pub with_vote : Places → Vote → Places
+with_vote places vote = slice_set places vote.voter.0 (Some vote.signature)
+
+-- the vote of a member, if it is counted
+abbrev pub entry_of : Places → ℕ → Option VoteEntry
+entry_of places member = option_map (λ signature. record { voter = record { 0 = member }; signature = signature }) (slice_index_or places member None)
+
+-- the votes that are counted, rising by voter
+abbrev pub votes_in : Places → List VoteEntry
+votes_in places = filter_map (entry_of places) (numbers (length places))
+
+-- what the members weigh whose votes are counted
+abbrev pub votes_weight : Charter → Places → ℕ
+votes_weight charter places = weight charter (has_voted places)
+
+-- ---- assemblies
+
+-- one with no vote but the own one
+abbrev pub started : Charter → Header → Vote → Assembled
+started charter header own = record {
+  charter = charter;
+  header = header;
+  places = with_vote (replicate (length charter.keys) None) own;
+  complete = false;
+}
+
+-- what holds of each assembly: its committee is one, with a place for each member, and it is complete exactly where the
+-- votes weigh a quorum
+pub record IsAssembled (assembled : Assembled) : Type 0 where
+  pub committee : IsCharter assembled.charter
+  pub size : length assembled.places ≡ length assembled.charter.keys
+  pub below : assembled.complete ≡ false → votes_weight assembled.charter assembled.places < quorum_of assembled.charter
+  pub enough : assembled.complete ≡ true → quorum_of assembled.charter ≤ votes_weight assembled.charter assembled.places
+
+-- what is kept beside an assembly: its header's digest, and the set of those who have voted
+pub record IsKept (assembled : Assembled) (digest : Digest) (voters : MemberSet) : Type 0 where
+  pub assembly : IsAssembled assembled
+  pub digested : digest.0 ≡ header_digest_of assembled.header.body
+  pub voted : (member : ℕ) → has voters member ≡ has_voted assembled.places member

@@ -1,0 +1,3 @@
+pub mod Assembled
+pub mod Answer
+pub mod Votes

@@ -1,0 +1,132 @@
+//! The votes on one header.
+
+ghost use Rattle.std.specs.Prelude.{◌≡◌, ◌<◌, length, IsTrue, IfOk, OnErr};
+ghost use Rattle.certify.specs.Assembled.{IsAssembled, is_on, has_voted, started};
+ghost use Rattle.certify.specs.Answer.{answer, after};
+ghost use Rattle.wire.specs.Digests.{header_digest_of};
+
+use crate::added::Added;
+use crate::certificate::{certificate_with, no_votes};
+use committee::{Committee, MemberSet};
+use std::alloc::{AllocError, Global};
+use std::marker::Model;
+use wire::{Author, Digest, Header, HeaderBody, Signature, Vote};
+
+/// The votes on one header, the own one among them, until they weigh a quorum of the committee. Contracts see the
+/// committee, the header, of each member the signature of its vote if that is counted, and whether they make a
+/// certificate.
+#[derive(Drop)]
+pub struct Assembly<'a> {
+    alloc: Global,
+    committee: &'a Committee,
+    header: Header,
+    digest: Digest,
+    places: Vec<Option<Signature>>,
+    voters: MemberSet,
+    complete: bool,
+}
+
+impl<'a> Model for Assembly<'a> {
+    ghost use Rattle.certify.specs.Assembled.{Assembled, IsKept};
+
+    ghost Value = { Assembled };
+
+    ghost view = { λ a. record { charter = a.committee.now; header = a.header; places = a.places.items; complete = a.complete } };
+
+    ghost invariant = { λ a. IsKept (record { charter = a.committee.now; header = a.header; places = a.places.items; complete = a.complete }) a.digest a.voters };
+}
+
+fn is_on(body: &HeaderBody, digest: &Digest, vote: &Vote) -> bool
+    requires { digest.now.0 ≡ header_digest_of body.now }
+    ensures { result ≡ is_on body.now vote.now }
+{
+    vote.header == *digest && vote.round == body.round && vote.author == body.author
+}
+
+impl<'a> Assembly<'a> {
+    /// An assembly of the header, with the own vote on it counted. `AllocError` where a growth was refused.
+    pub fn start(
+        alloc: Global,
+        committee: &'a Committee,
+        header: Header,
+        own: Vote,
+    ) -> Result<Assembly<'a>, AllocError>
+        requires ours { IsTrue (is_on header.body own) }
+        requires member { own.voter.0 < length committee.now.keys }
+        ensures { IfOk result (λ assembly. assembly ≡ started committee.now header own) }
+    {
+        committee.limits_hold();
+        let mut places = no_votes(alloc, committee.size() as usize)?;
+        places[own.voter.0 as usize] = Some(own.signature);
+        let mut voters = MemberSet::none();
+        voters.insert(own.voter);
+        Ok(Assembly {
+            alloc,
+            committee,
+            header,
+            digest: own.header,
+            places,
+            voters,
+            complete: false,
+        })
+    }
+
+    /// Counts a member's vote, if it is on the header and the votes don't make a certificate yet. Where a growth is
+    /// refused nothing changes.
+    pub fn add(&mut self, vote: Vote) -> Result<Added, AllocError>
+        requires member { vote.voter.0 < length self.old.charter.keys }
+        ensures answer { IfOk result (λ added. added ≡ answer self.old vote) }
+        ensures after { IfOk result (λ added. self.new ≡ after added self.old vote) }
+        ensures err { OnErr result (self.new ≡ self.old) }
+    {
+        if !is_on(&self.header.body, &self.digest, &vote) {
+            return Ok(Added::NotOurs);
+        }
+        if self.complete || self.voters.contains(vote.voter) {
+            return Ok(Added::Again);
+        }
+        let mut voters = self.voters;
+        voters.insert(vote.voter);
+        let weight = self.committee.weight(&voters);
+        let quorum = self.committee.quorum();
+        let added = if weight < quorum {
+            Added::Counted
+        } else {
+            let certificate = certificate_with(self.alloc, &self.header.body, &self.places, &vote)?;
+            self.complete = true;
+            Added::Complete(certificate)
+        };
+        self.places[vote.voter.0 as usize] = Some(vote.signature);
+        self.voters = voters;
+        Ok(added)
+    }
+
+    /// The header.
+    pub fn header(&self) -> &Header
+        ensures { result.now ≡ self.now.header }
+    {
+        &self.header
+    }
+
+    /// Whether this member's vote is counted.
+    pub fn voted(&self, voter: Author) -> bool
+        ensures { result ≡ has_voted self.now.places voter.0 }
+    {
+        self.voters.contains(voter)
+    }
+
+    /// Whether the votes weigh a quorum: they have made a certificate.
+    pub fn is_complete(&self) -> bool
+        ensures { result ≡ self.now.complete }
+    {
+        self.complete
+    }
+
+    /// What holds of each assembly: its committee is one, with a place for each member, and it is complete exactly
+    /// where the votes weigh a quorum. The call does nothing.
+    pub fn limits_hold(&self)
+        ensures { IsAssembled self.now }
+    {
+        let _ = &self.header;
+    }
+}

@@ -1,0 +1,65 @@
+//! The certificate that the counted votes make with one vote more.
+
+ghost use Rattle.std.specs.Prelude.{◌≡◌, ◌<◌, ◌≤◌, length, replicate, IfOk, None, slice_index_or};
+ghost use Rattle.certify.specs.Answer.{certificate_of};
+ghost use Rattle.certify.specs.Assembled.{with_vote, votes_in};
+ghost use Rattle.committee.specs.declared.members.TheConstants.{MAX_MEMBERS};
+
+use std::alloc::{AllocError, Global};
+use wire::{Author, Certificate, HeaderBody, Signature, Vote, VoteEntries, VoteEntry};
+
+/// So many places, none with a vote.
+pub(crate) fn no_votes(alloc: Global, size: usize) -> Result<Vec<Option<Signature>>, AllocError>
+    ensures { IfOk result (λ places. places.items ≡ replicate size None) }
+{
+    vec![in alloc; None; size]
+}
+
+fn signature_with(places: &[Option<Signature>], vote: &Vote, member: usize) -> Option<Signature>
+    requires voter { vote.now.voter.0 < length places.now }
+    requires member { member < length places.now }
+    ensures { result ≡ slice_index_or (with_vote places.now vote.now) member None }
+{
+    if member == vote.voter.0 as usize {
+        Some(vote.signature)
+    } else {
+        places[member]
+    }
+}
+
+fn votes_with(
+    alloc: Global,
+    places: &[Option<Signature>],
+    vote: &Vote,
+) -> Result<VoteEntries, AllocError>
+    requires size { length places.now ≤ MAX_MEMBERS }
+    requires voter { vote.now.voter.0 < length places.now }
+    ensures { IfOk result (λ votes. votes ≡ votes_in (with_vote places.now vote.now)) }
+{
+    let mut votes = VoteEntries::new(alloc);
+    for member in 0..places.len() {
+        if let Some(signature) = signature_with(places, vote, member) {
+            votes.push(VoteEntry {
+                voter: Author(member as u16),
+                signature,
+            })?;
+        }
+    }
+    Ok(votes)
+}
+
+/// The certificate of a header that the votes in these places make with one vote more.
+pub(crate) fn certificate_with(
+    alloc: Global,
+    body: &HeaderBody,
+    places: &[Option<Signature>],
+    vote: &Vote,
+) -> Result<Certificate, AllocError>
+    requires size { length places.now ≤ MAX_MEMBERS }
+    requires voter { vote.now.voter.0 < length places.now }
+    ensures { IfOk result (λ certificate. certificate ≡ certificate_of body.now (with_vote places.now vote.now)) }
+{
+    let header = body.try_clone()?;
+    let votes = votes_with(alloc, places, vote)?;
+    Ok(Certificate { header, votes })
+}

@@ -1,0 +1,8 @@
+//! Certificates that wait for their parents, in the order in which they were offered, each once.
+#![tactic(auto)]
+
+mod refusal;
+mod waiter;
+
+pub use refusal::WaitRefusal;
+pub use waiter::{MAX_WAITING, Waiter, limits_in_numbers};

@@ -1,0 +1,29 @@
+//! Why a message doesn't wait.
+
+ghost use Rattle.std.specs.Prelude.{◌≡◌};
+ghost use Rattle.waiter.specs.declared.refusal.WaitRefusal.TheVariants.{Memory};
+
+use std::alloc::AllocFailed;
+use thiserror::Error;
+
+/// Why a message doesn't wait. Printed as its number and its name.
+#[derive(Clone, Copy, Debug, PartialEq, Eq, Error)]
+pub enum WaitRefusal {
+    /// A growth was refused.
+    #[error("1 Memory")]
+    Memory,
+    /// As many wait as may.
+    #[error("2 Full")]
+    Full,
+    /// The message is no certificate.
+    #[error("3 NotACertificate")]
+    NotACertificate,
+}
+
+impl<T: Drop> From<AllocFailed<T>> for WaitRefusal {
+    ghost from_gives = { λ _ e. e ≡ Memory };
+
+    fn from(_: AllocFailed<T>) -> WaitRefusal {
+        WaitRefusal::Memory
+    }
+}

@@ -1,0 +1,108 @@
+//! The waiting certificates.
+
+ghost use Rattle.std.specs.Prelude.{◌≡◌, ◌≢◌, ◌<◌, ◌≤◌, ◌++◌, [], ◌∷◌, ◌↔◌, Some, None, Ok, true, length, take, slice_get, IfSome, IfNone, OnOk, OnErr, IsErrOf};
+ghost use Rattle.std.specs.Fn.{CalledAt};
+ghost use Rattle.wire.specs.Events.{Event};
+ghost use Rattle.header.specs.Digested.{certificate_digest_in};
+ghost use Rattle.indexmap.specs.IndexMap.{values};
+ghost use Rattle.waiter.specs.declared.waiter.TheConstants.{MAX_WAITING};
+ghost use Rattle.waiter.specs.Waiting.{Waits, AnswersNo, IsFirstReady};
+
+use crate::refusal::WaitRefusal;
+use header::Checked;
+use indexmap::IndexMap;
+use std::alloc::Global;
+use std::marker::Model;
+use wire::Digest;
+
+/// Certificates that wait, at most.
+pub const MAX_WAITING: usize = 4_096;
+
+/// The limit in numbers.
+pub fn limits_in_numbers()
+    ensures waiting { MAX_WAITING ≡ 4096 }
+{}
+
+/// Certificates that wait for their parents. Contracts see them with their senders, in the order of offering.
+#[derive(Drop)]
+pub struct Waiter {
+    // By the certificate digest.
+    waiting: IndexMap<Digest, Checked>,
+}
+
+impl Model for Waiter {
+    ghost use Rattle.std.specs.Prelude.{List, length, ◌≤◌, All};
+    ghost use Rattle.wire.specs.Events.{Event};
+    ghost use Rattle.indexmap.specs.IndexMap.{values};
+    ghost use Rattle.waiter.specs.declared.waiter.TheConstants.{MAX_WAITING};
+    ghost use Rattle.waiter.specs.Keyed.{IsUnderItsDigest};
+
+    ghost Value = { List Event };
+
+    ghost view = { λ w. values w.waiting };
+
+    ghost invariant = { λ w. All IsUnderItsDigest w.waiting.entries × (length w.waiting.entries ≤ MAX_WAITING) };
+}
+
+impl Waiter {
+    /// No certificate waits.
+    pub fn new(alloc: Global) -> Waiter
+        ensures { result ≡ [] }
+    {
+        Waiter {
+            waiting: IndexMap::new(alloc),
+        }
+    }
+
+    /// Lets a certificate wait, behind the others. Where one of its digest waits already, that one stays alone.
+    pub fn offer(&mut self, checked: Checked) -> Result<(), WaitRefusal>
+        ensures not_a_certificate { IsErrOf result WaitRefusal.NotACertificate ↔ (certificate_digest_in checked.message ≡ None) }
+        ensures full { IsErrOf result WaitRefusal.Full ↔ ((certificate_digest_in checked.message ≢ None) × (¬ Waits self.old checked) × (length self.old ≡ MAX_WAITING)) }
+        ensures again { Waits self.old checked → result ≡ Ok tt }
+        ensures same { Waits self.old checked → self.new ≡ self.old }
+        ensures added { OnOk result (¬ Waits self.old checked → self.new ≡ self.old ++ checked ∷ []) }
+        ensures few { length self.new ≤ MAX_WAITING }
+        ensures err { OnErr result (self.new ≡ self.old) }
+    {
+        let count = self.waiting.len();
+        let Some(digest) = checked.certificate_digest().copied() else {
+            return Err(WaitRefusal::NotACertificate);
+        };
+        if self.waiting.contains_key(&digest) {
+            return Ok(());
+        }
+        if count >= MAX_WAITING {
+            return Err(WaitRefusal::Full);
+        }
+        self.waiting.insert(digest, checked)?;
+        Ok(())
+    }
+
+    /// Asks of each in turn whether it is ready, and takes out the first that is. It takes no memory.
+    pub fn next_ready<F: FnMut(&Checked) -> bool>(&mut self, ready: F) -> Option<Checked>
+        requires { F.IsAlwaysCallable ready }
+        ensures first { IfSome result (λ checked. IsFirstReady F.FnMut ready self.old checked self.new) }
+        ensures asked { IfNone result ((last : F) × AnswersNo F.FnMut ready self.old last) }
+        ensures none { IfNone result (self.new ≡ self.old) }
+    {
+        let place = self.first_ready(ready)?;
+        let (_, checked) = self.waiting.shift_remove_index(place)?;
+        Some(checked)
+    }
+
+    // The place of the first of which the answer is yes.
+    fn first_ready<F: FnMut(&Checked) -> bool>(&self, mut ready: F) -> Option<usize>
+        requires { F.IsAlwaysCallable ready }
+        ensures found { IfSome result (λ place. (checked : Event) × (asked : F) × (last : F) × (slice_get self.now place ≡ Some checked) × AnswersNo F.FnMut ready (take place self.now) asked × CalledAt F.FnMut asked checked true last) }
+        ensures none { IfNone result ((last : F) × AnswersNo F.FnMut ready self.now last) }
+    {
+        for place in 0..self.waiting.len() {
+            if let Some((_, checked)) = self.waiting.get_index(place) {
+                if ready(checked) {
+                    return Some(place);
+                }
+            }
+        }
+        None
+    }
+}
