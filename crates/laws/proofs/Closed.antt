@@ -1,5 +1,5 @@
 -- The certificates of a legal history have their parents held, or lie too low for them.
-use Rattle.std.proofs.Common.{◌≡◌, ℕ, ◌+◌, ◌-◌, ◌*◌, ◌≤◌, Bool, true, false, List, [], ◌∷◌, ◌++◌, map, Some, None, inl, inr, refl, ap, sym, ◌∙◌, subst, arith}
+use Rattle.std.proofs.Common.{◌≡◌, ℕ, ◌+◌, ◌-◌, ◌*◌, ◌≤◌, Bool, true, false, List, [], ◌∷◌, ◌++◌, map, Option, Some, None, inl, inr, refl, ap, sym, ◌∙◌, subst, arith}
 use Rattle.std.specs.Prelude.{Contains, nat_le, nat_lt, ◌==◌, ◌&&◌, ◌||◌, option_and_then}
 use Rattle.std.specs.List.{list_all, list_any}
 use Rattle.std.specs.Option.{option_map_or, option_or, option_to_list}
@@ -9,6 +9,7 @@ use Rattle.std.proofs.lemmas.Option.{same_Some, none-some}
 use Rattle.std.proofs.lemmas.List.{append-nil}
 use Rattle.std.proofs.lemmas.List.Elements.{Contains-append_cases, Contains-push_cases}
 use Rattle.wire.specs.declared.message.Message.TheVariants as message
+use Rattle.model.specs.States.{State, whole}
 use Rattle.model.specs.Admitting.{is_new, header_answer, vote_answer, certificate_answer, IsLegal}
 use Rattle.model.specs.Histories.{History, headers, coins, as_header, as_coin}
 use Rattle.model.specs.Holdings.{ledger_of, ledger_at, completed, certificates, genesis, slots, floor, is_low, is_held, all_held}
@@ -30,20 +31,20 @@ use Rattle.laws.proofs.Votes.{slot_is}
 
 -- ---- what is new isn't low, and has its parents held
 
-new_certificate-high : (node : Node) (history : History) (event : Event) (certificate : Certificate) → is_new (certificate_answer node history event certificate) ≡ true
+new_certificate-high : (node : Node) (history : History) (later : State) (certificate : Certificate) → is_new (certificate_answer node (whole node history) later certificate) ≡ true
     → is_low (floor node history) certificate.header.round ≡ false
-new_certificate-high node history event certificate h = grind (arith, h, common_steps)
+new_certificate-high node history later certificate h = grind (arith, h, common_steps)
 
-new_certificate-held : (node : Node) (history : History) (event : Event) (certificate : Certificate) → is_new (certificate_answer node history event certificate) ≡ true
+new_certificate-held : (node : Node) (history : History) (later : State) (certificate : Certificate) → is_new (certificate_answer node (whole node history) later certificate) ≡ true
     → all_held (slots node history) (floor node history) certificate.header ≡ true
-new_certificate-held node history event certificate h = grind (arith, h, common_steps)
+new_certificate-held node history later certificate h = grind (arith, h, common_steps)
 
-new_header-held : (node : Node) (history : History) (header : Header) → is_new (header_answer node history header) ≡ true
+new_header-held : (node : Node) (history : History) (header : Header) → is_new (header_answer node (whole node history) header) ≡ true
     → all_held (slots node history) (floor node history) header.body ≡ true
 new_header-held node history header h = grind (arith, h, common_steps)
 
-pub new_vote-high : (node : Node) (history : History) (event : Event) (vote : Vote) → is_new (vote_answer node history event vote) ≡ true → is_low (floor node history) vote.round ≡ false
-new_vote-high node history event vote h = grind (arith, h, common_steps)
+pub new_vote-high : (node : Node) (history : History) (later : State) (vote : Vote) → is_new (vote_answer node (whole node history) later vote) ≡ true → is_low (floor node history) vote.round ≡ false
+new_vote-high node history later vote h = grind (arith, h, common_steps)
 
 -- what holds of all of a list holds of each
 pub all_to : {X : Type 0} (test : X → Bool) (xs : List X) (x : X) → list_all test xs ≡ true → Contains xs x → test x ≡ true
@@ -76,17 +77,17 @@ pub added_by : (node : Node) (history : History) (sender : Author) (m : Message)
 added_by node history sender (message.Certificate new) closed adds certificate is =
     let event : Event = record { sender = sender; message = message.Certificate new } in
     let same : new ≡ certificate = same_Some new certificate is in
-    subst (IsAddedWell node history) same (record { held = new_certificate-held node history event new adds.new; high = new_certificate-high node history event new adds.new })
+    subst (IsAddedWell node history) same (record { held = new_certificate-held node history (whole node (history ++ event ∷ [])) new adds.new; high = new_certificate-high node history (whole node (history ++ event ∷ [])) new adds.new })
 added_by node history sender (message.Vote vote) closed adds certificate is =
     let event : Event = record { sender = sender; message = message.Vote vote } in
-    let new = new_vote node history event vote adds.new in
+    let new = new_vote node history (whole node (history ++ event ∷ [])) vote adds.new in
     let found = found_passes (λ h. is_of_slot vote.round node.own.0 h.body) (headers history) new.header new.held in
     let place = slot_is vote.round node.own.0 new.header.body found.0 in
     let made : completed node (history ++ event ∷ []) new.header ≡ Some certificate = sym (ap (option_and_then (completed node (history ++ event ∷ []))) new.held) ∙ is in
     let of = completed-header node (history ++ event ∷ []) new.header certificate made in
     record {
       held = ap (all_held (slots node history) (floor node history)) of ∙ closed.of_headers new.header found.1;
-      high = ap (λ (h : HeaderBody). is_low (floor node history) h.round) of ∙ ap (is_low (floor node history)) place.0 ∙ new_vote-high node history event vote adds.new;
+      high = ap (λ (h : HeaderBody). is_low (floor node history) h.round) of ∙ ap (is_low (floor node history)) place.0 ∙ new_vote-high node history (whole node (history ++ event ∷ [])) vote adds.new;
     }
 added_by node history sender (message.Batch batch) closed adds certificate is = absurd (none-some certificate is)
 added_by node history sender (message.BatchAck ack) closed adds certificate is = absurd (none-some certificate is)
@@ -114,7 +115,7 @@ kept_slot node history event adds round author c held =
     slots_grow node history event adds.longer round author ∙ ap (λ o. option_or o (slots_of (option_to_list (added node history event)) round author)) held
 
 -- a parent that is named and not held lies too low
-low_parent : (slots : Slots) (floor : ℕ) (c child : Certificate) → all_held slots floor child.header ≡ true → slots c.header.round c.header.author.0 ≡ None → is_parent c child ≡ true → is_low floor c.header.round ≡ true
+pub low_parent : (slots : Slots) (floor : ℕ) (c child : Certificate) → all_held slots floor child.header ≡ true → slots c.header.round c.header.author.0 ≡ None → is_parent c child ≡ true → is_low floor c.header.round ≡ true
 low_parent slots floor c child held none names =
     let parts = and_parts (c.header.round + 1 == child.header.round) (list_any (is_named c) child.header.parents) names in
     let round = eqb-true _ _ parts.0 in
@@ -163,6 +164,10 @@ extends node history event closed adds =
 pub coins_later : (history : History) (event : Event) → coins (history ++ event ∷ []) ≡ coins history ++ option_to_list (as_coin event.message)
 coins_later history event = filter_map-push (λ e. as_coin e.message) history event
 
+-- the floor by the greatest wave that is directly committed
+abbrev pub floor_of : Node → Option ℕ → ℕ
+floor_of node top = option_map_or (λ wave. (2 * wave - 1) - node.charter.depth) top 0
+
 pub floor_grows : (node : Node) (history : History) (event : Event) → Extends (slots node history) (slots node (history ++ event ∷ [])) → floor node history ≤ floor node (history ++ event ∷ [])
 floor_grows node history event ext =
     let depth = node.charter.depth in
@@ -182,7 +187,7 @@ floor_grows node history event ext =
     ]
 
 -- a parent that is held stays so
-held_stays : (before after : Slots) (low high round : ℕ) (p : ParentReference) → ((r a : ℕ) (c : Certificate) → before r a ≡ Some c → after r a ≡ Some c) → low ≤ high → is_held before low round p ≡ true → is_held after high round p ≡ true
+pub held_stays : (before after : Slots) (low high round : ℕ) (p : ParentReference) → ((r a : ℕ) (c : Certificate) → before r a ≡ Some c → after r a ≡ Some c) → low ≤ high → is_held before low round p ≡ true → is_held after high round p ≡ true
 held_stays before after low high round p kept higher held =
     let under : nat_lt 0 low && nat_le (round - 1) low ≡ true → nat_lt 0 high && nat_le (round - 1) high ≡ true =
     λ is.
@@ -203,7 +208,7 @@ held_stays before after low high round p kept higher held =
           or_right (option_map_or (λ c. same_digest (certificate_digest c.header) p.certificate) (after (round - 1) p.author.0) false) (nat_lt 0 high && nat_le (round - 1) high) (under held')
     ]
 
-all_stay : {X : Type 0} (test other : X → Bool) (xs : List X) → ((x : X) → test x ≡ true → other x ≡ true) → list_all test xs ≡ true → list_all other xs ≡ true
+pub all_stay : {X : Type 0} (test other : X → Bool) (xs : List X) → ((x : X) → test x ≡ true → other x ≡ true) → list_all test xs ≡ true → list_all other xs ≡ true
 all_stay test other [] stays all = refl
 all_stay test other (x ∷ xs) stays all = let parts = and_parts (test x) (list_all test xs) all in and_from _ _ (stays x parts.0) (all_stay test other xs stays parts.1)
 

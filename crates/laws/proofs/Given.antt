@@ -15,6 +15,7 @@ use Rattle.wire.specs.declared.message.Message.{Message}
 use Rattle.wire.specs.declared.message.Message.TheVariants as message
 use Rattle.wire.specs.declared.output.Output.{Output}
 use Rattle.wire.specs.declared.output.Output.TheVariants as output
+use Rattle.model.specs.States.{whole}
 use Rattle.model.specs.Admitting.{IsLegal, is_own, batch_outputs, header_outputs}
 use Rattle.model.specs.Giving.{is_given, given}
 use Rattle.model.specs.Histories.{History, batches, headers, received, as_batch, as_header, as_certificate}
@@ -37,7 +38,7 @@ completed_stays node history sender (message.Vote vote) adds header certificate 
     let event : Event = record { sender = sender; message = message.Vote vote } in
     elim (cases_Bool (is_of_slot vote.round vote.author.0 header.body)) [
       | inl on ↦
-          let new = new_vote node history event vote adds.new in
+          let new = new_vote node history (whole node (history ++ event ∷ [])) vote adds.new in
           let place = slot_is vote.round vote.author.0 header.body on in
           let own = eqb-true vote.author.0 node.own.0 new.own in
           let of = completed-header node history header certificate made in

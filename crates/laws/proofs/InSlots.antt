@@ -13,6 +13,7 @@ use Rattle.wire.specs.declared.header.HeaderBody.{HeaderBody}
 use Rattle.wire.specs.declared.keys.Author.{Author}
 use Rattle.wire.specs.declared.message.Message.{Message}
 use Rattle.wire.specs.declared.message.Message.TheVariants as message
+use Rattle.model.specs.States.{whole}
 use Rattle.model.specs.Admitting.{IsLegal}
 use Rattle.model.specs.Histories.{History, headers, received, as_header, as_vote, as_certificate}
 use Rattle.model.specs.Holdings.{voted_header, completed, certificates, genesis, slots}
@@ -77,7 +78,7 @@ made_more node history sender (message.Vote vote) adds certificate header inside
       | inl old ↦ elim (cases_Bool (is_of_slot vote.round vote.author.0 header.body)) [
         | inr other ↦ inl (made_before node history header certificate old (sym (completed-other node history sender vote header other) ∙ made))
         | inl on ↦
-            let new = new_vote node history event vote adds.new in
+            let new = new_vote node history (whole node (history ++ event ∷ [])) vote adds.new in
             let place = slot_is vote.round vote.author.0 header.body on in
             let own = eqb-true vote.author.0 node.own.0 new.own in
             let same_header : Some header ≡ Some new.header =
@@ -107,7 +108,7 @@ received_more node history sender (message.Certificate new) adds certificate ins
           let event : Event = record { sender = sender; message = message.Certificate new } in
           record {
             is = ap (λ c. Some c) same;
-            free = ap (λ (c : Certificate). slots node history c.header.round c.header.author.0) (sym same) ∙ new_certificate-free node history event new adds.new;
+            free = ap (λ (c : Certificate). slots node history c.header.round c.header.author.0) (sym same) ∙ new_certificate-free node (whole node history) (whole node (history ++ event ∷ [])) new adds.new;
           }
     ]
 received_more node history sender (message.Batch batch) adds certificate inside = absurd (Contains-nothing certificate inside)
@@ -116,7 +117,7 @@ received_more node history sender (message.Header header) adds certificate insid
 received_more node history sender (message.Vote vote) adds certificate inside = absurd (Contains-nothing certificate inside)
 received_more node history sender (message.Coin coin) adds certificate inside = absurd (Contains-nothing certificate inside)
 
-certificate_more : (node : Node) (history : History) (event : Event) (certificate : Certificate) → Adds node history event
+pub certificate_more : (node : Node) (history : History) (event : Event) (certificate : Certificate) → Adds node history event
     → Contains (certificates node (history ++ event ∷ [])) certificate → Contains (certificates node history) certificate ⊎ IsAdded node history event certificate
 certificate_more node history event certificate adds inside =
     let first = map genesis (numbers (size_of node)) in

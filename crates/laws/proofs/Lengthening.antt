@@ -16,8 +16,7 @@ use Rattle.model.specs.Nodes.{Node, IsNode}
 use Rattle.model.specs.Ordering.{Ledger, is_directly_committed, top, segment, segments, committed, newer_at, newer, last_wave, order_by}
 use Rattle.model.specs.Slots.{Slots, certificate_digest}
 use Rattle.model.specs.Words.{Certificate, Digest, Event}
-use Rattle.laws.proofs.Alike.{floor_of}
-use Rattle.laws.proofs.Closed.{in_place, closed, coins_later, extends}
+use Rattle.laws.proofs.Closed.{in_place, closed, coins_later, extends, floor_of}
 use Rattle.laws.proofs.FromRounds.{AgreeFrom, newer_from, since_from}
 use Rattle.laws.proofs.Growing.{AreInPlace, Extends, IsIn, WasHeld, grown, leader_in, segments_same, directly_committed_kept}
 use Rattle.laws.proofs.Legal.{Adds, legal-grows}
@@ -27,7 +26,7 @@ use Rattle.laws.proofs.OrderLonger.{IsLonger, committed_is, newer_held, newer_gr
 
 -- ---- the last of a list
 
-last_pushed : {X : Type 0} (before : Option X) (xs : List X) (x : X) → last_or before (xs ++ x ∷ []) ≡ Some x
+pub last_pushed : {X : Type 0} (before : Option X) (xs : List X) (x : X) → last_or before (xs ++ x ∷ []) ≡ Some x
 last_pushed before [] x = refl
 last_pushed before (y ∷ xs) x = last_pushed (Some y) xs x
 
@@ -151,7 +150,7 @@ later_push node history later event adds so_far =
     }
 
 -- nothing is newer than the last leader
-newer_none : (ledger : Ledger) → newer ledger (last_wave ledger) ≡ []
+pub newer_none : (ledger : Ledger) → newer ledger (last_wave ledger) ≡ []
 newer_none ledger =
     elim (given_or_none (top ledger)) [
       | inr none ↦ ap (λ o. option_map_or (newer_at ledger (last_wave ledger)) o []) none

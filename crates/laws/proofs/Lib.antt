@@ -1,23 +1,19 @@
-mod Alike
-mod Closed
-mod FromRounds
-mod Given
-mod Growing
-mod InSlots
-mod KeptLater
-mod KeptProposed
-mod Legal
-mod Lengthening
-mod Lists
-mod Meeting
-mod NewEvents
-mod OneMore
-mod OrderGrows
-mod OrderLonger
-mod Proposed
-mod PutOut
-mod SameKept
-mod SlotsGrow
-mod Votes
-mod Weighing
-mod ProposedTaken
+pub mod Closed
+pub mod FromRounds
+pub mod Given
+pub mod Growing
+pub mod InSlots
+pub mod Legal
+pub mod Lengthening
+pub mod Lists
+pub mod Meeting
+pub mod NewEvents
+pub mod OneMore
+pub mod OrderGrows
+pub mod OrderLonger
+pub mod Proposed
+pub mod PutOut
+pub mod SlotsGrow
+pub mod Votes
+pub mod Weighing
+pub mod ProposedTaken

@@ -73,7 +73,7 @@ sound_header node sender header taken =
       ]
     ]
 
-sound_certificate : (node : Node) (sender : Author) (certificate : Certificate) → IsTaken node (record { sender = sender; message = message.Certificate certificate }) → IsSound node certificate.header
+pub sound_certificate : (node : Node) (sender : Author) (certificate : Certificate) → IsTaken node (record { sender = sender; message = message.Certificate certificate }) → IsSound node certificate.header
 sound_certificate node sender certificate taken =
     let none = taken.passed in
     elim (cases_Bool (is_member node.charter sender)) [
@@ -154,7 +154,7 @@ each_member node (p ∷ rest) members =
     All-cons (λ q. q.author.0 < length node.charter.keys) p rest (ltb-true _ _ parts.0) (each_member node rest parts.1)
 
 -- and together they are a quorum
-names_quorum : (node : Node) → IsNode node → (c : Certificate) → IsSound node c.header → quorum_of node.charter ≤ weight node.charter (is_named_by c)
+pub names_quorum : (node : Node) → IsNode node → (c : Certificate) → IsSound node c.header → quorum_of node.charter ≤ weight node.charter (is_named_by c)
 names_quorum node legal c is =
     let parents = c.header.parents in
     let listed = weight-listed node.charter (λ (p : ParentReference). p.author.0) parents (each_member node parents is.members) (apart parents is.rise) in

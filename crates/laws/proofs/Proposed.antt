@@ -17,21 +17,21 @@ use Rattle.header.specs.Checks.{Accepts, test, fault_of, accepts_all, named_weig
 use Rattle.wire.specs.Batches.{IsBatch}
 use Rattle.wire.specs.Fields.{IsDigest, IsNumber}
 use Rattle.wire.specs.Grammar.{IsMessage}
-use Rattle.wire.specs.References.{digest_before}
+use Rattle.wire.specs.References.{digest_before, placed}
 use Rattle.wire.proofs.DigestLemmas.{are_digest_bytes}
 use Rattle.wire.specs.declared.message.Message.TheVariants as message
 use Rattle.model.specs.Admitting.{admit, is_new, is_own, batch_answer, coin_answer, header_answer, header_outputs, may_name, IsTaken, IsLegal}
 use Rattle.model.specs.Histories.{History, batches, headers, received, coins, as_batch, as_coin}
-use Rattle.model.specs.Holdings.{ledger_at, batch_digest, batch_at, is_available, voted_header, completed, certificates, genesis, slots, floor, round, is_low, is_full, is_held, all_held}
+use Rattle.model.specs.Holdings.{ledger_at, batch_digest, batch_at, voted_header, completed, certificates, genesis, slots, floor, round, is_low, is_full, is_held, all_held}
 use Rattle.laws.specs.Laws.{own_event, ProposalsAreNew, ProposalsPass, OwnVotesPass}
 use Rattle.model.specs.Nodes.{Node, IsNode, AreTied, size_of}
 use Rattle.model.specs.Ordering.{top}
-use Rattle.model.specs.Proposing.{is_nameable, to_name, placed, nameable, as_parent, proposal, signed, propose}
+use Rattle.model.specs.Proposing.{is_nameable, to_name, nameable, as_parent, proposal, signed, propose}
+use Rattle.model.specs.States.{State, whole, is_available, floor_in}
 use Rattle.model.specs.Slots.{Slots, same_digest, header_digest, certificate_digest, is_of_slot, round_of}
 use Rattle.model.specs.Words.{Author, BatchReference, Certificate, Coin, Contents, Digest, Event, Header, Message, ParentReference}
 use Rattle.model.specs.declared.admission.Admission.TheVariants.{New}
-use Rattle.laws.proofs.Alike.{floor_of, header_by}
-use Rattle.laws.proofs.Closed.{in_place, kept_slot, coins_later, or_right}
+use Rattle.laws.proofs.Closed.{floor_of, in_place, kept_slot, coins_later, or_right}
 use Rattle.laws.proofs.Legal.{Adds, legal-induction}
 use Rattle.laws.proofs.Lists.{given_or_none, filter_map-push, found-push, Contains-nothing, Contains-cases, Contains-first, Contains-later, Contains-made, nothing_found, found_passes}
 use Rattle.laws.proofs.Meeting.{picked_was, mapped_from, number_in, same_number}
@@ -41,11 +41,11 @@ use Rattle.laws.proofs.Votes.{slot_is, of_its_slot}
 
 -- ---- lists
 
-all_from : {X : Type 0} (test : X → Bool) (xs : List X) → ((x : X) → Contains xs x → test x ≡ true) → list_all test xs ≡ true
+pub all_from : {X : Type 0} (test : X → Bool) (xs : List X) → ((x : X) → Contains xs x → test x ≡ true) → list_all test xs ≡ true
 all_from test [] each = refl
 all_from test (x ∷ xs) each = and_from _ _ (each x (Contains-first xs x)) (all_from test xs (λ y inside. each y (Contains-later x xs y inside)))
 
-taken_from : {X : Type 0} (k : ℕ) (xs : List X) (x : X) → Contains (take k xs) x → Contains xs x
+pub taken_from : {X : Type 0} (k : ℕ) (xs : List X) (x : X) → Contains (take k xs) x → Contains xs x
 taken_from zero xs x inside = absurd (Contains-nothing x inside)
 taken_from (suc k) [] x inside = absurd (Contains-nothing x inside)
 taken_from (suc k) (y ∷ xs) x inside =
@@ -111,13 +111,13 @@ holds_more (Some c) after kept some = ap is_some (kept c refl)
 holds_more None after kept some = absurd cc
 
 -- no more is made of numbers than there are
-held_at_most : (held : ℕ → Option Certificate) (authors : List ℕ) → length (filter_map held authors) ≤ length authors
+pub held_at_most : (held : ℕ → Option Certificate) (authors : List ℕ) → length (filter_map held authors) ≤ length authors
 held_at_most held [] = omega arith
 held_at_most held (a ∷ authors) =
     let rest = held_at_most held authors in
     elim (given_or_none (held a)) [ inl found ↦ rw found.1 (omega (arith, rest)) | inr none ↦ rw none (omega (arith, rest)) ]
 
-number_below : (from count k : ℕ) → Contains (range_with_len from count) k → k < from + count
+pub number_below : (from count k : ℕ) → Contains (range_with_len from count) k → k < from + count
 number_below from zero k inside = absurd (Contains-nothing k inside)
 number_below from (suc count) k inside =
     elim (Contains-cases from (range_with_len (from + 1) count) k inside) [
@@ -125,7 +125,7 @@ number_below from (suc count) k inside =
       | inr rest ↦ let below = number_below (from + 1) count k rest in omega (arith, below)
     ]
 
-same_bytes : (bytes : List ℕ) → bytes_eq bytes bytes ≡ true
+pub same_bytes : (bytes : List ℕ) → bytes_eq bytes bytes ≡ true
 same_bytes bytes = (bytes_eq-Decides bytes bytes).1 refl
 
 -- ---- rounds
@@ -137,11 +137,11 @@ full_stays node history event adds r full =
     (λ a within. holds_more (slots node history r a) (slots node (history ++ event ∷ []) r a) (λ c. kept_slot node history event adds r a c)) in
     le-leb _ _ (omega (arith, enough, more))
 
-new_coin-turn : (node : Node) (history : History) (event : Event) (coin : Coin) → is_new (coin_answer node history event coin) ≡ true → (coin.wave == length (coins history) + 1) ≡ true
-new_coin-turn node history event coin h = grind (arith, h, common_steps)
+new_coin-turn : (node : Node) (history : History) (later : State) (sender : Author) (coin : Coin) → is_new (coin_answer node (whole node history) later sender coin) ≡ true → (coin.wave == length (coins history) + 1) ≡ true
+new_coin-turn node history later sender coin h = grind (arith, h, common_steps)
 
-new_coin-full : (node : Node) (history : History) (event : Event) (coin : Coin) → is_new (coin_answer node history event coin) ≡ true → is_full node (slots node history) (2 * coin.wave + 1) ≡ true
-new_coin-full node history event coin h = grind (arith, h, common_steps)
+new_coin-full : (node : Node) (history : History) (later : State) (sender : Author) (coin : Coin) → is_new (coin_answer node (whole node history) later sender coin) ≡ true → is_full node (slots node history) (2 * coin.wave + 1) ≡ true
+new_coin-full node history later sender coin h = grind (arith, h, common_steps)
 
 -- the last round of each wave that has a coin is full
 abbrev AreFull : Node → History → Type 0
@@ -151,10 +151,10 @@ full_more : (node : Node) (history : History) (sender : Author) (m : Message) �
     → wave < length (coins history ++ option_to_list (as_coin m)) → is_full node (slots node history) (2 * suc wave + 1) ≡ true
 full_more node history sender (message.Coin coin) adds wave least most =
     let event : Event = record { sender = sender; message = message.Coin coin } in
-    let turn = eqb-true _ _ (new_coin-turn node history event coin adds.new) in
+    let turn = eqb-true _ _ (new_coin-turn node history (whole node (history ++ event ∷ [])) event.sender coin adds.new) in
     let size = length-append (coins history) (coin.value ∷ []) in
     let same : coin.wave ≡ suc wave = omega (arith, turn, least, most, size) in
-    ap (λ w. is_full node (slots node history) (2 * w + 1)) (sym same) ∙ new_coin-full node history event coin adds.new
+    ap (λ w. is_full node (slots node history) (2 * w + 1)) (sym same) ∙ new_coin-full node history (whole node (history ++ event ∷ [])) event.sender coin adds.new
 full_more node history sender (message.Batch batch) adds wave least most = let size = length-append (coins history) [] in absurd (omega (arith, least, most, size))
 full_more node history sender (message.BatchAck ack) adds wave least most = let size = length-append (coins history) [] in absurd (omega (arith, least, most, size))
 full_more node history sender (message.Header header) adds wave least most = let size = length-append (coins history) [] in absurd (omega (arith, least, most, size))
@@ -228,7 +228,7 @@ below_full node history sound =
           ap (is_full node (slots node history)) none ∙ le-leb _ _ (omega (arith, all, whole, within))
     ]
 
-above_floor : (floor round : ℕ) → 0 < round → (floor ≡ 0) ⊎ (floor < round) → is_low floor round ≡ false
+pub above_floor : (floor round : ℕ) → 0 < round → (floor ≡ 0) ⊎ (floor < round) → is_low floor round ≡ false
 above_floor floor round some (inl none) = grind (arith, some, none, common_steps)
 above_floor floor round some (inr above) = grind (arith, some, above, common_steps)
 
@@ -253,7 +253,7 @@ round_high node history legal =
 -- ---- parents
 
 -- a certificate of the round below is held as a parent
-parent_held : (held : Slots) (floor round author : ℕ) (c : Certificate) → c.header.author.0 ≡ author → held (round - 1) author ≡ Some c → is_held held floor round (as_parent c) ≡ true
+pub parent_held : (held : Slots) (floor round author : ℕ) (c : Certificate) → c.header.author.0 ≡ author → held (round - 1) author ≡ Some c → is_held held floor round (as_parent c) ≡ true
 parent_held held floor round author c by is =
     let same = same_bytes (certificate_digest c.header).0 in
     let here : held (round - 1) c.header.author.0 ≡ Some c = ap (held (round - 1)) by ∙ is in
@@ -279,10 +279,10 @@ parents_below node history p inside =
 
 -- ---- batches
 
-not_free : (node : Node) (history : History) (batch held : Contents) → batch_at history (batch_digest batch) ≡ Some held → is_new (batch_answer node history batch) ≡ true → ⊥
+not_free : (node : Node) (history : History) (batch held : Contents) → batch_at history (batch_digest batch) ≡ Some held → is_new (batch_answer node (whole node history) batch) ≡ true → ⊥
 not_free node history batch held is h = grind (arith, h, is, common_steps)
 
-new_batch-free : (node : Node) (history : History) (batch : Contents) → is_new (batch_answer node history batch) ≡ true → batch_at history (batch_digest batch) ≡ None
+new_batch-free : (node : Node) (history : History) (batch : Contents) → is_new (batch_answer node (whole node history) batch) ≡ true → batch_at history (batch_digest batch) ≡ None
 new_batch-free node history batch h =
     elim (given_or_none (batch_at history (batch_digest batch))) [
       | inr none ↦ none
@@ -323,7 +323,7 @@ one_batch : (node : Node) (history : History) → IsLegal node history → IsOnl
 one_batch node = legal-induction node IsOnlyBatch (λ batch inside. absurd (Contains-nothing batch inside)) (only_push node)
 
 -- a batch that came passed the checks
-passed_batch : (node : Node) (sender : Author) (m : Message) (batch : Contents) → IsTaken node (record { sender = sender; message = m }) → as_batch m ≡ Some batch → is_worker node.charter batch.worker ≡ true
+pub passed_batch : (node : Node) (sender : Author) (m : Message) (batch : Contents) → IsTaken node (record { sender = sender; message = m }) → as_batch m ≡ Some batch → is_worker node.charter batch.worker ≡ true
 passed_batch node sender (message.Batch new) batch taken is =
     let none = taken.passed in
     let worker : is_worker node.charter new.worker ≡ true =
@@ -364,7 +364,7 @@ placed_from (first ∷ rest) batch x inside =
       ]
     ]
 
-all_placed_from : (list xs : List BatchReference) (x : BatchReference) → Contains (fold placed list xs) x → Contains list x ⊎ Contains xs x
+pub all_placed_from : (list xs : List BatchReference) (x : BatchReference) → Contains (fold placed list xs) x → Contains list x ⊎ Contains xs x
 all_placed_from list [] x inside = inl inside
 all_placed_from list (y ∷ xs) x inside =
     elim (all_placed_from (placed list y) xs x inside) [
@@ -392,21 +392,21 @@ pub record IsNamed (node : Node) (history : History) (named : BatchReference) : 
   held : batch_at history named.digest ≡ Some batch
   worker : batch.worker ≡ named.worker
   known : is_worker node.charter named.worker ≡ true
-  available : is_available node history named.digest ≡ true
+  available : is_available node (whole node history) named.digest ≡ true
 
 pub batches_named : (node : Node) (history : History) → IsLegal node history → (named : BatchReference) → Contains (proposal node history).batches named → IsNamed node history named
 batches_named node history legal named inside =
-    let made = filter_map (to_name node history) (batches history) in
-    elim (all_placed_from [] made named (taken_from 128 (nameable node history) named inside)) [
+    let made = filter_map (to_name node (whole node history)) (batches history) in
+    elim (all_placed_from [] made named (taken_from 128 (nameable node (whole node history)) named inside)) [
       | inl none ↦ absurd (Contains-nothing named none)
       | inr among ↦
-          let from = Contains-made (to_name node history) (batches history) named among in
+          let from = Contains-made (to_name node (whole node history)) (batches history) named among in
           let batch = from.0 in
           let event = Contains-made (λ e. as_batch e.message) history batch from.1 in
           let taken = All-contains (IsTaken node) history event.0 legal.taken event.1 in
           let limits = batch_limits event.0.message batch taken.message event.2 in
           let worker = passed_batch node event.0.sender event.0.message batch taken event.2 in
-          elim (cases_Bool (is_nameable node history batch)) [
+          elim (cases_Bool (is_nameable node (whole node history) batch)) [
             | inl may ↦
                 let is = rw may at from.2 in
                 let same : record { digest = batch_digest batch; worker = batch.worker } ≡ named = same_Some (record { digest = batch_digest batch; worker = batch.worker }) named is in
@@ -436,7 +436,7 @@ proposed node history header is =
           ]
     ]
 
-signature_taken : (node : Node) → IsNode node → (header : Header) → header.body.author ≡ node.own → is_signed node.charter accepts_all header.body.author (header_signed header.body) header.signature ≡ true
+pub signature_taken : (node : Node) → IsNode node → (header : Header) → header.body.author ≡ node.own → is_signed node.charter accepts_all header.body.author (header_signed header.body) header.signature ≡ true
 signature_taken node sound header own =
     ap (λ (a : Author). is_signed node.charter accepts_all a (header_signed header.body) header.signature) own ∙ rw sound.own_key refl
 
@@ -477,19 +477,15 @@ passes node history accepts legal signature =
     all_from (λ b. is_worker node.charter b.worker) body.batches (λ b inside. (batches_named node history legal b inside).known) in
     rw (member, own, quorum, few, members, workers, signature) refl
 
-may_be_named : (node : Node) (history : History) (header : Header) (named : BatchReference) (batch : Contents) → batch_at history named.digest ≡ Some batch → batch.worker ≡ named.worker → is_available node history named.digest ≡ true
-    → may_name node history header named ≡ true
+may_be_named : (node : Node) (history : History) (header : Header) (named : BatchReference) (batch : Contents) → batch_at history named.digest ≡ Some batch → batch.worker ≡ named.worker → is_available node (whole node history) named.digest ≡ true
+    → may_name node (whole node history) header named ≡ true
 may_be_named node history header named batch held worker available =
     let same : (batch.worker == named.worker) ≡ true = ap (λ w. w == named.worker) worker ∙ same_number named.worker in
-    and_from _ _ (ap (λ o. option_map_or (λ b. b.worker == named.worker) o false) held ∙ same) (or_right (not (is_own node header.body.author)) (is_available node history named.digest) available)
+    and_from _ _ (ap (λ o. option_map_or (λ b. b.worker == named.worker) o false) held ∙ same) (or_right (not (is_own node header.body.author)) (is_available node (whole node history) named.digest) available)
 
-header_by_parts : (node : Node) (history : History) (header : Header) → is_low (floor node history) header.body.round ≡ false → voted_header history header.body.round header.body.author.0 ≡ None
-    → all_held (slots node history) (floor node history) header.body ≡ true → list_all (may_name node history header) header.body.batches ≡ true → header_answer node history header ≡ New (header_outputs node header)
-header_by_parts node history header high free held named =
-    ap (λ b. header_by node header b (all_held (slots node history) (floor node history) header.body) (list_all (may_name node history header) header.body.batches) (voted_header history header.body.round header.body.author.0)) high
-    ∙ ap (λ b. header_by node header false b (list_all (may_name node history header) header.body.batches) (voted_header history header.body.round header.body.author.0)) held
-    ∙ ap (λ b. header_by node header false true b (voted_header history header.body.round header.body.author.0)) named
-    ∙ ap (header_by node header false true true) free
+pub header_by_parts : (node : Node) (now : State) (header : Header) → is_low (floor_in node now) header.body.round ≡ false → is_own node header.body.author ≡ true → now.own_headers header.body.round ≡ None
+    → all_held now.slots (floor_in node now) header.body ≡ true → list_all (may_name node now header) header.body.batches ≡ true → header_answer node now header ≡ New (header_outputs node header)
+header_by_parts node now header high own free held named = rw (high, own, free, held, named) refl
 
 is_new_there : (node : Node) (history : History) → IsLegal node history → voted_header history (round node history) node.own.0 ≡ None
     → admit node history (own_event node (signed node (proposal node history))) ≡ New (header_outputs node (signed node (proposal node history)))
@@ -499,10 +495,10 @@ is_new_there node history legal free =
     let high = round_high node history legal in
     let held : all_held (slots node history) (floor node history) body ≡ true =
     all_from (is_held (slots node history) (floor node history) body.round) body.parents (λ p inside. (parents_below node history p inside).held) in
-    let named : list_all (may_name node history header) body.batches ≡ true =
-    all_from (may_name node history header) body.batches
+    let named : list_all (may_name node (whole node history) header) body.batches ≡ true =
+    all_from (may_name node (whole node history) header) body.batches
     (λ b inside. let is = batches_named node history legal b inside in may_be_named node history header b is.batch is.held is.worker is.available) in
-    header_by_parts node history header high free held named
+    header_by_parts node (whole node history) header high (same_number node.own.0) free held named
 
 pub proposals_are_new : ProposalsAreNew
 proposals_are_new node history header legal is =

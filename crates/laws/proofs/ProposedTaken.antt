@@ -7,17 +7,18 @@ use Rattle.std.proofs.lemmas.List.Elements.{All-nil, All-cons, All-weaker, All-c
 use Rattle.wire.specs.Events.{Event}
 use Rattle.wire.specs.Fields.{IsDigest}
 use Rattle.wire.specs.Grammar.{IsBatchReference, AreBatches, AreParents, IsHeader}
-use Rattle.wire.specs.References.{batches_rise, parents_rise, digest_before}
+use Rattle.wire.specs.References.{batches_rise, parents_rise, digest_before, placed}
 use Rattle.wire.proofs.DigestLemmas.{are_digest_bytes}
 use Rattle.model.specs.Admitting.{IsTaken, IsLegal}
 use Rattle.model.specs.Histories.{History, batches}
 use Rattle.model.specs.Holdings.{slots, round}
 use Rattle.model.specs.Nodes.{Node, size_of}
-use Rattle.model.specs.Proposing.{to_name, placed, nameable, as_parent, proposal, signed}
+use Rattle.model.specs.Proposing.{to_name, nameable, as_parent, proposal, signed}
 use Rattle.model.specs.Slots.{header_digest}
 use Rattle.model.specs.Words.{BatchReference, Certificate, ParentReference}
 use Rattle.model.proofs.Placing.{placed-rises, take-rises}
 use Rattle.laws.specs.Laws.{ProposalsAreLegal, own_event}
+use Rattle.model.specs.States.{whole}
 use Rattle.laws.proofs.Closed.{in_place}
 use Rattle.laws.proofs.Legal.{legal-push}
 use Rattle.laws.proofs.Lists.{given_or_none}
@@ -26,34 +27,34 @@ use Rattle.laws.proofs.Votes.{slot_is}
 
 -- ---- batches
 
-all_placed-rise : (list xs : List BatchReference) → batches_rise list ≡ true → batches_rise (fold placed list xs) ≡ true
+pub all_placed-rise : (list xs : List BatchReference) → batches_rise list ≡ true → batches_rise (fold placed list xs) ≡ true
 all_placed-rise list [] rise = rise
 all_placed-rise list (x ∷ xs) rise = all_placed-rise (placed list x) xs (placed-rises list x rise)
 
-few_taken : {X : Type 0} (n : ℕ) (xs : List X) → length (take n xs) ≤ n
+pub few_taken : {X : Type 0} (n : ℕ) (xs : List X) → length (take n xs) ≤ n
 few_taken zero xs = omega arith
 few_taken (suc n) [] = omega arith
 few_taken (suc n) (x ∷ xs) = omega (arith, few_taken n xs)
 
 are_batches : (node : Node) (history : History) → IsLegal node history → AreBatches (proposal node history).batches
 are_batches node history legal =
-    let all = nameable node history in
+    let all = nameable node (whole node history) in
     let named = take 128 all in
     record {
       few = few_taken 128 all;
       each = All-weaker (Contains named) IsBatchReference
           (λ b inside. let is = batches_named node history legal b inside in record { digest = is.digest; worker = is.number }) named (All-contains_itself named);
-      rise = take-rises (λ a b. digest_before a.digest b.digest) 128 all (all_placed-rise [] (filter_map (to_name node history) (batches history)) refl);
+      rise = take-rises (λ a b. digest_before a.digest b.digest) 128 all (all_placed-rise [] (filter_map (to_name node (whole node history)) (batches history)) refl);
     }
 
 -- ---- parents
 
 -- parents by authors from one number up to another, each author once
-record AreFrom (from end : ℕ) (parents : List ParentReference) : Type 0 where
-  each : All (λ p. (from ≤ p.author.0) × (p.author.0 < end)) parents
-  digests : All (λ p. IsDigest p.certificate) parents
-  rise : parents_rise parents ≡ true
-  few : from + length parents ≤ end
+pub record AreFrom (from end : ℕ) (parents : List ParentReference) : Type 0 where
+  pub each : All (λ p. (from ≤ p.author.0) × (p.author.0 < end)) parents
+  pub digests : All (λ p. IsDigest p.certificate) parents
+  pub rise : parents_rise parents ≡ true
+  pub few : from + length parents ≤ end
 
 rises_first : (from end : ℕ) (p : ParentReference) (parents : List ParentReference) → p.author.0 ≡ from → AreFrom (from + 1) end parents → parents_rise (p ∷ parents) ≡ true
 rises_first from end p [] is rest = refl
@@ -79,7 +80,7 @@ one_more from end p parents is less digest rest =
       few = omega (arith, rest.few);
     }
 
-made_from : (held : ℕ → Option Certificate) → ((a : ℕ) (c : Certificate) → held a ≡ Some c → c.header.author.0 ≡ a) → (from count : ℕ)
+pub made_from : (held : ℕ → Option Certificate) → ((a : ℕ) (c : Certificate) → held a ≡ Some c → c.header.author.0 ≡ a) → (from count : ℕ)
     → AreFrom from (from + count) (map as_parent (filter_map held (range_with_len from count)))
 made_from held own from zero =
     record { each = All-nil (λ p. (from ≤ p.author.0) × (p.author.0 < from + zero)); digests = All-nil (λ p. IsDigest p.certificate); rise = refl; few = omega arith }

@@ -1,5 +1,5 @@
 -- What admission puts out may be given out.
-use Rattle.std.proofs.Common.{◌≡◌, ℕ, ◌+◌, ◌*◌, ◌/◌, ◌<◌, min, zero, suc, ◌-◌, true, false, List, [], ◌∷◌, ◌++◌, map, length, take, drop, Option, Some, None, inl, inr, refl, ap, sym, ◌∙◌, subst, arith}
+use Rattle.std.proofs.Common.{◌≡◌, ℕ, ◌+◌, ◌*◌, ◌/◌, ◌<◌, min, zero, suc, ◌-◌, Bool, true, false, List, [], ◌∷◌, ◌++◌, map, length, take, drop, Option, Some, None, inl, inr, refl, ap, sym, ◌∙◌, subst, arith}
 use Rattle.std.specs.Prelude.{All, Contains, filter, flat_map, nat_le, ◌==◌, ◌||◌, slice_get, option_map, filter_map, if◌then◌else◌}
 use Rattle.std.specs.List.{list_all, range_with_len}
 use Rattle.std.specs.Str.{bytes_eq}
@@ -10,20 +10,23 @@ use Rattle.std.proofs.lemmas.Slice.Eq.{bytes_eq-Decides}
 use Rattle.std.proofs.lemmas.List.{length-take, length-drop, drop-drop}
 use Rattle.std.proofs.lemmas.List.Elements.{All-nil, All-cons, All-append, All-map, Contains-append_left, Contains-append_right, Contains-push}
 use Rattle.wire.specs.Batches.{batch_body}
+use Rattle.wire.specs.Digests.{certificate_digest_of}
 use Rattle.wire.specs.declared.message.Message.TheVariants as message
 use Rattle.wire.specs.declared.output.Output.TheVariants as output
 use Rattle.model.specs.Admitting.{admit, is_own, batch_outputs, header_outputs, pieces, piece_at, order_outputs, batch_answer, ack_answer, header_answer, may_name, vote_answer, held_answer, certificate_answer, same_header, coin_answer}
 use Rattle.model.specs.Giving.{is_given, given, IsPiece, MayGive}
 use Rattle.model.specs.Histories.{History, batches, headers, coins, received, as_batch, as_header}
-use Rattle.model.specs.Holdings.{batch_digest, batch_at, has_own_batch, has_acked, is_low, is_full, all_held, own_vote, counted_vote, voted_header, voted_digest, completed, certificates, genesis, slots, order, floor}
+use Rattle.model.specs.Holdings.{batch_digest, batch_at, has_acked, is_low, is_full, all_held, own_vote, counted_vote, voted_header, voted_digest, completed, certificates, genesis, slots, order, floor}
 use Rattle.laws.specs.Laws.{PutsOutGiven, OutputsGiven}
 use Rattle.committee.specs.Charter.{numbers}
 use Rattle.model.specs.Nodes.{Node, size_of}
 use Rattle.model.specs.Slots.{same_digest, header_digest, certificate_digest, is_of_slot}
+use Rattle.model.specs.States.{whole, has_own_batch, completed_at}
 use Rattle.model.specs.Words.{Author, BatchAck, Certificate, Coin, Contents, Digest, Event, Header, HeaderBody, Message, Output, Vote}
 use Rattle.laws.proofs.Lists.{given_or_none, Contains-cases, Contains-first, Contains-nothing, Contains-makes, filter_map-push, found_passes}
 use Rattle.laws.proofs.Given.{header_stays, picks}
-use Rattle.laws.proofs.SlotsGrow.{completed-header}
+use Rattle.laws.proofs.SlotsGrow.{completed-header, completed_is}
+use Rattle.laws.proofs.Votes.{slot_is}
 
 -- what is given for an element of a list is given for the list
 given_of : {X : Type 0} (outputs : X → List Output) (xs : List X) (x : X) (o : Output) → Contains xs x → Contains (outputs x) o → Contains (flat_map outputs xs) o
@@ -118,7 +121,7 @@ pieces_given node history place =
 -- ---- each kind of event
 
 batch_put : (node : Node) (history : History) (sender : Author) (batch : Contents)
-    → PutsOutGiven node history (record { sender = sender; message = message.Batch batch }) (batch_answer node history batch)
+    → PutsOutGiven node history (record { sender = sender; message = message.Batch batch }) (batch_answer node (whole node history) batch)
 batch_put node history sender batch =
     elim (given_or_none (batch_at history (batch_digest batch))) [
       | inl found ↦
@@ -137,9 +140,9 @@ batch_put node history sender batch =
     ]
 
 ack_put : (node : Node) (history : History) (sender : Author) (ack : BatchAck)
-    → PutsOutGiven node history (record { sender = sender; message = message.BatchAck ack }) (ack_answer node history ack)
+    → PutsOutGiven node history (record { sender = sender; message = message.BatchAck ack }) (ack_answer node (whole node history) ack)
 ack_put node history sender ack =
-    elim (cases_Bool (has_own_batch node history ack.batch)) [
+    elim (cases_Bool (has_own_batch node (whole node history) ack.batch)) [
       | inr none ↦ rw none tt
       | inl own ↦ elim (cases_Bool (is_own node ack.author || has_acked history ack.batch ack.author.0)) [
         | inl before ↦ rw (own, before) (All-nil (MayGive node history))
@@ -147,33 +150,102 @@ ack_put node history sender ack =
       ]
     ]
 
-header_put : (node : Node) (history : History) (sender : Author) (header : Header)
-    → PutsOutGiven node history (record { sender = sender; message = message.Header header }) (header_answer node history header)
-header_put node history sender header =
+abbrev vote_of : Node → Digest → ℕ → Author → Vote
+vote_of node digest round author = record {
+  header = digest;
+  round = round;
+  author = author;
+  voter = node.own;
+  signature = node.sign (record { 0 = certificate_digest_of digest.0 round author.0 });
+}
+
+-- two headers of one slot and digest get one vote
+one_vote_for : (node : Node) (one other : HeaderBody) → one.round ≡ other.round → one.author.0 ≡ other.author.0 → header_digest one ≡ header_digest other → own_vote node one ≡ own_vote node other
+one_vote_for node one other round author digest =
+    ap (λ r. vote_of node (header_digest one) r one.author) round
+    ∙ ap (λ a. vote_of node (header_digest one) other.round (record { 0 = a })) author
+    ∙ ap (λ d. vote_of node d other.round other.author) digest
+
+foreign_outputs : (node : Node) (one other : Header) → is_own node one.body.author ≡ false → one.body.round ≡ other.body.round → one.body.author.0 ≡ other.body.author.0
+    → header_digest one.body ≡ header_digest other.body → header_outputs node one ≡ header_outputs node other
+foreign_outputs node one other foreign round author digest =
+    let also : is_own node other.body.author ≡ false = ap (λ a. a == node.own.0) (sym author) ∙ foreign in
+    rw (foreign, also) (ap (λ v. output.Vote v ∷ []) (one_vote_for node one.body other.body round author digest))
+
+-- a header that is new may be given out at the history with it
+new_header_put : (node : Node) (history : History) (sender : Author) (header : Header)
+    → All (MayGive node (history ++ record { sender = sender; message = message.Header header } ∷ [])) (header_outputs node header)
+new_header_put node history sender header =
+    let event : Event = record { sender = sender; message = message.Header header } in
+    let inside = subst (λ l. Contains l header) (sym (filter_map-push (λ e. as_header e.message) history event)) (Contains-push (headers history) header) in
+    header_given node (history ++ event ∷ []) header inside
+
+abbrev outputs_if : Node → Header → Bool → List Output
+outputs_if node header own = (if own then output.Header header else output.Vote (own_vote node header.body)) ∷ []
+
+own_header_put : (node : Node) (history : History) (sender : Author) (header : Header) → is_own node header.body.author ≡ true
+    → PutsOutGiven node history (record { sender = sender; message = message.Header header }) (header_answer node (whole node history) header)
+own_header_put node history sender header own =
+    let event : Event = record { sender = sender; message = message.Header header } in
+    elim (cases_Bool (is_low (floor node history) header.body.round)) [
+      | inl low ↦ rw low tt
+      | inr high ↦ elim (given_or_none (voted_header history header.body.round node.own.0)) [
+        | inl found ↦
+            let held = found_passes (λ h. is_of_slot header.body.round node.own.0 h.body) (headers history) found.0 found.1 in
+            elim (cases_Bool (same_digest (header_digest found.0.body) (header_digest header.body))) [
+              | inl same ↦ rw (high, own, found.1, same) (header_given node history found.0 held.1)
+              | inr other ↦ rw (high, own, found.1, other) tt
+            ]
+        | inr none ↦ elim (cases_Bool (all_held (slots node history) (floor node history) header.body)) [
+          | inr missing ↦ rw (high, own, none, missing) tt
+          | inl held ↦ elim (cases_Bool (list_all (may_name node (whole node history) header) header.body.batches)) [
+            | inr missing ↦ rw (high, own, none, held, missing) tt
+            | inl named ↦
+                let given = subst (λ b. All (MayGive node (history ++ event ∷ [])) (outputs_if node header b)) own (new_header_put node history sender header) in
+                rw (high, own, none, held, named) given
+          ]
+        ]
+      ]
+    ]
+
+foreign_header_put : (node : Node) (history : History) (sender : Author) (header : Header) → is_own node header.body.author ≡ false
+    → PutsOutGiven node history (record { sender = sender; message = message.Header header }) (header_answer node (whole node history) header)
+foreign_header_put node history sender header foreign =
     let event : Event = record { sender = sender; message = message.Header header } in
     elim (cases_Bool (is_low (floor node history) header.body.round)) [
       | inl low ↦ rw low tt
       | inr high ↦ elim (given_or_none (voted_header history header.body.round header.body.author.0)) [
         | inl found ↦
             let held = found_passes (λ h. is_of_slot header.body.round header.body.author.0 h.body) (headers history) found.0 found.1 in
+            let place = slot_is header.body.round header.body.author.0 found.0.body held.0 in
             elim (cases_Bool (same_digest (header_digest found.0.body) (header_digest header.body))) [
-              | inl same ↦ rw (high, found.1, same) (header_given node history found.0 held.1)
-              | inr other ↦ elim (cases_Bool (is_own node header.body.author)) [ inl own ↦ rw (high, found.1, other, own) tt | inr foreign ↦ rw (high, found.1, other, foreign) tt ]
+              | inl same ↦
+                  let digest : header_digest found.0.body ≡ header_digest header.body =
+                  ap (λ (bytes : List ℕ). record { 0 = bytes }) ((bytes_eq-Decides (header_digest found.0.body).0 (header_digest header.body).0).0 same) in
+                  let outputs = foreign_outputs node found.0 header (ap (λ a. a == node.own.0) place.1 ∙ foreign) place.0 place.1 digest in
+                  let given = subst (λ b. All (MayGive node history) (outputs_if node header b)) foreign (subst (All (MayGive node history)) outputs (header_given node history found.0 held.1)) in
+                  rw (high, foreign, found.1, same) given
+              | inr other ↦ rw (high, foreign, found.1, other) tt
             ]
         | inr none ↦ elim (cases_Bool (all_held (slots node history) (floor node history) header.body)) [
-          | inr missing ↦ rw (high, none, missing) tt
-          | inl held ↦ elim (cases_Bool (list_all (may_name node history header) header.body.batches)) [
-            | inr missing ↦ rw (high, none, held, missing) tt
+          | inr missing ↦ rw (high, foreign, none, missing) tt
+          | inl held ↦ elim (cases_Bool (list_all (may_name node (whole node history) header) header.body.batches)) [
+            | inr missing ↦ rw (high, foreign, none, held, missing) tt
             | inl named ↦
-                let inside = subst (λ l. Contains l header) (sym (filter_map-push (λ e. as_header e.message) history event)) (Contains-push (headers history) header) in
-                rw (high, none, held, named) (header_given node (history ++ event ∷ []) header inside)
+                let given = subst (λ b. All (MayGive node (history ++ event ∷ [])) (outputs_if node header b)) foreign (new_header_put node history sender header) in
+                rw (high, foreign, none, held, named) given
           ]
         ]
       ]
     ]
 
+header_put : (node : Node) (history : History) (sender : Author) (header : Header)
+    → PutsOutGiven node history (record { sender = sender; message = message.Header header }) (header_answer node (whole node history) header)
+header_put node history sender header =
+    elim (cases_Bool (is_own node header.body.author)) [ inl own ↦ own_header_put node history sender header own | inr foreign ↦ foreign_header_put node history sender header foreign ]
+
 certificate_put : (node : Node) (history : History) (sender : Author) (certificate : Certificate)
-    → PutsOutGiven node history (record { sender = sender; message = message.Certificate certificate }) (certificate_answer node history (record { sender = sender; message = message.Certificate certificate }) certificate)
+    → PutsOutGiven node history (record { sender = sender; message = message.Certificate certificate }) (certificate_answer node (whole node history) (whole node (history ++ record { sender = sender; message = message.Certificate certificate } ∷ [])) certificate)
 certificate_put node history sender certificate =
     let event : Event = record { sender = sender; message = message.Certificate certificate } in
     elim (cases_Bool (is_low (floor node history) certificate.header.round)) [
@@ -194,7 +266,7 @@ certificate_put node history sender certificate =
     ]
 
 coin_put : (node : Node) (history : History) (sender : Author) (coin : Coin)
-    → PutsOutGiven node history (record { sender = sender; message = message.Coin coin }) (coin_answer node history (record { sender = sender; message = message.Coin coin }) coin)
+    → PutsOutGiven node history (record { sender = sender; message = message.Coin coin }) (coin_answer node (whole node history) (whole node (history ++ record { sender = sender; message = message.Coin coin } ∷ [])) sender coin)
 coin_put node history sender coin =
     let event : Event = record { sender = sender; message = message.Coin coin } in
     elim (cases_Bool (is_own node sender)) [
@@ -260,7 +332,7 @@ held_put node history event vote header held headed same in_slot =
     ]
 
 vote_put : (node : Node) (history : History) (sender : Author) (vote : Vote)
-    → PutsOutGiven node history (record { sender = sender; message = message.Vote vote }) (vote_answer node history (record { sender = sender; message = message.Vote vote }) vote)
+    → PutsOutGiven node history (record { sender = sender; message = message.Vote vote }) (vote_answer node (whole node history) (whole node (history ++ record { sender = sender; message = message.Vote vote } ∷ [])) vote)
 vote_put node history sender vote =
     let event : Event = record { sender = sender; message = message.Vote vote } in
     elim (cases_Bool (is_own node vote.author)) [
@@ -275,9 +347,12 @@ vote_put node history sender vote =
               | inl held ↦ rw (own, high, found.1, same, held.1) (held_put node history event vote found.0 held.0 found.1 same held.1)
               | inr free ↦ elim (given_or_none (counted_vote node history found.0.body vote.voter.0)) [
                 | inl counted ↦ rw (own, high, found.1, same, free, counted.1) (All-nil (MayGive node history))
-                | inr new ↦ rw (own, high, found.1, same, free, new)
-                    (All-append (MayGive node (history ++ event ∷ [])) (map (λ c. output.Certificate c) (option_to_list (completed node (history ++ event ∷ []) found.0))) (order_outputs node history event)
-                    (completes_given node history sender vote found.0 found.1 (completed node (history ++ event ∷ []) found.0) refl)
+                | inr new ↦
+                    let made = completed_is node (history ++ event ∷ []) vote.round found.0 (header_stays history event vote.round node.own.0 found.0 found.1) in
+                    rw (own, high, found.1, same, free, new)
+                    (All-append (MayGive node (history ++ event ∷ [])) (map (λ c. output.Certificate c) (option_to_list (completed_at node (whole node (history ++ event ∷ [])) vote.round)))
+                    (order_outputs (whole node history) (whole node (history ++ event ∷ [])))
+                    (completes_given node history sender vote found.0 found.1 (completed_at node (whole node (history ++ event ∷ [])) vote.round) (sym made))
                     (pieces_given node (history ++ event ∷ []) (length (order node history))))
               ]
             ]

@@ -1,7 +1,7 @@
 -- The certificates of a legal history.
 use Rattle.std.proofs.Common.{◌≡◌, ℕ, Bool, true, false, cond, List, [], ◌∷◌, ◌++◌, map, Option, Some, None, inl, inr, refl, ap, sym, ◌∙◌, arith}
 use Rattle.std.proofs.Math.Path.{fun_ext}
-use Rattle.std.specs.Prelude.{find, filter_map, Contains, ◌==◌, ◌&&◌, nat_le, is_some, option_map, option_and_then, if◌then◌else◌}
+use Rattle.std.specs.Prelude.{find, filter_map, Contains, ◌==◌, ◌&&◌, nat_le, option_and_then}
 use Rattle.std.specs.Option.{option_or, option_to_list}
 use Rattle.std.proofs.lemmas.Bool.{and_parts, cases_Bool, eqb-true, leb-true, true≢false}
 use Rattle.std.proofs.lemmas.Option.{same_Some}
@@ -16,9 +16,10 @@ use Rattle.wire.specs.declared.header.Vote.{Vote}
 use Rattle.wire.specs.declared.keys.Author.{Author}
 use Rattle.wire.specs.declared.message.Message.{Message}
 use Rattle.wire.specs.declared.message.Message.TheVariants as message
+use Rattle.model.specs.States.{whole, completed_at}
 use Rattle.model.specs.Admitting.{is_own}
 use Rattle.model.specs.Histories.{History, headers, votes, received, as_header, as_vote, as_certificate}
-use Rattle.model.specs.Holdings.{voted_header, is_vote_on, counted_vote, has_voted, entry_of, completed, genesis, slots}
+use Rattle.model.specs.Holdings.{voted_header, is_vote_on, counted_vote, has_voted, counted_at, certificate_by, completed, genesis, slots}
 use Rattle.laws.specs.Laws.{added, SlotsGrow}
 use Rattle.model.specs.Nodes.{Node, IsNode, size_of, quorum}
 use Rattle.model.specs.Slots.{is_of_slot, slots_of}
@@ -39,7 +40,7 @@ counted_vote-push node history event header voter =
           ∙ find-append (is_vote_on header voter) (votes history) (option_to_list (as_vote event.message)))
     ]
 
-or_none : {X : Type 0} (o : Option X) → option_or o None ≡ o
+pub or_none : {X : Type 0} (o : Option X) → option_or o None ≡ o
 or_none (Some x) = refl
 or_none None = refl
 
@@ -47,17 +48,18 @@ or_assoc : {X : Type 0} (one two three : Option X) → option_or (option_or one 
 or_assoc (Some x) two three = refl
 or_assoc None two three = refl
 
--- the certificate of a header with these votes of members
-abbrev pub with_votes : Node → Header → (ℕ → Option Vote) → Option Certificate
-with_votes node header counted =
-    if (header.body.author.0 == node.own.0) && nat_le (quorum node) (weight node.charter (λ voter. is_some (counted voter)))
-    then Some (record { header = header.body; votes = filter_map (λ voter. option_map entry_of (counted voter)) (numbers (size_of node)) }) else None
+-- the certificate of the own header of a round is that of the header
+pub completed_is : (node : Node) (history : History) (round : ℕ) (header : Header) → voted_header history round node.own.0 ≡ Some header
+    → completed_at node (whole node history) round ≡ completed node history header
+completed_is node history round header held =
+    ap (option_and_then (certificate_by node (counted_at node history round))) held
+    ∙ ap (λ counted. certificate_by node counted header) (fun_ext (λ voter. ap (option_and_then (λ (h : Header). counted_vote node history h.body voter)) held))
 
 -- an event without a vote on a header leaves its votes as they are, and so its certificate
 pub completed-same : (node : Node) (history : History) (event : Event) (header : Header) → ((voter : ℕ) → find (is_vote_on header.body voter) (option_to_list (as_vote event.message)) ≡ None)
     → completed node (history ++ event ∷ []) header ≡ completed node history header
 completed-same node history event header none =
-    ap (with_votes node header)
+    ap (λ counted. certificate_by node counted header)
     (fun_ext (λ voter. counted_vote-push node history event header.body voter ∙ ap (option_or (counted_vote node history header.body voter)) (none voter) ∙ or_none (counted_vote node history header.body voter)))
 
 -- a vote for another slot isn't on a header
@@ -291,7 +293,7 @@ slots_more node history sender (message.Header header) adds before after round a
     slot_more node history event round author before after None (unchanged _ _ _ _ (voted_header-unvoted node history event header round author refl refl unvoted incomplete))
 slots_more node history sender (message.Vote vote) adds before after round author =
     let event : Event = record { sender = sender; message = message.Vote vote } in
-    let new = new_vote node history event vote adds.new in
+    let new = new_vote node history (whole node (history ++ event ∷ [])) vote adds.new in
     let found = found_passes (λ h. is_of_slot vote.round node.own.0 h.body) (headers history) new.header new.held in
     let own_slot = slot_is vote.round node.own.0 new.header.body found.0 in
     let makes = completed node (history ++ event ∷ []) in
@@ -324,7 +326,7 @@ slots_more node history sender (message.Certificate certificate) adds before aft
       | inl here ↦
           let place = slot_is round author certificate.header here in
           let free : slots node history round author ≡ None =
-          ap (λ r. slots node history r author) (sym place.0) ∙ ap (slots node history certificate.header.round) (sym place.1) ∙ new_certificate-free node history event certificate adds.new in
+          ap (λ r. slots node history r author) (sym place.0) ∙ ap (slots node history certificate.header.round) (sym place.1) ∙ new_certificate-free node (whole node history) (whole node (history ++ event ∷ [])) certificate adds.new in
           put_in _ _ _ _ _ same (sym (slots-parts node history round author before) ∙ free)
       | inr other ↦ rw other (unchanged _ _ _ _ same)
     ])

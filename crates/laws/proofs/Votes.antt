@@ -12,6 +12,7 @@ use Rattle.wire.specs.declared.header.HeaderBody.{HeaderBody}
 use Rattle.wire.specs.declared.keys.Author.{Author}
 use Rattle.wire.specs.declared.message.Message.{Message}
 use Rattle.wire.specs.declared.message.Message.TheVariants as message
+use Rattle.model.specs.States.{whole}
 use Rattle.model.specs.Admitting.{admit, is_new, IsLegal}
 use Rattle.model.specs.Histories.{History, headers, votes, as_header, as_vote}
 use Rattle.model.specs.Holdings.{voted_header, is_vote_on}
@@ -89,7 +90,7 @@ headed_more : (node : Node) (history : History) (sender : Author) (m : Message) 
 headed_more node history sender (message.Vote vote) fresh header voter none =
     elim (cases_Bool (is_vote_on header voter vote)) [
       | inl on ↦
-          let new = new_vote node history (record { sender = sender; message = message.Vote vote }) vote fresh in
+          let new = new_vote node history (whole node (history ++ (record { sender = sender; message = message.Vote vote }) ∷ [])) vote fresh in
           let slot = slot_is vote.round vote.author.0 header (and_parts (is_of_slot vote.round vote.author.0 header) _ on).0 in
           let own = eqb-true vote.author.0 node.own.0 new.own in
           absurd (none-some new.header (sym none ∙ ap (λ r. voted_header history r header.author.0) slot.0 ∙ ap (voted_header history vote.round) (slot.1 ∙ own) ∙ new.held))

@@ -4,9 +4,9 @@ use Rattle.std.specs.Option.{option_or, option_to_list}
 use Rattle.wire.specs.declared.message.Message.TheVariants as message
 use Rattle.header.specs.Checks.{Accepts, fault_of, accepts_all}
 use Rattle.model.specs.Admitting.{admit, header_outputs, IsTaken, IsLegal}
-use Rattle.model.specs.Giving.{MayGive, kept}
+use Rattle.model.specs.Giving.{MayGive}
 use Rattle.model.specs.Histories.{History, batches, acks, headers, votes, received, coins, as_batch, as_ack, as_header, as_vote, as_certificate, as_coin}
-use Rattle.model.specs.Holdings.{batch_digest, batch_at, is_vote_on, voted_header, has_acked, voted_digest, counted_vote, counted_at, completed, certificates, slots, ledger_of, ledger_at, order, own_vote, floor, round}
+use Rattle.model.specs.Holdings.{batch_digest, batch_at, is_vote_on, voted_header, counted_vote, completed, certificates, slots, ledger_of, ledger_at, order, own_vote, floor}
 use Rattle.model.specs.Nodes.{Node, IsNode, AreTied}
 use Rattle.model.specs.Ordering.{committed, newer, last_wave, segments}
 use Rattle.model.specs.Proposing.{propose}
@@ -60,37 +60,6 @@ abbrev pub SlotsGrow : Type 0
 SlotsGrow = (node : Node) (history : History) (event : Event) → IsLegal node (history ++ event ∷ []) → (round author : ℕ)
     → slots node (history ++ event ∷ []) round author
     ≡ option_or (slots node history round author) (slots_of (option_to_list (added node history event)) round author)
-
--- what admission reads of a history is the same in both: the batches and who acknowledged them, the votes, the own
--- headers and the votes on them, the certificates and the coins
-pub record AreAlike (node : Node) (one other : History) : Type 0 where
-  pub same_batches : batches one ≡ batches other
-  pub same_acks : (digest : Digest) (member : ℕ) → has_acked one digest member ≡ has_acked other digest member
-  pub same_votes : (round author : ℕ) → voted_digest one round author ≡ voted_digest other round author
-  pub same_headers : (round : ℕ) → voted_header one round node.own.0 ≡ voted_header other round node.own.0
-  pub same_counted : (round voter : ℕ) → counted_at node one round voter ≡ counted_at node other round voter
-  pub same_slots : (round author : ℕ) → slots node one round author ≡ slots node other round author
-  pub same_coins : coins one ≡ coins other
-
--- two legal histories that are alike answer each event alike
-abbrev pub AnswersAlike : Type 0
-AnswersAlike = (node : Node) (one other : History) (event : Event) → IsLegal node one → IsLegal node other → IsTaken node event
-    → AreAlike node one other → admit node one event ≡ admit node other event
-
--- two legal histories that keep the same answer each event alike
-abbrev pub KeptDecides : Type 0
-KeptDecides = (node : Node) (one other : History) (event : Event) → IsLegal node one → IsLegal node other → IsTaken node event
-    → kept node one ≡ kept node other → admit node one event ≡ admit node other event
-
--- two legal histories that keep the same keep the same again behind an event that is new at both
-abbrev pub KeptFollows : Type 0
-KeptFollows = (node : Node) (one other : History) (event : Event) → IsLegal node (one ++ event ∷ []) → IsLegal node (other ++ event ∷ [])
-    → kept node one ≡ kept node other → kept node (one ++ event ∷ []) ≡ kept node (other ++ event ∷ [])
-
--- two legal histories that keep the same have one round, and propose the same
-abbrev pub KeptProposes : Type 0
-KeptProposes = (node : Node) (one other : History) → IsLegal node one → IsLegal node other → kept node one ≡ kept node other
-    → (round node one ≡ round node other) × (propose node one ≡ propose node other)
 
 -- what an answer puts out may be given out: at the history with the event where it is new, and else at the history
 abbrev pub PutsOutGiven : Node → History → Event → Admission → Type 0

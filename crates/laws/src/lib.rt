@@ -1,7 +1,7 @@
 //! Laws of legal histories, proved of the definitions: each is what a function without a body ensures.
 #![tactic(auto)]
 
-ghost use Rattle.laws.specs.Laws.{OneVote, OneCertificate, OneMore, SlotsGrow, AnswersAlike, KeptDecides, KeptFollows, KeptProposes, OutputsGiven, OrderGrows, OrderLengthens, GivenGrows, ProposalsAreNew, ProposalsAreLegal, ProposalsPass, OwnVotesPass};
+ghost use Rattle.laws.specs.Laws.{OneVote, OneCertificate, OneMore, SlotsGrow, OutputsGiven, OrderGrows, OrderLengthens, GivenGrows, ProposalsAreNew, ProposalsAreLegal, ProposalsPass, OwnVotesPass};
 
 /// A legal history has one vote an author and round.
 pub fn one_vote()
@@ -22,27 +22,6 @@ pub fn one_more()
 /// certificate that the event adds.
 pub fn slots_grow()
     ensures { SlotsGrow }
-{}
-
-/// Two legal histories with the same batches, acknowledgements, votes, own headers with the votes on them,
-/// certificates and coins answer each event alike.
-pub fn answers_alike()
-    ensures { AnswersAlike }
-{}
-
-/// What is kept of a legal history decides what each event is answered: two with the same kept answer alike.
-pub fn kept_decides()
-    ensures { KeptDecides }
-{}
-
-/// What is kept of a legal history decides what is kept behind each new event, and with it all answers to come.
-pub fn kept_follows()
-    ensures { KeptFollows }
-{}
-
-/// What is kept of a legal history decides the node's round, and what it proposes.
-pub fn kept_proposes()
-    ensures { KeptProposes }
 {}
 
 /// What a new event puts out may be given out at the history with it, and what a known one puts out at the history.

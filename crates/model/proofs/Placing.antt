@@ -6,12 +6,11 @@ use Rattle.std.specs.Cmp.Derive.{both_true}
 use Rattle.std.specs.Cmp.Lexicographic.{slice_cmp}
 use Rattle.std.proofs.lemmas.Cmp.{nat_list_cmp_total}
 use Rattle.std.proofs.lemmas.Map.Text.{is_eq-slice_cmp}
-use Rattle.wire.specs.References.{digest_before, batches_rise}
+use Rattle.wire.specs.References.{digest_before, batches_rise, placed}
 use Rattle.wire.specs.Rising.{rises, follows}
 use Rattle.wire.specs.declared.keys.Digest.{Digest}
 use Rattle.wire.specs.declared.references.BatchReference.{BatchReference}
 use Rattle.wire.proofs.RisingLemmas.{both-are}
-use Rattle.model.specs.Proposing.{placed}
 use Rattle.model.specs.Slots.{same_digest}
 
 -- what is neither equal nor greater is less

@@ -1,5 +1,6 @@
 -- Admission: what a node answers an event, and what it gives out for it. Of the tests the first that applies decides.
-use Rattle.std.specs.Prelude.{◌≡◌, ℕ, ◌+◌, ◌-◌, ◌*◌, ◌/◌, ◌==◌, ◌&&◌, ◌||◌, not, nat_le, Bool, true, false, List, [], ◌∷◌, ◌++◌, map, length, take, drop, Option, Some, None, is_some, slice_get, All, IsTrue, if◌then◌else◌}
+-- It reads what the node holds now, and of a new event what the node then holds.
+use Rattle.std.specs.Prelude.{◌≡◌, ℕ, ◌+◌, ◌-◌, ◌*◌, ◌/◌, ◌==◌, ◌&&◌, ◌||◌, not, nat_le, Bool, true, false, List, [], ◌∷◌, ◌++◌, map, length, take, drop, Option, Some, None, is_some, option_map, slice_get, All, IsTrue, if◌then◌else◌}
 use Rattle.std.specs.List.{list_all, range_with_len}
 use Rattle.std.specs.Option.{option_map_or, option_to_list}
 use Rattle.std.specs.Str.{bytes_eq}
@@ -10,9 +11,10 @@ use Rattle.header.specs.Checks.{fault_of, accepts_all}
 use Rattle.std.specs.Cmp.Lexicographic.{pointwise}
 use Rattle.wire.specs.declared.message.Message.TheVariants as message
 use Rattle.wire.specs.declared.output.Output.TheVariants as output
-use Rattle.model.specs.Histories.{History, batches, coins}
-use Rattle.model.specs.Holdings.{batch_digest, batch_at, has_own_batch, has_acked, is_available, voted_header, own_vote, counted_vote, completed, slots, order, floor, is_low, is_full, all_held}
+use Rattle.model.specs.Histories.{History}
+use Rattle.model.specs.Holdings.{batch_digest, own_vote, is_low, is_full, all_held}
 use Rattle.model.specs.Nodes.{Node, IsNode}
+use Rattle.model.specs.States.{State, whole, batch_in, has_own_batch, is_available, completed_at, floor_in}
 use Rattle.model.specs.Slots.{same_digest, header_digest, certificate_digest}
 use Rattle.model.specs.Words.{Author, BatchAck, BatchReference, Certificate, Coin, Contents, Digest, Event, Header, HeaderBody, Message, Output, ParentReference, Vote}
 use Rattle.model.specs.declared.admission.Admission.{Admission}
@@ -44,10 +46,9 @@ piece_at start digests piece = output.Order (start + MAX_ORDER_DIGESTS * piece) 
 abbrev pub pieces : ℕ → List Digest → List Output
 pieces start digests = map (piece_at start digests) (range_with_len 0 ((length digests + (MAX_ORDER_DIGESTS - 1)) / MAX_ORDER_DIGESTS))
 
--- what an event adds to the order
-abbrev pub order_outputs : Node → History → Event → List Output
-order_outputs node history event =
-    pieces (length (order node history)) (drop (length (order node history)) (order node (history ++ event ∷ [])))
+-- what is added to the order
+abbrev pub order_outputs : State → State → List Output
+order_outputs now later = pieces (length now.order) (drop (length now.order) later.order)
 
 -- ---- the answers
 
@@ -62,66 +63,72 @@ abbrev pub held_batch_answer : Node → Contents → Contents → Admission
 held_batch_answer node held batch =
     if bytes_eq (batch_body held) (batch_body batch) then Known (batch_outputs node held) else Refused DigestClash
 
-abbrev pub batch_answer : Node → History → Contents → Admission
-batch_answer node history batch =
-    when batch_at history (batch_digest batch) gives (λ held. held_batch_answer node held batch)
-    else if nat_le node.charter.batches (length (batches history)) then Refused StoreFull
+abbrev pub batch_answer : Node → State → Contents → Admission
+batch_answer node now batch =
+    when batch_in now (batch_digest batch) gives (λ held. held_batch_answer node held batch)
+    else if nat_le node.charter.batches (length now.batches) then Refused StoreFull
     else New (batch_outputs node batch)
 
-abbrev pub ack_answer : Node → History → BatchAck → Admission
-ack_answer node history ack =
-    if not (has_own_batch node history ack.batch) then Refused NotOurs
-    else if is_own node ack.author || has_acked history ack.batch ack.author.0 then Known []
+abbrev pub ack_answer : Node → State → BatchAck → Admission
+ack_answer node now ack =
+    if not (has_own_batch node now ack.batch) then Refused NotOurs
+    else if is_own node ack.author || now.acked ack.batch ack.author.0 then Known []
     else New []
 
 -- a header may name a batch: it is held with that worker, and for an own header it is available
-abbrev pub may_name : Node → History → Header → BatchReference → Bool
-may_name node history header named =
-    option_map_or (λ batch. batch.worker == named.worker) (batch_at history named.digest) false
-    && (not (is_own node header.body.author) || is_available node history named.digest)
+abbrev pub may_name : Node → State → Header → BatchReference → Bool
+may_name node now header named =
+    option_map_or (λ batch. batch.worker == named.worker) (batch_in now named.digest) false
+    && (not (is_own node header.body.author) || is_available node now named.digest)
 
--- where the header's author and round have this vote already
+-- for an own header, where the round has this one already
 abbrev pub held_header_answer : Node → Header → Header → Admission
 held_header_answer node held header =
     if same_digest (header_digest held.body) (header_digest header.body) then Known (header_outputs node held)
-    else if is_own node header.body.author then Refused AlreadyProposed
-    else Refused Equivocation
+    else Refused AlreadyProposed
 
-abbrev pub header_answer : Node → History → Header → Admission
-header_answer node history header =
-    if is_low (floor node history) header.body.round then Refused TooOld
-    else when voted_header history header.body.round header.body.author.0 gives (λ held. held_header_answer node held header)
-    else if not (all_held (slots node history) (floor node history) header.body) then Refused MissingParents
-    else if not (list_all (may_name node history header) header.body.batches) then Refused MissingBatch
+-- for another header, where its author and round have the vote for this digest already
+abbrev pub voted_answer : Node → Digest → Header → Admission
+voted_answer node voted header =
+    if same_digest voted (header_digest header.body) then Known (header_outputs node header) else Refused Equivocation
+
+-- what decides of a header that is held or voted for already
+abbrev pub known_header_answer : Node → State → Header → Option Admission
+known_header_answer node now header =
+    if is_own node header.body.author then option_map (λ held. held_header_answer node held header) (now.own_headers header.body.round)
+    else option_map (λ voted. voted_answer node voted header) (now.votes header.body.round header.body.author.0)
+
+abbrev pub header_answer : Node → State → Header → Admission
+header_answer node now header =
+    if is_low (floor_in node now) header.body.round then Refused TooOld
+    else when known_header_answer node now header gives (λ answer. answer)
+    else if not (all_held now.slots (floor_in node now) header.body) then Refused MissingParents
+    else if not (list_all (may_name node now header) header.body.batches) then Refused MissingBatch
     else New (header_outputs node header)
 
--- what a new vote on an own header gives out: the certificate, if it completes one, and what that adds to the order
-abbrev pub vote_outputs : Node → History → Event → Header → List Output
-vote_outputs node history event header =
-    map output.Certificate (option_to_list (completed node (history ++ event ∷ []) header)) ++ order_outputs node history event
+-- what a new vote on the own header of a round gives out: the certificate, if it completes one, and what that adds to the order
+abbrev pub vote_outputs : Node → State → State → ℕ → List Output
+vote_outputs node now later round =
+    map output.Certificate (option_to_list (completed_at node later round)) ++ order_outputs now later
 
 -- for a vote, where this own certificate of its round is held
 abbrev pub held_answer : Certificate → Vote → Admission
 held_answer held vote =
     if same_digest (header_digest held.header) vote.header then Known (output.Certificate held ∷ []) else Refused CertConflict
 
--- for a vote on an own header by this member, where no own certificate of the round is held
-abbrev pub counted_answer : Node → History → Event → Header → ℕ → Admission
-counted_answer node history event header voter =
-    if is_some (counted_vote node history header.body voter) then Known [] else New (vote_outputs node history event header)
-
 -- for a vote, where this own header of its round is held
-abbrev pub own_header_answer : Node → History → Event → Header → Vote → Admission
-own_header_answer node history event header vote =
+abbrev pub own_header_answer : Node → State → State → Header → Vote → Admission
+own_header_answer node now later header vote =
     if not (same_digest (header_digest header.body) vote.header) then Refused NotOurs
-    else when slots node history vote.round node.own.0 gives (λ held. held_answer held vote)
-    else counted_answer node history event header vote.voter.0
+    else when now.slots vote.round node.own.0 gives (λ held. held_answer held vote)
+    else if is_some (now.counted vote.round vote.voter.0) then Known []
+    else New (vote_outputs node now later vote.round)
 
-abbrev pub vote_answer : Node → History → Event → Vote → Admission
-vote_answer node history event vote =
+abbrev pub vote_answer : Node → State → State → Vote → Admission
+vote_answer node now later vote =
     if not (is_own node vote.author) then Refused NotOurs
-    else if is_low (floor node history) vote.round then Refused TooOld
-    else when voted_header history vote.round node.own.0 gives (λ header. own_header_answer node history event header vote)
+    else if is_low (floor_in node now) vote.round then Refused TooOld
+    else when now.own_headers vote.round gives (λ header. own_header_answer node now later header vote)
     else Refused NotOurs
 
 -- two references name the same batch and worker
@@ -144,31 +151,36 @@ held_certificate_answer held certificate =
     else if same_header held.header certificate.header then Known []
     else Refused DigestClash
 
-abbrev pub certificate_answer : Node → History → Event → Certificate → Admission
-certificate_answer node history event certificate =
-    if is_low (floor node history) certificate.header.round then Refused TooOld
-    else when slots node history certificate.header.round certificate.header.author.0 gives (λ held. held_certificate_answer held certificate)
-    else if not (all_held (slots node history) (floor node history) certificate.header) then Refused MissingParents
-    else New (order_outputs node history event)
+abbrev pub certificate_answer : Node → State → State → Certificate → Admission
+certificate_answer node now later certificate =
+    if is_low (floor_in node now) certificate.header.round then Refused TooOld
+    else when now.slots certificate.header.round certificate.header.author.0 gives (λ held. held_certificate_answer held certificate)
+    else if not (all_held now.slots (floor_in node now) certificate.header) then Refused MissingParents
+    else New (order_outputs now later)
 
-abbrev pub coin_answer : Node → History → Event → Coin → Admission
-coin_answer node history event coin =
-    if not (is_own node event.sender) then Refused NotOurs
-    else when slice_get (coins history) (coin.wave - 1) gives (λ taken. if taken == coin.value then Known [] else Refused CoinConflict)
-    else if not (coin.wave == length (coins history) + 1) then Refused CoinOutOfTurn
-    else if not (is_full node (slots node history) (2 * coin.wave + 1)) then Refused CoinEarly
-    else New (order_outputs node history event)
+abbrev pub coin_answer : Node → State → State → Author → Coin → Admission
+coin_answer node now later sender coin =
+    if not (is_own node sender) then Refused NotOurs
+    else when slice_get now.coins (coin.wave - 1) gives (λ taken. if taken == coin.value then Known [] else Refused CoinConflict)
+    else if not (coin.wave == length now.coins + 1) then Refused CoinOutOfTurn
+    else if not (is_full node now.slots (2 * coin.wave + 1)) then Refused CoinEarly
+    else New (order_outputs now later)
 
-abbrev pub admit : Node → History → Event → Admission
-admit node history event = on event.message
+-- what an event is answered by what the node holds now, and what it holds with the event
+abbrev pub answer : Node → State → State → Event → Admission
+answer node now later event = on event.message
   where
     on : Message → Admission
-    on (message.Batch batch) = batch_answer node history batch
-    on (message.BatchAck ack) = ack_answer node history ack
-    on (message.Header header) = header_answer node history header
-    on (message.Vote vote) = vote_answer node history event vote
-    on (message.Certificate certificate) = certificate_answer node history event certificate
-    on (message.Coin coin) = coin_answer node history event coin
+    on (message.Batch batch) = batch_answer node now batch
+    on (message.BatchAck ack) = ack_answer node now ack
+    on (message.Header header) = header_answer node now header
+    on (message.Vote vote) = vote_answer node now later vote
+    on (message.Certificate certificate) = certificate_answer node now later certificate
+    on (message.Coin coin) = coin_answer node now later event.sender coin
+
+-- what an event is answered at the history behind which it comes
+abbrev pub admit : Node → History → Event → Admission
+admit node history event = answer node (whole node history) (whole node (history ++ event ∷ [])) event
 
 -- ---- runs
 

@@ -4,12 +4,12 @@ use Rattle.std.specs.Option.{option_map_or}
 use Rattle.wire.specs.declared.limits.TheConstants.{MAX_ORDER_DIGESTS}
 use Rattle.wire.specs.declared.output.Output.TheVariants as output
 use Rattle.model.specs.Admitting.{is_own, batch_outputs, header_outputs}
-use Rattle.model.specs.Histories.{History, batches, headers, coins}
-use Rattle.model.specs.Holdings.{voted_header, has_acked, counted_at, slots, voted_digest, certificates, order, floor, is_low}
+use Rattle.model.specs.Histories.{History, batches, headers}
+use Rattle.model.specs.Holdings.{voted_digest, certificates, order, is_low}
 use Rattle.model.specs.Nodes.{Node}
-use Rattle.model.specs.Proposing.{was_named}
-use Rattle.model.specs.Slots.{Slots, same_digest, header_digest}
-use Rattle.model.specs.Words.{Certificate, Contents, Digest, Header, Output, Vote}
+use Rattle.model.specs.Slots.{same_digest, header_digest}
+use Rattle.model.specs.States.{State, whole, floor_in}
+use Rattle.model.specs.Words.{Certificate, Digest, Output}
 
 -- a certificate may be given out: it is an own one, of the header that has the node's vote
 abbrev pub is_given : Node → History → Certificate → Bool
@@ -35,34 +35,22 @@ abbrev pub MayGive : Node → History → Output → Type 0
 MayGive node history (output.Order start digests) = IsPiece (order node history) start digests
 MayGive node history other = Contains (given node history) other
 
--- what is kept of a history
-pub record Kept : Type 0 where
-  -- all batches, who acknowledged them, and which of them own headers named
-  pub batches : List Contents
-  pub acked : Digest → ℕ → Bool
-  pub named : Digest → Bool
-  -- of the rounds that aren't low the votes, the own headers and the votes on them
-  pub votes : ℕ → ℕ → Option Digest
-  pub own_headers : ℕ → Option Header
-  pub counted : ℕ → ℕ → Option Vote
-  -- the certificates of rounds at or above the floor
-  pub slots : Slots
-  pub coins : List ℕ
-  pub order : List Digest
+-- ---- what is kept
 
 -- what is found for a round that isn't low
-abbrev pub unless_low : {X : Type 0} → Node → History → ℕ → Option X → Option X
-unless_low node history round found = if is_low (floor node history) round then None else found
+abbrev pub unless_low : {X : Type 0} → ℕ → ℕ → Option X → Option X
+unless_low floor round found = if is_low floor round then None else found
 
-abbrev pub kept : Node → History → Kept
-kept node history = record {
-  batches = batches history;
-  acked = has_acked history;
-  named = was_named node history;
-  votes = λ round author. unless_low node history round (voted_digest history round author);
-  own_headers = λ round. unless_low node history round (voted_header history round node.own.0);
-  counted = λ round voter. unless_low node history round (counted_at node history round voter);
-  slots = λ round author. if nat_lt round (floor node history) then None else slots node history round author;
-  coins = coins history;
-  order = order node history;
+-- what is kept: of the votes, the own headers and the votes on them the rounds that aren't low, and of the certificates those at or
+-- above the floor
+abbrev pub collected : Node → State → State
+collected node state = record state {
+  votes = λ round author. unless_low (floor_in node state) round (state.votes round author);
+  own_headers = λ round. unless_low (floor_in node state) round (state.own_headers round);
+  counted = λ round voter. unless_low (floor_in node state) round (state.counted round voter);
+  slots = λ round author. if nat_lt round (floor_in node state) then None else state.slots round author;
 }
+
+-- what is kept of a history
+abbrev pub kept : Node → History → State
+kept node history = collected node (whole node history)

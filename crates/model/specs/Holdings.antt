@@ -19,22 +19,14 @@ batch_digest batch = record { 0 = batch_digest_of batch }
 abbrev pub batch_at : History → Digest → Option Contents
 batch_at history digest = find (λ batch. same_digest (batch_digest batch) digest) (batches history)
 
--- the node has an own batch of this digest
-abbrev pub has_own_batch : Node → History → Digest → Bool
-has_own_batch node history digest = option_map_or (λ batch. batch.author.0 == node.own.0) (batch_at history digest) false
-
 -- a member has acknowledged the batch of this digest
 abbrev pub has_acked : History → Digest → ℕ → Bool
 has_acked history digest member = list_any (λ ack. same_digest ack.batch digest && (ack.author.0 == member)) (acks history)
 
--- a member holds an own batch: the node itself, and who has acknowledged it
-abbrev pub holds : Node → History → Digest → ℕ → Bool
-holds node history digest member = (member == node.own.0) || has_acked history digest member
-
--- an own batch is available: the members who hold it are a quorum
-abbrev pub is_available : Node → History → Digest → Bool
-is_available node history digest =
-    has_own_batch node history digest && nat_le (quorum node) (weight node.charter (holds node history digest))
+-- an own header has named the batch of this digest
+abbrev pub was_named : Node → History → Digest → Bool
+was_named node history digest =
+    list_any (λ header. (header.body.author.0 == node.own.0) && list_any (λ named. same_digest named.digest digest) header.body.batches) (headers history)
 
 -- ---- votes
 
@@ -77,9 +69,13 @@ entry_of vote = record { voter = vote.voter; signature = vote.signature }
 abbrev pub entry_on : Node → History → HeaderBody → ℕ → Option VoteEntry
 entry_on node history header voter = option_map entry_of (counted_vote node history header voter)
 
--- the votes on an own header, rising by voter
+-- the votes of members as a certificate has them, rising by voter
+abbrev pub votes_by : Node → (ℕ → Option Vote) → List VoteEntry
+votes_by node counted = filter_map (λ voter. option_map entry_of (counted voter)) (numbers (size_of node))
+
+-- the votes on an own header
 abbrev pub votes_on : Node → History → HeaderBody → List VoteEntry
-votes_on node history header = filter_map (entry_on node history header) (numbers (size_of node))
+votes_on node history header = votes_by node (counted_vote node history header)
 
 -- ---- certificates
 
@@ -91,11 +87,15 @@ genesis author = record { header = record { author = record { 0 = author }; roun
 abbrev pub has_voted : Node → History → HeaderBody → ℕ → Bool
 has_voted node history header voter = is_some (counted_vote node history header voter)
 
+-- the certificate of an own header with these votes of members, if they are a quorum
+abbrev pub certificate_by : Node → (ℕ → Option Vote) → Header → Option Certificate
+certificate_by node counted header =
+    if (header.body.author.0 == node.own.0) && nat_le (quorum node) (weight node.charter (λ voter. is_some (counted voter)))
+    then Some (record { header = header.body; votes = votes_by node counted }) else None
+
 -- the certificate of an own header, if those who voted for it are a quorum
 abbrev pub completed : Node → History → Header → Option Certificate
-completed node history header =
-    if (header.body.author.0 == node.own.0) && nat_le (quorum node) (weight node.charter (has_voted node history header.body))
-    then Some (record { header = header.body; votes = votes_on node history header.body }) else None
+completed node history header = certificate_by node (counted_vote node history header.body) header
 
 -- all certificates: those of the genesis, those received, and the own ones
 abbrev pub certificates : Node → History → List Certificate

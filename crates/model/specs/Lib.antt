@@ -4,6 +4,7 @@ pub mod Histories
 pub mod Slots
 pub mod Holdings
 pub mod Ordering
+pub mod States
 pub mod Admitting
 pub mod Proposing
 pub mod Giving

@@ -72,3 +72,8 @@ pub greatest_same : {X : Type 0} (test : ℕ → Bool) (number : X → ℕ) (so_
 greatest_same test number so_far xs x i less at fails =
     ap (λ b. fold max so_far (cond b (number x ∷ filter test (map number (drop (i + 1) xs))) (filter test (map number (drop (i + 1) xs))))) (sym fails)
     ∙ ap (λ items. fold max so_far (filter test (map number items))) (sym (items_from xs x i less at))
+
+-- the greatest number so far and of those from a place on
+pub highest_more : {X : Type 0} (number : X → ℕ) (so_far : ℕ) (xs : List X) (x : X) (i : ℕ) → i < length xs → x ≡ get_or xs i x
+    → fold max (max so_far (number x)) (map number (drop (i + 1) xs)) ≡ fold max so_far (map number (drop i xs))
+highest_more number so_far xs x i less at = ap (λ items. fold max so_far (map number items)) (sym (items_from xs x i less at))

@@ -1,61 +1,43 @@
 //! The certificates of a history, and its round.
 
-ghost use Rattle.std.specs.Prelude.{◌≡◌, ◌≤◌, ℕ, ◌&&◌, nat_lt, length, IfOk, IfSome, filter_map, map};
+ghost use Rattle.std.specs.Prelude.{◌≡◌, IfOk, filter_map, map};
 ghost use Rattle.model.specs.Histories.{headers};
 ghost use Rattle.model.specs.Holdings as holdings;
-ghost use Rattle.committee.specs.Charter.{numbers, weight};
-ghost use Rattle.committee.specs.Sets.{has};
+ghost use Rattle.committee.specs.Charter.{numbers};
 ghost use Rattle.model.specs.Nodes.{node_view};
-ghost use Rattle.wire.specs.declared.limits.TheConstants.{MAX_VOTES};
+ghost use Rattle.model.specs.States as states;
 
 use crate::histories::{coins, headers, received};
 use crate::holdings::{counted_vote, is_full};
 use crate::ledger::Ledger;
 use crate::ordering::{floor_by, order_by};
-use committee::MemberSet;
+use crate::votes::{Counted, certificate_by, votes_by};
 use model::{Event, Node};
 use sigface::Sign;
 use std::alloc::{AllocError, Global};
-use wire::{Author, Certificate, Digest, Header, HeaderBody, VoteEntries, VoteEntry};
+use wire::{Author, Certificate, Digest, Header, HeaderBody, Vote, VoteEntries};
 
-/// A member's counted vote on an own header, as a certificate has it.
-fn entry_on<S: Sign>(
-    node: &Node<S>,
-    history: &[Event],
-    header: &HeaderBody,
-    voter: u16,
-) -> Option<VoteEntry>
-    ensures value { result ≡ holdings.entry_on (node_view S.own_key S.signature_of node.now) history.now header.now voter }
-    ensures voter { IfSome result (λ entry. entry.voter.0 ≡ voter) }
-{
-    match counted_vote(node, history, header, voter) {
-        None => None,
-        Some(vote) => Some(VoteEntry {
-            voter: vote.voter,
-            signature: vote.signature,
-        }),
+/// A header of a node's history, for the votes on it.
+struct OnHeader<'a, S: Sign> {
+    node: &'a Node<S>,
+    history: &'a [Event],
+    header: &'a HeaderBody,
+}
+
+impl<'a, S: Sign> Clone for OnHeader<'a, S> {
+    fn clone(&self) -> Result<Self, AllocError> {
+        Ok(*self)
     }
 }
 
-/// The votes of the first members on an own header, rising by voter.
-#[tactic(auto, using(crate::proofs::Ranges::one_more, crate::proofs::Ranges::none_more, crate::proofs::Voters::follows_more, crate::proofs::Voters::follows_next))]
-fn votes_of<S: Sign>(
-    alloc: Global,
-    node: &Node<S>,
-    history: &[Event],
-    header: &HeaderBody,
-    size: u16,
-) -> Result<VoteEntries, AllocError>
-    requires { size ≤ MAX_VOTES }
-    ensures { IfOk result (λ found. found ≡ filter_map (holdings.entry_on (node_view S.own_key S.signature_of node.now) history.now header.now) (numbers size)) }
-{
-    let mut found = VoteEntries::new(alloc);
-    for voter in 0..size {
-        if let Some(entry) = entry_on(node, history, header, voter) {
-            found.push(entry)?;
-        }
+impl<'a, S: Sign> Copy for OnHeader<'a, S> {}
+
+impl<'a, S: Sign> Counted for OnHeader<'a, S> {
+    ghost vote_of = { λ s. holdings.counted_vote (node_view S.own_key S.signature_of s.node.now) s.history.now s.header.now };
+
+    fn vote(&self, voter: u16) -> Option<Vote> {
+        counted_vote(self.node, self.history, self.header, voter)
     }
-    Ok(found)
 }
 
 /// The votes on an own header, rising by voter.
@@ -67,29 +49,12 @@ pub fn votes_on<S: Sign>(
 ) -> Result<VoteEntries, AllocError>
     ensures { IfOk result (λ found. found ≡ holdings.votes_on (node_view S.own_key S.signature_of node.now) history.now header.now) }
 {
-    votes_of(alloc, node, history, header, node.size())
-}
-
-/// The members whose votes on an own header count.
-#[tactic(auto, using(crate::proofs::Sets::in_more, crate::proofs::Sets::out_more))]
-fn voters_on<S: Sign>(node: &Node<S>, history: &[Event], header: &HeaderBody) -> MemberSet
-    ensures { (member : ℕ) → has result member ≡ (nat_lt member (length node.now.committee.keys) && holdings.has_voted (node_view S.own_key S.signature_of node.now) history.now header.now member) }
-{
-    let size = node.size();
-    let mut voted = MemberSet::none();
-    for voter in 0..size {
-        if counted_vote(node, history, header, voter).is_some() {
-            voted.insert(Author(voter));
-        }
-    }
-    voted
-}
-
-/// What the members weigh whose votes on an own header count.
-fn weight_of_voters<S: Sign>(node: &Node<S>, history: &[Event], header: &HeaderBody) -> u64
-    ensures { result ≡ weight node.now.committee (holdings.has_voted (node_view S.own_key S.signature_of node.now) history.now header.now) }
-{
-    node.committee.weight(&voters_on(node, history, header))
+    let counted = OnHeader {
+        node,
+        history,
+        header,
+    };
+    votes_by(alloc, node, &counted)
 }
 
 /// The certificate of an own header, if those who voted for it are a quorum.
@@ -101,15 +66,12 @@ pub fn completed<S: Sign>(
 ) -> Result<Option<Certificate>, AllocError>
     ensures { IfOk result (λ found. found ≡ holdings.completed (node_view S.own_key S.signature_of node.now) history.now header.now) }
 {
-    if !node.is_own(header.body.author) {
-        return Ok(None);
-    }
-    if weight_of_voters(node, history, &header.body) < node.quorum() {
-        return Ok(None);
-    }
-    let votes = votes_on(alloc, node, history, &header.body)?;
-    let header = header.body.try_clone()?;
-    Ok(Some(Certificate { header, votes }))
+    let counted = OnHeader {
+        node,
+        history,
+        header: &header.body,
+    };
+    certificate_by(alloc, node, &counted, header)
 }
 
 /// The genesis certificate of an author.
@@ -192,6 +154,17 @@ pub fn floor<S: Sign>(alloc: Global, node: &Node<S>, history: &[Event]) -> Resul
         coins: &coins,
     };
     Ok(floor_by(&ledger))
+}
+
+/// The greatest round of some certificates, or 0.
+pub fn highest_of(certificates: &[Certificate]) -> u64
+    ensures { result ≡ states.highest_of certificates.now }
+{
+    let mut highest = 0;
+    for certificate in certificates {
+        highest = highest.max(certificate.header.round.number());
+    }
+    highest
 }
 
 /// 1 plus the greatest round of which a quorum of authors has certificates.

@@ -1,20 +1,21 @@
-//! What a history holds: batches and whether they are available, votes, certificates, and rounds.
+//! What a history holds: batches, votes, certificates, and rounds.
 
 ghost use Rattle.std.specs.Prelude.{◌≡◌, ℕ, ◌&&◌, nat_lt, is_some, IfSome, find, length, option_copied};
+ghost use Rattle.std.specs.List.{list_any};
 ghost use Rattle.model.specs.Histories.{votes};
 ghost use Rattle.model.specs.Holdings as holdings;
 ghost use Rattle.committee.specs.Charter.{weight};
 ghost use Rattle.committee.specs.Sets.{has};
 ghost use Rattle.model.specs.Nodes.{node_view};
-ghost use Rattle.model.specs.Slots.{slots_of};
+ghost use Rattle.model.specs.Slots.{same_digest, slots_of};
 
 use crate::slots::{digest_of, is_of_slot, slot};
 use committee::{Committee, MemberSet};
 use model::{Event, Node};
 use sigface::Sign;
 use wire::{
-    Author, Batch, Certificate, Digest, Header, HeaderBody, Message, ParentReference, Vote,
-    batch_digest, header_digest,
+    Author, Batch, BatchReference, Certificate, Digest, Header, HeaderBody, Message,
+    ParentReference, Vote, batch_digest, header_digest,
 };
 
 /// The batch of a digest, if it is held.
@@ -31,16 +32,6 @@ pub fn batch_at<'a>(history: &'a [Event], digest: &Digest) -> Option<&'a Batch>
     None
 }
 
-/// The node has an own batch of this digest.
-pub fn has_own_batch<S: Sign>(node: &Node<S>, history: &[Event], digest: &Digest) -> bool
-    ensures { result ≡ holdings.has_own_batch (node_view S.own_key S.signature_of node.now) history.now digest.now }
-{
-    match batch_at(history, digest) {
-        None => false,
-        Some(batch) => node.is_own(batch.author()),
-    }
-}
-
 /// A member has acknowledged the batch of this digest.
 pub fn has_acked(history: &[Event], digest: &Digest, member: u16) -> bool
     ensures { result ≡ holdings.has_acked history.now digest.now member }
@@ -55,34 +46,25 @@ pub fn has_acked(history: &[Event], digest: &Digest, member: u16) -> bool
     false
 }
 
-/// The members who hold an own batch: the node itself, and who has acknowledged it.
-#[tactic(auto, using(crate::proofs::Sets::in_more, crate::proofs::Sets::out_more))]
-fn holders<S: Sign>(node: &Node<S>, history: &[Event], digest: &Digest) -> MemberSet
-    ensures { (member : ℕ) → has result member ≡ (nat_lt member (length node.now.committee.keys) && holdings.holds (node_view S.own_key S.signature_of node.now) history.now digest.now member) }
+/// Batches that a header names have this digest among them.
+fn names(batches: &[BatchReference], digest: &Digest) -> bool
+    ensures { result ≡ list_any (λ named. same_digest named.digest digest.now) batches.now }
 {
-    let size = node.size();
-    let mut held = MemberSet::none();
-    for member in 0..size {
-        if member == node.own.0 || has_acked(history, digest, member) {
-            held.insert(Author(member));
+    batches.iter().any(|named| named.digest == *digest)
+}
+
+/// An own header has named the batch of this digest.
+pub fn was_named<S: Sign>(node: &Node<S>, history: &[Event], digest: &Digest) -> bool
+    ensures { result ≡ holdings.was_named (node_view S.own_key S.signature_of node.now) history.now digest.now }
+{
+    for event in history {
+        if let Message::Header(header) = &event.message {
+            if node.is_own(header.body.author) && names(header.body.batches.as_slice(), digest) {
+                return true;
+            }
         }
     }
-    held
-}
-
-/// What the members weigh who hold an own batch.
-fn weight_of_holders<S: Sign>(node: &Node<S>, history: &[Event], digest: &Digest) -> u64
-    ensures { result ≡ weight node.now.committee (holdings.holds (node_view S.own_key S.signature_of node.now) history.now digest.now) }
-{
-    node.committee.weight(&holders(node, history, digest))
-}
-
-/// An own batch is available.
-pub fn is_available<S: Sign>(node: &Node<S>, history: &[Event], digest: &Digest) -> bool
-    ensures { result ≡ holdings.is_available (node_view S.own_key S.signature_of node.now) history.now digest.now }
-{
-    has_own_batch(node, history, digest)
-        && node.quorum() <= weight_of_holders(node, history, digest)
+    false
 }
 
 /// The header that has the vote for an author and round.
@@ -169,7 +151,8 @@ pub fn counted_at<S: Sign>(
     round: u64,
     voter: u16,
 ) -> Option<Vote>
-    ensures { result ≡ holdings.counted_at (node_view S.own_key S.signature_of node.now) history.now round voter }
+    ensures value { result ≡ holdings.counted_at (node_view S.own_key S.signature_of node.now) history.now round voter }
+    ensures voter { IfSome result (λ vote. vote.voter.0 ≡ voter) }
 {
     match voted_header(history, round, node.own.0) {
         None => None,

@@ -3,9 +3,12 @@
 #![tactic(auto)]
 
 pub mod certificates;
+pub mod held;
 pub mod histories;
 pub mod holdings;
 pub mod ledger;
 pub mod newer;
 pub mod ordering;
+pub mod past;
 pub mod slots;
+pub mod votes;

@@ -6,7 +6,7 @@ ghost use Rattle.model.specs.Holdings as holdings;
 ghost use Rattle.model.specs.Nodes.{node_view};
 
 use model::{Event, Node};
-use plain::certificates::{certificates, floor};
+use plain::certificates::{certificates, floor, highest_of};
 use plain::holdings::{counted_at, is_low, voted_digest, voted_header};
 use plain::slots::slot;
 use sigface::Sign;
@@ -89,4 +89,16 @@ pub fn kept_slot<S: Sign>(
         None => Ok(None),
         Some(certificate) => Ok(Some(certificate.try_clone()?)),
     }
+}
+
+/// The greatest round of which there was a certificate.
+pub fn kept_highest<S: Sign>(
+    alloc: Global,
+    node: &Node<S>,
+    history: &[Event],
+) -> Result<u64, AllocError>
+    ensures { IfOk result (λ highest. highest ≡ (kept (node_view S.own_key S.signature_of node.now) history.now).highest) }
+{
+    let certificates = certificates(alloc, node, history)?;
+    Ok(highest_of(&certificates))
 }

@@ -8,3 +8,4 @@ pub mod keeping;
 pub mod outputs;
 mod parts;
 pub mod proposing;
+pub mod runs;

@@ -4,10 +4,9 @@ ghost use Rattle.std.specs.Prelude.{◌≡◌, ◌+◌, ◌<◌, ◌≤◌, ◌^
 ghost use Rattle.model.specs.Admitting as admitting;
 ghost use Rattle.model.specs.Nodes.{node_view};
 
-use crate::arrival::Arrival;
 use crate::parts::first_of;
 use model::{Node, Outputs};
-use plain::certificates::order;
+use plain::held::Held;
 use plain::holdings::own_vote;
 use sigface::Sign;
 use std::alloc::{AllocError, Global};
@@ -120,16 +119,16 @@ fn push_grown(
     push_pieces(alloc, outputs, before.len() as u64, behind(before, after))
 }
 
-/// Adds what an event adds to the order.
-pub fn push_order<S: Sign>(
+/// Adds what is added to the order.
+pub fn push_order<H: Held>(
     alloc: Global,
-    node: &Node<S>,
     outputs: &mut Outputs,
-    arrival: &Arrival,
+    now: &H,
+    later: &H,
 ) -> Result<(), AllocError>
-    ensures { OnOk result (outputs.new ≡ outputs.old ++ admitting.order_outputs (node_view S.own_key S.signature_of node.now) arrival.now.history.now arrival.now.event.now) }
+    ensures { OnOk result (outputs.new ≡ outputs.old ++ admitting.order_outputs (H.state now.now) (H.state later.now)) }
 {
-    let before = order(alloc, node, arrival.history)?;
-    let after = order(alloc, node, arrival.events)?;
+    let before = now.order(alloc)?;
+    let after = later.order(alloc)?;
     push_grown(alloc, outputs, &before, &after)
 }

@@ -7,13 +7,15 @@ ghost use Rattle.wire.specs.declared.limits.TheConstants.{MAX_PARENTS};
 ghost use Rattle.model.specs.Nodes.{node_view};
 ghost use Rattle.model.specs.Proposing as proposing;
 ghost use Rattle.model.specs.Slots.{same_digest, slots_of, round_of};
+ghost use Rattle.model.specs.States.{is_available};
+ghost use Rattle.wire.specs.References as references;
 ghost use Rattle.wire.specs.References.{digest_before, batches_rise};
 
 use crate::parts::first_of;
 use model::{Event, Node};
-use plain::certificates::{certificates, round};
-use plain::histories::batches;
-use plain::holdings::{is_available, voted_header};
+use plain::certificates::round;
+use plain::held::{Held, is_available};
+use plain::past::Past;
 use plain::slots::{digest_of, slot};
 use sigface::Sign;
 use std::alloc::{AllocError, Global};
@@ -21,27 +23,6 @@ use wire::{
     Batch, BatchReference, BatchReferences, Certificate, Digest, Header, HeaderBody, MAX_BATCHES,
     Message, ParentReference, ParentReferences, Round, batch_digest, header_digest,
 };
-
-/// Batches that a header names have this digest among them.
-fn names(batches: &[BatchReference], digest: &Digest) -> bool
-    ensures { result ≡ list_any (λ named. same_digest named.digest digest.now) batches.now }
-{
-    batches.iter().any(|named| named.digest == *digest)
-}
-
-/// An own header has named the batch of this digest.
-pub fn was_named<S: Sign>(node: &Node<S>, history: &[Event], digest: &Digest) -> bool
-    ensures { result ≡ proposing.was_named (node_view S.own_key S.signature_of node.now) history.now digest.now }
-{
-    for event in history {
-        if let Message::Header(header) = &event.message {
-            if node.is_own(header.body.author) && names(header.body.batches.as_slice(), digest) {
-                return true;
-            }
-        }
-    }
-    false
-}
 
 /// The digest of a batch.
 fn digest_of_batch(batch: &Batch) -> Digest
@@ -51,24 +32,24 @@ fn digest_of_batch(batch: &Batch) -> Digest
 }
 
 /// An own batch is available, and no own header has named it.
-fn is_waiting<S: Sign>(node: &Node<S>, history: &[Event], digest: &Digest) -> bool
-    ensures { result ≡ holdings.is_available (node_view S.own_key S.signature_of node.now) history.now digest.now && not (proposing.was_named (node_view S.own_key S.signature_of node.now) history.now digest.now) }
+fn is_waiting<S: Sign, H: Held>(node: &Node<S>, held: &H, digest: &Digest) -> bool
+    ensures { result ≡ is_available (node_view S.own_key S.signature_of node.now) (H.state held.now) digest.now && not ((H.state held.now).named digest.now) }
 {
-    is_available(node, history, digest) && !was_named(node, history, digest)
+    is_available(node, held, digest) && !held.was_named(digest)
 }
 
 /// An own batch may be named.
-fn is_nameable<S: Sign>(node: &Node<S>, history: &[Event], batch: &Batch) -> bool
-    ensures { result ≡ proposing.is_nameable (node_view S.own_key S.signature_of node.now) history.now batch.now }
+fn is_nameable<S: Sign, H: Held>(node: &Node<S>, held: &H, batch: &Batch) -> bool
+    ensures { result ≡ proposing.is_nameable (node_view S.own_key S.signature_of node.now) (H.state held.now) batch.now }
 {
-    node.is_own(batch.author()) && is_waiting(node, history, &digest_of_batch(batch))
+    node.is_own(batch.author()) && is_waiting(node, held, &digest_of_batch(batch))
 }
 
 /// An own batch that may be named, as a header names it.
-pub fn to_name<S: Sign>(node: &Node<S>, history: &[Event], batch: &Batch) -> Option<BatchReference>
-    ensures { result ≡ proposing.to_name (node_view S.own_key S.signature_of node.now) history.now batch.now }
+pub fn to_name<S: Sign, H: Held>(node: &Node<S>, held: &H, batch: &Batch) -> Option<BatchReference>
+    ensures { result ≡ proposing.to_name (node_view S.own_key S.signature_of node.now) (H.state held.now) batch.now }
 {
-    if !is_nameable(node, history, batch) {
+    if !is_nameable(node, held, batch) {
         return None;
     }
     Some(BatchReference {
@@ -90,7 +71,7 @@ pub fn placed(
     batches: &[BatchReference],
     batch: BatchReference,
 ) -> Result<Vec<BatchReference>, AllocError>
-    ensures { IfOk result (λ found. found.items ≡ proposing.placed batches.now batch) }
+    ensures { IfOk result (λ found. found.items ≡ references.placed batches.now batch) }
 {
     let mut found = Vec::new(alloc);
     match batches.split_first() {
@@ -111,18 +92,18 @@ pub fn placed(
 }
 
 /// The batches that may be named, rising by digest.
-pub fn nameable<S: Sign>(
+pub fn nameable<S: Sign, H: Held>(
     alloc: Global,
     node: &Node<S>,
-    history: &[Event],
+    held: &H,
 ) -> Result<Vec<BatchReference>, AllocError>
-    ensures value { IfOk result (λ found. found.items ≡ proposing.nameable (node_view S.own_key S.signature_of node.now) history.now) }
+    ensures value { IfOk result (λ found. found.items ≡ proposing.nameable (node_view S.own_key S.signature_of node.now) (H.state held.now)) }
     ensures order { IfOk result (λ found. IsTrue (batches_rise found.items)) }
 {
     let mut found = Vec::new(alloc);
-    let batches = batches(alloc, history)?;
+    let batches = held.batches(alloc)?;
     for batch in &batches {
-        if let Some(named) = to_name(node, history, batch) {
+        if let Some(named) = to_name(node, held, batch) {
             found = placed(alloc, &found, named)?;
         }
     }
@@ -143,14 +124,14 @@ fn named(alloc: Global, batches: &[BatchReference]) -> Result<BatchReferences, A
 }
 
 /// The batches that the node's header names.
-fn named_batches<S: Sign>(
+fn named_batches<S: Sign, H: Held>(
     alloc: Global,
     node: &Node<S>,
-    history: &[Event],
+    held: &H,
 ) -> Result<BatchReferences, AllocError>
-    ensures { IfOk result (λ found. found ≡ take MAX_BATCHES (proposing.nameable (node_view S.own_key S.signature_of node.now) history.now)) }
+    ensures { IfOk result (λ found. found ≡ take MAX_BATCHES (proposing.nameable (node_view S.own_key S.signature_of node.now) (H.state held.now))) }
 {
-    let nameable = nameable(alloc, node, history)?;
+    let nameable = nameable(alloc, node, held)?;
     named(alloc, first_of(&nameable, MAX_BATCHES))
 }
 
@@ -201,18 +182,17 @@ fn digest_of_header(header: &HeaderBody) -> Digest
     header_digest(header)
 }
 
-/// The header of the node's round.
-fn proposal<S: Sign>(
+/// The node's header of a round.
+pub fn proposal_of<S: Sign, H: Held>(
     alloc: Global,
     node: &Node<S>,
-    history: &[Event],
+    held: &H,
     round: Round,
 ) -> Result<HeaderBody, AllocError>
-    requires { round ≡ holdings.round (node_view S.own_key S.signature_of node.now) history.now }
-    ensures { IfOk result (λ body. body ≡ proposing.proposal (node_view S.own_key S.signature_of node.now) history.now) }
+    ensures { IfOk result (λ body. body ≡ proposing.proposal_of (node_view S.own_key S.signature_of node.now) (H.state held.now) round) }
 {
-    let batches = named_batches(alloc, node, history)?;
-    let certificates = certificates(alloc, node, history)?;
+    let batches = named_batches(alloc, node, held)?;
+    let certificates = held.certificates(alloc)?;
     let below = round.number().saturating_sub(1);
     let parents = parents_of(alloc, node.size(), &certificates, below)?;
     Ok(HeaderBody {
@@ -231,14 +211,41 @@ fn signed<S: Sign>(node: &Node<S>, body: HeaderBody) -> Header
     Header { body, signature }
 }
 
-/// An author and round have a header.
-fn has_header(history: &[Event], round: u64, author: u16) -> bool
-    ensures { result ≡ is_some (holdings.voted_header history.now round author) }
+/// A round has an own header.
+fn has_header<H: Held>(held: &H, round: u64) -> bool
+    ensures { result ≡ is_some ((H.state held.now).own_headers round) }
 {
-    voted_header(history, round, author).is_some()
+    held.own_header(round).is_some()
 }
 
-/// The header that the node proposes, if its round has none yet.
+/// The header that the node proposes in its round, if it has none yet.
+///
+/// # Errors
+/// When memory runs out.
+pub fn propose_of<S: Sign, H: Held>(
+    alloc: Global,
+    node: &Node<S>,
+    held: &H,
+    round: u64,
+) -> Result<Option<Header>, AllocError>
+    ensures { IfOk result (λ found. found ≡ proposing.propose_of (node_view S.own_key S.signature_of node.now) (H.state held.now) round) }
+{
+    if has_header(held, round) {
+        return Ok(None);
+    }
+    match Round::new(round) {
+        Err(_) => Ok(None),
+        Ok(round) => {
+            let body = proposal_of(alloc, node, held, round)?;
+            Ok(Some(signed(node, body)))
+        }
+    }
+}
+
+/// The header that the node proposes at a history.
+///
+/// # Errors
+/// When memory runs out.
 pub fn propose<S: Sign>(
     alloc: Global,
     node: &Node<S>,
@@ -246,15 +253,6 @@ pub fn propose<S: Sign>(
 ) -> Result<Option<Header>, AllocError>
     ensures { IfOk result (λ found. found ≡ proposing.propose (node_view S.own_key S.signature_of node.now) history.now) }
 {
-    let number = round(alloc, node, history)?;
-    if has_header(history, number, node.own.0) {
-        return Ok(None);
-    }
-    match Round::new(number) {
-        Err(_) => Ok(None),
-        Ok(round) => {
-            let body = proposal(alloc, node, history, round)?;
-            Ok(Some(signed(node, body)))
-        }
-    }
+    let round = round(alloc, node, history)?;
+    propose_of(alloc, node, &Past { node, history }, round)
 }

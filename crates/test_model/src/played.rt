@@ -10,7 +10,7 @@ use header::check;
 use model::{Admission, Event, Node, Outputs};
 use plain::certificates::round;
 use plain::holdings::voted_digest;
-use plain_answers::admitting::{admit_last, answers, each_new};
+use plain_answers::runs::{admit_last, answers, each_new};
 use script::{
     BATCHES, Command, DEPTH, FormError, Labels, Setting, certificate, committee_file, define_batch,
     define_header, parse, signer, vote,

@@ -5,13 +5,14 @@ use crate::played::Played;
 use crate::showing::{add, batch_label, header_label, line, yes_or_no};
 use header::check;
 use plain::certificates::{certificates, completed, votes_on};
+use plain::held::{has_own_batch, is_available};
 use plain::holdings::{
-    all_held, batch_at, counted_at, counted_vote, has_acked, has_own_batch, is_available,
-    voted_digest,
+    all_held, batch_at, counted_at, counted_vote, has_acked, voted_digest, was_named,
 };
-use plain_answers::keeping::{kept_counted, kept_header, kept_slot, kept_vote};
-use plain_answers::proposing::{nameable, placed, propose, to_name, was_named};
-use sigface::HashVerify;
+use plain::past::Past;
+use plain_answers::keeping::{kept_counted, kept_header, kept_highest, kept_slot, kept_vote};
+use plain_answers::proposing::{nameable, placed, propose, to_name};
+use sigface::{HashSign, HashVerify};
 use std::alloc::AllocError;
 use wire::{
     Author, Batch, BatchReference, Digest, Header, Message, Vote, batch_digest, header_digest,
@@ -22,7 +23,7 @@ use wire::{
 pub fn batches(played: &Played, words: &[&str], answer: &mut String) -> Result<(), AllocError> {
     match words {
         ["nameable"] => {
-            let found = nameable(played.alloc, &played.node, &played.history)?;
+            let found = nameable(played.alloc, &played.node, &past(played))?;
             answer.push_str("nameable")?;
             named(played, &found, answer)
         }
@@ -32,6 +33,14 @@ pub fn batches(played: &Played, words: &[&str], answer: &mut String) -> Result<(
             Some(batch) => of_batch(played, how, batch, rest, answer),
         },
         _ => line("bad case", answer),
+    }
+}
+
+/// The history as what the node holds.
+fn past(played: &Played) -> Past<'_, HashSign> {
+    Past {
+        node: &played.node,
+        history: &played.history,
     }
 }
 
@@ -50,12 +59,13 @@ fn of_batch(
     answer: &mut String,
 ) -> Result<(), AllocError> {
     let (node, history, digest) = (&played.node, played.history.as_slice(), batch_digest(batch));
+    let held = past(played);
     match (how, rest) {
-        ("available", []) => yes_or_no(is_available(node, history, &digest), answer),
-        ("own-batch", []) => yes_or_no(has_own_batch(node, history, &digest), answer),
+        ("available", []) => yes_or_no(is_available(node, &held, &digest), answer),
+        ("own-batch", []) => yes_or_no(has_own_batch(node, &held, &digest), answer),
         ("was-named", []) => yes_or_no(was_named(node, history, &digest), answer),
         ("acked", [who]) => yes_or_no(has_acked(history, &digest, member(who)), answer),
-        ("to-name", []) => match to_name(node, history, batch) {
+        ("to-name", []) => match to_name(node, &held, batch) {
             None => line("none", answer),
             Some(found) => {
                 let worker = found.worker;
@@ -211,6 +221,10 @@ fn kept(played: &Played, kind: &str, rest: &[&str], answer: &mut String) -> Resu
                 None => line("none", answer),
                 Some(found) => line(crate::showing::certificate_label(played, &found), answer),
             }
+        }
+        ("highest", []) => {
+            let highest = kept_highest(alloc, node, history)?;
+            writeln!(answer, "highest {highest}")
         }
         _ => line("bad case", answer),
     }

@@ -2,4 +2,4 @@ use Rattle.plain_answers.proofs.outputs.push_order.Goals as goal
 
 pub returns : goal.returns
 returns g c =
-    rw (c.deref.ensures.value, c.deref-2.ensures.value, c.in_ok-before.ensures, c.in_ok-after.ensures, c.args.arrival.now.joined) at c.push_grown.ensures
+    rw (c.deref.ensures.value, c.deref-2.ensures.value, c.in_ok-before.ensures, c.in_ok-after.ensures) at c.push_grown.ensures

@@ -2,13 +2,15 @@ use Rattle.std.proofs.Common.{sym, ◌∙◌}
 use Rattle.plain.proofs.Items.{folded_more, folded_same}
 use Rattle.model.proofs.Placing.{placed-rises}
 use Rattle.model.specs.Nodes.{node_view}
-use Rattle.model.specs.Proposing.{placed, to_name}
+use Rattle.wire.specs.References.{placed}
+use Rattle.model.specs.Proposing.{to_name}
 use Rattle.plain_answers.proofs.proposing.nameable.Goals as goal
 use Rattle.plain_answers.proofs.proposing.nameable.Goals.{in-Some+in_ok-found, in_default}
 
 pub loop-batch-preserved : goal.loop-batch-preserved
 loop-batch-preserved g c =
-    let make = to_name (node_view g.S.Sign.own_key g.S.Sign.signature_of c.args.node.now) c.args.history.now in
+    let node = node_view g.S.Sign.own_key g.S.Sign.signature_of c.args.node.now in
+    let make = to_name node (g.H.Held.state c.args.held.now) in
     let so_far = c.loop-batch.found.items in
     let all = c.deref-batch-items.result.now in
     let this = c.batch-item.result in

@@ -1,6 +1,4 @@
-use Rattle.std.proofs.Common.{rules, of_calls, ◌≡◌, ◌+◌, ◌++◌, [], ◌∷◌, Some, false, add-one, take, slice_get, refl, sym, arith}
-use Rattle.std.specs.Fn.{CalledAt}
-use Rattle.waiter.specs.Waiting.{AnswersNo}
+use Rattle.std.proofs.Common.{rules, of_calls, ◌≡◌, Some, add-one, take, slice_get, refl, sym}
 use Rattle.waiter.proofs.Keeping.{value_at, take_next, asked_more}
 use Rattle.waiter.proofs.waiter.Waiter.first_ready.Goals as goal
 use Rattle.waiter.proofs.waiter.Waiter.first_ready.Goals.{in-Some+else-ready, in_default}

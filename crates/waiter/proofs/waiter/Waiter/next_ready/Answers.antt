@@ -1,16 +1,12 @@
-use Rattle.std.proofs.Common.{◌≡◌, ◌≤◌, Some, true, length, take, drop, slice_get, suc, refl, sym, ap, subst, ◌∙◌, arith, List}
+use Rattle.std.proofs.Common.{◌≡◌, Some, true, take, drop, slice_get, suc, sym, ap, subst, ◌∙◌, arith, List}
 use Rattle.std.specs.Prelude.{remove}
 use Rattle.std.specs.Fn.{CalledAt}
-use Rattle.std.specs.List.{AllByRecursion}
 use Rattle.std.specs.Map.{values_of}
 use Rattle.std.proofs.lemmas.List.Elements.{recursion_from_All, All-from_recursion}
 use Rattle.indexmap.proofs.SetLemmas.{map-remove}
 use Rattle.wire.specs.Events.{Event}
 use Rattle.wire.specs.declared.keys.Digest.{Digest}
-use Rattle.header.specs.Digested.{certificate_digest_in}
-use Rattle.waiter.specs.declared.waiter.TheConstants.{MAX_WAITING}
 use Rattle.waiter.specs.Keyed.{IsUnderItsDigest}
-use Rattle.waiter.specs.Waiting.{AnswersNo, IsFirstReady}
 use Rattle.waiter.proofs.Keeping.{value_at, parted, keyed_without}
 use Rattle.waiter.proofs.waiter.Waiter.next_ready.Goals as goal
 

@@ -1,0 +1,22 @@
+mod Answering
+mod BatchesStay
+mod Behind
+mod CertificatesStay
+mod Collected
+mod Completing
+mod Deciding
+mod Following
+mod FreshSound
+pub mod Grown
+mod NewThere
+mod OrderStays
+mod Passing
+mod Proposing
+mod PuttingOut
+mod SoundProposing
+mod SoundRounds
+mod Standing
+mod Starting
+mod Staying
+mod Step
+mod VotesStay

@@ -1,0 +1,45 @@
+-- The state behind an event that is new at a sound state is sound, and so is what is kept of a legal history.
+use Rattle.std.proofs.Common.{◌++◌, [], ◌∷◌, sym, ap, ◌∙◌, subst}
+use Rattle.model.specs.Admitting.{is_new}
+use Rattle.model.specs.Giving.{kept}
+use Rattle.model.specs.Histories.{History}
+use Rattle.model.specs.Nodes.{Node}
+use Rattle.model.specs.States.{State}
+use Rattle.model.specs.Words.{Author, Event, Message}
+use Rattle.laws.proofs.Legal.{Adds, legal-induction}
+use Rattle.machine.specs.Laws.{FreshIsSound, SoundStays, KeptIsSound}
+use Rattle.machine.specs.Sound.{IsSound}
+use Rattle.machine.proofs.Answering.{state_answers}
+use Rattle.machine.proofs.BatchesStay.{batches_stay}
+use Rattle.machine.proofs.Behind.{behind, step_next, is_behind}
+use Rattle.machine.proofs.CertificatesStay.{certificates_stay}
+use Rattle.machine.proofs.Following.{state_follows}
+use Rattle.machine.proofs.OrderStays.{order_stays}
+use Rattle.machine.proofs.Starting.{starts_fresh}
+use Rattle.machine.proofs.Step.{IsStep}
+use Rattle.machine.proofs.VotesStay.{votes_stay}
+
+sound_behind : (node : Node) (state : State) (sender : Author) (m : Message) → IsStep node state sender m → IsSound node (behind node state m)
+sound_behind node state sender m step =
+    let next = step_next node state sender m step in
+    let back = is_behind node state m next in
+    record {
+      batches = batches_stay node state sender m step;
+      votes = votes_stay node state sender m step back;
+      certificates = certificates_stay node state sender m step next back;
+      order = order_stays node state sender m step next;
+    }
+
+pub sound_stays : SoundStays
+sound_stays node state event node_is sound taken new =
+    sound_behind node state event.sender event.message (record { node_is = node_is; sound = sound; taken = taken; new = new })
+
+-- with that the fresh state is sound
+pub kept_from : FreshIsSound → KeptIsSound
+kept_from first node history legal =
+    legal-induction node (λ h. IsSound node (kept node h)) (subst (IsSound node) (sym (starts_fresh node)) (first node legal.sound)) (kept_grows node) history legal
+  where
+    kept_grows : (node : Node) (h : History) (event : Event) → Adds node h event → IsSound node (kept node h) → IsSound node (kept node (h ++ event ∷ []))
+    kept_grows node h event adds sound =
+        subst (IsSound node) (sym (state_follows node h event adds.longer))
+        (sound_stays node (kept node h) event adds.legal.sound sound adds.taken (sym (ap is_new (state_answers node h event adds.legal adds.taken)) ∙ adds.new))

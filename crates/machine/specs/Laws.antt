@@ -1,0 +1,120 @@
+-- What ties the machine to histories.
+use Rattle.std.specs.Prelude.{◌≡◌, ◌<◌, ◌⊎◌, ℕ, Bool, true, false, IsTrue, List, [], ◌∷◌, ◌++◌, filter, Some}
+use Rattle.wire.specs.declared.output.Output.TheVariants as output
+use Rattle.laws.specs.Laws.{Begins, own_event}
+use Rattle.model.specs.Admitting.{admit, is_new, order_outputs, header_outputs, IsTaken, IsLegal}
+use Rattle.model.specs.Giving.{kept}
+use Rattle.model.specs.Histories.{History, batches, coins}
+use Rattle.model.specs.Holdings.{floor, round, is_low, has_acked, voted_digest, voted_header, counted_at, slots}
+use Rattle.model.specs.Nodes.{Node, IsNode}
+use Rattle.model.specs.Proposing.{propose}
+use Rattle.model.specs.States.{State, floor_in}
+use Rattle.model.specs.Words.{Certificate, Digest, Event, Header, Output}
+use Rattle.model.specs.declared.admission.Admission.TheVariants.{New}
+use Rattle.machine.specs.Machine.{after, answered, fresh, proposed, round_in}
+use Rattle.machine.specs.Sound.{IsSound}
+
+-- what is kept of the empty history is the fresh state
+abbrev pub StartsFresh : Type 0
+StartsFresh = (node : Node) → kept node [] ≡ fresh node
+
+-- what is kept of a legal history with one more event is the state behind that event
+abbrev pub StateFollows : Type 0
+StateFollows = (node : Node) (history : History) (event : Event) → IsLegal node (history ++ event ∷ [])
+    → kept node (history ++ event ∷ []) ≡ after node (kept node history) event
+
+-- what is kept of a legal history answers each event as admission does
+abbrev pub StateAnswers : Type 0
+StateAnswers = (node : Node) (history : History) (event : Event) → IsLegal node history → IsTaken node event
+    → admit node history event ≡ answered node (kept node history) event
+
+-- what is kept of a legal history has its floor and round, and proposes what is proposed at it
+pub record IsProposedBy (node : Node) (history : History) : Type 0 where
+  pub floor : floor_in node (kept node history) ≡ floor node history
+  pub round : round_in node (kept node history) ≡ round node history
+  pub proposed : proposed node (kept node history) ≡ propose node history
+
+abbrev pub StateProposes : Type 0
+StateProposes = (node : Node) (history : History) → IsLegal node history → IsProposedBy node history
+
+-- ---- what follows for histories
+
+-- what admission reads of a history is the same in both: the batches and who acknowledged them, the votes, the own
+-- headers and the votes on them, the certificates and the coins
+pub record AreAlike (node : Node) (one other : History) : Type 0 where
+  pub same_batches : batches one ≡ batches other
+  pub same_acks : (digest : Digest) (member : ℕ) → has_acked one digest member ≡ has_acked other digest member
+  pub same_votes : (round author : ℕ) → voted_digest one round author ≡ voted_digest other round author
+  pub same_headers : (round : ℕ) → voted_header one round node.own.0 ≡ voted_header other round node.own.0
+  pub same_counted : (round voter : ℕ) → counted_at node one round voter ≡ counted_at node other round voter
+  pub same_slots : (round author : ℕ) → slots node one round author ≡ slots node other round author
+  pub same_coins : coins one ≡ coins other
+
+-- two legal histories that are alike answer each event alike
+abbrev pub AnswersAlike : Type 0
+AnswersAlike = (node : Node) (one other : History) (event : Event) → IsLegal node one → IsLegal node other → IsTaken node event
+    → AreAlike node one other → admit node one event ≡ admit node other event
+
+-- two histories keep the same; the greatest round needs no look
+abbrev pub KeepSame : Node → History → History → Type 0
+KeepSame node one other = record (kept node one) { highest = 0 } ≡ record (kept node other) { highest = 0 }
+
+-- two legal histories that keep the same answer each event alike
+abbrev pub KeptDecides : Type 0
+KeptDecides = (node : Node) (one other : History) (event : Event) → IsLegal node one → IsLegal node other → IsTaken node event
+    → KeepSame node one other → admit node one event ≡ admit node other event
+
+-- two legal histories that keep the same keep the same again behind an event that is new at both
+abbrev pub KeptFollows : Type 0
+KeptFollows = (node : Node) (one other : History) (event : Event) → IsLegal node (one ++ event ∷ []) → IsLegal node (other ++ event ∷ [])
+    → KeepSame node one other → KeepSame node (one ++ event ∷ []) (other ++ event ∷ [])
+
+-- two legal histories that keep the same have one round, and propose the same
+abbrev pub KeptProposes : Type 0
+KeptProposes = (node : Node) (one other : History) → IsLegal node one → IsLegal node other → KeepSame node one other
+    → (round node one ≡ round node other) × (propose node one ≡ propose node other)
+
+-- ---- the order of a state
+
+-- an output is a piece of the order
+abbrev pub is_order : Output → Bool
+is_order (output.Order start digests) = true
+is_order _ = false
+
+-- a new event puts out all that it adds to the order, and a state keeps its order at the beginning of that behind each event
+abbrev pub OrderIsPutOut : Type 0
+OrderIsPutOut = (node : Node) (state : State) (event : Event) (outputs : List Output) → answered node state event ≡ New outputs
+    → filter is_order outputs ≡ order_outputs state (after node state event)
+
+-- behind an event the order begins with that from before; a vote stays or its round is low, and a certificate stays or lies below
+-- the floor
+pub record IsKeptBehind (node : Node) (state : State) (event : Event) : Type 0 where
+  pub order : Begins state.order (after node state event).order
+  pub votes : (round author : ℕ) (digest : Digest) → state.votes round author ≡ Some digest
+      → ((after node state event).votes round author ≡ Some digest) ⊎ (is_low (floor_in node (after node state event)) round ≡ true)
+  pub slots : (round author : ℕ) (c : Certificate) → state.slots round author ≡ Some c
+      → ((after node state event).slots round author ≡ Some c) ⊎ (round < floor_in node (after node state event))
+
+abbrev pub StateStands : Type 0
+StateStands = (node : Node) (state : State) (event : Event) → IsNode node → IsSound node state → IsTaken node event
+    → IsTrue (is_new (answered node state event)) → IsKeptBehind node state event
+
+-- ---- sound states
+
+-- the fresh state is sound
+abbrev pub FreshIsSound : Type 0
+FreshIsSound = (node : Node) → IsNode node → IsSound node (fresh node)
+
+-- so is the state behind an event that is new at a sound one
+abbrev pub SoundStays : Type 0
+SoundStays = (node : Node) (state : State) (event : Event) → IsNode node → IsSound node state → IsTaken node event
+    → IsTrue (is_new (answered node state event)) → IsSound node (after node state event)
+
+-- what is kept of a legal history is sound
+abbrev pub KeptIsSound : Type 0
+KeptIsSound = (node : Node) (history : History) → IsLegal node history → IsSound node (kept node history)
+
+-- what a sound state proposes is taken, and new there
+abbrev pub SoundProposes : Type 0
+SoundProposes = (node : Node) (state : State) (header : Header) → IsNode node → IsSound node state → proposed node state ≡ Some header
+    → IsTaken node (own_event node header) × (answered node state (own_event node header) ≡ New (header_outputs node header))

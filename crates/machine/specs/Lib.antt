@@ -1,0 +1,3 @@
+pub mod Machine
+pub mod Sound
+pub mod Laws

@@ -1,0 +1,77 @@
+//! What a node keeps, as a machine: what it answers an event and what it keeps behind a new one, with the laws
+//! that tie it to histories. Each law is what a function without a body ensures.
+#![tactic(auto)]
+
+ghost use Rattle.machine.specs.Laws.{StartsFresh, StateFollows, StateAnswers, StateProposes, AnswersAlike, KeptDecides, KeptFollows, KeptProposes, OrderIsPutOut, StateStands, FreshIsSound, SoundStays, KeptIsSound, SoundProposes};
+
+/// What is kept of the empty history is the fresh state.
+pub fn starts_fresh()
+    ensures { StartsFresh }
+{}
+
+/// What is kept of a legal history with one more event is the state behind that event.
+pub fn state_follows()
+    ensures { StateFollows }
+{}
+
+/// What is kept of a legal history answers each event as admission does.
+pub fn state_answers()
+    ensures { StateAnswers }
+{}
+
+/// What is kept of a legal history has its floor and round, and proposes what is proposed at it.
+pub fn state_proposes()
+    ensures { StateProposes }
+{}
+
+/// Two legal histories with the same batches, acknowledgements, votes, own headers with the votes on them,
+/// certificates and coins answer each event alike.
+pub fn answers_alike()
+    ensures { AnswersAlike }
+{}
+
+/// What is kept of a legal history decides what each event is answered: two with the same kept answer alike.
+pub fn kept_decides()
+    ensures { KeptDecides }
+{}
+
+/// What is kept of a legal history decides what is kept behind each new event, and with it all answers to come.
+pub fn kept_follows()
+    ensures { KeptFollows }
+{}
+
+/// What is kept of a legal history decides the node's round, and what it proposes.
+pub fn kept_proposes()
+    ensures { KeptProposes }
+{}
+
+/// A new event puts out all that it adds to the order of a state.
+pub fn order_is_put_out()
+    ensures { OrderIsPutOut }
+{}
+
+/// Behind an event the order of a sound state begins with that from before, and its votes and certificates stay or
+/// fall below the floor.
+pub fn state_stands()
+    ensures { StateStands }
+{}
+
+/// The fresh state is sound.
+pub fn fresh_is_sound()
+    ensures { FreshIsSound }
+{}
+
+/// The state behind an event that is new at a sound one is sound.
+pub fn sound_stays()
+    ensures { SoundStays }
+{}
+
+/// What is kept of a legal history is sound.
+pub fn kept_is_sound()
+    ensures { KeptIsSound }
+{}
+
+/// What a sound state proposes is taken, and new there.
+pub fn sound_proposes()
+    ensures { SoundProposes }
+{}
