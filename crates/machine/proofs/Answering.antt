@@ -25,8 +25,8 @@ use Rattle.laws.proofs.Legal.{Adds, legal-push}
 use Rattle.laws.proofs.Lists.{given_or_none}
 use Rattle.laws.proofs.OrderGrows.{members_some}
 use Rattle.laws.proofs.OrderLonger.{is_top_of}
-use Rattle.machine.specs.Laws.{StateAnswers}
-use Rattle.machine.specs.Machine.{header_at, vote_at, grown, answered}
+use Rattle.machine.specs.Laws.{StateAnswers, StateIsReady}
+use Rattle.machine.specs.Machine.{header_at, vote_at, grown, answered, is_missing_parents}
 use Rattle.machine.proofs.Collected.{high_above, agree, kept_floor, unless, same_order}
 use Rattle.machine.proofs.Following.{is_next}
 use Rattle.machine.proofs.Grown.{whole_grows}
@@ -311,3 +311,6 @@ same_by node history sender (message.Coin coin) is taken = coin_same node histor
 
 pub state_answers : StateAnswers
 state_answers node history event legal taken = same_by node history event.sender event.message (is_kept node history legal) taken
+
+pub state_is_ready : StateIsReady
+state_is_ready node history event legal taken = ap (λ answer. not (is_missing_parents answer)) (sym (state_answers node history event legal taken))

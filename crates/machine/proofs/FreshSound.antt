@@ -1,10 +1,11 @@
 -- The fresh state is sound: it holds the genesis, and nothing else.
-use Rattle.std.proofs.Common.{◌≡◌, ℕ, zero, suc, ◌+◌, ◌<◌, ◌≤◌, map, Some, inl, inr, refl, ap, sym, ◌∙◌, arith}
+use Rattle.std.proofs.Common.{◌≡◌, ℕ, zero, suc, ◌+◌, ◌^◌, ◌<◌, ◌≤◌, map, Some, inl, inr, refl, ap, sym, ◌∙◌, arith}
 use Rattle.std.specs.Prelude.{find, ◌==◌}
 use Rattle.std.specs.List.{range_with_len}
 use Rattle.std.proofs.lemmas.Bool.{cases_Bool, eqb-true}
 use Rattle.std.proofs.lemmas.List.Elements.{All-nil}
 use Rattle.std.proofs.lemmas.Option.{none-some}
+use Rattle.wire.specs.Fields.{IsDigest}
 use Rattle.wire.specs.declared.message.Message.TheVariants as message
 use Rattle.committee.specs.Charter.{numbers}
 use Rattle.model.specs.Admitting.{IsTaken}
@@ -66,6 +67,7 @@ no_votes node = record {
   high = λ round author digest is. absurd (none-some digest is);
   for_members = λ round author digest is. absurd (none-some digest is);
   digests = λ round author digest is. absurd (none-some digest is);
+  rounds = λ round author digest is. absurd (none-some digest is);
   own = λ round. refl;
   headers = λ round header is. absurd (none-some header is);
   counted = λ round voter vote is. absurd (none-some vote is);
@@ -88,5 +90,7 @@ fresh_is_sound node sound = record {
   batches = no_batches node;
   votes = no_votes node;
   certificates = the_genesis node sound;
+  coins = All-nil (λ coin. coin < 2 ^ 64);
+  ordered = All-nil IsDigest;
   order = (λ empty. refl, λ none. refl);
 }

@@ -1,12 +1,13 @@
 -- A new event puts out all that it adds to the order.
-use Rattle.std.proofs.Common.{◌≡◌, ℕ, ◌+◌, ◌-◌, ◌*◌, ◌/◌, arith, Bool, false, List, [], ◌∷◌, ◌++◌, map, length, drop, Option, Some, None, inl, inr, refl, ap, sym, ◌∙◌, subst}
+use Rattle.std.proofs.Common.{◌≡◌, ℕ, ◌+◌, ◌-◌, ◌*◌, ◌/◌, ◌<◌, ◌≤◌, zero, suc, take, arith, Bool, false, List, [], ◌∷◌, ◌++◌, map, length, drop, Option, Some, None, inl, inr, refl, ap, sym, ◌∙◌, subst}
+use Rattle.std.proofs.Math.Nat.{mul-div-le, lt-mul-div-succ}
 use Rattle.std.proofs.Math.Path.{fun_ext}
-use Rattle.std.specs.Prelude.{filter, ⊤, nat_le, is_some, slice_get, ◌==◌, ◌||◌}
+use Rattle.std.specs.Prelude.{filter, flat_map, ⊤, nat_le, is_some, slice_get, ◌==◌, ◌||◌}
 use Rattle.std.specs.List.{list_all, range_with_len}
 use Rattle.std.specs.Option.{option_to_list}
 use Rattle.std.specs.Str.{bytes_eq}
 use Rattle.std.proofs.lemmas.Bool.{cases_Bool}
-use Rattle.std.proofs.lemmas.List.{append-nil}
+use Rattle.std.proofs.lemmas.List.{append-nil, length-take, length-drop, drop-drop, take-append-drop}
 use Rattle.wire.specs.Batches.{batch_body}
 use Rattle.wire.specs.declared.message.Message.TheVariants as message
 use Rattle.wire.specs.declared.output.Output.TheVariants as output
@@ -23,7 +24,7 @@ use Rattle.model.specs.declared.admission.Admission.TheVariants.{New, Known, Ref
 use Rattle.laws.proofs.Lengthening.{newer_none}
 use Rattle.laws.proofs.Lists.{given_or_none}
 use Rattle.laws.proofs.SlotsGrow.{or_none}
-use Rattle.machine.specs.Laws.{is_order, OrderIsPutOut}
+use Rattle.machine.specs.Laws.{is_order, digests_in, StandInTurn, OrderIsPutOut}
 use Rattle.machine.specs.Machine.{slots_with, newly_ordered, last_leader, grown, after, answered}
 
 -- ---- pieces of the order
@@ -212,5 +213,64 @@ puts_by node state sender (message.Vote vote) = vote_puts node state (grown node
 puts_by node state sender (message.Certificate certificate) = certificate_puts node state (grown node state (message.Certificate certificate)) certificate
 puts_by node state sender (message.Coin coin) = coin_puts node state (grown node state (message.Coin coin)) sender coin
 
+-- ---- pieces stand in turn, and joined they are what is added
+
+all_dropped : {X : Type 0} (n : ℕ) (xs : List X) → length xs ≤ n → drop n xs ≡ []
+all_dropped zero [] few = refl
+all_dropped zero (x ∷ xs) few = absurd (omega (arith, few))
+all_dropped (suc n) [] few = refl
+all_dropped (suc n) (x ∷ xs) few = all_dropped n xs (omega (arith, few))
+
+joined_from : (start : ℕ) (digests : List Digest) (piece count : ℕ) → length digests ≤ 16000 * (piece + count)
+    → flat_map digests_in (map (piece_at start digests) (range_with_len piece count)) ≡ drop (16000 * piece) digests
+joined_from start digests piece zero enough = sym (all_dropped (16000 * piece) digests (omega (arith, enough)))
+joined_from start digests piece (suc count) enough =
+    let rest = drop (16000 * piece) digests in
+    let further : 16000 * (piece + 1) ≡ 16000 * piece + 16000 = omega arith in
+    ap (λ l. take 16000 rest ++ l) (joined_from start digests (piece + 1) count (omega (arith, enough))
+    ∙ ap (λ n. drop n digests) further ∙ sym (drop-drop 16000 (16000 * piece) digests))
+    ∙ take-append-drop 16000 rest
+
+turn_from : (start : ℕ) (digests : List Digest) (piece count : ℕ) → 16000 * (piece + count) < length digests + 16000
+    → StandInTurn (start + 16000 * piece) (map (piece_at start digests) (range_with_len piece count))
+turn_from start digests piece zero more = tt
+turn_from start digests piece (suc zero) more = (refl, let few = length-take 16000 (drop (16000 * piece) digests) in omega (arith, few))
+turn_from start digests piece (suc (suc count)) more =
+    let rest = drop (16000 * piece) digests in
+    let long = length-drop (16000 * piece) digests in
+    let taken = length-take 16000 rest in
+    let full : length (take 16000 rest) ≡ 16000 = omega (arith, taken, long, more) in
+    let place : start + 16000 * (piece + 1) ≡ (start + 16000 * piece) + length (take 16000 rest) = omega (arith, full) in
+    (refl, full, subst (λ p. StandInTurn p (map (piece_at start digests) (range_with_len (piece + 1) (suc count)))) place (turn_from start digests (piece + 1) (suc count) (omega (arith, more))))
+
+-- what is no piece has no digests
+only_orders : (outputs : List Output) → flat_map digests_in outputs ≡ flat_map digests_in (filter is_order outputs)
+only_orders [] = refl
+only_orders (output.Order start digests ∷ rest) = ap (λ l. digests ++ l) (only_orders rest)
+only_orders (output.Batch batch ∷ rest) = only_orders rest
+only_orders (output.Ack author ack ∷ rest) = only_orders rest
+only_orders (output.Header header ∷ rest) = only_orders rest
+only_orders (output.Vote vote ∷ rest) = only_orders rest
+only_orders (output.Certificate certificate ∷ rest) = only_orders rest
+
+count_is : (n : ℕ) → (n ≤ 16000 * ((n + 15999) / 16000)) × (16000 * ((n + 15999) / 16000) < n + 16000)
+count_is n =
+    let below = mul-div-le (n + 15999) 16000 in
+    let some : 0 < 16000 = omega arith in
+    let above = lt-mul-div-succ (n + 15999) {b = 16000} some in
+    (omega (arith, above), omega (arith, below))
+
 pub order_is_put_out : OrderIsPutOut
-order_is_put_out node state event outputs is = subst (PutsOut (order_outputs state (after node state event))) is (puts_by node state event.sender event.message)
+order_is_put_out node state event outputs is =
+    let later = after node state event in
+    let digests = drop (length state.order) later.order in
+    let pieces_are = subst (PutsOut (order_outputs state later)) is (puts_by node state event.sender event.message) in
+    let bounds = count_is (length digests) in
+    let none : length state.order + 16000 * 0 ≡ length state.order = omega arith in
+    record {
+      pieces = pieces_are;
+      joined = only_orders outputs ∙ ap (λ l. flat_map digests_in l) pieces_are
+          ∙ joined_from (length state.order) digests 0 ((length digests + 15999) / 16000) (omega (arith, bounds.0));
+      in_turn = subst (StandInTurn (length state.order)) (sym pieces_are)
+          (subst (λ p. StandInTurn p (order_outputs state later)) none (turn_from (length state.order) digests 0 ((length digests + 15999) / 16000) (omega (arith, bounds.1))));
+    }

@@ -4,7 +4,7 @@ use Rattle.std.specs.Prelude.{◌==◌, ◌&&◌, not, is_some, option_map, opti
 use Rattle.std.specs.Option.{option_or, option_to_list}
 use Rattle.std.proofs.lemmas.Bool.{cases_Bool, cases_lt, and_parts, and_from, eqb-true, ltb-true, le-leb, true≢false}
 use Rattle.std.proofs.lemmas.Option.{same_Some, none-some}
-use Rattle.wire.specs.Fields.{IsDigest}
+use Rattle.wire.specs.Fields.{IsDigest, IsRound}
 use Rattle.wire.proofs.DigestLemmas.{are_digest_bytes}
 use Rattle.wire.specs.declared.message.Message.TheVariants as message
 use Rattle.committee.specs.Charter.{weight}
@@ -45,12 +45,12 @@ map_or f None other = refl
 unless_mapped : {X Y : Type 0} (f : X → Y) (floor round : ℕ) (o : Option X) → unless_low floor round (option_map f o) ≡ option_map f (unless_low floor round o)
 unless_mapped f floor round o = elim (cases_Bool (is_low floor round)) [ inl low ↦ rw low refl | inr high ↦ rw high refl ]
 
--- a vote is for a member, and a digest
+-- a vote is for a member, and a digest of a round
 vote_is : (node : Node) (state : State) (sender : Author) (m : Message) → IsStep node state sender m → (round author : ℕ) (voted : Digest) → (grown node state m).votes round author ≡ Some voted
-    → (author < size_of node) × IsDigest voted
+    → (author < size_of node) × IsDigest voted × IsRound round
 vote_is node state sender m step round author voted is =
     elim (or_cases (state.votes round author) (option_map digest_of (header_at m round author)) voted is) [
-      | inl old ↦ (step.sound.votes.for_members round author voted old, step.sound.votes.digests round author voted old)
+      | inl old ↦ (step.sound.votes.for_members round author voted old, step.sound.votes.digests round author voted old, step.sound.votes.rounds round author voted old)
       | inr new ↦
           let found = mapped digest_of (header_at m round author) voted new.1 in
           let header = found.0 in
@@ -58,7 +58,7 @@ vote_is node state sender m step round author voted is =
           let step' = subst (λ x. IsStep node state sender x) it.0 step in
           let place = slot_is round author header.body it.1 in
           let member = ltb-true _ _ (header_passes node sender header step'.taken).1.member in
-          (subst (λ a. a < size_of node) place.1 member, subst IsDigest found.2 (are_digest_bytes _))
+          (subst (λ a. a < size_of node) place.1 member, subst IsDigest found.2 (are_digest_bytes _), subst IsRound place.0 step'.taken.message.body.round)
     ]
 
 -- ---- own headers
@@ -288,6 +288,7 @@ votes_stay node state sender m step back =
       high = λ round author digest is. (found_high low other round (later.votes round author) digest back.floors is).0;
       for_members = λ round author digest is. (vote_is node state sender m step round author digest (found_high low other round (later.votes round author) digest back.floors is).1).0;
       digests = λ round author digest is. (vote_is node state sender m step round author digest (found_high low other round (later.votes round author) digest back.floors is).1).1;
+      rounds = λ round author digest is. (vote_is node state sender m step round author digest (found_high low other round (later.votes round author) digest back.floors is).1).2;
       own = λ round.
           ap (λ o. unless_low low round (option_or o (option_map digest_of (header_at m round node.own.0)))) (step.sound.votes.own round)
           ∙ ap (unless_low low round) (map_or digest_of (state.own_headers round) (header_at m round node.own.0))

@@ -1,5 +1,6 @@
 -- What ties the machine to histories.
-use Rattle.std.specs.Prelude.{◌≡◌, ◌<◌, ◌⊎◌, ℕ, Bool, true, false, IsTrue, List, [], ◌∷◌, ◌++◌, filter, Some}
+use Rattle.std.specs.Prelude.{◌≡◌, ◌<◌, ◌≤◌, ◌⊎◌, ℕ, Bool, not, true, false, IsTrue, List, [], ◌∷◌, ◌++◌, ◌+◌, length, drop, filter, flat_map, ⊤, Some}
+use Rattle.wire.specs.declared.limits.TheConstants.{MAX_ORDER_DIGESTS}
 use Rattle.wire.specs.declared.output.Output.TheVariants as output
 use Rattle.laws.specs.Laws.{Begins, own_event}
 use Rattle.model.specs.Admitting.{admit, is_new, order_outputs, header_outputs, IsTaken, IsLegal}
@@ -9,9 +10,9 @@ use Rattle.model.specs.Holdings.{floor, round, is_low, has_acked, voted_digest, 
 use Rattle.model.specs.Nodes.{Node, IsNode}
 use Rattle.model.specs.Proposing.{propose}
 use Rattle.model.specs.States.{State, floor_in}
-use Rattle.model.specs.Words.{Certificate, Digest, Event, Header, Output}
+use Rattle.model.specs.Words.{Certificate, Digest, Event, Header, Output, Vote}
 use Rattle.model.specs.declared.admission.Admission.TheVariants.{New}
-use Rattle.machine.specs.Machine.{after, answered, fresh, proposed, round_in}
+use Rattle.machine.specs.Machine.{after, answered, fresh, is_missing_parents, is_ready, proposed, round_in}
 use Rattle.machine.specs.Sound.{IsSound}
 
 -- what is kept of the empty history is the fresh state
@@ -27,6 +28,11 @@ StateFollows = (node : Node) (history : History) (event : Event) → IsLegal nod
 abbrev pub StateAnswers : Type 0
 StateAnswers = (node : Node) (history : History) (event : Event) → IsLegal node history → IsTaken node event
     → admit node history event ≡ answered node (kept node history) event
+
+-- so it says whether an event would lack parents
+abbrev pub StateIsReady : Type 0
+StateIsReady = (node : Node) (history : History) (event : Event) → IsLegal node history → IsTaken node event
+    → is_ready node (kept node history) event ≡ not (is_missing_parents (admit node history event))
 
 -- what is kept of a legal history has its floor and round, and proposes what is proposed at it
 pub record IsProposedBy (node : Node) (history : History) : Type 0 where
@@ -81,17 +87,45 @@ abbrev pub is_order : Output → Bool
 is_order (output.Order start digests) = true
 is_order _ = false
 
--- a new event puts out all that it adds to the order, and a state keeps its order at the beginning of that behind each event
+-- the digests of an output, if it is a piece of the order
+abbrev pub digests_in : Output → List Digest
+digests_in (output.Order start digests) = digests
+digests_in _ = []
+
+-- pieces stand in turn from a place on, each of them full but the last
+abbrev pub StandInTurn : ℕ → List Output → Type 0
+StandInTurn place [] = ⊤
+StandInTurn place (output.Order start digests ∷ []) = (start ≡ place) × (length digests ≤ MAX_ORDER_DIGESTS)
+StandInTurn place (output.Order start digests ∷ next ∷ rest) = (start ≡ place) × (length digests ≡ MAX_ORDER_DIGESTS) × StandInTurn (place + length digests) (next ∷ rest)
+StandInTurn place (other ∷ rest) = ⊥
+
+-- what is put out of the order is all that the state behind the event has more, in pieces that stand in turn
+pub record IsPutOut (node : Node) (state : State) (event : Event) (outputs : List Output) : Type 0 where
+  pub pieces : filter is_order outputs ≡ order_outputs state (after node state event)
+  pub joined : flat_map digests_in outputs ≡ drop (length state.order) (after node state event).order
+  pub in_turn : StandInTurn (length state.order) (filter is_order outputs)
+
+-- so it is of each new event
 abbrev pub OrderIsPutOut : Type 0
 OrderIsPutOut = (node : Node) (state : State) (event : Event) (outputs : List Output) → answered node state event ≡ New outputs
-    → filter is_order outputs ≡ order_outputs state (after node state event)
+    → IsPutOut node state event outputs
 
--- behind an event the order begins with that from before; a vote stays or its round is low, and a certificate stays or lies below
--- the floor
+-- behind an event nothing is taken back: the floor doesn't go down, batches, coins and order begin with those from before, who
+-- acknowledged and what was named stays so; a vote, an own header and a vote on one stays or its round is low, and a certificate
+-- stays or lies below the floor
 pub record IsKeptBehind (node : Node) (state : State) (event : Event) : Type 0 where
+  pub floor : floor_in node state ≤ floor_in node (after node state event)
+  pub batches : Begins state.batches (after node state event).batches
+  pub coins : Begins state.coins (after node state event).coins
   pub order : Begins state.order (after node state event).order
+  pub acked : (digest : Digest) (member : ℕ) → state.acked digest member ≡ true → (after node state event).acked digest member ≡ true
+  pub named : (digest : Digest) → state.named digest ≡ true → (after node state event).named digest ≡ true
   pub votes : (round author : ℕ) (digest : Digest) → state.votes round author ≡ Some digest
       → ((after node state event).votes round author ≡ Some digest) ⊎ (is_low (floor_in node (after node state event)) round ≡ true)
+  pub own_headers : (round : ℕ) (header : Header) → state.own_headers round ≡ Some header
+      → ((after node state event).own_headers round ≡ Some header) ⊎ (is_low (floor_in node (after node state event)) round ≡ true)
+  pub counted : (round voter : ℕ) (vote : Vote) → state.counted round voter ≡ Some vote
+      → ((after node state event).counted round voter ≡ Some vote) ⊎ (is_low (floor_in node (after node state event)) round ≡ true)
   pub slots : (round author : ℕ) (c : Certificate) → state.slots round author ≡ Some c
       → ((after node state event).slots round author ≡ Some c) ⊎ (round < floor_in node (after node state event))
 

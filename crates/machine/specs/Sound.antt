@@ -1,6 +1,6 @@
 -- When a state is one that a node can go on from, whoever wrote it down.
-use Rattle.std.specs.Prelude.{◌≡◌, ◌≢◌, ◌<◌, ◌≤◌, ◌↔◌, ◌⊎◌, ℕ, ◌==◌, ◌&&◌, not, Bool, true, false, [], length, All, AllPairs, Some, None, is_some, option_map}
-use Rattle.wire.specs.Fields.{IsDigest, IsSignature}
+use Rattle.std.specs.Prelude.{◌≡◌, ◌≢◌, ◌<◌, ◌≤◌, ◌↔◌, ◌⊎◌, ◌^◌, ℕ, ◌==◌, ◌&&◌, not, Bool, true, false, [], length, All, AllPairs, Some, None, is_some, option_map}
+use Rattle.wire.specs.Fields.{IsDigest, IsRound, IsSignature}
 use Rattle.wire.specs.declared.message.Message.TheVariants as message
 use Rattle.committee.specs.Charter.{weight}
 use Rattle.model.specs.Admitting.{IsTaken}
@@ -58,6 +58,7 @@ pub record AreVotes (node : Node) (state : State) : Type 0 where
   pub high : (round author : ℕ) (digest : Digest) → state.votes round author ≡ Some digest → is_low (floor_in node state) round ≡ false
   pub for_members : (round author : ℕ) (digest : Digest) → state.votes round author ≡ Some digest → author < size_of node
   pub digests : (round author : ℕ) (digest : Digest) → state.votes round author ≡ Some digest → IsDigest digest
+  pub rounds : (round author : ℕ) (digest : Digest) → state.votes round author ≡ Some digest → IsRound round
   pub own : (round : ℕ) → state.votes round node.own.0 ≡ option_map (λ header. header_digest header.body) (state.own_headers round)
   pub headers : (round : ℕ) (header : Header) → state.own_headers round ≡ Some header → IsOwnHeader node state round header
   pub counted : (round voter : ℕ) (vote : Vote) → state.counted round voter ≡ Some vote → IsCounted node state round voter vote
@@ -81,9 +82,11 @@ pub record AreCertificates (node : Node) (state : State) : Type 0 where
   pub highest : (round author : ℕ) (c : Certificate) → state.slots round author ≡ Some c → round ≤ state.highest
   pub reached : (author : ℕ) × (c : Certificate) × (state.slots state.highest author ≡ Some c)
 
--- all of it; and the order is empty exactly where no leader is committed
+-- all of it; coins are within 64 bits, the order has digests, and is empty exactly where no leader is committed
 pub record IsSound (node : Node) (state : State) : Type 0 where
   pub batches : AreBatches node state
   pub votes : AreVotes node state
   pub certificates : AreCertificates node state
+  pub coins : All (λ coin. coin < 2 ^ 64) state.coins
+  pub ordered : All IsDigest state.order
   pub order : (state.order ≡ []) ↔ (top (ledger_in node state) ≡ None)

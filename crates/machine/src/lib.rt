@@ -2,7 +2,7 @@
 //! that tie it to histories. Each law is what a function without a body ensures.
 #![tactic(auto)]
 
-ghost use Rattle.machine.specs.Laws.{StartsFresh, StateFollows, StateAnswers, StateProposes, AnswersAlike, KeptDecides, KeptFollows, KeptProposes, OrderIsPutOut, StateStands, FreshIsSound, SoundStays, KeptIsSound, SoundProposes};
+ghost use Rattle.machine.specs.Laws.{StartsFresh, StateFollows, StateAnswers, StateIsReady, StateProposes, AnswersAlike, KeptDecides, KeptFollows, KeptProposes, OrderIsPutOut, StateStands, FreshIsSound, SoundStays, KeptIsSound, SoundProposes};
 
 /// What is kept of the empty history is the fresh state.
 pub fn starts_fresh()
@@ -17,6 +17,11 @@ pub fn state_follows()
 /// What is kept of a legal history answers each event as admission does.
 pub fn state_answers()
     ensures { StateAnswers }
+{}
+
+/// What is kept of a legal history tells which events would lack parents.
+pub fn state_is_ready()
+    ensures { StateIsReady }
 {}
 
 /// What is kept of a legal history has its floor and round, and proposes what is proposed at it.
@@ -45,13 +50,13 @@ pub fn kept_proposes()
     ensures { KeptProposes }
 {}
 
-/// A new event puts out all that it adds to the order of a state.
+/// A new event puts out all that it adds to the order of a state, in pieces that stand in turn.
 pub fn order_is_put_out()
     ensures { OrderIsPutOut }
 {}
 
-/// Behind an event the order of a sound state begins with that from before, and its votes and certificates stay or
-/// fall below the floor.
+/// Behind an event that is new at a sound state nothing is taken back: its order begins with that from before, a vote
+/// stays or its round is low, and a certificate stays or lies below the floor, which never goes down.
 pub fn state_stands()
     ensures { StateStands }
 {}
