@@ -30,6 +30,10 @@ SomeIfWeighs = (charter : Charter) (holds : ℕ → Bool) → 0 < weight charter
 abbrev pub SupportIsHonest : Type 0
 SupportIsHonest = (charter : Charter) → IsCharter charter → tolerated_of charter < support_of charter
 
+-- what is tolerated leaves a quorum over
+abbrev pub ToleratedLeaveQuorum : Type 0
+ToleratedLeaveQuorum = (charter : Charter) → IsCharter charter → quorum_of charter + tolerated_of charter ≤ total_of charter
+
 -- where the faulty members weigh no more than is tolerated, all others are a quorum
 abbrev pub HonestAreQuorum : Type 0
 HonestAreQuorum = (charter : Charter) (faulty : ℕ → Bool) → IsCharter charter

@@ -1,7 +1,7 @@
 //! What quorums and support of one committee share and weigh, and who among them is honest. The calls do nothing: their contracts are laws.
 
 ghost use Rattle.std.specs.Prelude.{◌≡◌};
-ghost use Rattle.committee.specs.Shared.{QuorumsOverlap, QuorumMeetsSupport, SomeIfWeighs, SupportIsHonest, HonestAreQuorum, QuorumsShareHonest, SupportHasHonest, EqualStakes};
+ghost use Rattle.committee.specs.Shared.{QuorumsOverlap, QuorumMeetsSupport, SomeIfWeighs, SupportIsHonest, ToleratedLeaveQuorum, HonestAreQuorum, QuorumsShareHonest, SupportHasHonest, EqualStakes};
 ghost use Rattle.committee.specs.declared.limits.TheConstants.{MIN_DEPTH, MAX_DEPTH, DEFAULT_DEPTH, MIN_WORKERS, MAX_WORKERS, DEFAULT_WORKERS, MIN_HELD_BATCHES, MAX_HELD_BATCHES, DEFAULT_HELD_BATCHES};
 ghost use Rattle.committee.specs.declared.members.TheConstants.{MIN_MEMBERS, MAX_MEMBERS};
 ghost use Rattle.committee.specs.declared.stakes.TheConstants.{MIN_STAKE, MAX_STAKE, DEFAULT_STAKE, MAX_TOTAL};
@@ -24,6 +24,11 @@ pub fn some_if_weighs()
 /// Support is more than what is tolerated.
 pub fn support_is_honest()
     ensures { SupportIsHonest }
+{}
+
+/// What is tolerated leaves a quorum over.
+pub fn tolerated_leave_quorum()
+    ensures { ToleratedLeaveQuorum }
 {}
 
 /// Where the faulty members weigh no more than is tolerated, all others are a quorum.

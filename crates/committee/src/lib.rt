@@ -16,6 +16,7 @@ pub use error::CommitteeError;
 pub use laws::{
     equal_stakes, honest_are_quorum, limits_in_numbers, quorum_meets_support, quorums_overlap,
     quorums_share_honest, some_if_weighs, support_has_honest, support_is_honest,
+    tolerated_leave_quorum,
 };
 pub use limits::{
     DEFAULT_DEPTH, DEFAULT_HELD_BATCHES, DEFAULT_WORKERS, MAX_DEPTH, MAX_HELD_BATCHES, MAX_WORKERS,

@@ -5,6 +5,7 @@ use crate::words::{Told, author_of, digest_of, round_of, show};
 use committee::{
     CommitteeError, equal_stakes, honest_are_quorum, quorum_meets_support, quorums_overlap,
     quorums_share_honest, some_if_weighs, support_has_honest, support_is_honest,
+    tolerated_leave_quorum,
 };
 use header::{CheckError, ones_are_counted, passed_have_quorums};
 use std::alloc::Global;
@@ -33,6 +34,7 @@ pub fn laws(answer: &mut String) -> Told {
     quorum_meets_support();
     some_if_weighs();
     support_is_honest();
+    tolerated_leave_quorum();
     honest_are_quorum();
     quorums_share_honest();
     support_has_honest();
