@@ -7,7 +7,7 @@ use Rattle.sigface.specs.declared.signature.Sign.{Ghosts}
 use Rattle.book.specs.declared.book.Book.{Book}
 use Rattle.book.specs.declared.book.TheConstants.{MAX_ACCEPTED}
 use Rattle.wire.specs.Events.{Event}
-use Rattle.book.specs.Record.{record_of}
+use Rattle.records.specs.Records.{record_of}
 use Rattle.book.specs.declared.refusal.Refusal.{Refusal}
 use Rattle.book.specs.declared.refusal.Refusal.TheVariants.{Memory, Down, TooOld, MissingParents, MissingBatch, Equivocation, NotOurs, StoreFull}
 use Rattle.book.specs.declared.validator.Admission.TheVariants.{New, Refused}

@@ -1,4 +1,3 @@
-pub mod Record
 pub mod Admission
 pub mod Step
 pub mod Pending

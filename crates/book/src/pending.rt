@@ -2,7 +2,7 @@
 
 ghost use Rattle.std.specs.Prelude.{◌≡◌, ◌++◌, ◌∷◌, [], vec_len, vec_capacity, ◌+◌, ◌<◌, ◌≤◌, ◌↔◌, IsTrue, length, take, drop, IfOk};
 ghost use Rattle.journal.specs.Format.{contents};
-ghost use Rattle.book.specs.Record.{record_of as record_bytes};
+ghost use Rattle.records.specs.Records.{record_of as record_bytes};
 ghost use Rattle.book.specs.Pending.{EachFits, IsLongestBeginning};
 
 use header::Checked;

@@ -3,6 +3,6 @@ mod Loops
 mod Moments
 mod Parts
 mod ReadBack
-mod Stops
-mod Walks
+pub mod Stops
+pub mod Walks
 mod Written

@@ -12,7 +12,7 @@ use Rattle.journal.proofs.Parts.{length-group}
 use Rattle.journal.proofs.Walks.{Ended, walk_ended, walk_swap, walk_behind, walk_closed, walk_written, stands_walk, stands_short}
 
 -- a walk that comes to the last byte
-ends_at : (file : List ℕ) (records : List Record) → walk 0 0 file ≡ Ok (records, length file - 1) → 0 < length file → EndsClosed file
+pub ends_at : (file : List ℕ) (records : List Record) → walk 0 0 file ≡ Ok (records, length file - 1) → 0 < length file → EndsClosed file
 ends_at file records ends some = record {
   records = records;
   stands_for = stands_walk file (records, length file - 1) ends;

@@ -13,7 +13,7 @@ pub const MAX_GROUP_BYTES: usize = 4_194_304;
 pub const MAX_JOURNAL_BYTES: u64 = 1 << 40;
 
 /// A closed gate. Any other byte is an open one.
-pub(crate) const CLOSED: u8 = 0;
+pub const CLOSED: u8 = 0;
 
 /// The open gate that is written.
-pub(crate) const OPEN: u8 = 1;
+pub const OPEN: u8 = 1;

@@ -13,6 +13,8 @@ pub use error::{Failed, JournalError};
 pub use group::Group;
 pub use journal::{Journal, Synced};
 pub use laws::{damage_is_found, groups_stand, layout_in_numbers, written_groups_stand};
-pub use layout::{LENGTH_BYTES, MAX_GROUP_BYTES, MAX_GROUP_RECORDS, MAX_JOURNAL_BYTES};
+pub use layout::{
+    CLOSED, LENGTH_BYTES, MAX_GROUP_BYTES, MAX_GROUP_RECORDS, MAX_JOURNAL_BYTES, OPEN,
+};
 pub use reading::stands;
 pub use record::Record;

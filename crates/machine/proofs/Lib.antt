@@ -1,4 +1,4 @@
-mod Answering
+pub mod Answering
 mod BatchesStay
 mod Behind
 mod CertificatesStay
@@ -12,7 +12,7 @@ mod NewThere
 mod OrderStays
 mod Passing
 mod Proposing
-mod PuttingOut
+pub mod PuttingOut
 mod SoundProposing
 mod SoundRounds
 mod Standing

@@ -1,0 +1,119 @@
+-- Nothing that was given out is taken back.
+use Rattle.std.proofs.Common.{ap, ◌≡◌, ◌⊎◌, ℕ, List, [], ◌++◌, length, Some, inl, inr, refl, sym, ◌∙◌, subst, arith}
+use Rattle.std.specs.Prelude.{Contains}
+use Rattle.std.proofs.lemmas.Bool.{cases_lt}
+use Rattle.std.proofs.lemmas.Option.{none-some}
+use Rattle.std.proofs.lemmas.List.Elements.{All-nil, All-contains}
+use Rattle.laws.specs.Laws.{Begins}
+use Rattle.laws.proofs.Given.{given_grows}
+use Rattle.laws.proofs.Legal.{legal-begins}
+use Rattle.laws.proofs.OrderGrows.{order_grows}
+use Rattle.model.specs.Admitting.{IsTaken, IsLegal}
+use Rattle.model.specs.Giving.{MayGive}
+use Rattle.model.specs.Histories.{History}
+use Rattle.model.specs.Holdings.{order}
+use Rattle.model.specs.Nodes.{Node, IsNode}
+use Rattle.model.specs.Words.{Digest, Output}
+use Rattle.world.specs.World.{Gift, put_out, read, Given, World, StandsFor, as_journal, MayStop, run_on}
+use Rattle.world.specs.Steps.{Move, IsRun}
+use Rattle.world.specs.Promise.{Ballot, vote_in, vote_given, order_given, IsNoLater, IsRecovered, NeverTakesBack, NothingTakenBack}
+use Rattle.world.proofs.Gifts.{votes_agree}
+use Rattle.world.proofs.Moving.{all_stand}
+use Rattle.world.proofs.Orders.{shorter_begins, IsEnded, is_gift, order_of, orders_begin}
+use Rattle.world.proofs.Recovering.{stands_once}
+use Rattle.world.proofs.Standing.{IsKept, Stands, left, legal_between, settled_legal, begins_standing}
+
+-- the output that has a vote may be given out
+pub record HasVote (node : Node) (history : History) (ballot : Ballot) : Type 0 where
+  pub output : Output
+  pub may : MayGive node history output
+  pub is : vote_in output ≡ Some ballot
+
+has_vote : (node : Node) (history : History) (gift : Gift) (ballot : Ballot) → IsEnded node history gift → vote_given gift ≡ Some ballot → HasVote node history ballot
+has_vote node history (put_out output) ballot ended is = record { output = output; may = ended.may; is = is }
+has_vote node history (read digests) ballot ended is = absurd (none-some ballot is)
+
+-- also at each legal history that goes on
+vote_later : (node : Node) (history later : History) (ballot : Ballot) → IsLegal node later → Begins history later → HasVote node history ballot → HasVote node later ballot
+vote_later node history later ballot legal begins has = record {
+  output = has.output;
+  may = subst (λ h. MayGive node h has.output) (sym begins.parts) (given_grows order_grows node history begins.rest has.output (subst (IsLegal node) begins.parts legal) has.may);
+  is = has.is;
+}
+
+module _ (node : Node) (world : World) (at : Stands node world) where
+  kept : (given : Given) → Contains world.given given → IsKept node (world.began ++ world.settled) given
+  kept given there = All-contains (IsKept node (world.began ++ world.settled)) world.given given at.given there
+
+  vote_there : (given : Given) (ballot : Ballot) → Contains world.given given → vote_given given.gift ≡ Some ballot → HasVote node (world.began ++ world.settled) ballot
+  vote_there given ballot there is =
+      let is_kept = kept given there in
+      vote_later node given.history (world.began ++ world.settled) ballot (settled_legal node world at) is_kept.begins (has_vote node given.history given.gift ballot is_kept.ended is)
+
+  legal_at : (given : Given) → Contains world.given given → IsLegal node given.history
+  legal_at given there =
+      let begins = (kept given there).begins in
+      legal-begins node given.history begins.rest (subst (IsLegal node) begins.parts (settled_legal node world at))
+
+  orders_there : (one other : Given) (earlier later : List Digest) → Contains world.given one → Contains world.given other → order_given (order node one.history) one.gift ≡ Some earlier → order_given (order node other.history) other.gift ≡ Some later
+      → IsNoLater one other earlier later → Begins earlier later
+  orders_there one other earlier later there also is is' no_later =
+      orders_begin node one.history other.history earlier later (legal_at other also) no_later.begins no_later.no_longer
+      (order_of node one.history one.gift earlier (legal_at one there) (kept one there).ended is) (order_of node other.history other.gift later (legal_at other also) (kept other also).ended is')
+
+  nested_there : (one other : Given) → Contains world.given one → Contains world.given other → Begins one.history other.history ⊎ Begins other.history one.history
+  nested_there one other there also =
+      let all = world.began ++ world.settled in
+      let first = (kept one there).begins in
+      let second = (kept other also).begins in
+      elim (cases_lt (length other.history) (length one.history)) [
+        | inl less ↦ inr (shorter_begins other.history one.history all second first (omega (arith, less)))
+        | inr less ↦ inl (shorter_begins one.history other.history all first second less)
+      ]
+
+  settled_alone : (history : History) → (history ≡ world.began ++ world.settled) ⊎ (history ≡ world.began ++ world.taken) → world.taken ≡ world.settled → history ≡ world.began ++ world.settled
+  settled_alone history (inl settled) idle = settled
+  settled_alone history (inr taken) idle = taken ∙ ap (λ l. world.began ++ l) idle
+
+  recovered_there : (bytes : List ℕ) (history : History) → MayStop world bytes → StandsFor node bytes history → IsRecovered node world history
+  recovered_there bytes history may stands_for =
+      let is_left = left node world bytes at may in
+      let same : is_left.history ≡ history = sym (stands_once node bytes is_left.history history at.legal.sound is_left.holds stands_for) in
+      subst (IsRecovered node world) same (record {
+        legal = legal_between node world is_left.history at is_left.is_between;
+        accepted = is_left.is_between.accepted;
+        settled = is_left.is_between.settled;
+        whole = is_left.is_between.whole;
+        without_group = λ free. settled_alone is_left.history is_left.is_between.whole (at.idle free);
+      })
+
+  only_there : (bytes : List ℕ) (one other : History) → MayStop world bytes → StandsFor node bytes one → StandsFor node bytes other → one ≡ other
+  only_there bytes one other may for_one for_other =
+      let is_left = left node world bytes at may in
+      stands_once node bytes is_left.history one at.legal.sound is_left.holds for_one ∙ sym (stands_once node bytes is_left.history other at.legal.sound is_left.holds for_other)
+
+  never : NeverTakesBack node world
+  never = record {
+    found = λ bytes may. let is_left = left node world bytes at may in (is_left.history, as_journal is_left.holds);
+    only = only_there;
+    recovered = recovered_there;
+    held = λ given there. (kept given there).begins;
+    right = λ given there. is_gift node given.history given.gift (kept given there).ended;
+    votes = λ one other vote also there there' is is' author round.
+        let first = vote_there one vote there is in
+        let second = vote_there other also there' is' in
+        votes_agree node (world.began ++ world.settled) first.output second.output vote also (settled_legal node world at) first.may second.may first.is second.is author round;
+    nested = nested_there;
+    orders = orders_there;
+  }
+
+-- the empty history is legal
+empty_legal : (node : Node) → IsNode node → IsLegal node []
+empty_legal node sound = record { sound = sound; taken = All-nil (IsTaken node); new = refl }
+
+pub run_stands : (node : Node) (moves : List Move) (world : World) → IsNode node → IsRun node moves world → Stands node world
+run_stands node moves world sound run =
+    all_stand node moves (run_on run.first [] []) world (begins_standing node run.first [] [] (empty_legal node sound) run.opened (All-nil (IsKept node []))) run.leads
+
+pub nothing_taken_back : NothingTakenBack
+nothing_taken_back node moves world sound run = never node world (run_stands node moves world sound run)

@@ -1,0 +1,10 @@
+mod Answered
+mod Beginning
+mod Disks
+mod Gifts
+mod GoingOn
+mod Law
+mod Moving
+mod Orders
+mod Recovering
+mod Standing

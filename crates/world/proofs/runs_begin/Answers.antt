@@ -1,0 +1,5 @@
+use Rattle.world.proofs.Beginning.{runs_begin}
+use Rattle.world.proofs.runs_begin.Goals as goal
+
+pub returns : goal.returns
+returns c = runs_begin

@@ -1,0 +1,4 @@
+pub mod World
+pub mod Steps
+pub mod Promise
+pub mod Runs
