@@ -219,7 +219,17 @@ fn by_ledger(played: &Played, ledger: &Ledger, answer: &mut String) -> Result<()
 
 /// The header that the node proposes.
 fn proposal(played: &Played, answer: &mut String) -> Result<(), AllocError> {
-    match propose(played.alloc, &played.node, &played.history)? {
+    let found = propose(played.alloc, &played.node, &played.history)?;
+    proposal_line(played, found, answer)
+}
+
+/// A header that is proposed, or that none is.
+pub fn proposal_line(
+    played: &Played,
+    found: Option<Header>,
+    answer: &mut String,
+) -> Result<(), AllocError> {
+    match found {
         None => line("proposes none", answer),
         Some(header) => proposed(played, &header, answer),
     }

@@ -1,6 +1,8 @@
 //! The tests of the definitions: scripts over the plain programs, whose contracts the definitions are.
 #![tactic(auto)]
 
+mod beside;
+mod keeping;
 mod looking;
 mod played;
 mod searching;
@@ -44,6 +46,7 @@ fn laws_hold() {
     machine::starts_fresh();
     machine::state_follows();
     machine::state_answers();
+    machine::state_is_ready();
     machine::state_proposes();
     machine::answers_alike();
     machine::kept_decides();

@@ -1,5 +1,7 @@
 //! A history that grows by commands, and what was put out.
 
+use crate::beside::{answers_by_tables, compare_answers, compare_held, compare_states, same, told};
+use crate::keeping::compare_kept;
 use crate::looking::{look, member, number};
 use crate::searching::passes;
 use crate::showing::{header_label, line, order, outputs};
@@ -11,6 +13,7 @@ use model::{Admission, Event, Node, Outputs};
 use plain::certificates::round;
 use plain::holdings::voted_digest;
 use plain_answers::runs::{admit_last, answers, each_new};
+use plain_machine::{Tables, after, fresh};
 use script::{
     BATCHES, Command, DEPTH, FormError, Labels, Setting, certificate, committee_file, define_batch,
     define_header, parse, signer, vote,
@@ -29,13 +32,22 @@ struct Waiting {
     line: String,
 }
 
-/// The history of one node, with what was put out.
+/// How often the tables were compared with the history, over all cases.
+#[derive(Clone, Copy)]
+struct Counts {
+    answers: u64,
+    states: u64,
+}
+
+/// The history of one node, with its tables beside it, and with what was put out.
 #[derive(Drop)]
 pub struct Played {
     pub alloc: Global,
     pub node: Node<HashSign>,
     pub labels: Labels,
     pub history: Vec<Event>,
+    pub tables: Tables,
+    counts: Counts,
     waiting: Vec<Waiting>,
     collected: usize,
     settled: usize,
@@ -61,11 +73,18 @@ fn node_with(alloc: Global, depth: u64, batches: u64) -> Result<Node<HashSign>, 
 impl Played {
     /// An empty history.
     pub fn new(alloc: Global) -> Result<Played, AllocError> {
+        let node = node_with(alloc, DEPTH, BATCHES)?;
+        let tables = fresh(alloc, &node)?;
         Ok(Played {
             alloc,
-            node: node_with(alloc, DEPTH, BATCHES)?,
+            node,
             labels: Labels::new(alloc),
             history: Vec::new(alloc),
+            tables,
+            counts: Counts {
+                answers: 0,
+                states: 0,
+            },
             waiting: Vec::new(alloc),
             collected: 0,
             settled: 0,
@@ -77,10 +96,12 @@ impl Played {
     /// A command of scripts.
     fn run(&mut self, command: Command<'_>, answer: &mut String) -> Result<(), FormError> {
         match command {
-            Command::Set(Setting::Depth(depth)) => self.node = node_with(
+            Command::Set(Setting::Depth(depth)) => self.begin_as(node_with(
                 self.alloc, depth, BATCHES,
-            )?,
-            Command::Set(Setting::Batches(most)) => self.node = node_with(self.alloc, DEPTH, most)?,
+            )?)?,
+            Command::Set(Setting::Batches(most)) => self.begin_as(node_with(
+                self.alloc, DEPTH, most,
+            )?)?,
             Command::Pack(pack) => define_batch(self.alloc, &mut self.labels, &pack)?,
             Command::Form(form) => define_header(self.alloc, &mut self.labels, &form)?,
             Command::Flush => self.flush(answer)?,
@@ -93,6 +114,13 @@ impl Played {
                 self.take(sender, message, answer)?;
             }
         }
+        Ok(())
+    }
+
+    /// Another node, whose tables are as before any event.
+    fn begin_as(&mut self, node: Node<HashSign>) -> Result<(), AllocError> {
+        self.tables = fresh(self.alloc, &node)?;
+        self.node = node;
         Ok(())
     }
 
@@ -172,8 +200,12 @@ impl Played {
         if ticket == 0 {
             return Ok(());
         }
-        match admit_last(self.alloc, &self.node, &self.history)? {
+        let found = admit_last(self.alloc, &self.node, &self.history)?;
+        compare_answers(self, &found, answer)?;
+        self.counts.answers = self.counts.answers.saturating_add(1);
+        match found {
             Admission::New(outputs) => {
+                self.follow(answer)?;
                 writeln!(answer, "new {ticket}")?;
                 self.put_out(ticket, &outputs, answer)
             }
@@ -188,6 +220,19 @@ impl Played {
                 writeln!(answer, "refused {refusal}")
             }
         }
+    }
+
+    /// Lets the tables follow the history by its last event, and compares both.
+    fn follow(&mut self, answer: &mut String) -> Result<(), AllocError> {
+        if let Some(event) = self.history.last() {
+            let tables = self.tables.try_clone(self.alloc)?;
+            self.tables = after(self.alloc, &self.node, tables, event)?;
+        }
+        compare_states(self, answer)?;
+        compare_held(self, answer)?;
+        compare_kept(self, answer)?;
+        self.counts.states = self.counts.states.saturating_add(1);
+        Ok(())
     }
 
     fn put_out(
@@ -247,14 +292,17 @@ impl Played {
     /// Answers the events that were gathered, one after the other.
     fn answer_all(&mut self, answer: &mut String) -> Result<(), AllocError> {
         let events = std::mem::replace(&mut self.history, Vec::new(self.alloc));
+        let by_tables = answers_by_tables(self, &events)?;
+        let mut by_history = String::new(self.alloc);
         for found in &answers(self.alloc, &self.node, events)? {
+            by_history.push_str(told(self, found)?.as_str())?;
             match found {
                 Admission::New(_) => line("new", answer)?,
                 Admission::Known(_) => line("known", answer)?,
                 Admission::Refused(refusal) => writeln!(answer, "refused {refusal}")?,
             }
         }
-        Ok(())
+        same("answers", by_history.as_str(), by_tables.as_str(), answer)
     }
 
     fn each_is_new(&mut self, answer: &mut String) -> Result<(), AllocError> {
@@ -263,12 +311,18 @@ impl Played {
         writeln!(answer, "{each}")
     }
 
+    fn compared(&self, answer: &mut String) -> Result<(), AllocError> {
+        let (answers, states) = (self.counts.answers, self.counts.states);
+        writeln!(answer, "compared {answers} answers, {states} states")
+    }
+
     /// Gives the node a committee whose members have these stakes, with the limits of its last one.
     fn weigh(&mut self, stakes: &str) -> Result<(), FormError> {
         let limits = &self.node.committee;
         let committee = committee_of(self.alloc, stakes, limits.depth(), limits.batches())?;
         label_genesis(self.alloc, &mut self.labels, committee.size())?;
         self.node.committee = committee;
+        self.tables = fresh(self.alloc, &self.node)?;
         Ok(())
     }
 
@@ -279,6 +333,7 @@ impl Played {
             ["tell", "outputs"] => self.tells = true,
             ["gather"] => self.gathers = true,
             ["answers"] => self.answer_all(answer)?,
+            ["compared"] => self.compared(answer)?,
             ["each-new"] => self.each_is_new(answer)?,
             ["proposal-passes"] => passes(self, answer)?,
             ["coin-from", sender, wave, value] => {
@@ -307,7 +362,9 @@ fn coin(sender: Author, wave: u64, value: u64) -> Result<(Author, Message), Form
 
 impl Subject for Played {
     fn begin(&mut self, _title: &str) -> Result<(), AllocError> {
+        let counts = self.counts;
         *self = Played::new(self.alloc)?;
+        self.counts = counts;
         Ok(())
     }
 

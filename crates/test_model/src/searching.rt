@@ -37,7 +37,7 @@ pub fn batches(played: &Played, words: &[&str], answer: &mut String) -> Result<(
 }
 
 /// The history as what the node holds.
-fn past(played: &Played) -> Past<'_, HashSign> {
+pub fn past(played: &Played) -> Past<'_, HashSign> {
     Past {
         node: &played.node,
         history: &played.history,
@@ -149,7 +149,7 @@ pub fn votes(played: &Played, words: &[&str], answer: &mut String) -> Result<(),
     }
 }
 
-fn digest_line(
+pub fn digest_line(
     played: &Played,
     digest: Option<Digest>,
     answer: &mut String,
@@ -160,7 +160,11 @@ fn digest_line(
     }
 }
 
-fn vote_line(played: &Played, vote: Option<Vote>, answer: &mut String) -> Result<(), AllocError> {
+pub fn vote_line(
+    played: &Played,
+    vote: Option<Vote>,
+    answer: &mut String,
+) -> Result<(), AllocError> {
     let Some(vote) = vote else {
         return line("none", answer);
     };

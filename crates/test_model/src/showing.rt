@@ -91,6 +91,19 @@ fn voters(entries: &[VoteEntry], answer: &mut String) -> Result<(), AllocError> 
     answer.push_str("\n")
 }
 
+/// The label of a certificate with its voters, or that there is none.
+pub fn certificate_line(
+    played: &Played,
+    certificate: Option<&Certificate>,
+    answer: &mut String,
+) -> Result<(), AllocError> {
+    let Some(certificate) = certificate else {
+        return line("none", answer);
+    };
+    answer.push_str(certificate_label(played, certificate))?;
+    voters(certificate.votes.as_slice(), answer)
+}
+
 /// An output, as `collect` shows it.
 pub fn output(played: &Played, output: &Output, answer: &mut String) -> Result<(), AllocError> {
     match output {
