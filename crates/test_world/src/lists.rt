@@ -1,0 +1,321 @@
+//! Lists of random steps, made by the running code and by the plain world side by side.
+
+ghost use Rattle.std.specs.Prelude.{◌≡◌, ℕ, ◌<◌};
+ghost use Rattle.book.specs.Book.{standing};
+ghost use Rattle.journal.specs.Journal.{IsAlive};
+ghost use Rattle.test_world.specs.Room.{HasRoom};
+
+use crate::draws::Draws;
+use crate::events::{KINDS, OWN, SENDERS, body_of, kind_of, sender_of};
+use crate::plain::Plain;
+use crate::running::{OwnBook, are_of, put_configuration};
+use crate::tally::{Leaves, Moment, Tally, count};
+use diskmodel::{CallKind, Disk, MemDisk, StopDisk};
+use journal::Journal;
+use std::alloc::{AllocError, Global};
+use std::mem;
+use wire::{Output, header_digest};
+
+/// That a step was made, unless memory was refused.
+pub type Told = Result<(), AllocError>;
+
+/// The running code and the plain world.
+#[derive(Drop)]
+pub struct Lists {
+    alloc: Global,
+    draws: Draws,
+    disk: MemDisk,
+    book: OwnBook,
+    plain: Plain,
+    tally: Tally,
+    /// How many answers weren't those of the plain world.
+    wrong: u64,
+}
+
+impl Lists {
+    pub fn new(alloc: Global, start: u64) -> Result<Lists, AllocError> {
+        Ok(Lists {
+            alloc,
+            draws: Draws::from(start),
+            disk: MemDisk::new(alloc, Vec::new(alloc))?,
+            book: OwnBook::new(alloc, &[])?,
+            plain: Plain::new(alloc),
+            tally: Tally::new(),
+            wrong: 0,
+        })
+    }
+
+    /// Makes a list of so many steps, from an empty disk on.
+    pub fn play(&mut self, steps: u64) -> Told {
+        self.disk = MemDisk::new(self.alloc, Vec::new(self.alloc))?;
+        self.plain = Plain::new(self.alloc);
+        self.open()?;
+        for _ in 0..steps {
+            match self.draws.below(16) {
+                0..=7 => self.accept()?,
+                8..=11 => self.release()?,
+                12..=14 => self.flush()?,
+                _ => self.stop(Moment::Idle, 0)?,
+            }
+        }
+        Ok(())
+    }
+
+    /// Tells the counts, and how many answers were wrong.
+    pub fn tell(&self, answer: &mut String) -> Told {
+        self.tally.tell(answer)?;
+        writeln!(answer, "wrong {}", self.wrong)
+    }
+
+    fn pending(&self) -> usize {
+        self.plain.pending()
+    }
+
+    fn has_pending(&self) -> bool {
+        self.book.book.has_pending()
+    }
+
+    fn keeps_what_it_gave(&self) -> bool {
+        self.plain.keeps_what_it_gave()
+    }
+
+    fn differs(&mut self)
+        ensures book { self.new.book ≡ self.old.book }
+    {
+        self.wrong = self.wrong.saturating_add(1);
+    }
+
+    fn expect(&mut self, holds: bool)
+        ensures book { self.new.book ≡ self.old.book }
+    {
+        if !holds {
+            self.differs();
+        }
+    }
+
+    /// An event comes in.
+    fn accept(&mut self) -> Told
+        ensures room { (count : ℕ) → HasRoom count (standing self.old.book.book) → HasRoom count (standing self.new.book.book) }
+    {
+        let number = self.draws.below(SENDERS * KINDS);
+        let expected = self.plain.accept(number)?;
+        let answer = self.book.accept(self.alloc, number)?;
+        self.expect(answer == Some(expected));
+        self.tally.add_answer(expected);
+        Ok(())
+    }
+
+    /// An output goes out, if one may.
+    fn release(&mut self) -> Told
+        ensures room { (count : ℕ) → HasRoom count (standing self.old.book.book) → HasRoom count (standing self.new.book.book) }
+    {
+        let expected = self.plain.release()?;
+        let output = self.book.release();
+        let same = match (&output, expected) {
+            (Some(output), Some(number)) => is_vote_for(self.alloc, output, number)?,
+            (None, None) => true,
+            _ => false,
+        };
+        self.expect(same);
+        self.tally.add_release(expected.is_some());
+        Ok(())
+    }
+
+    /// What comes in and goes out beside a group's way to the disk.
+    fn beside(&mut self) -> Told
+        ensures room { (count : ℕ) → HasRoom count (standing self.old.book.book) → HasRoom count (standing self.new.book.book) }
+    {
+        self.accept()?;
+        self.release()
+    }
+
+    /// A group is taken and appended, which may fail at each device call, and is then settled, if the machine doesn't
+    /// stop.
+    fn flush(&mut self) -> Told {
+        let (has_pending, pending) = (self.has_pending(), self.pending());
+        self.expect(has_pending == (pending > 0));
+        if !has_pending {
+            return Ok(());
+        }
+        let gate = self.disk.bytes().len().saturating_sub(1);
+        let failing = moment_of(self.draws.below(12));
+        let mut disk = self.taken_disk()?;
+        arm(&mut disk, failing)?;
+        let (mut journal, _) = match Journal::open(self.alloc, disk) {
+            Ok(opened) => opened,
+            Err(failed) => {
+                self.disk = failed.disk;
+                self.differs();
+                return Ok(());
+            }
+        };
+        let written = self.write(&mut journal, failing);
+        self.disk = journal.into_disk();
+        match written? {
+            Some(moment) => self.stop(moment, gate),
+            None => Ok(()),
+        }
+    }
+
+    /// Takes a group and appends it. Answers the moment of a stop, if there is to be one.
+    fn write(
+        &mut self,
+        journal: &mut Journal<MemDisk>,
+        failing: Option<Moment>,
+    ) -> Result<Option<Moment>, AllocError>
+        requires { IsAlive ⟦<MemDisk as Disk>⟧.content ⟦<MemDisk as Disk>⟧.outcome journal.old }
+    {
+        let Some(group) = self.book.book.take()? else {
+            self.differs();
+            return Ok(None);
+        };
+        let pending = self.pending();
+        self.expect(group.records_count() == pending as u64);
+        self.plain.take();
+        count(&mut self.tally.taken);
+        let before = self.beside();
+        match journal.append(group) {
+            Ok(synced) => {
+                let after = self.beside();
+                self.expect(failing.is_none());
+                if self.draws.below(8) == 0 {
+                    let _ = synced.records();
+                    before?;
+                    after?;
+                    return Ok(Some(Moment::Firm));
+                }
+                self.book.book.settle(synced);
+                self.plain.settle();
+                count(&mut self.tally.settled);
+                before?;
+                after?;
+                Ok(None)
+            }
+            Err(_) => {
+                self.book.book.fail();
+                self.plain.fail();
+                count(&mut self.tally.failed);
+                before?;
+                self.beside()?;
+                self.expect(failing.is_some());
+                Ok(failing)
+            }
+        }
+    }
+
+    fn taken_disk(&mut self) -> Result<MemDisk, AllocError>
+        ensures book { self.new.book ≡ self.old.book }
+    {
+        let empty = MemDisk::new(self.alloc, Vec::new(self.alloc))?;
+        Ok(mem::replace(&mut self.disk, empty))
+    }
+
+    /// The machine stops and begins a new run. Of a group on its way the gate is at this place.
+    fn stop(&mut self, moment: Moment, gate: usize) -> Told {
+        let leaves = match self.draws.below(3) {
+            0 => Leaves::Read,
+            1 => Leaves::Lost,
+            _ => Leaves::Torn,
+        };
+        let found = match leaves {
+            Leaves::Read => self.disk.bytes().to_vec(self.alloc)?,
+            Leaves::Lost => self.disk.firm().to_vec(self.alloc)?,
+            Leaves::Torn => torn(self.alloc, &self.disk, &mut self.draws)?,
+        };
+        let open = matches!(found.get(gate), Some(byte) if *byte != 0);
+        self.tally.add_stop(moment, leaves);
+        let leaves_taken = match moment {
+            Moment::Opened => {
+                self.tally.add_gate(open);
+                open
+            }
+            Moment::Firm => true,
+            _ => false,
+        };
+        self.plain.stop(leaves_taken);
+        self.disk.choose(found.as_slice().to_vec(self.alloc)?);
+        self.disk.stop();
+        let left = self.disk.bytes() == found.as_slice();
+        self.expect(left);
+        self.open()
+    }
+
+    /// Opens the journal, whose records are those of the plain history, and a book after it.
+    fn open(&mut self) -> Told {
+        let disk = self.taken_disk()?;
+        let (mut journal, records) = match Journal::open(self.alloc, disk) {
+            Ok(opened) => opened,
+            Err(failed) => {
+                self.disk = failed.disk;
+                self.differs();
+                return Ok(());
+            }
+        };
+        let right = if records.is_empty() {
+            put_configuration(self.alloc, &mut journal)? && self.plain.history.is_empty()
+        } else {
+            are_of(self.alloc, &records, &self.plain.history)?
+        };
+        self.disk = journal.into_disk();
+        let keeps = self.keeps_what_it_gave();
+        self.expect(right && keeps);
+        self.book = OwnBook::new(self.alloc, &self.plain.history)?;
+        count(&mut self.tally.recovered);
+        Ok(())
+    }
+}
+
+/// The output is the node's vote for the header of this number.
+fn is_vote_for(alloc: Global, output: &Output, number: u64) -> Result<bool, AllocError> {
+    let Output::Vote(vote) = output else {
+        return Ok(false);
+    };
+    let body = body_of(alloc, sender_of(number), kind_of(number))?;
+    Ok(
+        vote.header == header_digest(&body)
+            && vote.round == body.round
+            && vote.author == body.author
+            && vote.voter == OWN,
+    )
+}
+
+/// At which moment an append fails, if it does.
+fn moment_of(number: u64) -> Option<Moment> {
+    match number {
+        0 => Some(Moment::Taken),
+        1 => Some(Moment::Written),
+        2 => Some(Moment::Synced),
+        3 => Some(Moment::Opened),
+        _ => None,
+    }
+}
+
+/// Tells the disk to fail the call behind this moment of an append. The opening before it syncs once.
+fn arm(disk: &mut MemDisk, failing: Option<Moment>) -> Told {
+    match failing {
+        Some(Moment::Taken) => disk.fail(CallKind::Write, 1),
+        Some(Moment::Written) => disk.fail(CallKind::Sync, 2),
+        Some(Moment::Synced) => disk.fail(CallKind::Write, 2),
+        Some(Moment::Opened) => disk.fail(CallKind::Sync, 3),
+        _ => Ok(()),
+    }
+}
+
+/// Any bytes that a stop may leave: of a length from that of the last sync up to what is read, any byte in each place
+/// that was written since then, closed gates more often than others.
+fn torn(alloc: Global, disk: &MemDisk, draws: &mut Draws) -> Result<Vec<u8>, AllocError> {
+    let (firm, read) = (disk.firm(), disk.bytes());
+    let longer = read.len().saturating_sub(firm.len()) as u64;
+    let len = firm
+        .len()
+        .saturating_add(draws.below(longer.saturating_add(1)) as usize);
+    let mut found = Vec::new(alloc);
+    for place in 0..len {
+        match firm.get(place) {
+            Some(byte) if !disk.is_written(place as u64) => found.push(*byte)?,
+            _ if draws.below(2) == 0 => found.push(0)?,
+            _ => found.push(draws.below(256) as u8)?,
+        }
+    }
+    Ok(found)
+}
