@@ -4,3 +4,4 @@ pub mod KeyLemmas
 pub mod FileLemmas
 pub mod StakeLemmas
 pub mod AnswerLemmas
+pub mod Bits

@@ -1,6 +1,6 @@
 //! Sets of members.
 
-ghost use Rattle.std.specs.Prelude.{◌≡◌, ℕ, ◌<◌, ◌||◌, ◌==◌, false};
+ghost use Rattle.std.specs.Prelude.{◌≡◌, ℕ, ◌<◌, ◌&&◌, ◌||◌, ◌==◌, not, false};
 ghost use Rattle.std.specs.Int.{bit_at};
 ghost use Rattle.committee.specs.Sets.{has};
 ghost use Rattle.committee.specs.declared.members.TheConstants.{MAX_MEMBERS};
@@ -34,6 +34,29 @@ impl MemberSet {
         ensures { (other : ℕ) → has self.new other ≡ (has self.old other || (other == member.0)) }
     {
         self.bits |= 1 << member.0;
+    }
+
+    /// Puts all of another set into the set.
+    pub fn unite(&mut self, more: &MemberSet)
+        ensures { (member : ℕ) → has self.new member ≡ (has self.old member || has more.now member) }
+    {
+        self.bits |= more.bits;
+    }
+
+    /// Takes all out of the set but those of another one.
+    pub fn retain(&mut self, others: &MemberSet)
+        ensures { (member : ℕ) → has self.new member ≡ (has self.old member && has others.now member) }
+    {
+        self.bits &= others.bits;
+    }
+
+    /// Takes all of another set out of the set.
+    pub fn remove_all(&mut self, others: &MemberSet)
+        ensures { (member : ℕ) → has self.new member ≡ (has self.old member && not (has others.now member)) }
+    {
+        // What both have.
+        let common = self.bits & others.bits;
+        self.bits ^= common;
     }
 
     /// Whether a member is in the set. A number of 32 or more is in none.

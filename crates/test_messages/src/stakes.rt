@@ -36,6 +36,24 @@ pub fn is_among(number: u64, members: &[u64], answer: &mut String) -> Told {
     list("among", &[is_among as u64], answer)
 }
 
+/// Tells whether a number is in the union of two sets, in what both have, and in the first one without the other. The first
+/// has so many of these members.
+pub fn is_in_both(number: u64, count: u64, members: &[u64], answer: &mut String) -> Told {
+    let (some, others) = members.split_at(members.len().min(count as usize));
+    let others = set_of(others);
+    let (mut united, mut common, mut rest) = (set_of(some), set_of(some), set_of(some));
+    united.unite(&others);
+    common.retain(&others);
+    rest.remove_all(&others);
+    let author = author_of(number);
+    let found = [
+        united.contains(author),
+        common.contains(author),
+        rest.contains(author),
+    ];
+    list("in", &found.map(|is_in| is_in as u64), answer)
+}
+
 // The set of the members of these numbers, without those that no member can have.
 fn set_of(members: &[u64]) -> MemberSet {
     let mut set = MemberSet::none();

@@ -4,7 +4,7 @@ use crate::frames::{count_ways, feed};
 use crate::members::{add_members, check_both, read_committee, show_key, sign, verify};
 use crate::messages::{beginnings, fill, message, order, spelled_again, written};
 use crate::numbers::{genesis, laws, vote, voted};
-use crate::stakes::{is_among, show_stake, show_total, weigh};
+use crate::stakes::{is_among, is_in_both, show_stake, show_total, weigh};
 use crate::words::{Names, Told, author_of, joined, numbers_of, round_of, show, tell};
 use cases::Subject;
 use committee::Committee;
@@ -96,6 +96,7 @@ fn plain(alloc: Global, name: &str, numbers: &[u64], bytes: &[u8], answer: &mut 
         ("sign", [byte]) => sign(*byte, bytes, answer),
         ("verify", [byte]) => verify(*byte, bytes, answer),
         ("among", [number, members @ ..]) => is_among(*number, members, answer),
+        ("sets", [number, count, members @ ..]) => is_in_both(*number, *count, members, answer),
         ("laws", []) => laws(answer),
         _ => answer.push_str("bad case\n"),
     }
