@@ -67,7 +67,7 @@ support_from low one other agree c above =
     ap (λ (f : ℕ → Option Certificate). nat_le (support_of one.charter) (weight one.charter (λ m. option_map_or (is_parent c) (f m) false)))
     (fun_ext (λ m. agree.same (c.header.round + 1) m (omega (arith, above))))
 
-committed_from : (low : ℕ) (one : Ledger) (other : Slots) → 0 < size_in one → AgreeFrom low one.slots other → (wave : ℕ) → low ≤ 2 * wave + 1 → is_directly_committed one (suc wave) ≡ is_directly_committed (with_slots one other) (suc wave)
+pub committed_from : (low : ℕ) (one : Ledger) (other : Slots) → 0 < size_in one → AgreeFrom low one.slots other → (wave : ℕ) → low ≤ 2 * wave + 1 → is_directly_committed one (suc wave) ≡ is_directly_committed (with_slots one other) (suc wave)
 committed_from low one other some agree wave above =
     let same = leader_from low one other agree wave above in
     elim (given_or_none (leader one (suc wave))) [
@@ -172,7 +172,7 @@ newer_to_high ledger some placed base (suc wave) last c high inside =
       ]
     ]
 
-newer_high : (ledger : Ledger) → 0 < size_in ledger → AreInPlace ledger.slots → (base : ℕ) (c : Certificate) → Contains (newer ledger base) c → 2 * base + 1 ≤ c.header.round
+pub newer_high : (ledger : Ledger) → 0 < size_in ledger → AreInPlace ledger.slots → (base : ℕ) (c : Certificate) → Contains (newer ledger base) c → 2 * base + 1 ≤ c.header.round
 newer_high ledger some placed base c inside =
     elim (given_or_none (top ledger)) [
       | inr none ↦ let inside' = rw none at inside in absurd (Contains-nothing c inside')
@@ -248,7 +248,7 @@ round_picked_from low one other agree previous last far round =
           ∙ ap (filter (is_ordered_by (with_slots one other) previous last)) (round_from (size_in one) low one.slots other agree round above)
     ]
 
-rounds_picked_from : (low : ℕ) (one : Ledger) (other : Slots) → AgreeFrom low one.slots other → (previous : Option Certificate) (last : Certificate) → IsFar low one.charter.depth last → (rounds : List ℕ)
+pub rounds_picked_from : (low : ℕ) (one : Ledger) (other : Slots) → AgreeFrom low one.slots other → (previous : Option Certificate) (last : Certificate) → IsFar low one.charter.depth last → (rounds : List ℕ)
     → filter (is_ordered_by one previous last) (flat_map (round_of (size_in one) one.slots) rounds) ≡ filter (is_ordered_by (with_slots one other) previous last) (flat_map (round_of (size_in one) other) rounds)
 rounds_picked_from low one other agree previous last far [] = refl
 rounds_picked_from low one other agree previous last far (round ∷ rounds) =

@@ -2,7 +2,7 @@
 -- then what the newer ones order.
 use Rattle.std.proofs.Common.{◌≡◌, ℕ, suc, ◌+◌, ◌-◌, ◌*◌, ◌≤◌, arith, true, length, List, [], ◌∷◌, ◌++◌, map, Option, Some, None, inl, inr, refl, ap, sym, ◌∙◌, subst, append_assoc}
 use Rattle.std.proofs.Math.Path.{fun_ext}
-use Rattle.std.specs.Prelude.{Contains, nat_le}
+use Rattle.std.specs.Prelude.{Contains, nat_le, option_and_then}
 use Rattle.std.specs.Option.{option_map_or, option_to_list}
 use Rattle.std.proofs.lemmas.Bool.{le-leb}
 use Rattle.std.proofs.lemmas.Option.{same_Some, none-some}
@@ -13,20 +13,20 @@ use Rattle.model.specs.Histories.{History, coins, as_coin}
 use Rattle.model.specs.Holdings.{ledger_of, ledger_at, slots, order, floor}
 use Rattle.laws.specs.Laws.{last_or, committed_at, newer_at_later, HoldsFrom, Lengthens, OrderLengthens}
 use Rattle.model.specs.Nodes.{Node, IsNode}
-use Rattle.model.specs.Ordering.{Ledger, is_directly_committed, top, segment, segments, committed, newer_at, newer, last_wave, order_by}
+use Rattle.model.specs.Ordering.{Ledger, leader, is_directly_committed, top, segment, segments, committed, newer_at, newer, last_wave, order_by}
 use Rattle.model.specs.Slots.{Slots, certificate_digest}
 use Rattle.model.specs.Words.{Certificate, Digest, Event}
 use Rattle.laws.proofs.Closed.{in_place, closed, coins_later, extends, floor_of}
 use Rattle.laws.proofs.FromRounds.{AgreeFrom, newer_from, since_from}
-use Rattle.laws.proofs.Growing.{AreInPlace, Extends, IsIn, WasHeld, grown, leader_in, segments_same, directly_committed_kept}
+use Rattle.laws.proofs.Growing.{AreInPlace, Extends, IsIn, WasHeld, grown, leader_in, segments_same, leader_kept, directly_committed_kept}
 use Rattle.laws.proofs.Legal.{Adds, legal-grows}
 use Rattle.laws.proofs.Lists.{given_or_none, Contains-nothing, Contains-first, Contains-later}
 use Rattle.laws.proofs.OrderGrows.{longer, members_some}
-use Rattle.laws.proofs.OrderLonger.{IsLonger, committed_is, newer_held, newer_grows, committed_grows, is_top_of, top_leader, top_grows}
+use Rattle.laws.proofs.OrderLonger.{IsLonger, newer_ends, committed_is, newer_held, newer_grows, committed_grows, is_top_of, top_leader, top_grows}
 
 -- ---- the last of a list
 
-pub last_pushed : {X : Type 0} (before : Option X) (xs : List X) (x : X) → last_or before (xs ++ x ∷ []) ≡ Some x
+last_pushed : {X : Type 0} (before : Option X) (xs : List X) (x : X) → last_or before (xs ++ x ∷ []) ≡ Some x
 last_pushed before [] x = refl
 last_pushed before (y ∷ xs) x = last_pushed (Some y) xs x
 
@@ -41,6 +41,21 @@ last_inside first (y ∷ xs) x is = Contains-later first (y ∷ xs) x (last_insi
 last_in : {X : Type 0} (xs : List X) (x : X) → last_or None xs ≡ Some x → Contains xs x
 last_in [] x is = absurd (none-some x is)
 last_in (y ∷ xs) x is = last_inside y xs x is
+
+-- the last of the committed leaders is that of the greatest wave
+pub last_is : (ledger : Ledger) → last_or None (committed ledger) ≡ option_and_then (leader ledger) (top ledger)
+last_is ledger =
+    elim (given_or_none (top ledger)) [
+      | inr none ↦
+          ap (λ o. last_or None (option_map_or (newer_at ledger 0) o [])) none
+          ∙ sym (ap (option_and_then (leader ledger)) none)
+      | inl found ↦
+          let lead = top_leader ledger found.0 found.1 in
+          let wave = found.0 - 1 in
+          let ends = newer_ends ledger 0 wave lead.0 in
+          ap (λ l. last_or None l) (committed_is ledger wave lead.0 lead.1 lead.2 ∙ ends.1) ∙ last_pushed None ends.0 lead.0
+          ∙ sym (ap (option_and_then (leader ledger)) lead.1 ∙ lead.2)
+    ]
 
 -- ---- what leaders order
 
@@ -83,11 +98,12 @@ one_step before after longer more =
 -- ---- any number of events
 
 -- what stays of a history: its waves are committed, and nothing goes down
-record IsLater (node : Node) (history later : History) : Type 0 where
-  base : last_wave (ledger_at node history) ≤ last_wave (ledger_at node later)
-  committed : (wave : ℕ) → is_directly_committed (ledger_at node history) wave ≡ true → is_directly_committed (ledger_at node later) wave ≡ true
-  coins : length (coins history) ≤ length (coins later)
-  lengthens : Lengthens node history later (slots node later)
+pub record IsLater (node : Node) (history later : History) : Type 0 where
+  pub base : last_wave (ledger_at node history) ≤ last_wave (ledger_at node later)
+  pub committed : (wave : ℕ) → is_directly_committed (ledger_at node history) wave ≡ true → is_directly_committed (ledger_at node later) wave ≡ true
+  pub leaders : (wave : ℕ) (c : Certificate) → leader (ledger_at node history) wave ≡ Some c → leader (ledger_at node later) wave ≡ Some c
+  pub coins : length (coins history) ≤ length (coins later)
+  pub lengthens : Lengthens node history later (slots node later)
 
 wave_grows : (before : Ledger) (after : Slots) → Extends before.slots after → (more : List ℕ) → last_wave before ≤ last_wave (grown before after more)
 wave_grows before after ext more =
@@ -136,6 +152,7 @@ later_push node history later event adds so_far =
     record {
       base = omega (arith, from, grows);
       committed = λ wave is. ap (λ c. is_directly_committed (ledger_of node after c) wave) coins_same ∙ directly_committed_kept before after ext more wave (so_far.committed wave is);
+      leaders = λ wave c is. ap (λ c. leader (ledger_of node after c) wave) coins_same ∙ leader_kept before after ext more wave c (so_far.leaders wave c is);
       coins = omega (arith, fewer, know, size);
       lengthens = record {
         chain = ap (λ c. committed (ledger_of node after c)) coins_same ∙ committed_grows before after long more ∙ ap (λ l. l ++ new) so_far.lengthens.chain
@@ -167,6 +184,7 @@ later_first node history =
     record {
       base = omega arith;
       committed = λ wave is. is;
+      leaders = λ wave c is. is;
       coins = omega arith;
       lengthens = record {
         chain = sym (append-nil (committed_at node history)) ∙ ap (λ l. committed_at node history ++ l) (sym none);
@@ -174,7 +192,7 @@ later_first node history =
       };
     }
 
-is_later : (node : Node) (history more : History) → IsLegal node (history ++ more) → IsLater node history (history ++ more)
+pub is_later : (node : Node) (history more : History) → IsLegal node (history ++ more) → IsLater node history (history ++ more)
 is_later node history more legal = legal-grows node (IsLater node history) (λ later event adds so_far. later_push node history later event adds so_far) history more legal (later_first node history)
 
 -- ---- by what lies at or above the floor

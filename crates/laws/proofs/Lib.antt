@@ -1,4 +1,5 @@
 pub mod Closed
+pub mod FromFloor
 pub mod FromRounds
 pub mod Given
 pub mod Growing

@@ -1,14 +1,14 @@
 -- What is said of histories, mostly of legal ones.
-use Rattle.std.specs.Prelude.{◌≡◌, ℕ, Option, Some, None, ◌≤◌, true, List, [], ◌∷◌, ◌++◌, map, All, Contains, find, option_and_then, ⊤}
+use Rattle.std.specs.Prelude.{◌≡◌, ℕ, ◌+◌, ◌-◌, ◌*◌, Option, Some, None, ◌≤◌, true, List, [], ◌∷◌, ◌++◌, map, All, Contains, find, option_and_then, ⊤}
 use Rattle.std.specs.Option.{option_or, option_to_list}
 use Rattle.wire.specs.declared.message.Message.TheVariants as message
 use Rattle.header.specs.Checks.{Accepts, fault_of, accepts_all}
 use Rattle.model.specs.Admitting.{admit, header_outputs, IsTaken, IsLegal}
 use Rattle.model.specs.Giving.{MayGive}
 use Rattle.model.specs.Histories.{History, batches, acks, headers, votes, received, coins, as_batch, as_ack, as_header, as_vote, as_certificate, as_coin}
-use Rattle.model.specs.Holdings.{batch_digest, batch_at, is_vote_on, voted_header, counted_vote, completed, certificates, slots, ledger_of, ledger_at, order, own_vote, floor}
+use Rattle.model.specs.Holdings.{batch_digest, batch_at, is_vote_on, voted_header, counted_vote, completed, certificates, slots, ledger_of, ledger_at, order, own_vote, floor, is_full, all_held}
 use Rattle.model.specs.Nodes.{Node, IsNode, AreTied}
-use Rattle.model.specs.Ordering.{committed, newer, last_wave, segments}
+use Rattle.model.specs.Ordering.{Ledger, leader, has_support, is_directly_committed, top, committed, newer, last_wave, segment, segments, floor_by}
 use Rattle.model.specs.Proposing.{propose}
 use Rattle.model.specs.Slots.{Slots, same_digest, certificate_digest, is_of_slot, slots_of}
 use Rattle.model.specs.declared.admission.Admission.{Admission}
@@ -110,6 +110,43 @@ pub record Lengthens (node : Node) (before later : History) (held : Slots) : Typ
 abbrev pub OrderLengthens : Type 0
 OrderLengthens = (node : Node) (history more : History) (held : Slots) → IsLegal node (history ++ more)
     → HoldsFrom (floor node history) held (slots node (history ++ more)) → Lengthens node history (history ++ more) held
+
+-- slots that hold only a part of what others hold say the same with these coins
+pub record SayTheSame (node : Node) (low : ℕ) (before : Ledger) (coins : List ℕ) (held all : Slots) : Type 0 where
+  -- from a round on: which certificate leads a wave, which has support, which wave is committed by itself, and which round is full
+  pub same_leader : (wave : ℕ) → low ≤ 2 * wave - 1 → leader (ledger_of node held coins) wave ≡ leader (ledger_of node all coins) wave
+  pub same_support : (c : Certificate) → low ≤ c.header.round + 1 → has_support (ledger_of node held coins) c ≡ has_support (ledger_of node all coins) c
+  pub same_committed : (wave : ℕ) → low ≤ 2 * wave - 1
+      → is_directly_committed (ledger_of node held coins) wave ≡ is_directly_committed (ledger_of node all coins) wave
+  pub same_full : (round : ℕ) → low ≤ round → is_full node held round ≡ is_full node all round
+  -- which headers have their parents
+  pub same_parents : (header : HeaderBody) → all_held held (floor_by (ledger_of node all coins)) header ≡ all_held all (floor_by (ledger_of node all coins)) header
+  -- the greatest committed wave, and with it the floor
+  pub same_top : top (ledger_of node held coins) ≡ top (ledger_of node all coins)
+  pub same_last_wave : last_wave (ledger_of node held coins) ≡ last_wave (ledger_of node all coins)
+  pub same_floor : floor_by (ledger_of node held coins) ≡ floor_by (ledger_of node all coins)
+  -- the last leader from before, and the newer ones
+  pub same_last : leader (ledger_of node held coins) (last_wave before) ≡ last_or None (committed before)
+  pub same_newer : newer (ledger_of node held coins) (last_wave before) ≡ newer (ledger_of node all coins) (last_wave before)
+  -- what each of these orders, whichever leader comes before it, and what all of them do
+  pub same_segment : (previous : Option Certificate) (last : Certificate) → Contains (newer (ledger_of node held coins) (last_wave before)) last
+      → segment (ledger_of node held coins) previous last ≡ segment (ledger_of node all coins) previous last
+  pub same_segments : (previous : Option Certificate) → segments (ledger_of node held coins) previous (newer (ledger_of node held coins) (last_wave before))
+      ≡ segments (ledger_of node all coins) previous (newer (ledger_of node all coins) (last_wave before))
+
+-- what the leaders newer than a wave order behind that wave's leader
+abbrev pub ordered_since : Ledger → ℕ → List Digest
+ordered_since ledger wave = map (λ c. certificate_digest c.header) (segments ledger (leader ledger wave) (newer ledger wave))
+
+-- slots say the same as a later history, and what they order since the last committed wave from before lengthens the order
+pub record IsEnough (node : Node) (before later : History) (low : ℕ) (held : Slots) : Type 0 where
+  pub same : SayTheSame node low (ledger_at node before) (coins later) held (slots node later)
+  pub order : order node later ≡ order node before ++ ordered_since (ledger_of node held (coins later)) (last_wave (ledger_at node before))
+
+-- so do slots that hold what a legal history holds from a round on that is no higher than the floor of one that begins it
+abbrev pub HeldIsEnough : Type 0
+HeldIsEnough = (node : Node) (before more : History) (low : ℕ) (held : Slots) → IsLegal node (before ++ more) → low ≤ floor node before
+    → HoldsFrom low held (slots node (before ++ more)) → IsEnough node before (before ++ more) low held
 
 -- what may be given out at a legal history may be given out at each that it begins
 abbrev pub GivenGrows : Type 0

@@ -1,7 +1,7 @@
 //! Laws of legal histories, proved of the definitions: each is what a function without a body ensures.
 #![tactic(auto)]
 
-ghost use Rattle.laws.specs.Laws.{OneVote, OneCertificate, OneMore, SlotsGrow, OutputsGiven, OrderGrows, OrderLengthens, GivenGrows, ProposalsAreNew, ProposalsAreLegal, ProposalsPass, OwnVotesPass};
+ghost use Rattle.laws.specs.Laws.{OneVote, OneCertificate, OneMore, SlotsGrow, OutputsGiven, OrderGrows, OrderLengthens, HeldIsEnough, GivenGrows, ProposalsAreNew, ProposalsAreLegal, ProposalsPass, OwnVotesPass};
 
 /// A legal history has one vote an author and round.
 pub fn one_vote()
@@ -38,6 +38,13 @@ pub fn order_grows()
 /// and then what the newer ones order; to find these it is enough to hold what lies at or above the floor from before.
 pub fn order_lengthens()
     ensures { OrderLengthens }
+{}
+
+/// Slots that hold a longer legal history's certificates from a round on, which is no higher than the floor from before, say
+/// the same as all of them: who leads a wave there, which waves are committed, the floor, the newer leaders, and what each of
+/// these orders.
+pub fn held_is_enough()
+    ensures { HeldIsEnough }
 {}
 
 /// What may be given out at a legal history may be given out at each that it begins.

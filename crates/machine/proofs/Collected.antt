@@ -32,7 +32,7 @@ high_above floor round high = grind (arith, high, common_steps)
 pub not_below : (low round : ℕ) → low ≤ round → nat_lt round low ≡ false
 not_below low round above = grind (arith, above)
 
-kept_was : (low : ℕ) (slots : Slots) (round author : ℕ) (c : Certificate) → (if nat_lt round low then None else slots round author) ≡ Some c → slots round author ≡ Some c
+pub kept_was : (low : ℕ) (slots : Slots) (round author : ℕ) (c : Certificate) → (if nat_lt round low then None else slots round author) ≡ Some c → slots round author ≡ Some c
 kept_was low slots round author c held =
     elim (cases_Bool (nat_lt round low)) [
       | inl below ↦ let nothing = rw below at held in absurd (none-some c nothing)

@@ -1,9 +1,9 @@
 -- All of a legal history with one more event is the state of the whole history with what the event adds.
-use Rattle.std.proofs.Common.{◌≡◌, ℕ, ◌-◌, ◌≤◌, arith, Bool, true, false, List, [], ◌∷◌, ◌++◌, map, Option, Some, None, inl, inr, refl, ap, sym, ◌∙◌}
+use Rattle.std.proofs.Common.{◌≡◌, ℕ, ◌≤◌, arith, Bool, true, false, List, [], ◌∷◌, ◌++◌, map, Option, Some, None, inl, inr, refl, ap, sym, ◌∙◌}
 use Rattle.std.proofs.Math.Path.{fun_ext}
 use Rattle.std.specs.Prelude.{find, fold, max, Contains, ◌==◌, ◌&&◌, ◌||◌, option_map, option_and_then, if◌then◌else◌}
 use Rattle.std.specs.List.{list_any}
-use Rattle.std.specs.Option.{option_map_or, option_or, option_to_list}
+use Rattle.std.specs.Option.{option_or, option_to_list}
 use Rattle.std.proofs.lemmas.Bool.{cases_Bool, eqb-true, true≢false}
 use Rattle.std.proofs.lemmas.Option.{same_Some, none-some}
 use Rattle.std.proofs.lemmas.List.Folds.{list_any-append}
@@ -12,22 +12,21 @@ use Rattle.wire.specs.declared.message.Message.TheVariants as message
 use Rattle.model.specs.Histories.{History, batches, acks, headers, votes, coins, as_batch, as_ack, as_header, as_vote, as_coin}
 use Rattle.model.specs.Holdings.{has_acked, was_named, voted_header, voted_digest, is_vote_on, counted_vote, own_vote, counted_at, certificate_by, completed, certificates, slots, ledger_of, ledger_at, order}
 use Rattle.model.specs.Nodes.{Node}
-use Rattle.model.specs.Ordering.{Ledger, leader, top, committed, newer, newer_at, last_wave, segments}
+use Rattle.model.specs.Ordering.{newer, last_wave, segments}
 use Rattle.model.specs.Slots.{same_digest, header_digest, certificate_digest, is_of_slot, slots_of}
 use Rattle.model.specs.States.{State, whole, highest_of}
 use Rattle.model.specs.Words.{Author, BatchAck, Certificate, Digest, Event, Header, HeaderBody, Message, Vote}
-use Rattle.laws.specs.Laws.{added, last_or}
+use Rattle.laws.specs.Laws.{added}
 use Rattle.laws.proofs.Closed.{in_place, coins_later, kept_slot}
 use Rattle.laws.proofs.InSlots.{certificate_more, in_slots}
 use Rattle.laws.proofs.Legal.{Adds}
-use Rattle.laws.proofs.Lengthening.{last_pushed, order_lengthens}
+use Rattle.laws.proofs.Lengthening.{last_is, order_lengthens}
 use Rattle.laws.proofs.Lists.{given_or_none, filter_map-push, found_passes, Contains-nothing, Contains-cases, Contains-first, Contains-later}
 use Rattle.laws.proofs.Meeting.{same_number}
 use Rattle.laws.proofs.NewEvents.{IsNewVote, new_header-unvoted, new_vote, new_certificate-free}
-use Rattle.laws.proofs.OrderLonger.{newer_ends, committed_is, top_leader}
 use Rattle.laws.proofs.SlotsGrow.{or_none, completed-header, counted_vote-push, slots_grow}
 use Rattle.laws.proofs.Votes.{slot_is, of_its_slot, voted_header-push, each_headed}
-use Rattle.machine.specs.Machine.{header_at, vote_at, acknowledges, names, counted_with, certificate_of, slots_with, highest_with, last_leader, newly_ordered, grown}
+use Rattle.machine.specs.Machine.{header_at, vote_at, acknowledges, names, counted_with, certificate_of, slots_with, highest_with, newly_ordered, grown}
 
 -- ---- batches
 
@@ -297,21 +296,6 @@ highest_is node history event adds =
     ]
 
 -- ---- the order
-
--- the last of the committed leaders is that of the greatest wave
-pub last_is : (ledger : Ledger) → last_or None (committed ledger) ≡ last_leader ledger
-last_is ledger =
-    elim (given_or_none (top ledger)) [
-      | inr none ↦
-          ap (λ o. last_or None (option_map_or (newer_at ledger 0) o [])) none
-          ∙ sym (ap (option_and_then (leader ledger)) none)
-      | inl found ↦
-          let lead = top_leader ledger found.0 found.1 in
-          let wave = found.0 - 1 in
-          let ends = newer_ends ledger 0 wave lead.0 in
-          ap (λ l. last_or None l) (committed_is ledger wave lead.0 lead.1 lead.2 ∙ ends.1) ∙ last_pushed None ends.0 lead.0
-          ∙ sym (ap (option_and_then (leader ledger)) lead.1 ∙ lead.2)
-    ]
 
 order_is : (node : Node) (history : History) (event : Event) → Adds node history event
     → order node history ++ newly_ordered (ledger_at node history)

@@ -5,6 +5,7 @@ mod CertificatesStay
 mod Collected
 mod Completing
 mod Deciding
+mod Enough
 mod Following
 mod FreshSound
 pub mod Grown

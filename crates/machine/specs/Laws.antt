@@ -1,18 +1,20 @@
 -- What ties the machine to histories.
-use Rattle.std.specs.Prelude.{◌≡◌, ◌<◌, ◌≤◌, ◌⊎◌, ℕ, Bool, not, true, false, IsTrue, List, [], ◌∷◌, ◌++◌, ◌+◌, length, drop, filter, flat_map, ⊤, Some}
+use Rattle.std.specs.Prelude.{◌≡◌, ◌<◌, ◌≤◌, ◌⊎◌, ℕ, Bool, not, true, false, IsTrue, List, [], ◌∷◌, ◌++◌, ◌+◌, length, drop, filter, flat_map, nat_lt, ⊤, Option, Some, None, if◌then◌else◌}
 use Rattle.wire.specs.declared.limits.TheConstants.{MAX_ORDER_DIGESTS}
 use Rattle.wire.specs.declared.output.Output.TheVariants as output
-use Rattle.laws.specs.Laws.{Begins, own_event}
+use Rattle.laws.specs.Laws.{Begins, HoldsFrom, SayTheSame, ordered_since, own_event}
 use Rattle.model.specs.Admitting.{admit, is_new, order_outputs, header_outputs, IsTaken, IsLegal}
 use Rattle.model.specs.Giving.{kept}
 use Rattle.model.specs.Histories.{History, batches, coins}
-use Rattle.model.specs.Holdings.{floor, round, is_low, has_acked, voted_digest, voted_header, counted_at, slots}
+use Rattle.model.specs.Holdings.{floor, round, is_low, has_acked, voted_digest, voted_header, counted_at, slots, ledger_of}
 use Rattle.model.specs.Nodes.{Node, IsNode}
+use Rattle.model.specs.Ordering.{last_wave}
 use Rattle.model.specs.Proposing.{propose}
-use Rattle.model.specs.States.{State, floor_in}
+use Rattle.model.specs.Slots.{Slots}
+use Rattle.model.specs.States.{State, ledger_in, floor_in}
 use Rattle.model.specs.Words.{Certificate, Digest, Event, Header, Output, Vote}
 use Rattle.model.specs.declared.admission.Admission.TheVariants.{New}
-use Rattle.machine.specs.Machine.{after, answered, fresh, is_missing_parents, is_ready, proposed, round_in}
+use Rattle.machine.specs.Machine.{slots_with, grown, after, answered, fresh, is_missing_parents, is_ready, proposed, round_in}
 use Rattle.machine.specs.Sound.{IsSound}
 
 -- what is kept of the empty history is the fresh state
@@ -152,3 +154,34 @@ KeptIsSound = (node : Node) (history : History) → IsLegal node history → IsS
 abbrev pub SoundProposes : Type 0
 SoundProposes = (node : Node) (state : State) (header : Header) → IsNode node → IsSound node state → proposed node state ≡ Some header
     → IsTaken node (own_event node header) × (answered node state (own_event node header) ≡ New (header_outputs node header))
+
+-- ---- a part of a sound state
+
+-- slots that hold from a round on what others hold do so with one certificate more in both, and without what lies below a higher
+-- round
+pub record HoldsOn (low : ℕ) (held all : Slots) : Type 0 where
+  pub grows : (certificate : Option Certificate) → HoldsFrom low (slots_with held certificate) (slots_with all certificate)
+  pub drops : (high : ℕ) → low ≤ high → HoldsFrom high (λ round author. if nat_lt round high then None else held round author) all
+
+abbrev pub HeldGoesOn : Type 0
+HeldGoesOn = (low : ℕ) (held all : Slots) → HoldsFrom low held all → HoldsOn low held all
+
+-- slots that hold what a sound state holds, from a round on that is no higher than its floor, say the same as the state
+abbrev pub HeldIsEnoughNow : Type 0
+HeldIsEnoughNow = (node : Node) (state : State) (low : ℕ) (held : Slots) → IsNode node → IsSound node state → low ≤ floor_in node state
+    → HoldsFrom low held state.slots → SayTheSame node low (ledger_in node state) state.coins held state.slots
+
+-- slots say the same as a state with all that an event adds, what they order since the state's last committed wave lengthens its
+-- order, and behind the event they hold what the state holds from its floor on
+pub record IsEnoughBehind (node : Node) (state : State) (event : Event) (low : ℕ) (held : Slots) : Type 0 where
+  pub same : SayTheSame node low (ledger_in node state) (grown node state event.message).coins held (grown node state event.message).slots
+  pub order : (after node state event).order
+      ≡ state.order ++ ordered_since (ledger_of node held (grown node state event.message).coins) (last_wave (ledger_in node state))
+  pub behind : HoldsFrom (floor_in node (after node state event)) held (after node state event).slots
+
+-- so do slots that hold, from a round on that is no higher than the floor of a sound state, what it holds with the certificate of
+-- an event that is new there
+abbrev pub HeldIsEnoughBehind : Type 0
+HeldIsEnoughBehind = (node : Node) (state : State) (event : Event) (low : ℕ) (held : Slots) → IsNode node → IsSound node state → IsTaken node event
+    → IsTrue (is_new (answered node state event)) → low ≤ floor_in node state → HoldsFrom low held (grown node state event.message).slots
+    → IsEnoughBehind node state event low held

@@ -2,7 +2,7 @@
 //! that tie it to histories. Each law is what a function without a body ensures.
 #![tactic(auto)]
 
-ghost use Rattle.machine.specs.Laws.{StartsFresh, StateFollows, StateAnswers, StateIsReady, StateProposes, AnswersAlike, KeptDecides, KeptFollows, KeptProposes, OrderIsPutOut, StateStands, FreshIsSound, SoundStays, KeptIsSound, SoundProposes};
+ghost use Rattle.machine.specs.Laws.{StartsFresh, StateFollows, StateAnswers, StateIsReady, StateProposes, AnswersAlike, KeptDecides, KeptFollows, KeptProposes, OrderIsPutOut, StateStands, FreshIsSound, SoundStays, KeptIsSound, SoundProposes, HeldGoesOn, HeldIsEnoughNow, HeldIsEnoughBehind};
 
 /// What is kept of the empty history is the fresh state.
 pub fn starts_fresh()
@@ -79,4 +79,22 @@ pub fn kept_is_sound()
 /// What a sound state proposes is taken, and new there.
 pub fn sound_proposes()
     ensures { SoundProposes }
+{}
+
+/// Slots that hold from a round on what others hold do so with one certificate more in both, and without what lies below a
+/// higher round.
+pub fn held_goes_on()
+    ensures { HeldGoesOn }
+{}
+
+/// Slots that hold a sound state's certificates from a round on, which is no higher than its floor, say the same as the
+/// state: who leads a wave there, which waves are committed, the floor, the newer leaders, and what each of these orders.
+pub fn held_is_enough_now()
+    ensures { HeldIsEnoughNow }
+{}
+
+/// So they do with the certificate of an event that is new there; its order grows by what they say, and behind the event
+/// they hold the state's certificates from its floor on.
+pub fn held_is_enough_behind()
+    ensures { HeldIsEnoughBehind }
 {}

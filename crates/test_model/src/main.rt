@@ -38,6 +38,7 @@ fn laws_hold() {
     laws::outputs_given();
     laws::order_grows();
     laws::order_lengthens();
+    laws::held_is_enough();
     laws::given_grows();
     laws::proposals_are_new();
     laws::proposals_are_legal();
@@ -58,4 +59,7 @@ fn laws_hold() {
     machine::sound_stays();
     machine::kept_is_sound();
     machine::sound_proposes();
+    machine::held_goes_on();
+    machine::held_is_enough_now();
+    machine::held_is_enough_behind();
 }
