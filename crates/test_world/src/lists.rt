@@ -1,20 +1,22 @@
 //! Lists of random steps, made by the running code and by the plain world side by side.
 
-ghost use Rattle.std.specs.Prelude.{◌≡◌, ℕ, ◌<◌};
+ghost use Rattle.std.specs.Prelude.{◌≡◌, ℕ, ◌<◌, IfOk, IsNone};
 ghost use Rattle.book.specs.Book.{standing};
 ghost use Rattle.journal.specs.Journal.{IsAlive};
 ghost use Rattle.test_world.specs.Room.{HasRoom};
 
 use crate::draws::Draws;
-use crate::events::{KINDS, OWN, SENDERS, body_of, kind_of, sender_of};
+use crate::events::{KINDS, OWN, SENDERS, body_of, committee, kind_of, sender_of};
 use crate::plain::Plain;
 use crate::running::{OwnBook, are_of, put_configuration};
 use crate::tally::{Leaves, Moment, Tally, count};
 use diskmodel::{CallKind, Disk, MemDisk, StopDisk};
+use header::check;
 use journal::Journal;
+use sigface::HashVerify;
 use std::alloc::{AllocError, Global};
 use std::mem;
-use wire::{Output, header_digest};
+use wire::{Message, Output, Vote, header_digest};
 
 /// That a step was made, unless memory was refused.
 pub type Told = Result<(), AllocError>;
@@ -38,7 +40,7 @@ impl Lists {
             alloc,
             draws: Draws::from(start),
             disk: MemDisk::new(alloc, Vec::new(alloc))?,
-            book: OwnBook::new(alloc, &[])?,
+            book: OwnBook::after(alloc, &[])?.0,
             plain: Plain::new(alloc),
             tally: Tally::new(),
             wrong: 0,
@@ -49,7 +51,7 @@ impl Lists {
     pub fn play(&mut self, steps: u64) -> Told {
         self.disk = MemDisk::new(self.alloc, Vec::new(self.alloc))?;
         self.plain = Plain::new(self.alloc);
-        self.open()?;
+        self.stop(Moment::Idle, 0)?;
         for _ in 0..steps {
             match self.draws.below(16) {
                 0..=7 => self.accept()?,
@@ -130,7 +132,7 @@ impl Lists {
     }
 
     /// A group is taken and appended, which may fail at each device call, and is then settled, if the machine doesn't
-    /// stop.
+    /// stop. A second group may follow it on the same journal.
     fn flush(&mut self) -> Told {
         let (has_pending, pending) = (self.has_pending(), self.pending());
         self.expect(has_pending == (pending > 0));
@@ -149,7 +151,10 @@ impl Lists {
                 return Ok(());
             }
         };
-        let written = self.write(&mut journal, failing);
+        let mut written = self.write(&mut journal, failing);
+        if matches!(written, Ok(None)) && self.has_pending() {
+            written = self.write(&mut journal, None);
+        }
         self.disk = journal.into_disk();
         match written? {
             Some(moment) => self.stop(moment, gate),
@@ -164,10 +169,11 @@ impl Lists {
         failing: Option<Moment>,
     ) -> Result<Option<Moment>, AllocError>
         requires { IsAlive ⟦<MemDisk as Disk>⟧.content ⟦<MemDisk as Disk>⟧.outcome journal.old }
+        ensures alive { IfOk result (λ moment. IsNone moment → IsAlive ⟦<MemDisk as Disk>⟧.content ⟦<MemDisk as Disk>⟧.outcome journal.new) }
     {
         let Some(group) = self.book.book.take()? else {
             self.differs();
-            return Ok(None);
+            return Ok(Some(Moment::Idle));
         };
         let pending = self.pending();
         self.expect(group.records_count() == pending as u64);
@@ -198,7 +204,7 @@ impl Lists {
                 before?;
                 self.beside()?;
                 self.expect(failing.is_some());
-                Ok(failing)
+                Ok(Some(failing.unwrap_or(Moment::Taken)))
             }
         }
     }
@@ -212,6 +218,17 @@ impl Lists {
 
     /// The machine stops and begins a new run. Of a group on its way the gate is at this place.
     fn stop(&mut self, moment: Moment, gate: usize) -> Told {
+        self.tally.add_stop(moment);
+        let mut leaves_taken = self.leave(moment, gate)?;
+        if self.draws.below(4) == 0 && self.fail_to_open()? {
+            leaves_taken = self.leave(moment, gate)?;
+        }
+        self.plain.stop(leaves_taken);
+        self.open()
+    }
+
+    /// A stop leaves any of its outcomes; says whether it has the group that was taken.
+    fn leave(&mut self, moment: Moment, gate: usize) -> Result<bool, AllocError> {
         let leaves = match self.draws.below(3) {
             0 => Leaves::Read,
             1 => Leaves::Lost,
@@ -223,24 +240,45 @@ impl Lists {
             Leaves::Torn => torn(self.alloc, &self.disk, &mut self.draws)?,
         };
         let open = matches!(found.get(gate), Some(byte) if *byte != 0);
-        self.tally.add_stop(moment, leaves);
-        let leaves_taken = match moment {
-            Moment::Opened => {
-                self.tally.add_gate(open);
-                open
-            }
-            Moment::Firm => true,
-            _ => false,
-        };
-        self.plain.stop(leaves_taken);
+        self.tally.add_outcome(moment, leaves, open);
         self.disk.choose(found.as_slice().to_vec(self.alloc)?);
         self.disk.stop();
         let left = self.disk.bytes() == found.as_slice();
         self.expect(left);
-        self.open()
+        Ok(match moment {
+            Moment::Opened => open,
+            Moment::Firm => true,
+            _ => false,
+        })
     }
 
-    /// Opens the journal, whose records are those of the plain history, and a book after it.
+    /// An opening that is told to fail at one of its calls; says whether it did. It then leaves the disk to another stop.
+    fn fail_to_open(&mut self) -> Result<bool, AllocError> {
+        let call = self.draws.below(5);
+        let (kind, count) = match call {
+            0 => (CallKind::Sync, 1),
+            1 => (CallKind::Read, 1),
+            2 => (CallKind::Write, 1),
+            3 => (CallKind::Cut, 1),
+            _ => (CallKind::Sync, 2),
+        };
+        let mut disk = self.taken_disk()?;
+        disk.fail(kind, count)?;
+        match Journal::open(self.alloc, disk) {
+            Ok((journal, _)) => {
+                self.disk = journal.into_disk();
+                spend(&mut self.disk, kind);
+                Ok(false)
+            }
+            Err(failed) => {
+                self.disk = failed.disk;
+                self.tally.add_fault(call as usize);
+                Ok(true)
+            }
+        }
+    }
+
+    /// Opens the journal, whose records are those of the plain history, and a book after them.
     fn open(&mut self) -> Told {
         let disk = self.taken_disk()?;
         let (mut journal, records) = match Journal::open(self.alloc, disk) {
@@ -259,8 +297,10 @@ impl Lists {
         self.disk = journal.into_disk();
         let keeps = self.keeps_what_it_gave();
         self.expect(right && keeps);
-        self.book = OwnBook::new(self.alloc, &self.plain.history)?;
-        count(&mut self.tally.recovered);
+        let (book, replayed) = OwnBook::after(self.alloc, &records)?;
+        self.book = book;
+        self.expect(replayed);
+        count(&mut self.tally.opened);
         Ok(())
     }
 }
@@ -277,6 +317,28 @@ fn is_vote_for(alloc: Global, output: &Output, number: u64) -> Result<bool, Allo
             && vote.author == body.author
             && vote.voter == OWN,
     )
+}
+
+/// Whether a vote passes the checks as from the node, its signature too.
+fn passes(alloc: Global, vote: Vote) -> Result<bool, AllocError> {
+    let committee = committee(alloc)?;
+    Ok(check(&committee, &HashVerify, OWN, Message::Vote(vote)).is_ok())
+}
+
+/// Makes calls of a kind, which change nothing, until one fails, so that none is told to fail any more.
+fn spend(disk: &mut MemDisk, kind: CallKind) {
+    for _ in 0..3 {
+        let len = disk.bytes().len() as u64;
+        let outcome = match kind {
+            CallKind::Read => disk.read_at(0, &mut []),
+            CallKind::Write => disk.write_at(len, &[]),
+            CallKind::Cut => disk.cut(len),
+            CallKind::Sync => disk.sync(),
+        };
+        if outcome.is_err() {
+            return;
+        }
+    }
 }
 
 /// At which moment an append fails, if it does.
@@ -301,18 +363,17 @@ fn arm(disk: &mut MemDisk, failing: Option<Moment>) -> Told {
     }
 }
 
-/// Any bytes that a stop may leave: of a length from that of the last sync up to what is read, any byte in each place
-/// that was written since then, closed gates more often than others.
+/// Any bytes that a stop may leave: of a length between that of the last sync and what is read, any byte in each place
+/// that was written since then or lies past the smaller of both, closed gates more often than others.
 fn torn(alloc: Global, disk: &MemDisk, draws: &mut Draws) -> Result<Vec<u8>, AllocError> {
-    let (firm, read) = (disk.firm(), disk.bytes());
-    let longer = read.len().saturating_sub(firm.len()) as u64;
-    let len = firm
-        .len()
-        .saturating_add(draws.below(longer.saturating_add(1)) as usize);
+    let (firm, read) = (disk.firm(), disk.bytes().len());
+    let (smallest, greatest) = (firm.len().min(read), firm.len().max(read));
+    let more = greatest.saturating_sub(smallest) as u64;
+    let len = smallest.saturating_add(draws.below(more.saturating_add(1)) as usize);
     let mut found = Vec::new(alloc);
     for place in 0..len {
         match firm.get(place) {
-            Some(byte) if !disk.is_written(place as u64) => found.push(*byte)?,
+            Some(byte) if place < smallest && !disk.is_written(place as u64) => found.push(*byte)?,
             _ if draws.below(2) == 0 => found.push(0)?,
             _ => found.push(draws.below(256) as u8)?,
         }

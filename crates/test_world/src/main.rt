@@ -30,6 +30,7 @@ fn laws_hold() {
     world::runs_begin();
     world::runs_go_on();
     world::groups_settle();
+    world::stops_are_possible();
 }
 
 fn played(rt: &HostRuntime) -> Result<bool, Ending> {

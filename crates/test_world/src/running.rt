@@ -7,13 +7,14 @@ ghost use Rattle.test_world.specs.Room.{HasRoom};
 ghost use Rattle.test_world.specs.declared.events.TheConstants.{OWN};
 
 use crate::events::{OWN, committee, event_of, message_of, sender_of};
-use book::{Book, EVENT_RECORD, Receipt, Refusal, Validator};
+use book::{Book, EVENT_RECORD, Receipt, Refusal, Step, Validator};
 use committee::Committee;
 use diskmodel::{Disk, MemDisk};
 use journal::{Group, Journal, Record};
 use sigface::HashSign;
 use std::alloc::{AllocError, Global};
 use wire::{Author, Key, Output, encode};
+use wire_read::decode;
 
 /// A book of the node.
 #[derive(Drop)]
@@ -23,18 +24,17 @@ pub struct OwnBook {
 }
 
 impl OwnBook {
-    /// A book whose run begins with these events.
-    pub fn new(alloc: Global, history: &[u64]) -> Result<OwnBook, AllocError> {
+    /// A book whose run begins with the events of these records, the configuration before them; and whether each was
+    /// read, passed and was new.
+    pub fn after(alloc: Global, records: &[Record]) -> Result<(OwnBook, bool), AllocError> {
         let signer = HashSign::new(Key([1; 32]));
         let mut validator = Validator::new(alloc, OWN, committee(alloc)?, signer);
-        for number in history {
-            let message = message_of(alloc, *number)?;
-            if let Some(event) = event_of(validator.committee(), sender_of(*number), message) {
-                let _ = validator.step(event);
-            }
+        let mut right = true;
+        for record in records.iter().skip(1) {
+            right = right && replay(alloc, &mut validator, record.bytes.as_slice())?;
         }
         let book = Book::new(alloc, validator);
-        Ok(OwnBook { book })
+        Ok((OwnBook { book }, right))
     }
 
     /// The event of this number comes in; `None` where it doesn't pass the checks.
@@ -57,6 +57,28 @@ impl OwnBook {
         ensures room { (count : ℕ) → HasRoom count (standing self.old.book) → HasRoom count (standing self.new.book) }
     {
         self.book.release()
+    }
+}
+
+// Takes the event of a record; says whether it was read, passed and is new.
+fn replay(
+    alloc: Global,
+    validator: &mut Validator<HashSign>,
+    record: &[u8],
+) -> Result<bool, AllocError>
+    requires { validator.old.tables.own ≡ OWN }
+    ensures { validator.new.tables.own ≡ OWN }
+{
+    let [EVENT_RECORD, high, low, message @ ..] = record else {
+        return Ok(false);
+    };
+    let sender = Author(u16::from_be_bytes([*high, *low]));
+    let Ok(message) = decode(alloc, message) else {
+        return Ok(false);
+    };
+    match event_of(validator.committee(), sender, message) {
+        Some(event) => Ok(matches!(validator.step(event), Ok(Step::New(_)))),
+        None => Ok(false),
     }
 }
 

@@ -44,10 +44,13 @@ pub struct Tally {
     pub settled: u64,
     pub failed: u64,
     pub stops: [u64; 6],
-    pub left: [u64; 3],
+    // Outcomes of stops with the group or its gate written and not synced: what a read gives, what the last sync had, torn.
+    left: [u64; 3],
     /// Stops with the group's gate written and not synced that left it open, or closed.
     pub gates: [u64; 2],
-    pub recovered: u64,
+    pub opened: u64,
+    // Openings that failed: at the first sync, the read, the write, the cut, the second sync.
+    faults: [u64; 5],
 }
 
 /// Counts one more.
@@ -69,7 +72,8 @@ impl Tally {
             stops: [0; 6],
             left: [0; 3],
             gates: [0; 2],
-            recovered: 0,
+            opened: 0,
+            faults: [0; 5],
         }
     }
 
@@ -97,14 +101,27 @@ impl Tally {
         }
     }
 
-    pub fn add_stop(&mut self, moment: Moment, leaves: Leaves) {
+    pub fn add_stop(&mut self, moment: Moment) {
         count(&mut self.stops[moment as usize]);
-        count(&mut self.left[leaves as usize]);
     }
 
-    /// A stop left the gate that was opened open, or closed.
-    pub fn add_gate(&mut self, open: bool) {
-        count(&mut self.gates[if open { 0 } else { 1 }]);
+    /// A stop left an outcome, of a group with its gate open or closed.
+    pub fn add_outcome(&mut self, moment: Moment, leaves: Leaves, open: bool) {
+        match moment {
+            Moment::Written => count(&mut self.left[leaves as usize]),
+            Moment::Opened => {
+                count(&mut self.left[leaves as usize]);
+                count(&mut self.gates[if open { 0 } else { 1 }]);
+            }
+            _ => {}
+        }
+    }
+
+    /// An opening failed at this of its calls.
+    pub fn add_fault(&mut self, call: usize) {
+        if call < 5 {
+            count(&mut self.faults[call]);
+        }
     }
 
     /// Tells the counts, a line each.
@@ -125,7 +142,7 @@ impl Tally {
         )?;
         writeln!(
             answer,
-            "taken {}, settled {}, failed {}",
+            "groups {}, settled {}, failed {}",
             self.taken, self.settled, self.failed
         )?;
         writeln!(
@@ -136,6 +153,11 @@ impl Tally {
             answer,
             "left as read {read}, as synced {lost}, torn {torn}, the gate open {open}, closed {closed}"
         )?;
-        writeln!(answer, "recovered {}", self.recovered)
+        let [first, read, write, cut, second] = self.faults;
+        writeln!(
+            answer,
+            "opened {}, failed at the first sync {first}, read {read}, write {write}, cut {cut}, second sync {second}",
+            self.opened
+        )
     }
 }

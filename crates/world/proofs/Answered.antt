@@ -28,7 +28,7 @@ use Rattle.model.specs.Words.{Author, BatchAck, Certificate, Coin, Contents, Dig
 use Rattle.model.specs.declared.admission.Admission.{Admission}
 use Rattle.model.specs.declared.admission.Admission.TheVariants.{New, Known, Refused}
 use Rattle.world.specs.Promise.{by_new, by_known}
-use Rattle.world.proofs.Gifts.{mapped_of, picks}
+use Rattle.world.proofs.Ballots.{mapped_of, picks}
 use Rattle.world.proofs.Orders.{BeginsBehind, IsPut}
 
 -- ---- a new event

@@ -3,18 +3,20 @@ use Rattle.std.proofs.Common.{◌≡◌, ◌⊎◌, ℕ, ◌+◌, ◌-◌, ◌<�
 use Rattle.std.proofs.lemmas.Bool.{or_from}
 use Rattle.std.proofs.lemmas.List.{ext_get_or, get_or-take, get_or-drop}
 use Rattle.std.proofs.lemmas.Option.{same_Some, none-some}
+use Rattle.std.proofs.lemmas.List.Elements.{All-nil}
 use Rattle.diskmodel.specs.declared.call.Call.{Call}
 use Rattle.diskmodel.specs.declared.call.Call.TheVariants.{Wrote, Synced}
 use Rattle.diskmodel.specs.declared.call.Span.{Span}
 use Rattle.diskmodel.specs.Disk.{written, IsTorn}
-use Rattle.diskmodel.specs.Outcomes.{State, CanLeave, holds, is_written, after, firmed}
-use Rattle.diskmodel.proofs.Calls.{firm_only}
+use Rattle.diskmodel.specs.Outcomes.{State, AreBytes, CanLeave, holds, is_written, after, firmed}
+use Rattle.diskmodel.proofs.Calls.{firm_only, possible_firm, possible_write}
 use Rattle.diskmodel.proofs.Places.{is_written-push, outside_before, outside_behind}
 use Rattle.diskmodel.proofs.Torn.{length-written}
 use Rattle.journal.specs.Format.{FitsGroup, group_bytes, file_with, stands}
 use Rattle.journal.specs.Journal.{EndsClosed, stands_with, IsBeforeOrAfter}
 use Rattle.journal.specs.declared.layout.TheConstants.{OPEN}
 use Rattle.journal.proofs.Stops.{torn_behind, torn_gate, staged_before, written_behind, Added, added}
+use Rattle.world.proofs.Bytes.{one_more, joined, longer_bytes}
 use Rattle.world.specs.World.{Phase, no_group, group_taken, group_written, group_synced, gate_opened, gate_synced, call_in}
 use Rattle.world.specs.Steps.{next_phase}
 
@@ -94,6 +96,22 @@ module _ (file : List ℕ) (ends : EndsClosed file) (group : List (List ℕ)) wh
       (torn_on_firm (file ++ group_bytes group) (length file - 1) (1 ∷ []) found within (subst (λ (t : State). CanLeave t found) is left))
   leaves gate_synced s found fits is left =
       inr (ap stands (firm_only (file_with file group) found (subst (λ (t : State). CanLeave t found) is left)) ∙ longer_stands fits)
+
+  -- what a read gives is what a stop may leave
+  pub read_possible : (phase : Phase) (s : State) → AreBytes file → AreBytes (group_bytes group) → IsAt phase s file group → CanLeave s s.content
+  read_possible no_group s are also is = subst (λ (t : State). CanLeave t t.content) (sym is) (possible_firm file are)
+  read_possible group_taken s are also is = subst (λ (t : State). CanLeave t t.content) (sym is) (possible_firm file are)
+  read_possible group_written s are also is =
+      subst (λ (t : State). CanLeave t t.content) (sym is) (possible_write (firmed file) (length file) (group_bytes group) (possible_firm file are) also (omega arith))
+  read_possible group_synced s are also is =
+      subst (λ (t : State). CanLeave t t.content) (sym is) (possible_firm (file ++ group_bytes group) (joined file (group_bytes group) are also))
+  read_possible gate_opened s are also is =
+      let staged = file ++ group_bytes group in
+      let within : length file - 1 ≤ length staged = omega (arith, length-append file (group_bytes group)) in
+      subst (λ (t : State). CanLeave t t.content) (sym is)
+      (possible_write (firmed staged) (length file - 1) (1 ∷ []) (possible_firm staged (joined file (group_bytes group) are also)) (one_more 1 [] (omega arith) (All-nil (λ b. b < 256))) within)
+  read_possible gate_synced s are also is =
+      subst (λ (t : State). CanLeave t t.content) (sym is) (possible_firm (file_with file group) (longer_bytes file group are also))
 
   -- the next call leads to the next phase
   pub called : (phase : Phase) (s : State) (call : Call) → Fits phase group → IsAt phase s file group → call_in phase s.content group ≡ Some call

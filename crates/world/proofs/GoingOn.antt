@@ -1,5 +1,7 @@
 -- That runs go on: what a stop leaves can be opened, and what is accepted can be settled.
-use Rattle.std.proofs.Common.{◌≡◌, ℕ, ◌+◌, ◌-◌, List, [], ◌∷◌, ◌++◌, length, take, Result, Ok, Err, refl}
+use Rattle.std.proofs.Common.{◌≡◌, ℕ, ◌+◌, ◌-◌, ◌<◌, List, [], ◌∷◌, ◌++◌, length, take, drop, Result, Ok, Err, refl}
+use Rattle.std.proofs.lemmas.List.Elements.{All-take}
+use Rattle.diskmodel.specs.Outcomes.{AreBytes, state}
 use Rattle.diskmodel.specs.declared.call.Call.{Call}
 use Rattle.diskmodel.specs.declared.call.Call.TheVariants.{Wrote, Synced}
 use Rattle.journal.specs.Format.{group_bytes, scan, only_records, stands}
@@ -8,12 +10,14 @@ use Rattle.journal.specs.declared.record.Record.{Record}
 use Rattle.journal.proofs.Stops.{repaired_cut}
 use Rattle.model.specs.Histories.{History}
 use Rattle.model.specs.Nodes.{Node}
-use Rattle.world.specs.World.{no_group, group_taken, World, Holds, group_in, content_in, as_journal, run_on, IsOpened}
+use Rattle.world.specs.World.{no_group, group_taken, World, Holds, group_in, content_in, as_journal, MayStop, between, inside, run_on, IsOpened}
 use Rattle.world.specs.Steps.{next_phase}
-use Rattle.world.specs.Runs.{RunsGoOn, GroupsSettle}
+use Rattle.world.specs.Runs.{StopsArePossible, RunsGoOn, GroupsSettle}
+use Rattle.world.proofs.Bytes.{group_in_bytes}
+use Rattle.world.proofs.Disks.{read_possible}
 use Rattle.world.proofs.Law.{run_stands}
 use Rattle.world.proofs.Recovering.{ok_is, journal_long, holds_same}
-use Rattle.world.proofs.Standing.{left}
+use Rattle.world.proofs.Standing.{left, group_events}
 
 -- ---- what an opening leaves
 
@@ -27,19 +31,38 @@ unfolding stands
 scanned file records is = read_of (scan file) records is
 
 -- an opening cuts what lies behind the closed gate
-pub openable : (node : Node) (file : List ℕ) (history : History) → Holds node file history → (bytes : List ℕ) × IsOpened node bytes history
-openable node file history held =
+openable : (node : Node) (file : List ℕ) (history : History) → Holds node file history → AreBytes file → (bytes : List ℕ) × IsOpened node bytes history
+openable node file history held are_bytes =
     let found = scanned file held.records held.stands_for in
     let bytes = take (found.0 + 1) file in
-    let repaired = repaired_cut file found.0 (held.records, found.1) (journal_long node file history held) bytes refl in
-    (bytes, record { holds = holds_same node file bytes history held repaired.records; ends_closed = repaired.ends_closed })
+    let repaired = repaired_cut file found.0 (held.records, found.1) (journal_long node file history held) bytes refl in (
+      bytes,
+      record {
+        holds = holds_same node file bytes history held repaired.records;
+        ends_closed = repaired.ends_closed;
+        are_bytes = All-take (λ number. number < 256) (found.0 + 1) file are_bytes;
+      },
+    )
+
+-- what a stop leaves are bytes
+left_bytes : (world : World) (found : List ℕ) → MayStop world found → AreBytes found
+left_bytes world found (between outcome) = outcome.are_bytes
+left_bytes world found (inside call due outcome) = outcome.are_bytes
 
 -- what a stop leaves can be opened
 pub runs_go_on : RunsGoOn
 runs_go_on node moves world found sound run may =
     let is_left = left node world found (run_stands node moves world sound run) may in
-    let is_opened = openable node found is_left.history is_left.holds in
+    let is_opened = openable node found is_left.history is_left.holds (left_bytes world found may) in
     (run_on is_opened.0 is_left.history world.given, record { left = may; stands_for = as_journal is_left.holds; opened = is_opened.1; is = refl })
+
+-- ---- a stop is always possible
+
+pub stops_are_possible : StopsArePossible
+stops_are_possible node moves world sound run =
+    let at = run_stands node moves world sound run in
+    let events = drop (length world.settled) world.taken in
+    between (read_possible at.file at.ends_closed (group_in world) world.phase (state world.bytes_at_start world.calls) at.are_bytes (group_in_bytes node events (group_events node world at)) at.disk)
 
 -- ---- what is accepted can be settled
 

@@ -14,13 +14,13 @@ use Rattle.model.specs.Histories.{History}
 use Rattle.model.specs.Holdings.{order}
 use Rattle.model.specs.Nodes.{Node, IsNode}
 use Rattle.model.specs.Words.{Digest, Output}
-use Rattle.world.specs.World.{Gift, put_out, read, Given, World, StandsFor, as_journal, MayStop, run_on}
+use Rattle.world.specs.World.{Outgoing, put_out, read, Given, World, StandsFor, as_journal, as_new, MayStop}
 use Rattle.world.specs.Steps.{Move, IsRun}
 use Rattle.world.specs.Promise.{Ballot, vote_in, vote_given, order_given, IsNoLater, IsRecovered, NeverTakesBack, NothingTakenBack}
-use Rattle.world.proofs.Gifts.{votes_agree}
+use Rattle.world.proofs.Ballots.{votes_agree}
 use Rattle.world.proofs.Moving.{all_stand}
-use Rattle.world.proofs.Orders.{shorter_begins, IsEnded, is_gift, order_of, orders_begin}
-use Rattle.world.proofs.Recovering.{stands_once}
+use Rattle.world.proofs.Orders.{shorter_begins, IsEnded, goes_out, order_of, orders_begin}
+use Rattle.world.proofs.Recovering.{journal_long, stands_once}
 use Rattle.world.proofs.Standing.{IsKept, Stands, left, legal_between, settled_legal, begins_standing}
 
 -- the output that has a vote may be given out
@@ -29,7 +29,7 @@ pub record HasVote (node : Node) (history : History) (ballot : Ballot) : Type 0 
   pub may : MayGive node history output
   pub is : vote_in output ≡ Some ballot
 
-has_vote : (node : Node) (history : History) (gift : Gift) (ballot : Ballot) → IsEnded node history gift → vote_given gift ≡ Some ballot → HasVote node history ballot
+has_vote : (node : Node) (history : History) (outgoing : Outgoing) (ballot : Ballot) → IsEnded node history outgoing → vote_given outgoing ≡ Some ballot → HasVote node history ballot
 has_vote node history (put_out output) ballot ended is = record { output = output; may = ended.may; is = is }
 has_vote node history (read digests) ballot ended is = absurd (none-some ballot is)
 
@@ -45,21 +45,21 @@ module _ (node : Node) (world : World) (at : Stands node world) where
   kept : (given : Given) → Contains world.given given → IsKept node (world.began ++ world.settled) given
   kept given there = All-contains (IsKept node (world.began ++ world.settled)) world.given given at.given there
 
-  vote_there : (given : Given) (ballot : Ballot) → Contains world.given given → vote_given given.gift ≡ Some ballot → HasVote node (world.began ++ world.settled) ballot
+  vote_there : (given : Given) (ballot : Ballot) → Contains world.given given → vote_given given.outgoing ≡ Some ballot → HasVote node (world.began ++ world.settled) ballot
   vote_there given ballot there is =
       let is_kept = kept given there in
-      vote_later node given.history (world.began ++ world.settled) ballot (settled_legal node world at) is_kept.begins (has_vote node given.history given.gift ballot is_kept.ended is)
+      vote_later node given.history (world.began ++ world.settled) ballot (settled_legal node world at) is_kept.begins (has_vote node given.history given.outgoing ballot is_kept.ended is)
 
   legal_at : (given : Given) → Contains world.given given → IsLegal node given.history
   legal_at given there =
       let begins = (kept given there).begins in
       legal-begins node given.history begins.rest (subst (IsLegal node) begins.parts (settled_legal node world at))
 
-  orders_there : (one other : Given) (earlier later : List Digest) → Contains world.given one → Contains world.given other → order_given (order node one.history) one.gift ≡ Some earlier → order_given (order node other.history) other.gift ≡ Some later
+  orders_there : (one other : Given) (earlier later : List Digest) → Contains world.given one → Contains world.given other → order_given (order node one.history) one.outgoing ≡ Some earlier → order_given (order node other.history) other.outgoing ≡ Some later
       → IsNoLater one other earlier later → Begins earlier later
   orders_there one other earlier later there also is is' no_later =
       orders_begin node one.history other.history earlier later (legal_at other also) no_later.begins no_later.no_longer
-      (order_of node one.history one.gift earlier (legal_at one there) (kept one there).ended is) (order_of node other.history other.gift later (legal_at other also) (kept other also).ended is')
+      (order_of node one.history one.outgoing earlier (legal_at one there) (kept one there).ended is) (order_of node other.history other.outgoing later (legal_at other also) (kept other also).ended is')
 
   nested_there : (one other : Given) → Contains world.given one → Contains world.given other → Begins one.history other.history ⊎ Begins other.history one.history
   nested_there one other there also =
@@ -94,11 +94,12 @@ module _ (node : Node) (world : World) (at : Stands node world) where
 
   never : NeverTakesBack node world
   never = record {
-    found = λ bytes may. let is_left = left node world bytes at may in (is_left.history, as_journal is_left.holds);
+    in_order = record { settled = at.settled; taken = at.taken; legal = at.legal };
+    stands = λ bytes may. let is_left = left node world bytes at may in (is_left.history, as_journal is_left.holds);
     only = only_there;
     recovered = recovered_there;
     held = λ given there. (kept given there).begins;
-    right = λ given there. is_gift node given.history given.gift (kept given there).ended;
+    right = λ given there. goes_out node given.history given.outgoing (kept given there).ended;
     votes = λ one other vote also there there' is is' author round.
         let first = vote_there one vote there is in
         let second = vote_there other also there' is' in
@@ -107,13 +108,23 @@ module _ (node : Node) (world : World) (at : Stands node world) where
     orders = orders_there;
   }
 
+-- an empty disk stands for no event
+empty_stands : (node : Node) (history : History) → StandsFor node [] history → history ≡ []
+empty_stands node history (as_journal held) = absurd (omega (arith, journal_long node [] history held))
+empty_stands node history (as_new none empty) = empty
+
 -- the empty history is legal
 empty_legal : (node : Node) → IsNode node → IsLegal node []
 empty_legal node sound = record { sound = sound; taken = All-nil (IsTaken node); new = refl }
 
 pub run_stands : (node : Node) (moves : List Move) (world : World) → IsNode node → IsRun node moves world → Stands node world
 run_stands node moves world sound run =
-    all_stand node moves (run_on run.first [] []) world (begins_standing node run.first [] [] (empty_legal node sound) run.opened (All-nil (IsKept node []))) run.leads
+    let first = run.first in
+    let empty : [] ≡ first.began = sym (empty_stands node first.began run.begins.stands_for) in
+    let legal : IsLegal node first.began = subst (IsLegal node) empty (empty_legal node sound) in
+    let at : Stands node first =
+    subst (Stands node) (sym run.begins.is) (begins_standing node first.bytes_at_start first.began [] legal run.begins.opened (All-nil (IsKept node first.began))) in
+    all_stand node moves first world at run.leads
 
 pub nothing_taken_back : NothingTakenBack
 nothing_taken_back node moves world sound run = never node world (run_stands node moves world sound run)

@@ -1,7 +1,8 @@
 mod Answered
 mod Beginning
+mod Ballots
+mod Bytes
 mod Disks
-mod Gifts
 mod GoingOn
 mod Law
 mod Moving

@@ -16,9 +16,10 @@ use Rattle.model.specs.Words.{Event, Output}
 use Rattle.model.specs.declared.admission.Admission.{Admission}
 use Rattle.model.specs.declared.admission.Admission.TheVariants.{New, Known, Refused}
 use Rattle.records.specs.Records.{record_of}
-use Rattle.world.specs.World.{Phase, no_group, group_taken, group_written, group_synced, gate_opened, gate_synced, Waiting, Gift, put_out, read, World, Holds, group_in}
-use Rattle.world.specs.Steps.{Move, accept, take_to, device, settle, release, read_order, stop, ticketed, with_new, with_known, with_given, IsAnswered, IsTakenTo, IsCalled, IsSettled, IsReleased, IsStopped, next_phase, IsStep, Leads}
+use Rattle.world.specs.World.{Phase, no_group, group_taken, group_written, group_synced, gate_opened, gate_synced, Waiting, Outgoing, put_out, read, World, Holds, group_in}
+use Rattle.world.specs.Steps.{Move, accept, take_to, device_call, settle, release, read_order, restart, ticketed, with_new, with_known, with_given, IsAnswered, IsTakenTo, IsCalled, IsSettled, IsReleased, IsRestarted, next_phase, IsStep, Leads}
 use Rattle.world.proofs.Answered.{new_put, known_put}
+use Rattle.world.proofs.Bytes.{group_in_bytes, longer_bytes}
 use Rattle.world.proofs.Disks.{IsAt, Fits, called, fits_next, longer_stands, longer_ends}
 use Rattle.world.proofs.Orders.{begins_same, begins_trans, begins_join, shorter_begins, IsPut, IsEnded}
 use Rattle.world.proofs.Recovering.{holds_more, stands_once}
@@ -57,6 +58,7 @@ new_accepted node world event outputs at is_taken is =
       settled = at.settled;
       file = at.file;
       ends_closed = at.ends_closed;
+      are_bytes = at.are_bytes;
       holds = at.holds;
       disk = at.disk;
       fits = at.fits;
@@ -79,6 +81,7 @@ known_accepted node world event outputs at is =
       settled = at.settled;
       file = at.file;
       ends_closed = at.ends_closed;
+      are_bytes = at.are_bytes;
       holds = at.holds;
       disk = at.disk;
       fits = at.fits;
@@ -116,13 +119,14 @@ take_stands node world next count at step =
     omega (arith, step.fits.some, length-map (drop (length world.settled) some) record_of, length-drop (length world.settled) some) in
     let all = begins_trans world.settled world.taken world.accepted at.settled at.taken in
     let begins : Begins some world.accepted = record { rest = drop count world.accepted; parts = sym (take-append-drop count world.accepted) } in
-    let before : state world.first world.calls ≡ firmed at.file = subst (λ (p : Phase). IsAt p (state world.first world.calls) at.file (group_in world)) step.free at.disk in
+    let before : state world.bytes_at_start world.calls ≡ firmed at.file = subst (λ (p : Phase). IsAt p (state world.bytes_at_start world.calls) at.file (group_in world)) step.free at.disk in
     subst (Stands node) (sym step.is) (record {
       legal = at.legal;
       taken = begins;
       settled = shorter_begins world.settled some world.accepted all begins long;
       file = at.file;
       ends_closed = at.ends_closed;
+      are_bytes = at.are_bytes;
       holds = at.holds;
       disk = before;
       fits = step.fits;
@@ -131,17 +135,18 @@ take_stands node world next count at step =
       given = at.given;
     })
 
-device_stands : (node : Node) (world next : World) → Stands node world → IsCalled world next → Stands node next
-device_stands node world next at step =
-    let s = state world.first world.calls in
+call_stands : (node : Node) (world next : World) → Stands node world → IsCalled world next → Stands node next
+call_stands node world next at step =
+    let s = state world.bytes_at_start world.calls in
     let now = called at.file at.ends_closed (group_in world) world.phase s step.call at.fits at.disk step.due in
-    let calls = after_all-push (firmed world.first) world.calls step.call in
+    let calls = after_all-push (firmed world.bytes_at_start) world.calls step.call in
     subst (Stands node) (sym step.is) (record {
       legal = at.legal;
       taken = at.taken;
       settled = at.settled;
       file = at.file;
       ends_closed = at.ends_closed;
+      are_bytes = at.are_bytes;
       holds = at.holds;
       disk = subst (λ t. IsAt (next_phase world.phase) t at.file (group_in world)) (sym calls) now;
       fits = fits_next world.phase (group_in world) s.content step.call at.fits step.due;
@@ -154,7 +159,7 @@ settle_stands : (node : Node) (world next : World) → Stands node world → IsS
 settle_stands node world next at step =
     let group = group_in world in
     let fits = subst (λ (p : Phase). Fits p group) step.done at.fits in
-    let disk : state world.first world.calls ≡ firmed (file_with at.file group) = subst (λ (p : Phase). IsAt p (state world.first world.calls) at.file group) step.done at.disk in
+    let disk : state world.bytes_at_start world.calls ≡ firmed (file_with at.file group) = subst (λ (p : Phase). IsAt p (state world.bytes_at_start world.calls) at.file group) step.done at.disk in
     let more = drop (length world.settled) world.taken in
     let holds = subst (Holds node (file_with at.file group)) (taken_is world at.settled)
     (holds_more node at.file (file_with at.file group) (world.began ++ world.settled) more at.holds (group_events node world at) (longer_stands at.file at.ends_closed group fits)) in
@@ -165,6 +170,7 @@ settle_stands node world next at step =
       settled = begins_same world.taken;
       file = file_with at.file group;
       ends_closed = longer_ends at.file at.ends_closed group fits;
+      are_bytes = longer_bytes at.file group at.are_bytes (group_in_bytes node more (group_events node world at));
       holds = holds;
       disk = disk;
       fits = tt;
@@ -176,21 +182,22 @@ settle_stands node world next at step =
 
 -- ---- something goes out
 
-given_stands : (node : Node) (world next : World) (gift : Gift) (history : History) → Stands node world → Begins history (world.began ++ world.settled) → IsEnded node history gift
-    → next ≡ with_given world gift history → Stands node next
-given_stands node world next gift history at begins ended is =
+given_stands : (node : Node) (world next : World) (outgoing : Outgoing) (history : History) → Stands node world → Begins history (world.began ++ world.settled) → IsEnded node history outgoing
+    → next ≡ with_given world outgoing history → Stands node next
+given_stands node world next outgoing history at begins ended is =
     subst (Stands node) (sym is) (record {
       legal = at.legal;
       taken = at.taken;
       settled = at.settled;
       file = at.file;
       ends_closed = at.ends_closed;
+      are_bytes = at.are_bytes;
       holds = at.holds;
       disk = at.disk;
       fits = at.fits;
       idle = at.idle;
       waiting = at.waiting;
-      given = All-push (IsKept node (world.began ++ world.settled)) world.given (record { gift = gift; history = history }) at.given (record { begins = begins; ended = ended });
+      given = All-push (IsKept node (world.began ++ world.settled)) world.given (record { outgoing = outgoing; history = history }) at.given (record { begins = begins; ended = ended });
     })
 
 release_stands : (node : Node) (world next : World) (waiting : Waiting) → Stands node world → IsReleased world waiting next → Stands node next
@@ -202,10 +209,10 @@ release_stands node world next waiting at step =
     let begins = shorter_begins some world.settled world.accepted (record { rest = drop waiting.ticket world.accepted; parts = sym (take-append-drop waiting.ticket world.accepted) }) all short in
     given_stands node world next (put_out waiting.output) (world.began ++ some) at (begins_join world.began some world.settled begins) due.put step.is
 
--- ---- a stop
+-- ---- a restart
 
-stop_stands : (node : Node) (world next : World) (found : List ℕ) → Stands node world → IsStopped node world found next → Stands node next
-stop_stands node world next found at step =
+restart_stands : (node : Node) (world next : World) (found : List ℕ) → Stands node world → IsRestarted node world found next → Stands node next
+restart_stands node world next found at step =
     let is_left = left node world found at step.left in
     let same : next.began ≡ is_left.history = stands_once node found is_left.history next.began at.legal.sound is_left.holds step.stands_for in
     let legal : IsLegal node next.began = subst (IsLegal node) (sym same) (legal_between node world is_left.history at is_left.is_between) in
@@ -213,19 +220,19 @@ stop_stands node world next found at step =
     let kept : All (IsKept node next.began) world.given =
     All-weaker (IsKept node (world.began ++ world.settled)) (IsKept node next.began)
     (λ g is. record { begins = begins_trans g.history (world.began ++ world.settled) next.began is.begins settled; ended = is.ended }) world.given at.given in
-    subst (Stands node) (sym step.is) (begins_standing node next.first next.began world.given legal step.opened kept)
+    subst (Stands node) (sym step.is) (begins_standing node next.bytes_at_start next.began world.given legal step.opened kept)
 
 -- ---- all of them
 
 pub step_stands : (node : Node) (world : World) (move : Move) (next : World) → Stands node world → IsStep node world move next → Stands node next
 step_stands node world (accept event) next at step = answered_stands node world next event (admit node (world.began ++ world.accepted) event) at step.is_taken refl step.is
 step_stands node world (take_to count) next at step = take_stands node world next count at step
-step_stands node world device next at step = device_stands node world next at step
+step_stands node world device_call next at step = call_stands node world next at step
 step_stands node world settle next at step = settle_stands node world next at step
 step_stands node world (release waiting) next at step = release_stands node world next waiting at step
 step_stands node world read_order next at step =
     given_stands node world next (read (order node (world.began ++ world.settled))) (world.began ++ world.settled) at (begins_same (world.began ++ world.settled)) refl step
-step_stands node world (stop found) next at step = stop_stands node world next found at step
+step_stands node world (restart found) next at step = restart_stands node world next found at step
 
 pub all_stand : (node : Node) (moves : List Move) (world last : World) → Stands node world → Leads node world moves last → Stands node last
 all_stand node [] world last at leads = subst (Stands node) leads at

@@ -12,8 +12,8 @@ use Rattle.model.specs.Histories.{History}
 use Rattle.model.specs.Holdings.{order}
 use Rattle.model.specs.Nodes.{Node}
 use Rattle.model.specs.Words.{Digest, Event, Output}
-use Rattle.world.specs.World.{Gift, put_out, read}
-use Rattle.world.specs.Promise.{order_given, WasPutOut, IsGift}
+use Rattle.world.specs.World.{Outgoing, put_out, read}
+use Rattle.world.specs.Promise.{order_given, WasPutOut, GoesOut}
 
 -- ---- beginnings
 
@@ -62,13 +62,13 @@ pub record IsPut (node : Node) (history : History) (output : Output) : Type 0 wh
   pub may : MayGive node history output
   pub behind : BeginsBehind node history output
 
-abbrev pub IsEnded : Node → History → Gift → Type 0
+abbrev pub IsEnded : Node → History → Outgoing → Type 0
 IsEnded node history (put_out output) = IsPut node history output
 IsEnded node history (read digests) = digests ≡ order node history
 
-pub is_gift : (node : Node) (history : History) (gift : Gift) → IsEnded node history gift → IsGift node history gift
-is_gift node history (put_out output) ended = (ended.by, ended.may)
-is_gift node history (read digests) ended = ended
+pub goes_out : (node : Node) (history : History) (outgoing : Outgoing) → IsEnded node history outgoing → GoesOut node history outgoing
+goes_out node history (put_out output) ended = (ended.by, ended.may)
+goes_out node history (read digests) ended = ended
 
 -- ---- an order that was given out
 
@@ -115,7 +115,7 @@ of_piece node history start digests legal put =
     }
 
 -- each order that was given out is one
-pub order_of : (node : Node) (history : History) (gift : Gift) (digests : List Digest) → IsLegal node history → IsEnded node history gift → order_given (order node history) gift ≡ Some digests
+pub order_of : (node : Node) (history : History) (outgoing : Outgoing) (digests : List Digest) → IsLegal node history → IsEnded node history outgoing → order_given (order node history) outgoing ≡ Some digests
     → IsOrderOf node history digests
 order_of node history (read all) digests legal ended is = subst (IsOrderOf node history) (same_Some _ _ is) (of_read node history all legal ended)
 order_of node history (put_out (output.Order start piece)) digests legal ended is = subst (IsOrderOf node history) (same_Some _ _ is) (of_piece node history start piece legal ended)

@@ -55,6 +55,7 @@ holds_same node file left history held same = record {
   are = held.are;
   alone = held.alone;
   each_taken = held.each_taken;
+  ones = held.ones;
 }
 
 -- and with a group of the records of these events more
@@ -73,6 +74,7 @@ holds_more node file left history more held taken is =
           (All-append IsBehind (drop 1 held.records) last held.alone
           (kept_behind (length file - 1) group (omega (arith, journal_long node file history held))));
       each_taken = All-append (IsTaken node) history more held.each_taken taken;
+      ones = held.ones;
     }
 
 -- ---- one history

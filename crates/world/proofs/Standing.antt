@@ -3,7 +3,7 @@ use Rattle.std.proofs.Common.{◌≡◌, ◌⊎◌, ℕ, ◌≤◌, List, [], �
 use Rattle.std.specs.Prelude.{All}
 use Rattle.std.proofs.lemmas.List.{append-nil, take_at, drop_at}
 use Rattle.std.proofs.lemmas.List.Elements.{All-nil, All-take, All-drop}
-use Rattle.diskmodel.specs.Outcomes.{CanLeave, after, state, firmed}
+use Rattle.diskmodel.specs.Outcomes.{AreBytes, CanLeave, after, state, firmed}
 use Rattle.diskmodel.proofs.Calls.{after_all-push}
 use Rattle.journal.specs.Journal.{EndsClosed, IsBeforeOrAfter}
 use Rattle.laws.specs.Laws.{Begins}
@@ -27,7 +27,7 @@ pub record IsDue (node : Node) (began accepted : History) (waiting : Waiting) : 
 -- what was given out ended a history that what is settled holds
 pub record IsKept (node : Node) (settled : History) (given : Given) : Type 0 where
   pub begins : Begins given.history settled
-  pub ended : IsEnded node given.history given.gift
+  pub ended : IsEnded node given.history given.outgoing
 
 pub record Stands (node : Node) (world : World) : Type 0 where
   pub legal : IsLegal node (world.began ++ world.accepted)
@@ -36,8 +36,9 @@ pub record Stands (node : Node) (world : World) : Type 0 where
   -- the file from before the group that was taken
   pub file : List ℕ
   pub ends_closed : EndsClosed file
+  pub are_bytes : AreBytes file
   pub holds : Holds node file (world.began ++ world.settled)
-  pub disk : IsAt world.phase (state world.first world.calls) file (group_in world)
+  pub disk : IsAt world.phase (state world.bytes_at_start world.calls) file (group_in world)
   pub fits : Fits world.phase (group_in world)
   pub idle : world.phase ≡ no_group → world.taken ≡ world.settled
   pub waiting : All (IsDue node world.began world.accepted) world.waiting
@@ -71,10 +72,10 @@ holds_one node world found at (inr behind) =
 pub left_holds : (node : Node) (world : World) (found : List ℕ) → Stands node world → MayStop world found
     → Holds node found (world.began ++ world.settled) ⊎ Holds node found (world.began ++ world.taken)
 left_holds node world found at (between outcome) =
-    holds_one node world found at (leaves at.file at.ends_closed (group_in world) world.phase (state world.first world.calls) found at.fits at.disk outcome)
+    holds_one node world found at (leaves at.file at.ends_closed (group_in world) world.phase (state world.bytes_at_start world.calls) found at.fits at.disk outcome)
 left_holds node world found at (inside call due outcome) =
-    let s = state world.first world.calls in
-    let now : CanLeave (after s call) found = subst (λ t. CanLeave t found) (after_all-push (firmed world.first) world.calls call) outcome in
+    let s = state world.bytes_at_start world.calls in
+    let now : CanLeave (after s call) found = subst (λ t. CanLeave t found) (after_all-push (firmed world.bytes_at_start) world.calls call) outcome in
     holds_one node world found at (leaves at.file at.ends_closed (group_in world) (next_phase world.phase) (after s call) found
     (fits_next world.phase (group_in world) s.content call at.fits due)
     (called at.file at.ends_closed (group_in world) world.phase s call at.fits at.disk due) now)
@@ -131,6 +132,7 @@ begins_standing node first began given legal opened kept =
       settled = begins_same [];
       file = first;
       ends_closed = opened.ends_closed;
+      are_bytes = opened.are_bytes;
       holds = subst (Holds node first) same opened.holds;
       disk = refl;
       fits = tt;

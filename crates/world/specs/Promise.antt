@@ -10,7 +10,7 @@ use Rattle.model.specs.Slots.{header_digest}
 use Rattle.model.specs.Words.{Author, Digest, Event, HeaderBody, Output}
 use Rattle.model.specs.declared.admission.Admission.TheVariants.{New, Known}
 use Rattle.wire.specs.declared.output.Output.TheVariants as output
-use Rattle.world.specs.World.{no_group, Gift, put_out, read, Given, World, StandsFor, MayStop}
+use Rattle.world.specs.World.{no_group, Outgoing, put_out, read, Given, World, StandsFor, MayStop}
 use Rattle.world.specs.Steps.{Move, IsRun}
 
 -- ---- votes
@@ -32,7 +32,7 @@ vote_in (output.Certificate certificate) = Some (ballot_for certificate.header)
 vote_in _ = None
 
 -- the vote that was given out, if it is one
-abbrev pub vote_given : Gift → Option Ballot
+abbrev pub vote_given : Outgoing → Option Ballot
 vote_given (put_out output) = vote_in output
 vote_given (read digests) = None
 
@@ -40,7 +40,7 @@ vote_given (read digests) = None
 
 -- the order that was given out, if it is one, at a history with this order: a read is the whole order, an output its digests behind
 -- what that has before their place
-abbrev pub order_given : List Digest → Gift → Option (List Digest)
+abbrev pub order_given : List Digest → Outgoing → Option (List Digest)
 order_given order (put_out (output.Order start digests)) = Some (take start order ++ digests)
 order_given order (put_out other) = None
 order_given order (read digests) = Some digests
@@ -57,14 +57,14 @@ pub data WasPutOut (node : Node) (history : History) (output : Output) : Type 0 
   by_known : (event : Event) (outputs : List Output) → admit node history event ≡ Known outputs → Contains outputs output → WasPutOut node history output
 
 -- what goes out at a history: an output that was put out there and may be given out there, or its order
-abbrev pub IsGift : Node → History → Gift → Type 0
-IsGift node history (put_out output) = WasPutOut node history output × MayGive node history output
-IsGift node history (read digests) = digests ≡ order node history
+abbrev pub GoesOut : Node → History → Outgoing → Type 0
+GoesOut node history (put_out output) = WasPutOut node history output × MayGive node history output
+GoesOut node history (read digests) = digests ≡ order node history
 
 -- ---- the promise
 
--- what is found again, with the state that is kept of it: a legal history that begins what was accepted, and that what is settled
--- begins. It has the group that was taken as a whole or not at all, and where there is none it is what is settled
+-- what is found again: a legal history that begins what the run began with and accepted, and that what is settled begins. It has the
+-- group that was taken as a whole or not at all, and where there is none it is what is settled
 pub record IsRecovered (node : Node) (world : World) (history : History) : Type 0 where
   pub legal : IsLegal node history
   pub accepted : Begins history (world.began ++ world.accepted)
@@ -72,22 +72,30 @@ pub record IsRecovered (node : Node) (world : World) (history : History) : Type 
   pub whole : (history ≡ world.began ++ world.settled) ⊎ (history ≡ world.began ++ world.taken)
   pub without_group : world.phase ≡ no_group → history ≡ world.began ++ world.settled
 
+-- what this run settled it had taken, and what it took it had accepted, in that order; all of it is a legal history, behind what the
+-- run began with
+pub record IsInOrder (node : Node) (world : World) : Type 0 where
+  pub settled : Begins world.settled world.taken
+  pub taken : Begins world.taken world.accepted
+  pub legal : IsLegal node (world.began ++ world.accepted)
+
 -- what holds of each world: nothing that was given out is taken back, whatever a stop leaves now
 pub record NeverTakesBack (node : Node) (world : World) : Type 0 where
+  pub in_order : IsInOrder node world
   -- what a stop leaves stands for one history, which is recovered
-  pub found : (bytes : List ℕ) → MayStop world bytes → (history : History) × StandsFor node bytes history
+  pub stands : (bytes : List ℕ) → MayStop world bytes → (history : History) × StandsFor node bytes history
   pub only : (bytes : List ℕ) (one other : History) → MayStop world bytes → StandsFor node bytes one → StandsFor node bytes other → one ≡ other
   pub recovered : (bytes : List ℕ) (history : History) → MayStop world bytes → StandsFor node bytes history → IsRecovered node world history
   -- what is settled holds the history of each thing given out, and with it the event that put it out
   pub held : (given : Given) → Contains world.given given → Begins given.history (world.began ++ world.settled)
-  pub right : (given : Given) → Contains world.given given → IsGift node given.history given.gift
+  pub right : (given : Given) → Contains world.given given → GoesOut node given.history given.outgoing
   -- no two votes given out differ for one author and round
   pub votes : (one other : Given) (vote also : Ballot) → Contains world.given one → Contains world.given other
-      → vote_given one.gift ≡ Some vote → vote_given other.gift ≡ Some also → vote.author ≡ also.author → vote.round ≡ also.round → vote.header ≡ also.header
+      → vote_given one.outgoing ≡ Some vote → vote_given other.outgoing ≡ Some also → vote.author ≡ also.author → vote.round ≡ also.round → vote.header ≡ also.header
   -- of two histories at which something was given out one begins the other, and each order given out begins every later one
   pub nested : (one other : Given) → Contains world.given one → Contains world.given other → Begins one.history other.history ⊎ Begins other.history one.history
   pub orders : (one other : Given) (earlier later : List Digest) → Contains world.given one → Contains world.given other
-      → order_given (order node one.history) one.gift ≡ Some earlier → order_given (order node other.history) other.gift ≡ Some later
+      → order_given (order node one.history) one.outgoing ≡ Some earlier → order_given (order node other.history) other.outgoing ≡ Some later
       → IsNoLater one other earlier later → Begins earlier later
 
 -- Over every list of runs of one node, in every interleaving of accepts, takes, writes, syncs, settlements and releases, each run

@@ -10,20 +10,20 @@ use Rattle.model.specs.Words.{Event, Output}
 use Rattle.model.specs.declared.admission.Admission.{Admission}
 use Rattle.model.specs.declared.admission.Admission.TheVariants.{New, Known, Refused}
 use Rattle.records.specs.Records.{record_of}
-use Rattle.world.specs.World.{Phase, no_group, group_taken, group_written, group_synced, gate_opened, gate_synced, Waiting, Gift, put_out, read, World, StandsFor, IsOpened, next_call, MayStop, run_on}
+use Rattle.world.specs.World.{Phase, no_group, group_taken, group_written, group_synced, gate_opened, gate_synced, Waiting, Outgoing, put_out, read, World, StandsFor, IsOpened, next_call, MayStop, run_on}
 
 -- ---- the moves
 
 -- what may happen: an event comes in; so many of the accepted events are to be settled; the append makes its next device call; its
--- group is settled; an output goes out; the settled order is read; the machine stops, and leaves these bytes
+-- group is settled; an output goes out; the settled order is read; the machine stops, leaves these bytes, and they are opened
 pub data Move : Type 0 where
   accept : Event → Move
   take_to : ℕ → Move
-  device : Move
+  device_call : Move
   settle : Move
   release : Waiting → Move
   read_order : Move
-  stop : List ℕ → Move
+  restart : List ℕ → Move
 
 -- outputs, each with this ticket
 abbrev pub ticketed : ℕ → List Output → List Waiting
@@ -55,8 +55,8 @@ next_phase gate_opened = gate_synced
 next_phase other = other
 
 -- with one thing more given out
-abbrev pub with_given : World → Gift → History → World
-with_given world gift history = record world { given = world.given ++ record { gift = gift; history = history } ∷ [] }
+abbrev pub with_given : World → Outgoing → History → World
+with_given world outgoing history = record world { given = world.given ++ record { outgoing = outgoing; history = history } ∷ [] }
 
 -- an event that the node takes is answered at all that was accepted
 pub record IsAccepted (node : Node) (world : World) (event : Event) (next : World) : Type 0 where
@@ -88,21 +88,21 @@ pub record IsReleased (world : World) (waiting : Waiting) (next : World) : Type 
 
 -- a new run begins on what the stop left, with events for which that stands. Openings that fail, or are stopped themselves, belong to
 -- the same step, as does an opening behind a device call that failed; the bytes are any that are opened
-pub record IsStopped (node : Node) (world : World) (found : List ℕ) (next : World) : Type 0 where
+pub record IsRestarted (node : Node) (world : World) (found : List ℕ) (next : World) : Type 0 where
   pub left : MayStop world found
   pub stands_for : StandsFor node found next.began
-  pub opened : IsOpened node next.first next.began
-  pub is : next ≡ run_on next.first next.began world.given
+  pub opened : IsOpened node next.bytes_at_start next.began
+  pub is : next ≡ run_on next.bytes_at_start next.began world.given
 
 abbrev pub IsStep : Node → World → Move → World → Type 0
 IsStep node world (accept event) next = IsAccepted node world event next
 IsStep node world (take_to count) next = IsTakenTo world count next
-IsStep node world device next = IsCalled world next
+IsStep node world device_call next = IsCalled world next
 IsStep node world settle next = IsSettled world next
 IsStep node world (release waiting) next = IsReleased world waiting next
 IsStep node world read_order next =
     next ≡ with_given world (read (order node (world.began ++ world.settled))) (world.began ++ world.settled)
-IsStep node world (stop found) next = IsStopped node world found next
+IsStep node world (restart found) next = IsRestarted node world found next
 
 -- ---- runs
 
@@ -111,8 +111,8 @@ abbrev pub Leads : Node → World → List Move → World → Type 0
 Leads node world [] last = world ≡ last
 Leads node world (move ∷ moves) last = (next : World) × IsStep node world move next × Leads node next moves last
 
--- these moves lead to the world from one in which a node has just opened an empty disk, and has given nothing out
+-- these moves lead to the world from a first one, which begins as after a stop that leaves an empty disk, with nothing given out
 pub record IsRun (node : Node) (moves : List Move) (world : World) : Type 0 where
-  pub first : List ℕ
-  pub opened : IsOpened node first []
-  pub leads : Leads node (run_on first [] []) moves world
+  pub first : World
+  pub begins : IsRestarted node (run_on [] [] []) [] first
+  pub leads : Leads node first moves world

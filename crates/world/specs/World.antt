@@ -1,6 +1,6 @@
 -- The world of one node over all its runs: what it accepted, what of that is on its disk, and what it gave out.
 use Rattle.std.specs.Prelude.{◌≡◌, ◌<◌, ℕ, ◌-◌, List, [], ◌∷◌, ◌++◌, map, length, drop, Option, Some, None, Ok, All}
-use Rattle.diskmodel.specs.Outcomes.{IsOutcome, state}
+use Rattle.diskmodel.specs.Outcomes.{AreBytes, IsOutcome, state}
 use Rattle.diskmodel.specs.declared.call.Call.{Call}
 use Rattle.diskmodel.specs.declared.call.Call.TheVariants.{Wrote, Synced}
 use Rattle.journal.specs.Format.{group_bytes, stands}
@@ -15,14 +15,19 @@ use Rattle.records.specs.Records.{record_of, configuration_of}
 
 -- ---- what there is
 
--- the moments of an append between its device calls: there is no group, one was taken, it was written behind the file's closed gate,
--- that is synced, the gate was opened, that is synced
+-- the moments of an append between its device calls
 pub data Phase : Type 0 where
+  -- there is no group
   no_group : Phase
+  -- one was taken, and nothing is written of it
   group_taken : Phase
+  -- it was written behind the file's closed gate
   group_written : Phase
+  -- that is synced
   group_synced : Phase
+  -- the gate was opened
   gate_opened : Phase
+  -- that is synced: the group is on the disk for good, and can be settled
   gate_synced : Phase
 
 -- an output that waits until so many events of this run are settled
@@ -31,13 +36,13 @@ pub record Waiting : Type 0 where
   pub output : Output
 
 -- what goes out: an output, or the order as a reader gets it
-pub data Gift : Type 0 where
-  put_out : Output → Gift
-  read : List Digest → Gift
+pub data Outgoing : Type 0 where
+  put_out : Output → Outgoing
+  read : List Digest → Outgoing
 
--- a gift, with the history at which it was given: the one that its event ended, or the one that was read
+-- what was given out, with the history at which it was: the one that its event ended, or the one that was read
 pub record Given : Type 0 where
-  pub gift : Gift
+  pub outgoing : Outgoing
   pub history : History
 
 pub record World : Type 0 where
@@ -48,7 +53,7 @@ pub record World : Type 0 where
   pub taken : History
   pub settled : History
   -- the disk: its bytes when this run began, all of them firm, and its calls since
-  pub first : List ℕ
+  pub bytes_at_start : List ℕ
   pub calls : List Call
   pub phase : Phase
   -- the outputs of this run's events, each with its ticket
@@ -74,6 +79,8 @@ pub record Holds (node : Node) (bytes : List ℕ) (history : History) : Type 0 w
   pub are : bytes_of records ≡ journal_of node history
   pub alone : All (λ kept. 0 < kept.gate) (drop 1 records)
   pub each_taken : All (IsTaken node) history
+  -- the configuration's record has no stakes, so each is 1
+  pub ones : All (λ stake. stake ≡ 1) node.charter.stakes
 
 -- the bytes of a disk stand for these events: they are a journal with them, or there is no record yet, and no event
 pub data StandsFor (node : Node) (bytes : List ℕ) (history : History) : Type 0 where
@@ -88,7 +95,7 @@ group_in world = map record_of (drop (length world.settled) world.taken)
 
 -- what a read of the disk gives
 abbrev pub content_in : World → List ℕ
-content_in world = (state world.first world.calls).content
+content_in world = (state world.bytes_at_start world.calls).content
 
 -- the next device call of an append, by what a read of the disk gives and by the group: the group is written behind the file's end; a
 -- sync; the gate before the group is opened, in a write of its own; a sync
@@ -106,17 +113,18 @@ next_call world = call_in world.phase (content_in world) (group_in world)
 -- what a stop may leave now: what it may leave after the calls so far, or after the next call too, which it then came into. A call
 -- that fails is such a stop: it may have had any part of its effect, and the disk is opened again
 pub data MayStop (world : World) (found : List ℕ) : Type 0 where
-  between : IsOutcome world.first world.calls found → MayStop world found
-  inside : (call : Call) → next_call world ≡ Some call → IsOutcome world.first (world.calls ++ call ∷ []) found → MayStop world found
+  between : IsOutcome world.bytes_at_start world.calls found → MayStop world found
+  inside : (call : Call) → next_call world ≡ Some call → IsOutcome world.bytes_at_start (world.calls ++ call ∷ []) found → MayStop world found
 
 -- ---- how a run begins
 
 -- a run that has just begun on a disk with these bytes
 abbrev pub run_on : List ℕ → History → List Given → World
-run_on first began given =
-    record { began = began; accepted = []; taken = []; settled = []; first = first; calls = []; phase = no_group; waiting = []; given = given }
+run_on bytes began given =
+    record { began = began; accepted = []; taken = []; settled = []; bytes_at_start = bytes; calls = []; phase = no_group; waiting = []; given = given }
 
--- a disk as an opening leaves it, all firm: its bytes are a journal of the node with these events, and end with their closed gate
+-- a disk as an opening leaves it, all firm: bytes that are a journal of the node with these events, and end with their closed gate
 pub record IsOpened (node : Node) (bytes : List ℕ) (history : History) : Type 0 where
   pub holds : Holds node bytes history
   pub ends_closed : EndsClosed bytes
+  pub are_bytes : AreBytes bytes

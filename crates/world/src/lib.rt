@@ -3,7 +3,7 @@
 #![tactic(auto)]
 
 ghost use Rattle.world.specs.Promise.{NothingTakenBack};
-ghost use Rattle.world.specs.Runs.{RunsBegin, RunsGoOn, GroupsSettle};
+ghost use Rattle.world.specs.Runs.{RunsBegin, StopsArePossible, RunsGoOn, GroupsSettle};
 
 /// Over every list of runs of one node, in every interleaving of accepts, takes, writes, syncs, settlements and
 /// releases, each run stopped at any moment, also inside a write, recovery finds the state after a beginning of the
@@ -13,9 +13,15 @@ pub fn never_takes_back()
     ensures { NothingTakenBack }
 {}
 
-/// There are such runs: of a node whose keys have 32 bytes each they begin on what an opening leaves of an empty disk.
+/// There are such runs: of a node whose keys have 32 bytes each and whose stakes are all 1 they begin on what an
+/// opening leaves of an empty disk.
 pub fn runs_begin()
     ensures { RunsBegin }
+{}
+
+/// A stop is possible in each of these worlds: it may leave what a read of the disk gives.
+pub fn stops_are_possible()
+    ensures { StopsArePossible }
 {}
 
 /// Whatever a stop leaves in any of these worlds, a new run can begin on it.

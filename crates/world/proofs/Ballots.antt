@@ -1,4 +1,4 @@
--- What goes out: the votes in it, and the orders.
+-- What goes out, and the votes in it.
 use Rattle.std.proofs.Common.{◌≡◌, Bool, true, false, List, [], ◌∷◌, ◌++◌, map, Some, None, inl, inr, refl, ap, sym, ◌∙◌, subst}
 use Rattle.std.specs.Prelude.{Contains, filter, flat_map}
 use Rattle.std.specs.Option.{option_map_or}
