@@ -1,17 +1,18 @@
 -- The votes in places, one after another, and what they weigh with one more.
 use Rattle.std.proofs.Common.{◌≡◌, ◌≢◌, ℕ, zero, suc, ◌+◌, ◌<◌, ◌≤◌, Bool, true, false, List, [], ◌∷◌, ◌++◌, length, get_or, Option, Some, None, refl, sym, ap, ◌∙◌, inl, inr, arith}
-use Rattle.std.specs.Prelude.{◌||◌, ◌&&◌, ◌==◌, nat_lt, replicate, is_some, option_map}
+use Rattle.std.specs.Prelude.{not, ◌||◌, ◌&&◌, ◌==◌, nat_lt, replicate, is_some, option_map}
 use Rattle.std.specs.Str.{bytes_eq}
 use Rattle.std.proofs.lemmas.Slice.Eq.{bytes_eq-Decides}
 use Rattle.std.specs.List.{filter_map, range_with_len, cons_option}
 use Rattle.std.proofs.Math.Bool.{or-true, or-false}
-use Rattle.std.proofs.lemmas.Bool.{cases_Bool, cases_lt, and_parts, eqb-true, eq-eqb, lt-ltb, le-ltb}
+use Rattle.std.proofs.lemmas.Bool.{cases_Bool, cases_lt, and_parts, eqb-true, eq-eqb, lt-ltb, le-ltb, ltb-true, ltb-false}
 use Rattle.std.proofs.lemmas.List.{append-nil, map-id, length-set, length-replicate, get_or_past, get_or-replicate, get_or-set_other}
 use Rattle.std.proofs.lemmas.Grind.{get_or-set_at}
 use Rattle.std.proofs.lemmas.List.FromFn.{map-range_with_len_more, length-range_with_len}
 use Rattle.std.proofs.lemmas.List.Elements.{filter_map-append}
 use Rattle.wire.specs.Rising.{follows}
 use Rattle.wire.specs.Digests.{header_digest_of}
+use Rattle.wire.specs.declared.header.Certificate.{Certificate}
 use Rattle.wire.specs.declared.header.HeaderBody.{HeaderBody}
 use Rattle.wire.specs.declared.header.Vote.{Vote}
 use Rattle.wire.specs.declared.keys.Digest.{Digest}
@@ -22,7 +23,7 @@ use Rattle.committee.specs.Sets.{has}
 use Rattle.committee.specs.declared.sets.MemberSet.{MemberSet}
 use Rattle.committee.proofs.Weights.{weight-same, weight-one}
 use Rattle.certify.specs.declared.added.Added.TheVariants.{Counted, Complete}
-use Rattle.certify.specs.Answer.{answer, certificate_of}
+use Rattle.certify.specs.Answer.{answer, certificate_of, is_again, is_too_few}
 use Rattle.certify.specs.Assembled.{Places, Assembled, IsKept, is_on, has_voted, with_vote, entry_of, votes_weight}
 
 -- ---- the votes of the first members
@@ -125,7 +126,7 @@ on-digest body vote on =
     (bytes_eq-Decides vote.header.0 (header_digest_of body)).0 (and_parts (bytes_eq vote.header.0 (header_digest_of body)) ((vote.round == body.round) && (vote.author.0 == body.author.0)) on).0
 
 -- the weight of those who have voted with one vote more
-weight-with : (old : Assembled) (vote : Vote) (digest : Digest) (before voters : MemberSet) → IsKept old digest before → vote.voter.0 < length old.charter.keys
+pub weight-with : (old : Assembled) (vote : Vote) (digest : Digest) (before voters : MemberSet) → IsKept old digest before → vote.voter.0 < length old.charter.keys
     → ((member : ℕ) → has voters member ≡ (has before member || (member == vote.voter.0)))
     → weight old.charter (has voters) ≡ votes_weight old.charter (with_vote old.places vote)
 weight-with old vote digest before voters kept within more =
@@ -181,3 +182,35 @@ completes old vote digest before voters kept within more on going absent many =
     let weighs = weight-with old vote digest before voters kept within more in
     let high = le-ltb (votes_weight old.charter (with_vote old.places vote)) (quorum_of old.charter) (omega (arith, many, weighs)) in
     rw (on, again, high)
+
+-- with a vote that is counted they weigh too little
+pub counted-low : (old : Assembled) (vote : Vote) → answer old vote ≡ Counted → votes_weight old.charter (with_vote old.places vote) < quorum_of old.charter
+counted-low old vote is =
+    elim (cases_Bool (not (is_on old.header.body vote))) [
+      | inl off ↦ let never = rw off at is in absurd cc
+      | inr on ↦
+          elim (cases_Bool (is_again old vote)) [
+            | inl again ↦ let never = rw (on, again) at is in absurd cc
+            | inr first ↦
+                elim (cases_Bool (is_too_few old vote)) [
+                  | inl few ↦ ltb-true (votes_weight old.charter (with_vote old.places vote)) (quorum_of old.charter) few
+                  | inr many ↦ let never = rw (on, first, many) at is in absurd cc
+                ]
+          ]
+    ]
+
+-- with one that makes the certificate they weigh a quorum
+pub complete-high : (old : Assembled) (vote : Vote) (certificate : Certificate) → answer old vote ≡ Complete certificate → quorum_of old.charter ≤ votes_weight old.charter (with_vote old.places vote)
+complete-high old vote certificate is =
+    elim (cases_Bool (not (is_on old.header.body vote))) [
+      | inl off ↦ let never = rw off at is in absurd cc
+      | inr on ↦
+          elim (cases_Bool (is_again old vote)) [
+            | inl again ↦ let never = rw (on, again) at is in absurd cc
+            | inr first ↦
+                elim (cases_Bool (is_too_few old vote)) [
+                  | inl few ↦ let never = rw (on, first, few) at is in absurd cc
+                  | inr many ↦ ltb-false (votes_weight old.charter (with_vote old.places vote)) (quorum_of old.charter) many
+                ]
+          ]
+    ]

@@ -79,7 +79,17 @@ impl<'a> Assembly<'a> {
         ensures after { IfOk result (λ added. self.new ≡ after added self.old vote) }
         ensures err { OnErr result (self.new ≡ self.old) }
     {
-        if !is_on(&self.header.body, &self.digest, &vote) {
+        let added = self.answer(&vote)?;
+        self.count(&added, vote);
+        Ok(added)
+    }
+
+    /// What comes of a member's vote. `AllocError` where a growth for the certificate was refused.
+    pub fn answer(&self, vote: &Vote) -> Result<Added, AllocError>
+        requires member { vote.now.voter.0 < length self.now.charter.keys }
+        ensures { IfOk result (λ added. added ≡ answer self.now vote.now) }
+    {
+        if !is_on(&self.header.body, &self.digest, vote) {
             return Ok(Added::NotOurs);
         }
         if self.complete || self.voters.contains(vote.voter) {
@@ -87,18 +97,27 @@ impl<'a> Assembly<'a> {
         }
         let mut voters = self.voters;
         voters.insert(vote.voter);
-        let weight = self.committee.weight(&voters);
-        let quorum = self.committee.quorum();
-        let added = if weight < quorum {
-            Added::Counted
-        } else {
-            let certificate = certificate_with(self.alloc, &self.header.body, &self.places, &vote)?;
-            self.complete = true;
-            Added::Complete(certificate)
+        if self.committee.weight(&voters) < self.committee.quorum() {
+            return Ok(Added::Counted);
+        }
+        let certificate = certificate_with(self.alloc, &self.header.body, &self.places, vote)?;
+        Ok(Added::Complete(certificate))
+    }
+
+    /// Counts a member's vote of which this comes. It takes no memory.
+    pub fn count(&mut self, added: &Added, vote: Vote)
+        requires member { vote.voter.0 < length self.old.charter.keys }
+        requires added { added.now ≡ answer self.old vote }
+        ensures { self.new ≡ after added.now self.old vote }
+    {
+        let complete = match added {
+            Added::NotOurs | Added::Again => return,
+            Added::Counted => false,
+            Added::Complete(_) => true,
         };
         self.places[vote.voter.0 as usize] = Some(vote.signature);
-        self.voters = voters;
-        Ok(added)
+        self.voters.insert(vote.voter);
+        self.complete = complete;
     }
 
     /// The header.

@@ -82,9 +82,16 @@ pub fn assemble(alloc: Global, committee: &Committee, words: &str, answer: &mut 
     for word in votes.split_whitespace() {
         byte = byte.saturating_add(1);
         let vote = vote_of(&body, word, byte);
-        if vote.voter.0 < committee.size() {
-            let added = assembly.add(vote)?;
+        if vote.voter.0 >= committee.size() {
+            continue;
+        }
+        // Each second vote in two steps.
+        if byte % 2 == 1 {
+            tell_added(&assembly.add(vote)?, answer)?;
+        } else {
+            let added = assembly.answer(&vote)?;
             tell_added(&added, answer)?;
+            assembly.count(&added, vote);
         }
     }
     tell_assembly(&assembly, committee.size(), answer)
