@@ -553,4 +553,5 @@ def main():
     print('\n'.join(drawn.lines))
 
 
-main()
+if __name__ == '__main__':
+    main()

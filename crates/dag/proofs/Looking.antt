@@ -1,0 +1,182 @@
+-- What look-ups find.
+use Rattle.std.proofs.Common.{◌≡◌, ℕ, zero, suc, ◌+◌, ◌-◌, ◌<◌, ◌≤◌, Bool, true, false, cond, List, [], ◌∷◌, map, length, Option, Some, None, inl, inr, refl, ap, sym, ◌∙◌, arith, slice_get}
+use Rattle.std.proofs.Math.Path.{fun_ext}
+use Rattle.std.specs.Prelude.{nat_le, nat_lt, option_map, is_some, All, count_by, sum_by, if◌then◌else◌, ◌==◌, ◌&&◌, ◌||◌}
+use Rattle.std.specs.Option.{option_map_or}
+use Rattle.std.proofs.lemmas.Bool.{cases_Bool, eqb-true, lt-ltb, leb-true}
+use Rattle.std.proofs.lemmas.List.{length-map}
+use Rattle.std.proofs.lemmas.Option.{slice_get-map}
+use Rattle.committee.specs.Charter.{Charter}
+use Rattle.model.specs.Holdings.{all_held}
+use Rattle.model.specs.Slots.{Slots, is_parent, reaches}
+use Rattle.model.specs.Words.{Certificate}
+use Rattle.laws.proofs.Growing.{AreInPlace, IsIn, is_in}
+use Rattle.laws.proofs.Lists.{given_or_none}
+use Rattle.laws.proofs.Votes.{slot_is}
+use Rattle.laws.proofs.Weighing.{sum_mapped}
+use Rattle.committee.specs.Sets.{has}
+use Rattle.dag.specs.Graph.{Graph, IsGraph, size_in, slots_in, count_in, row_at, has_parent_in, reaches_in}
+use Rattle.dag.specs.Kept.{Rows, entry_at, graph_of, placed_of, IsKept}
+use Rattle.dag.specs.Sets.{set_at}
+use Rattle.dag.specs.declared.entry.Entry.{Entry}
+use Rattle.dag.proofs.Entries.{entry_seen, nothing_seen, seen_entry, in_place, of_members}
+use Rattle.dag.proofs.Paths.{reached_first, reached_above, reached_self, reached_level, parent_below}
+use Rattle.dag.proofs.Tests.{same_test}
+
+-- ---- what holds of each
+
+pub row_above : {X : Type 0} (floor : ℕ) (rows : List (List (Option X))) (round author : ℕ) (x : X) → row_at floor rows round author ≡ Some x → floor ≤ round
+row_above floor rows round author x is =
+    elim (cases_Bool (nat_le floor round)) [
+      | inl within ↦ leb-true floor round within
+      | inr below ↦ let bad = rw below at is in absurd cc
+    ]
+
+full_seen : (size : ℕ) (rows : Rows) → All (λ row. length row ≡ size) rows → All (λ row. length row ≡ size) (map (λ row. map (option_map placed_of) row) rows)
+full_seen size [] full k d within = absurd (omega (arith, within))
+full_seen size (row ∷ rows) full zero d within = length-map row (option_map placed_of) ∙ full zero [] (omega arith)
+full_seen size (row ∷ rows) full (suc k) d within = full_seen size rows (λ i d' inside. full (suc i) d' (omega (arith, inside))) k d (omega (arith, within))
+
+pub is_graph : (charter : Charter) (floor base : ℕ) (rows : Rows) → IsKept charter floor base rows → IsGraph (graph_of charter floor base rows)
+is_graph charter floor base rows kept = record {
+  charter = kept.valid;
+  low = kept.low;
+  within = kept.within;
+  few = (let long = length-map rows (λ row. map (option_map placed_of) row) in omega (arith, kept.few, long));
+  full = full_seen (length charter.keys) rows kept.full;
+  placed = in_place charter floor base rows kept;
+  above = λ round author c held. let of = seen_entry charter floor base rows round author c held in row_above floor rows round author of.entry of.there;
+  of_members = of_members charter floor base rows kept;
+  held = λ round author c held.
+      let of = seen_entry charter floor base rows round author c held in
+      ap (λ (d : Certificate). all_held (slots_in (graph_of charter floor base rows)) floor d.header) (sym of.of) ∙ (kept.entries round author of.entry of.there).held;
+}
+
+-- ---- counts
+
+some_same : {X Y : Type 0} (f : X → Y) (o : Option X) → ◌≡◌ {A = ℕ} (cond (is_some (option_map f o)) 1 0) (cond (is_some o) 1 0)
+some_same f (Some x) = refl
+some_same f None = refl
+
+count_mapped : (o : Option (List (Option Entry))) → option_map_or (λ row. count_by is_some row) (option_map (λ row. map (option_map placed_of) row) o) 0 ≡ option_map_or (λ row. count_by is_some row) o 0
+count_mapped None = refl
+count_mapped (Some row) =
+    sum_mapped (option_map placed_of) (λ placed. cond (is_some placed) 1 0) row ∙ ap (λ (f : Option Entry → ℕ). count_with f row) (fun_ext (some_same placed_of))
+  where
+    count_with : (Option Entry → ℕ) → List (Option Entry) → ℕ
+    count_with f row = sum_by f row
+
+pub count_kept : (charter : Charter) (floor base : ℕ) (rows : Rows) (round : ℕ)
+    → count_in (graph_of charter floor base rows) round ≡ option_map_or (λ row. count_by is_some row) (if nat_le floor round then slice_get rows (round - floor) else None) 0
+count_kept charter floor base rows round =
+    elim (cases_Bool (nat_le floor round)) [
+      | inr below ↦ rw below refl
+      | inl within ↦
+          rw within
+          (ap (λ o. option_map_or (λ row. count_by is_some row) o 0) (slice_get-map (λ row. map (option_map placed_of) row) rows (round - floor)) ∙ count_mapped (slice_get rows (round - floor)))
+    ]
+
+-- ---- a set that is made member by member
+
+pub one_in : (test : ℕ → Bool) (next other : ℕ) (b : Bool) → b ≡ (nat_lt other next && test other) → test next ≡ true → (b || (other == next)) ≡ (nat_lt other (next + 1) && test other)
+one_in test next other b is passes =
+    elim (cases_Bool (other == next)) [
+      | inl same ↦
+          let at = eqb-true other next same in
+          let here : test other ≡ true = ap test at ∙ passes in
+          let less = lt-ltb other (next + 1) (omega (arith, at)) in
+          rw (same, here, less) (or_true b)
+      | inr apart ↦
+          let alike : nat_lt other next ≡ nat_lt other (next + 1) = grind (arith, apart) in
+          rw apart (or_false' b ∙ is ∙ ap (λ c. c && test other) alike)
+    ]
+  where
+    or_true : (c : Bool) → (c || true) ≡ true
+    or_true true = refl
+    or_true false = refl
+
+    or_false' : (c : Bool) → (c || false) ≡ c
+    or_false' true = refl
+    or_false' false = refl
+
+pub one_out : (test : ℕ → Bool) (next other : ℕ) (b : Bool) → b ≡ (nat_lt other next && test other) → test next ≡ false → b ≡ (nat_lt other (next + 1) && test other)
+one_out test next other b is fails =
+    elim (cases_Bool (other == next)) [
+      | inl same ↦
+          let at = eqb-true other next same in
+          let here : test other ≡ false = ap test at ∙ fails in
+          is ∙ rw here (and_false' (nat_lt other next) ∙ sym (and_false' (nat_lt other (next + 1))))
+      | inr apart ↦
+          let alike : nat_lt other next ≡ nat_lt other (next + 1) = grind (arith, apart) in
+          is ∙ ap (λ c. c && test other) alike
+    ]
+  where
+    and_false' : (c : Bool) → (c && false) ≡ false
+    and_false' true = refl
+    and_false' false = refl
+
+-- at the end the set is that of those who pass, where only members do
+pub all_in : (test : ℕ → Bool) (size other : ℕ) (b : Bool) → b ≡ (nat_lt other size && test other) → (test other ≡ true → other < size) → b ≡ test other
+all_in test size other b is members =
+    elim (cases_Bool (test other)) [
+      | inl passes ↦ let less = lt-ltb other size (members passes) in is ∙ rw (passes, less) refl
+      | inr fails ↦ is ∙ rw fails (and_false' (nat_lt other size))
+    ]
+  where
+    and_false' : (c : Bool) → (c && false) ≡ false
+    and_false' true = refl
+    and_false' false = refl
+
+-- ---- sets
+
+-- what is reached in the round below is a parent
+pub level_parent : (n : ℕ) (slots : Slots) → AreInPlace slots → (child c : Certificate) → IsIn slots child → child.header.author.0 < n → IsIn slots c → c.header.round + 1 ≡ child.header.round
+    → reaches n slots child c ≡ is_parent c child
+level_parent n slots placed child c held member held' next =
+    same_test _ _
+    (λ reached. let over = reached_first n slots placed child c held held' (omega (arith, next)) reached in
+    let below = parent_below over.parent child over.names in
+    let same = reached_level n slots over.parent c over.held held' (omega (arith, below, next)) over.reached in
+    ap (λ p. is_parent p child) (sym same) ∙ over.names)
+    (λ names. reached_above n slots placed child c c held member held' held' names (reached_self n slots c))
+
+-- a set says whom a certificate reaches
+pub reached_kept : (charter : Charter) (floor base : ℕ) (rows : Rows) → IsKept charter floor base rows → (round author below other : ℕ) (e : Entry) → base ≤ below → below < round
+    → entry_at floor rows round author ≡ Some e → has (set_at e.reached ((round - 1) - below)) other ≡ reaches_in (graph_of charter floor base rows) round author below other
+reached_kept charter floor base rows kept round author below other e above lower is =
+    let slots = slots_in (graph_of charter floor base rows) in
+    let n = length charter.keys in
+    let facts = kept.entries round author e is in
+    let seen = entry_seen charter floor base rows round author e is in
+    let level : round - suc ((round - 1) - below) ≡ below = omega (arith, lower) in
+    facts.reached ((round - 1) - below) other (omega (arith, facts.long, above, lower))
+    ∙ ap (λ r. option_map_or (reaches n slots e.certificate) (slots r other) false) level
+    ∙ sym (ap (λ o. option_map_or (λ start. option_map_or (reaches n slots start) (slots below other) false) o false) seen)
+
+pub nothing_reached : (charter : Charter) (floor base : ℕ) (rows : Rows) (round author below other : ℕ) → entry_at floor rows round author ≡ None → reaches_in (graph_of charter floor base rows) round author below other ≡ false
+nothing_reached charter floor base rows round author below other none =
+    ap (λ o. option_map_or (λ start. option_map_or (reaches (length charter.keys) (slots_in (graph_of charter floor base rows)) start) (slots_in (graph_of charter floor base rows) below other) false) o false)
+    (nothing_seen charter floor base rows round author none)
+
+-- of the round below those are its parents
+pub reaches_parents : (graph : Graph) → IsGraph graph → (round author parent : ℕ) → 0 < round → reaches_in graph round author (round - 1) parent ≡ has_parent_in graph round author (round - 1) parent
+reaches_parents graph facts round author parent above =
+    let slots = slots_in graph in
+    let n = size_in graph in
+    let parents : Option Certificate → Option Certificate → Bool = λ child ends. option_map_or (λ d. option_map_or (λ c. is_parent c d) ends false) child false in
+    let reached : Option Certificate → Option Certificate → Bool = λ start ends. option_map_or (λ d. option_map_or (reaches n slots d) ends false) start false in
+    elim (given_or_none (slots round author)) [
+      | inr none ↦ ap (λ o. reached o (slots (round - 1) parent)) none ∙ sym (ap (λ o. parents o (slots (round - 1) parent)) none)
+      | inl child ↦ elim (given_or_none (slots (round - 1) parent)) [
+        | inr none ↦ ap (reached (slots round author)) none ∙ ap (λ o. reached o None) child.1 ∙ sym (ap (parents (slots round author)) none ∙ ap (λ o. parents o None) child.1)
+        | inl c ↦
+            let held = is_in slots round author child.0 facts.placed child.1 in
+            let held' = is_in slots (round - 1) parent c.0 facts.placed c.1 in
+            let place = slot_is round author child.0.header (facts.placed round author child.0 child.1) in
+            let place' = slot_is (round - 1) parent c.0.header (facts.placed (round - 1) parent c.0 c.1) in
+            let member = facts.of_members round author child.0 child.1 in
+            ap (reached (slots round author)) c.1 ∙ ap (λ o. reached o (Some c.0)) child.1
+            ∙ level_parent n slots facts.placed child.0 c.0 held (omega (arith, place.1, member)) held' (omega (arith, place'.0, place.0, above))
+            ∙ sym (ap (parents (slots round author)) c.1 ∙ ap (λ o. parents o (Some c.0)) child.1)
+      ]
+    ]

@@ -1,0 +1,80 @@
+use Rattle.std.proofs.Common.{◌≡◌, ◌-◌, ◌∙◌, Some, length, ap, sym, refl, subst, false, true}
+use Rattle.model.specs.Holdings.{all_held}
+use Rattle.dag.specs.Changes.{IsWith}
+use Rattle.dag.specs.Graph.{Graph, slots_in}
+use Rattle.dag.specs.Kept.{Rows, graph_of, IsKept}
+use Rattle.dag.specs.declared.entry.Entry.{Entry}
+use Rattle.dag.proofs.Answering.{is_new}
+use Rattle.dag.proofs.Inserting.{Enters, extended, entered, is_near, kept_with, is_with}
+use Rattle.dag.proofs.Slots.{set_slot}
+use Rattle.dag.proofs.dag.Dag.hold.Goals as goal
+
+pub invariant_of-self-2 : goal.invariant_of-self-2
+invariant_of-self-2 c =
+    let inside = c.self.inside in
+    let charter = inside.committee.now in
+    let rows = inside.rows.items in
+    let x = c.args.certificate in
+    let entry : Entry = record { certificate = x; digest = c.args.digest; reached = c.in_ok-reached.reached; marked = false } in
+    let size : c.size-size.result ≡ length charter.keys = c.size-size.ensures.value in
+    let place : c.slot_of-place.result.0 ≡ x.header.round - inside.floor =
+    ap (λ p. p.0) c.slot_of-place.ensures.value ∙ ap (λ (g : Graph). x.header.round - g.floor) (sym c.self.view_is) in
+    let author : c.slot_of-place.result.1 ≡ x.header.author = ap (λ p. p.1) c.slot_of-place.ensures.value in
+    let all : c.put.new.rows.items ≡ entered (length charter.keys) inside.floor rows entry =
+    c.put.ensures
+    ∙ ap (λ (l : Rows). set_slot l c.slot_of-place.result.0 c.slot_of-place.result.1.0 (Some entry)) c.in_ok-extend.ensures.ok
+    ∙ ap (λ n. set_slot (extended n rows c.slot_of-place.result.0) c.slot_of-place.result.0 c.slot_of-place.result.1.0 (Some entry)) size
+    ∙ ap (λ p. set_slot (extended (length charter.keys) rows p) p c.slot_of-place.result.1.0 (Some entry)) place
+    ∙ ap (λ a. set_slot (extended (length charter.keys) rows (x.header.round - inside.floor)) (x.header.round - inside.floor) a.0 (Some entry)) author in
+    let fresh = is_new c.args.self.now x c.requires.new in
+    let held : all_held (slots_in (graph_of charter inside.floor inside.base rows)) inside.floor x.header ≡ true = rw (← c.self.view_is) at fresh.held in
+    let enters : Enters charter inside.floor inside.base rows entry = record {
+      kept = c.self.invariant;
+      member = rw (← c.self.view_is) at c.requires.member;
+      limit = c.slot_of-place.ensures.round;
+      high = rw (← c.self.view_is) at fresh.high;
+      free = rw (← c.self.view_is) at fresh.free;
+      held = held;
+      digest = c.requires.digested;
+      long = rw (← c.self.view_is) at c.in_ok-reached.ensures.length;
+      reached = rw (← c.self.view_is) at c.in_ok-reached.ensures.sets;
+      without_mark = refl;
+      near = is_near charter inside.floor inside.base rows x c.requires.named held;
+    } in
+    subst (λ l. IsKept charter inside.floor inside.base l) (sym all) (kept_with charter inside.floor inside.base rows entry enters)
+
+pub returns-clause-ok : goal.returns-clause-ok
+returns-clause-ok c =
+    let inside = c.self.inside in
+    let charter = inside.committee.now in
+    let rows = inside.rows.items in
+    let x = c.args.certificate in
+    let entry : Entry = record { certificate = x; digest = c.args.digest; reached = c.in_ok-reached.reached; marked = false } in
+    let size : c.size-size.result ≡ length charter.keys = c.size-size.ensures.value in
+    let place : c.slot_of-place.result.0 ≡ x.header.round - inside.floor =
+    ap (λ p. p.0) c.slot_of-place.ensures.value ∙ ap (λ (g : Graph). x.header.round - g.floor) (sym c.self.view_is) in
+    let author : c.slot_of-place.result.1 ≡ x.header.author = ap (λ p. p.1) c.slot_of-place.ensures.value in
+    let all : c.put.new.rows.items ≡ entered (length charter.keys) inside.floor rows entry =
+    c.put.ensures
+    ∙ ap (λ (l : Rows). set_slot l c.slot_of-place.result.0 c.slot_of-place.result.1.0 (Some entry)) c.in_ok-extend.ensures.ok
+    ∙ ap (λ n. set_slot (extended n rows c.slot_of-place.result.0) c.slot_of-place.result.0 c.slot_of-place.result.1.0 (Some entry)) size
+    ∙ ap (λ p. set_slot (extended (length charter.keys) rows p) p c.slot_of-place.result.1.0 (Some entry)) place
+    ∙ ap (λ a. set_slot (extended (length charter.keys) rows (x.header.round - inside.floor)) (x.header.round - inside.floor) a.0 (Some entry)) author in
+    let fresh = is_new c.args.self.now x c.requires.new in
+    let held : all_held (slots_in (graph_of charter inside.floor inside.base rows)) inside.floor x.header ≡ true = rw (← c.self.view_is) at fresh.held in
+    let enters : Enters charter inside.floor inside.base rows entry = record {
+      kept = c.self.invariant;
+      member = rw (← c.self.view_is) at c.requires.member;
+      limit = c.slot_of-place.ensures.round;
+      high = rw (← c.self.view_is) at fresh.high;
+      free = rw (← c.self.view_is) at fresh.free;
+      held = held;
+      digest = c.requires.digested;
+      long = rw (← c.self.view_is) at c.in_ok-reached.ensures.length;
+      reached = rw (← c.self.view_is) at c.in_ok-reached.ensures.sets;
+      without_mark = refl;
+      near = is_near charter inside.floor inside.base rows x c.requires.named held;
+    } in
+    let with : IsWith (graph_of charter inside.floor inside.base rows) (graph_of charter inside.floor inside.base c.put.new.rows.items) x =
+    subst (λ l. IsWith (graph_of charter inside.floor inside.base rows) (graph_of charter inside.floor inside.base l) x) (sym all) (is_with charter inside.floor inside.base rows entry enters) in
+    subst (λ (g : Graph). IsWith g (graph_of charter inside.floor inside.base c.put.new.rows.items) x) c.self.view_is with

@@ -1,0 +1,35 @@
+-- What a DAG is behind a change.
+use Rattle.std.specs.Prelude.{◌≡◌, ◌≤◌, ℕ, ◌+◌, ◌==◌, ◌&&◌, ◌||◌, nat_lt, max, Bool, false, [], ◌∷◌, is_some, None, if◌then◌else◌}
+use Rattle.std.specs.Option.{option_or}
+use Rattle.model.specs.Slots.{slots_of}
+use Rattle.model.specs.Words.{Certificate}
+use Rattle.dag.specs.Graph.{Graph, slots_in, marked_in, end_in}
+
+-- one certificate more is held, in a slot that held nothing, and it has no mark; rows are made up to its round, which is the next
+-- one at most
+pub record IsWith (before after : Graph) (certificate : Certificate) : Type 0 where
+  pub charter : after.charter ≡ before.charter
+  pub floor : after.floor ≡ before.floor
+  pub base : after.base ≡ before.base
+  pub slots : (round author : ℕ) → slots_in after round author ≡ option_or (slots_in before round author) (slots_of (certificate ∷ []) round author)
+  pub marked : (round author : ℕ) → marked_in after round author ≡ marked_in before round author
+  pub end : end_in after ≡ max (end_in before) (certificate.header.round + 1)
+  pub near : certificate.header.round ≤ max (end_in before) (before.floor + 1)
+
+-- what these authors' slots of a round hold has a mark
+pub record IsMarked (before after : Graph) (round : ℕ) (authors : ℕ → Bool) : Type 0 where
+  pub charter : after.charter ≡ before.charter
+  pub floor : after.floor ≡ before.floor
+  pub base : after.base ≡ before.base
+  pub slots : (r a : ℕ) → slots_in after r a ≡ slots_in before r a
+  pub marked : (r a : ℕ) → marked_in after r a ≡ (marked_in before r a || ((r == round) && (authors a && is_some (slots_in before r a))))
+  pub end : end_in after ≡ end_in before
+
+-- nothing below a round is held
+pub record IsDropped (before after : Graph) (round : ℕ) : Type 0 where
+  pub charter : after.charter ≡ before.charter
+  pub floor : after.floor ≡ max before.floor round
+  pub base : after.base ≡ before.base
+  pub slots : (r a : ℕ) → slots_in after r a ≡ (if nat_lt r round then None else slots_in before r a)
+  pub marked : (r a : ℕ) → marked_in after r a ≡ (if nat_lt r round then false else marked_in before r a)
+  pub end : end_in after ≡ max (end_in before) round

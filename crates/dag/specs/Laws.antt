@@ -1,0 +1,38 @@
+-- What ties a DAG to admission, and what stays as it was where it changes.
+use Rattle.std.specs.Prelude.{◌≡◌, ◌≤◌, ◌<◌, ℕ, true, [], Ok, Err, is_some}
+use Rattle.model.specs.Admitting.{certificate_answer, order_outputs}
+use Rattle.model.specs.Nodes.{Node}
+use Rattle.model.specs.States.{State, floor_in}
+use Rattle.model.specs.Words.{Certificate}
+use Rattle.model.specs.declared.admission.Admission.TheVariants as admission
+use Rattle.model.specs.declared.refusal.Refusal.TheVariants as refusal
+use Rattle.dag.specs.Answer.{answer}
+use Rattle.dag.specs.Changes.{IsWith, IsDropped}
+use Rattle.dag.specs.Graph.{Graph, IsGraph, size_in, slots_in, reaches_in}
+use Rattle.dag.specs.declared.answers.Added.TheVariants.{New, Known}
+use Rattle.dag.specs.declared.refusal.DagRefusal.TheVariants.{TooOld, CertConflict, DigestClash, MissingParents}
+
+-- a node's state answers a certificate as a DAG does
+pub record AnswersAlike (node : Node) (now later : State) (graph : Graph) (certificate : Certificate) : Type 0 where
+  pub new : answer graph certificate ≡ Ok New → certificate_answer node now later certificate ≡ admission.New (order_outputs now later)
+  pub known : answer graph certificate ≡ Ok Known → certificate_answer node now later certificate ≡ admission.Known []
+  pub too_old : answer graph certificate ≡ Err TooOld → certificate_answer node now later certificate ≡ admission.Refused refusal.TooOld
+  pub conflict : answer graph certificate ≡ Err CertConflict → certificate_answer node now later certificate ≡ admission.Refused refusal.CertConflict
+  pub clash : answer graph certificate ≡ Err DigestClash → certificate_answer node now later certificate ≡ admission.Refused refusal.DigestClash
+  pub missing : answer graph certificate ≡ Err MissingParents → certificate_answer node now later certificate ≡ admission.Refused refusal.MissingParents
+
+-- so it does where it has the DAG's floor and certificates
+abbrev pub AnswersAsAdmission : Type 0
+AnswersAsAdmission = (node : Node) (now later : State) (graph : Graph) (certificate : Certificate) → graph.floor ≡ floor_in node now → slots_in graph ≡ now.slots
+    → AnswersAlike node now later graph certificate
+
+-- whom the certificates reach that were held before a new one came
+abbrev pub ReachStays : Type 0
+ReachStays = (before after : Graph) (certificate : Certificate) → IsGraph before → certificate.header.author.0 < size_in before → answer before certificate ≡ Ok New
+    → IsWith before after certificate → (round author below other : ℕ) → is_some (slots_in before round author) ≡ true
+    → reaches_in after round author below other ≡ reaches_in before round author below other
+
+-- and those that are still held where nothing below a round is
+abbrev pub ReachStaysAbove : Type 0
+ReachStaysAbove = (before after : Graph) (low : ℕ) → IsGraph before → IsDropped before after low → (round author below other : ℕ) → low ≤ below
+    → reaches_in after round author below other ≡ reaches_in before round author below other

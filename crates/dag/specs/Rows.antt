@@ -1,0 +1,71 @@
+-- What is kept by round and author.
+use Rattle.std.specs.Prelude.{ℕ, zero, suc, ◌+◌, ◌-◌, ◌&&◌, nat_le, Bool, true, false, List, [], ◌∷◌, map, length, take, Option, None, unwrap_or, option_map, option_and_then, slice_get, if◌then◌else◌}
+use Rattle.std.specs.List.{list_any, range_with_len}
+use Rattle.std.specs.Option.{option_map_or}
+use Rattle.model.specs.Holdings.{genesis}
+use Rattle.model.specs.Slots.{same_digest, certificate_digest}
+use Rattle.model.specs.Words.{ParentReference}
+use Rattle.committee.specs.Sets.{has}
+use Rattle.dag.specs.Sets.{set_at}
+use Rattle.committee.specs.declared.sets.MemberSet.{MemberSet}
+use Rattle.dag.specs.declared.entry.Entry.{Entry}
+
+-- ---- one round
+
+-- what a row has of an author
+abbrev pub slot_at : List (Option Entry) → ℕ → Option Entry
+slot_at row author = option_and_then (λ slot. slot) (slice_get row author)
+
+-- a certificate with its mark
+abbrev pub marked : Entry → Entry
+marked entry = record entry { marked = true }
+
+-- a row from an author on, with marks at those of whom something holds
+abbrev pub marked_from : ℕ → (ℕ → Bool) → List (Option Entry) → List (Option Entry)
+marked_from author authors [] = []
+marked_from author authors (slot ∷ row) = (if authors author then option_map marked slot else slot) ∷ marked_from (author + 1) authors row
+
+abbrev pub marked_row : (ℕ → Bool) → List (Option Entry) → List (Option Entry)
+marked_row authors row = marked_from 0 authors row
+
+-- rows, with marks in that of a place
+abbrev pub marked_rows : List (List (Option Entry)) → ℕ → (ℕ → Bool) → List (List (Option Entry))
+marked_rows [] place authors = []
+marked_rows (row ∷ rows) zero authors = marked_row authors row ∷ rows
+marked_rows (row ∷ rows) (suc place) authors = row ∷ marked_rows rows place authors
+
+-- a certificate with so many sets at most
+abbrev pub trimmed : ℕ → Entry → Entry
+trimmed count entry = record entry { reached = take count entry.reached }
+
+-- rows from a floor on, without the sets of rounds below a base
+abbrev pub trimmed_rows : ℕ → ℕ → List (List (Option Entry)) → List (List (Option Entry))
+trimmed_rows floor base [] = []
+trimmed_rows floor base (row ∷ rows) = map (option_map (trimmed (floor - base))) row ∷ trimmed_rows (floor + 1) base rows
+
+-- whoever is there reaches an author by its set of a place
+abbrev pub passes_on : Option Entry → ℕ → ℕ → Bool
+passes_on slot place author = option_map_or (λ entry. has (set_at entry.reached place) author) slot false
+
+-- the row of a round, or an empty one
+abbrev pub row_of : ℕ → List (List (Option Entry)) → ℕ → List (Option Entry)
+row_of floor rows round = unwrap_or (if nat_le floor round then slice_get rows (round - floor) else None) []
+
+-- ---- parents
+
+-- what is kept is a parent that is named: it has the digest
+abbrev pub names : Option Entry → ParentReference → Bool
+names slot parent = option_map_or (λ entry. same_digest entry.digest parent.certificate) slot false
+
+-- whom a certificate with these parents reaches, by what is kept of the round below it: at the place 0 those are its parents, and
+-- at each further one, a round lower, whom a parent reaches by its set of the place before
+abbrev pub reach_over : List (Option Entry) → MemberSet → ℕ → ℕ → Bool
+reach_over row parents zero author = has parents author
+reach_over row parents (suc place) author =
+    list_any (λ member. has parents member && passes_on (slot_at row member) place author) (range_with_len 0 (length row))
+
+-- ---- the genesis
+
+-- what is kept of the certificate of the genesis by an author
+abbrev pub first : ℕ → Entry
+first author = record { certificate = genesis author; digest = certificate_digest (genesis author).header; reached = []; marked = false }

@@ -1,0 +1,525 @@
+//! The DAG.
+
+ghost use Rattle.std.specs.Prelude.{◌≡◌, ◌≢◌, ◌&&◌, nat_lt, ◌+◌, ◌-◌, ◌<◌, ◌≤◌, ◌^◌, ℕ, true, false, max, not, nat_le, length, map, Ok, Err, Some, is_some, IfOk, OnOk, OnErr, option_copied, if◌then◌else◌};
+ghost use Rattle.committee.specs.Charter.{numbers};
+ghost use Rattle.committee.specs.Sets.{has};
+ghost use Rattle.model.specs.Holdings.{genesis, is_low, all_held};
+ghost use Rattle.model.specs.Slots.{certificate_digest, slots_of};
+ghost use Rattle.dag.specs.Rows.{first};
+ghost use Rattle.dag.specs.Kept.{AreReachedBy};
+ghost use Rattle.model.specs.Admitting.{same_header};
+ghost use Rattle.dag.specs.Answer.{held_answer, answer};
+ghost use Rattle.dag.specs.Changes.{IsWith, IsMarked, IsDropped};
+ghost use Rattle.dag.specs.Graph.{IsGraph, Graph, slots_in, marked_in, end_in, count_in, stake_in, digest_in, parent_in, has_parent_in, reaches_in};
+ghost use Rattle.wire.specs.declared.round.TheConstants.Round.{MAX};
+
+use crate::answers::Added;
+use crate::entry::{Entry, Reached};
+use crate::reads::Reads;
+use crate::refusal::DagRefusal;
+use crate::row::Row;
+use crate::rows;
+use committee::{Committee, MemberSet};
+use std::alloc::{AllocError, Global};
+use std::collections::VecDeque;
+use std::marker::Model;
+use wire::{
+    Author, Certificate, Digest, HeaderBody, Round, certificate_digest, genesis_digest,
+    header_digest,
+};
+
+/// The certificates that a validator holds, by round and author, each with whom it reaches, back to the round of the last
+/// committed leader. Nothing below the floor is held. Contracts see the committee, the floor, that round, and what each
+/// slot holds, with its mark.
+#[derive(Drop)]
+pub struct Dag<'a> {
+    alloc: Global,
+    committee: &'a Committee,
+    floor: Round,
+    base: Round,
+    // From the floor on.
+    rows: VecDeque<Row>,
+}
+
+impl<'a> Model for Dag<'a> {
+    ghost use Rattle.dag.specs.Graph.{Graph};
+    ghost use Rattle.dag.specs.Kept.{graph_of, IsKept};
+
+    ghost Value = { Graph };
+
+    ghost view = { λ d. graph_of d.committee.now d.floor d.base d.rows.items };
+
+    ghost invariant = { λ d. IsKept d.committee.now d.floor d.base d.rows.items };
+}
+
+// The first round above the genesis.
+fn first_round() -> Round
+    ensures { result ≡ 1 }
+{
+    match Round::new(1) {
+        Ok(round) => round,
+        Err(_) => unreachable!(),
+    }
+}
+
+fn is_low(floor: Round, round: Round) -> bool
+    ensures { result ≡ is_low floor round }
+{
+    round.number() == 0 || (0 < floor.number() && round <= floor)
+}
+
+// Whether a round is at or below a floor above 0.
+fn is_under(floor: Round, round: u64) -> bool
+    ensures { result ≡ (nat_lt 0 floor && nat_le round floor) }
+{
+    0 < floor.number() && round <= floor.number()
+}
+
+fn same_header(one: &HeaderBody, other: &HeaderBody) -> bool
+    ensures { result ≡ same_header one.now other.now }
+{
+    (one.author == other.author && one.round == other.round)
+        && (one.batches.as_slice() == other.batches.as_slice()
+            && one.parents.as_slice() == other.parents.as_slice())
+}
+
+// What a certificate of this digest is answered where its slot has this one.
+fn held_answer(
+    held: &Entry,
+    certificate: &Certificate,
+    digest: &Digest,
+) -> Result<Added, DagRefusal>
+    requires held { held.now.digest ≡ certificate_digest held.now.certificate.header }
+    requires digested { digest.now ≡ certificate_digest certificate.now.header }
+    ensures { result ≡ held_answer held.now.certificate certificate.now }
+{
+    if held.digest != *digest {
+        return Err(DagRefusal::CertConflict);
+    }
+    if same_header(&held.certificate.header, &certificate.header) {
+        Ok(Added::Known)
+    } else {
+        Err(DagRefusal::DigestClash)
+    }
+}
+
+// The certificate of the genesis by an author, as it is kept.
+fn first_entry(alloc: Global, author: Author) -> Result<Entry, AllocError>
+    ensures { IfOk result (λ entry. entry ≡ first author.0) }
+{
+    Ok(Entry {
+        certificate: Certificate::genesis(alloc, author),
+        digest: genesis_digest(author),
+        reached: Reached::with_capacity(alloc, 0)?,
+        marked: false,
+    })
+}
+
+// The row of the genesis.
+fn first_row(alloc: Global, size: u16) -> Result<Row, AllocError>
+    requires { size ≤ 32 }
+    ensures { IfOk result (λ row. row ≡ map (λ author. Some (first author)) (numbers size)) }
+{
+    let mut row = Row::empty(alloc, size as usize)?;
+    for author in 0..size {
+        row.set(author, first_entry(alloc, Author(author))?);
+    }
+    Ok(row)
+}
+
+impl<'a> Dag<'a> {
+    /// A DAG with the certificates of the genesis. `AllocError` where a growth was refused.
+    pub fn new(alloc: Global, committee: &'a Committee) -> Result<Dag<'a>, AllocError>
+        ensures charter { IfOk result (λ dag. dag.charter ≡ committee.now) }
+        ensures floor { IfOk result (λ dag. dag.floor ≡ 0) }
+        ensures base { IfOk result (λ dag. dag.base ≡ 1) }
+        ensures slots { IfOk result (λ dag. (round author : ℕ) → slots_in dag round author ≡ slots_of (map genesis (numbers (length committee.now.keys))) round author) }
+        ensures marked { IfOk result (λ dag. (round author : ℕ) → marked_in dag round author ≡ false) }
+        ensures end { IfOk result (λ dag. end_in dag ≡ 1) }
+    {
+        committee.limits_hold();
+        let size = committee.size();
+        let mut rows = VecDeque::new(alloc);
+        rows.push_back(first_row(alloc, size)?)?;
+        Ok(Dag {
+            alloc,
+            committee,
+            floor: Round::genesis(),
+            base: first_round(),
+            rows,
+        })
+    }
+
+    /// Holds a certificate from now on, if it is a new one. It computes its digest, and does what `add_digested` does.
+    pub fn add(&mut self, certificate: Certificate) -> Result<Added, DagRefusal>
+        requires member { certificate.header.author.0 < length self.old.charter.keys }
+        requires named { 0 < length certificate.header.parents }
+        ensures answer { result ≢ Err DagRefusal.Memory → result ≡ answer self.old certificate }
+        ensures memory { result ≡ Err DagRefusal.Memory → answer self.old certificate ≡ Ok Added.New }
+        ensures new { result ≡ Ok Added.New → IsWith self.old self.new certificate }
+        ensures known { result ≡ Ok Added.Known → self.new ≡ self.old }
+        ensures err { OnErr result (self.new ≡ self.old) }
+    {
+        let header = &certificate.header;
+        let digest = certificate_digest(&header_digest(header), header.round, header.author);
+        self.add_digested(certificate, digest)
+    }
+
+    /// Holds a certificate of this digest from now on, if it is a new one. It is a member's, and names a parent.
+    ///
+    /// # Errors
+    /// What `answer` answers; or `Memory` in place of New, where a growth was refused. They change nothing.
+    pub fn add_digested(
+        &mut self,
+        certificate: Certificate,
+        digest: Digest,
+    ) -> Result<Added, DagRefusal>
+        requires member { certificate.header.author.0 < length self.old.charter.keys }
+        requires named { 0 < length certificate.header.parents }
+        requires digested { digest ≡ certificate_digest certificate.header }
+        ensures answer { result ≢ Err DagRefusal.Memory → result ≡ answer self.old certificate }
+        ensures memory { result ≡ Err DagRefusal.Memory → answer self.old certificate ≡ Ok Added.New }
+        ensures new { result ≡ Ok Added.New → IsWith self.old self.new certificate }
+        ensures known { result ≡ Ok Added.Known → self.new ≡ self.old }
+        ensures err { OnErr result (self.new ≡ self.old) }
+    {
+        let answer = self.answer(&certificate, &digest)?;
+        if answer == Added::New {
+            self.hold(certificate, digest)?;
+        }
+        Ok(answer)
+    }
+
+    /// What comes of a certificate of this digest: New, or Known where it is held.
+    ///
+    /// # Errors
+    /// The first that applies: `TooOld` where its round is low, `CertConflict` where its slot holds a certificate of another
+    /// digest, `DigestClash` where it holds one of its digest with another header, `MissingParents` where a parent isn't
+    /// held. `Memory` never.
+    pub fn answer(&self, certificate: &Certificate, digest: &Digest) -> Result<Added, DagRefusal>
+        requires { digest.now ≡ certificate_digest certificate.now.header }
+        ensures { result ≡ answer self.now certificate.now }
+    {
+        let header = &certificate.header;
+        if self.is_low(header.round) {
+            return Err(DagRefusal::TooOld);
+        }
+        match rows::entry(&self.rows, self.floor, header.round.number(), header.author) {
+            Some(held) => held_answer(held, certificate, digest),
+            None => self.free_answer(header),
+        }
+    }
+
+    // What comes of a certificate with this header whose slot holds nothing.
+    fn free_answer(&self, header: &HeaderBody) -> Result<Added, DagRefusal>
+        ensures { result ≡ (if not (all_held (slots_in self.now) self.now.floor header.now) then Err DagRefusal.MissingParents else Ok Added.New) }
+    {
+        if self.has_parents(header) {
+            Ok(Added::New)
+        } else {
+            Err(DagRefusal::MissingParents)
+        }
+    }
+
+    /// Whether a round is low, so that no certificate of it is taken: that of the genesis, or one at or below a floor above 0.
+    pub fn is_low(&self, round: Round) -> bool
+        ensures { result ≡ is_low self.now.floor round }
+    {
+        is_low(self.floor, round)
+    }
+
+    /// Whether all parents of a header are held. At or below a floor above 0 none is asked for.
+    pub fn has_parents(&self, header: &HeaderBody) -> bool
+        ensures { result ≡ all_held (slots_in self.now) self.now.floor header.now }
+    {
+        let below = header.round.number().saturating_sub(1);
+        is_under(self.floor, below)
+            || rows::are_there(&self.rows, self.floor, below, header.parents.as_slice())
+    }
+
+    /// Holds a certificate of this digest, which is new, from now on. `AllocError` where a growth was refused: nothing has
+    /// changed then.
+    pub fn hold(&mut self, certificate: Certificate, digest: Digest) -> Result<(), AllocError>
+        requires member { certificate.header.author.0 < length self.old.charter.keys }
+        requires named { 0 < length certificate.header.parents }
+        requires digested { digest ≡ certificate_digest certificate.header }
+        requires new { answer self.old certificate ≡ Ok Added.New }
+        ensures ok { OnOk result (IsWith self.old self.new certificate) }
+        ensures err { OnErr result (self.new ≡ self.old) }
+    {
+        // What can fail comes first.
+        let reached = self.reached_by(&certificate)?;
+        let (place, author) = self.slot_of(&certificate);
+        let size = self.committee.size() as usize;
+        rows::extend(self.alloc, &mut self.rows, size, place)?;
+        let entry = Entry {
+            certificate,
+            digest,
+            reached,
+            marked: false,
+        };
+        rows::put(&mut self.rows, place, author, entry);
+        Ok(())
+    }
+
+    // The row of a certificate, counted from the floor, and its author.
+    fn slot_of(&self, certificate: &Certificate) -> (usize, Author)
+        requires { self.now.floor ≤ certificate.now.header.round }
+        ensures value { result ≡ (certificate.now.header.round - self.now.floor, certificate.now.header.author) }
+        ensures limit { result.0 ≤ MAX }
+        ensures round { certificate.now.header.round ≤ MAX }
+    {
+        let header = &certificate.header;
+        let place = header.round.number() - self.floor.number();
+        (place as usize, header.author)
+    }
+
+    // The sets of a certificate whose parents are held or low.
+    fn reached_by(&self, certificate: &Certificate) -> Result<Reached, AllocError>
+        requires first { 0 < certificate.now.header.round }
+        requires held { all_held (slots_in self.now) self.now.floor certificate.now.header ≡ true }
+        ensures length { IfOk result (λ reached. length reached ≡ certificate.now.header.round - self.now.base) }
+        ensures sets { IfOk result (λ reached. AreReachedBy self.now certificate.now reached) }
+    {
+        let header = &certificate.header;
+        let round = header.round.number();
+        // Above the base the parents are held, and so they are members'.
+        let count = round.saturating_sub(self.base.number()) as usize;
+        if count == 0 {
+            return Reached::with_capacity(self.alloc, 0);
+        }
+        let parents = rows::authors_of(header.parents.as_slice());
+        rows::reached_over(
+            self.alloc,
+            &self.rows,
+            self.floor,
+            round - 1,
+            &parents,
+            count,
+        )
+    }
+
+    /// What a slot holds.
+    pub fn get(&self, round: Round, author: Author) -> Option<&Certificate>
+        ensures { option_copied result ≡ slots_in self.now round author.0 }
+    {
+        match rows::entry(&self.rows, self.floor, round.number(), author) {
+            Some(held) => Some(&held.certificate),
+            None => None,
+        }
+    }
+
+    /// The digest of what a slot holds.
+    pub fn digest(&self, round: Round, author: Author) -> Option<&Digest>
+        ensures { option_copied result ≡ digest_in self.now round author.0 }
+    {
+        match rows::entry(&self.rows, self.floor, round.number(), author) {
+            Some(held) => Some(&held.digest),
+            None => None,
+        }
+    }
+
+    /// Whether what a slot holds is marked.
+    pub fn is_marked(&self, round: Round, author: Author) -> bool
+        ensures { result ≡ marked_in self.now round author.0 }
+    {
+        match rows::entry(&self.rows, self.floor, round.number(), author) {
+            Some(held) => held.marked,
+            None => false,
+        }
+    }
+
+    /// How many certificates of a round are held.
+    pub fn count(&self, round: Round) -> usize
+        ensures { result ≡ count_in self.now round }
+    {
+        match rows::row(&self.rows, self.floor, round.number()) {
+            Some(row) => row.count(),
+            None => 0,
+        }
+    }
+
+    /// The round behind the last that has a row: no certificate of it or of a later one is held.
+    pub fn end(&self) -> u64
+        ensures { result ≡ end_in self.now }
+    {
+        self.floor.number() + self.rows.len() as u64
+    }
+
+    /// The lowest round that is kept.
+    pub fn floor(&self) -> Round
+        ensures { result ≡ self.now.floor }
+    {
+        self.floor
+    }
+
+    /// The round of the last committed leader, or 1 where there is none.
+    pub fn base(&self) -> Round
+        ensures { result ≡ self.now.base }
+    {
+        self.base
+    }
+
+    /// The committee.
+    pub fn committee(&self) -> &'a Committee
+        ensures { result.now ≡ self.now.charter }
+    {
+        self.committee
+    }
+
+    /// The authors who have certificates of a round.
+    pub fn authors_at(&self, round: Round) -> MemberSet
+        ensures { (author : ℕ) → has result author ≡ is_some (slots_in self.now round author) }
+    {
+        let mut authors = MemberSet::none();
+        for author in 0..self.committee.size() {
+            if self.get(round, Author(author)).is_some() {
+                authors.insert(Author(author));
+            }
+        }
+        authors
+    }
+
+    /// What the authors weigh who have certificates of a round.
+    pub fn stake_at(&self, round: Round) -> u64
+        ensures { result ≡ stake_in self.now round }
+    {
+        self.committee.weight(&self.authors_at(round))
+    }
+
+    /// The parent that what a slot holds names at a place, by its author and digest. Where there is one, it is read.
+    pub fn parent(
+        &self,
+        round: Round,
+        author: Author,
+        place: usize,
+        reads: &mut Reads,
+    ) -> Option<(Author, Digest)>
+        requires { reads.old + 1 < 2 ^ 64 }
+        ensures value { result ≡ parent_in self.now round author.0 place }
+        ensures reads { reads.new ≡ (if is_some result then reads.old + 1 else reads.old) }
+    {
+        let certificate = self.get(round, author)?;
+        let parent = certificate.header.parents.as_slice().get(place)?;
+        reads.add_one();
+        Some((parent.author, parent.certificate))
+    }
+
+    // The set of what a slot holds that is that of a round.
+    fn set_of(&self, round: u64, author: Author, below: u64) -> MemberSet
+        requires above { self.now.base ≤ below }
+        requires lower { below < round }
+        ensures { (member : ℕ) → has result member ≡ reaches_in self.now round author.0 below member }
+    {
+        match rows::entry(&self.rows, self.floor, round, author) {
+            Some(held) => held.reached.at((round - 1 - below) as usize),
+            None => MemberSet::none(),
+        }
+    }
+
+    /// The authors of a lower round, at or above the base, whose certificates what a slot holds reaches.
+    pub fn reached(&self, round: Round, author: Author, below: Round) -> MemberSet
+        requires above { self.now.base ≤ below }
+        requires lower { below < round }
+        ensures { (member : ℕ) → has result member ≡ reaches_in self.now round author.0 below member }
+    {
+        self.set_of(round.number(), author, below.number())
+    }
+
+    // Whether what a slot of a round above the base holds has what this author's holds as a parent.
+    fn has_parent(&self, round: u64, author: Author, parent: Author) -> bool
+        requires { self.now.base < round }
+        ensures { result ≡ has_parent_in self.now round author.0 (round - 1) parent.0 }
+    {
+        self.limits_hold();
+        self.set_of(round, author, round - 1).contains(parent)
+    }
+
+    /// The authors whose certificates what a slot of a round above the base holds has as parents.
+    pub fn parents(&self, round: Round, author: Author) -> MemberSet
+        requires { self.now.base < round }
+        ensures { (member : ℕ) → has result member ≡ has_parent_in self.now round author.0 (round - 1) member }
+    {
+        self.limits_hold();
+        let number = round.number();
+        self.set_of(number, author, number - 1)
+    }
+
+    /// The supporters of what a slot, at or above the base, holds: those whose certificates of the next round have it as a
+    /// parent.
+    pub fn supporters(&self, round: Round, author: Author) -> MemberSet
+        requires { self.now.base ≤ round }
+        ensures { (member : ℕ) → has result member ≡ has_parent_in self.now (round + 1) member round author.0 }
+    {
+        let mut supporters = MemberSet::none();
+        for member in 0..self.committee.size() {
+            if self.has_parent(round.number() + 1, Author(member), author) {
+                supporters.insert(Author(member));
+            }
+        }
+        supporters
+    }
+
+    /// The authors whose certificates of a round have no mark.
+    pub fn unmarked_at(&self, round: Round) -> MemberSet
+        ensures { (author : ℕ) → has result author ≡ (is_some (slots_in self.now round author) && not (marked_in self.now round author)) }
+    {
+        let mut authors = MemberSet::none();
+        for author in 0..self.committee.size() {
+            if self.get(round, Author(author)).is_some() && !self.is_marked(round, Author(author)) {
+                authors.insert(Author(author));
+            }
+        }
+        authors
+    }
+
+    /// Marks what the slots of these authors of a round hold. It takes no memory.
+    pub fn mark(&mut self, round: Round, authors: &MemberSet)
+        ensures { IsMarked self.old self.new round (has authors.now) }
+    {
+        let floor = self.floor.number();
+        let number = round.number();
+        if number < floor {
+            return;
+        }
+        rows::mark(&mut self.rows, (number - floor) as usize, authors);
+    }
+
+    /// Holds nothing below a round from now on. It takes no memory.
+    pub fn drop_below(&mut self, round: Round)
+        requires { round < self.old.base }
+        ensures { IsDropped self.old self.new round }
+    {
+        let floor = self.floor.number();
+        let number = round.number();
+        if number <= floor {
+            return;
+        }
+        rows::drop_front(&mut self.rows, (number - floor) as usize);
+        self.floor = round;
+    }
+
+    /// Takes a round as that of the last committed leader, unless one above it was. The sets of rounds below it are given
+    /// back.
+    pub fn commit_to(&mut self, round: Round)
+        ensures { self.new ≡ record self.old { base = max self.old.base round } }
+    {
+        let base = self.base.number();
+        let number = round.number();
+        if number <= base {
+            return;
+        }
+        // Up to the base before there are no sets.
+        let first = (base - self.floor.number()) as usize;
+        rows::trim(&mut self.rows, first, self.floor.number(), number);
+        self.base = round;
+    }
+
+    /// What holds of each DAG: its committee is one, the floor is below the round of the last committed leader, nothing below
+    /// it is held, the certificates are of their slots and of members, and have their parents held. The call does nothing.
+    pub fn limits_hold(&self)
+        ensures { IsGraph self.now }
+    {
+        let _ = &self.rows;
+    }
+}

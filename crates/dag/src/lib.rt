@@ -1,0 +1,18 @@
+//! The certificates that a validator holds, by round and author: who reaches whom, and which of them lie in the history
+//! of a committed leader.
+#![tactic(auto)]
+
+mod answers;
+mod dag;
+mod entry;
+mod facts;
+mod reads;
+mod refusal;
+mod row;
+mod rows;
+
+pub use answers::Added;
+pub use dag::Dag;
+pub use facts::{answers_as_admission, reach_stays, reach_stays_above};
+pub use reads::Reads;
+pub use refusal::DagRefusal;

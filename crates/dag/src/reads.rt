@@ -1,0 +1,45 @@
+//! Counts of what was read.
+
+ghost use Rattle.std.specs.Prelude.{◌≡◌, ◌+◌, ◌<◌, ◌^◌};
+
+use std::marker::Model;
+
+/// How many references to parents were read. Contracts see it as that number.
+#[derive(Debug, Drop, PartialEq, Eq)]
+pub struct Reads {
+    number: u64,
+}
+
+impl Model for Reads {
+    ghost use Rattle.std.specs.Prelude.{ℕ};
+
+    ghost Value = { ℕ };
+
+    ghost view = { λ r. r.number };
+
+    ghost inverse = { λ n. record { number = n } };
+}
+
+impl Reads {
+    /// None was read.
+    pub fn new() -> Reads
+        ensures { result ≡ 0 }
+    {
+        Reads { number: 0 }
+    }
+
+    /// Counts one more.
+    pub(crate) fn add_one(&mut self)
+        requires { self.old + 1 < 2 ^ 64 }
+        ensures { self.new ≡ self.old + 1 }
+    {
+        self.number += 1;
+    }
+
+    /// How many were read.
+    pub fn number(&self) -> u64
+        ensures { result ≡ self.now }
+    {
+        self.number
+    }
+}

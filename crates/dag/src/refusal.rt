@@ -1,0 +1,35 @@
+//! Why a DAG refuses a certificate.
+
+ghost use Rattle.std.specs.Prelude.{◌≡◌};
+ghost use Rattle.dag.specs.declared.refusal.DagRefusal.TheVariants.{Memory};
+
+use std::alloc::AllocError;
+use thiserror::Error;
+
+/// Why a DAG refuses a certificate. Printed as its number and its name.
+#[derive(Clone, Copy, Debug, PartialEq, Eq, Error)]
+pub enum DagRefusal {
+    /// A growth was refused.
+    #[error("1 Memory")]
+    Memory,
+    /// Its round is the genesis', or at or below a floor above 0.
+    #[error("2 TooOld")]
+    TooOld,
+    /// Another certificate is held in its slot.
+    #[error("3 CertConflict")]
+    CertConflict,
+    /// One of its digest with another header is held in its slot.
+    #[error("4 DigestClash")]
+    DigestClash,
+    /// A parent isn't held.
+    #[error("5 MissingParents")]
+    MissingParents,
+}
+
+impl From<AllocError> for DagRefusal {
+    ghost from_gives = { λ _ e. e ≡ Memory };
+
+    fn from(_: AllocError) -> DagRefusal {
+        DagRefusal::Memory
+    }
+}

@@ -1,0 +1,118 @@
+//! What is kept of one round.
+
+ghost use Rattle.std.specs.Prelude.{◌≡◌, ℕ, ◌<◌, ◌&&◌, ◌^◌, map, length, None, Some, IfOk, is_some, count_by, option_copied, option_map, slice_set, replicate};
+ghost use Rattle.std.specs.List.{list_any, range_with_len};
+ghost use Rattle.committee.specs.Sets.{has};
+ghost use Rattle.dag.specs.Rows.{marked, marked_row, trimmed, passes_on, slot_at};
+
+use crate::entry::Entry;
+use committee::MemberSet;
+use std::alloc::{AllocError, Global};
+use std::marker::Model;
+use wire::Author;
+
+/// What is kept of one round: a slot for each member.
+#[derive(Drop)]
+pub struct Row {
+    slots: Vec<Option<Entry>>,
+}
+
+impl Model for Row {
+    ghost use Rattle.std.specs.Prelude.{List, Option};
+    ghost use Rattle.dag.specs.declared.entry.Entry.{Entry};
+
+    ghost Value = { List (Option Entry) };
+
+    ghost view = { λ r. r.slots.items };
+}
+
+fn mark(slot: &mut Option<Entry>)
+    ensures { slot.new ≡ option_map marked slot.old }
+{
+    if let Some(entry) = slot {
+        entry.marked = true;
+    }
+}
+
+fn trim(slot: &mut Option<Entry>, count: usize)
+    ensures { slot.new ≡ option_map (trimmed count) slot.old }
+{
+    if let Some(entry) = slot {
+        entry.reached.keep(count);
+    }
+}
+
+impl Row {
+    /// A row without a certificate, of so many members.
+    pub(crate) fn empty(alloc: Global, size: usize) -> Result<Row, AllocError>
+        ensures { IfOk result (λ row. row ≡ replicate size None) }
+    {
+        let mut slots = Vec::with_capacity(alloc, size)?;
+        for _ in 0..size {
+            slots.push(None)?;
+        }
+        Ok(Row { slots })
+    }
+
+    /// What is kept of an author.
+    pub(crate) fn get(&self, author: u16) -> Option<&Entry>
+        ensures { option_copied result ≡ slot_at self.now author }
+    {
+        match self.slots.get(author as usize) {
+            Some(Some(entry)) => Some(entry),
+            _ => None,
+        }
+    }
+
+    /// Keeps a certificate of an author.
+    pub(crate) fn set(&mut self, author: u16, entry: Entry)
+        requires { author < length self.old }
+        ensures { self.new ≡ slice_set self.old author (Some entry) }
+    {
+        self.slots[author as usize] = Some(entry);
+    }
+
+    /// Marks the certificates of these authors.
+    pub(crate) fn mark(&mut self, authors: &MemberSet)
+        requires { length self.old < 2 ^ 16 }
+        ensures { self.new ≡ marked_row (has authors.now) self.old }
+    {
+        for i in 0..self.slots.len() {
+            if authors.contains(Author(i as u16)) {
+                mark(&mut self.slots[i]);
+            }
+        }
+    }
+
+    /// Gives back all sets of each certificate but so many.
+    pub(crate) fn trim(&mut self, count: usize)
+        ensures { self.new ≡ map (option_map (trimmed count)) self.old }
+    {
+        for i in 0..self.slots.len() {
+            trim(&mut self.slots[i], count);
+        }
+    }
+
+    /// How many certificates there are.
+    pub(crate) fn count(&self) -> usize
+        ensures { result ≡ count_by is_some self.now }
+    {
+        self.slots.iter().filter(|slot| slot.is_some()).count()
+    }
+
+    /// Whom those of these authors reach by their sets of a place.
+    pub(crate) fn united(&self, authors: &MemberSet, place: usize) -> MemberSet
+        requires { length self.now < 2 ^ 16 }
+        ensures { (other : ℕ) → has result other ≡ list_any (λ member. has authors.now member && passes_on (slot_at self.now member) place other) (range_with_len 0 (length self.now)) }
+    {
+        let mut united = MemberSet::none();
+        for (i, slot) in self.slots.iter().enumerate() {
+            if let Some(entry) = slot {
+                if authors.contains(Author(i as u16)) {
+                    united.unite(&entry.reached.at(place));
+                }
+            }
+        }
+        united
+    }
+}

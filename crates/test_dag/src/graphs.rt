@@ -1,0 +1,218 @@
+//! A DAG that is put to words one after the other.
+
+ghost use Rattle.std.specs.Prelude.{◌≡◌, ◌<◌, length};
+ghost use Rattle.wire.specs.Digests.{header_digest_of, certificate_digest_of};
+
+use crate::committees::Told;
+use crate::looks::look;
+use crate::words::{author_of, numbers_in, round_of, set_of, write_added};
+use committee::Committee;
+use dag::{Added, Dag, DagRefusal, Reads};
+use std::alloc::{AllocError, Global};
+use wire::{
+    Author, BatchReferences, Certificate, Digest, HeaderBody, ParentReference, ParentReferences,
+    Round, VoteEntries, certificate_digest, header_digest,
+};
+
+/// Puts a DAG to these words, and tells what it answers.
+pub fn graph(alloc: Global, committee: &Committee, words: &str, answer: &mut String) -> Told {
+    let mut dag = Dag::new(alloc, committee)?;
+    let mut reads = Reads::new();
+    for word in words.split_whitespace() {
+        let (name, rest) = word.split_once('-').unwrap_or((word, ""));
+        let numbers = numbers_in(alloc, rest)?;
+        if change(alloc, &mut dag, name, &numbers, answer)? {
+            continue;
+        }
+        if ask(alloc, &dag, name, &numbers, answer)? {
+            continue;
+        }
+        look(&dag, &mut reads, name, &numbers, answer)?;
+    }
+    Ok(())
+}
+
+// The parents of a header of this round by these authors: the digests that are held, and else one of zeros.
+fn parents_of(
+    alloc: Global,
+    dag: &Dag,
+    below: Round,
+    authors: &[u64],
+) -> Result<ParentReferences, AllocError> {
+    let mut parents = ParentReferences::new(alloc);
+    for author in authors {
+        let author = author_of(*author);
+        let certificate = match dag.digest(below, author) {
+            Some(digest) => *digest,
+            None => Digest([0; 32]),
+        };
+        if parents.len() < wire::MAX_PARENTS && parents.may_follow(author) {
+            parents.push(ParentReference {
+                author,
+                certificate,
+            })?;
+        }
+    }
+    Ok(parents)
+}
+
+fn certificate_of(
+    alloc: Global,
+    dag: &Dag,
+    round: u64,
+    author: u64,
+    parents: &[u64],
+) -> Result<Certificate, AllocError> {
+    let below = round_of(round.saturating_sub(1));
+    let parents = parents_of(alloc, dag, below, parents)?;
+    Ok(Certificate {
+        header: HeaderBody {
+            author: author_of(author),
+            round: round_of(round),
+            batches: BatchReferences::new(alloc),
+            parents,
+        },
+        votes: VoteEntries::new(alloc),
+    })
+}
+
+fn digest_of(certificate: &Certificate) -> Digest
+    ensures { result.0 ≡ certificate_digest_of (header_digest_of certificate.now.header) certificate.now.header.round certificate.now.header.author.0 }
+{
+    let header = &certificate.header;
+    certificate_digest(&header_digest(header), header.round, header.author)
+}
+
+// How a certificate comes into a DAG: with its digest, or without it, or by hand behind its answer.
+#[derive(Clone, Copy, PartialEq, Eq)]
+enum Way {
+    Bare,
+    Digested,
+    Held,
+}
+
+fn add(
+    alloc: Global,
+    dag: &mut Dag,
+    way: Way,
+    numbers: (u64, u64),
+    parents: &[u64],
+    answer: &mut String,
+) -> Told {
+    let certificate = certificate_of(alloc, dag, numbers.0, numbers.1, parents)?;
+    if certificate.header.author.0 >= dag.committee().size() {
+        return answer.push_str("no member\n");
+    }
+    if certificate.header.parents.len() == 0 {
+        return answer.push_str("no parent\n");
+    }
+    let digest = digest_of(&certificate);
+    let added = match way {
+        Way::Bare => dag.add(certificate),
+        Way::Digested => dag.add_digested(certificate, digest),
+        Way::Held => hold(dag, certificate, digest),
+    };
+    write_added(answer, &added)
+}
+
+// Holds a certificate of a member that names a parent, if it is a new one.
+fn hold(dag: &mut Dag, certificate: Certificate, digest: Digest) -> Result<Added, DagRefusal>
+    requires member { certificate.header.author.0 < length dag.old.charter.keys }
+    requires named { 0 < length certificate.header.parents }
+    requires digested { digest.0 ≡ certificate_digest_of (header_digest_of certificate.header) certificate.header.round certificate.header.author.0 }
+{
+    let added = dag.answer(&certificate, &digest)?;
+    if added == Added::New {
+        dag.hold(certificate, digest)?;
+    }
+    Ok(added)
+}
+
+// A change of the DAG, and whether the word is one.
+fn change(
+    alloc: Global,
+    dag: &mut Dag,
+    name: &str,
+    numbers: &[u64],
+    answer: &mut String,
+) -> Result<bool, AllocError> {
+    match (name, numbers) {
+        ("add", [round, author, parents @ ..]) => {
+            add(alloc, dag, Way::Bare, (*round, *author), parents, answer)?
+        }
+        ("put", [round, author, parents @ ..]) => {
+            add(
+                alloc,
+                dag,
+                Way::Digested,
+                (*round, *author),
+                parents,
+                answer,
+            )?
+        }
+        ("hold", [round, author, parents @ ..]) => {
+            add(alloc, dag, Way::Held, (*round, *author), parents, answer)?
+        }
+        ("full", [first, last]) => full(alloc, dag, *first, *last, answer)?,
+        ("mark", [round, authors @ ..]) => dag.mark(round_of(*round), &set_of(authors)),
+        ("commit", [round]) => dag.commit_to(round_of(*round)),
+        ("drop", [round]) => drop_below(dag, round_of(*round), answer)?,
+        _ => return Ok(false),
+    }
+    Ok(true)
+}
+
+fn drop_below(dag: &mut Dag, round: Round, answer: &mut String) -> Told {
+    if round.number() >= dag.base().number() {
+        return answer.push_str("not below the base\n");
+    }
+    dag.drop_below(round);
+    Ok(())
+}
+
+// Adds certificates of four members for these rounds, each over the four below; how many rounds are then full.
+fn full(alloc: Global, dag: &mut Dag, first: u64, last: u64, answer: &mut String) -> Told {
+    let mut text = String::new(alloc);
+    for round in first..last.saturating_add(1) {
+        full_round(alloc, dag, round, &mut text)?;
+    }
+    writeln!(
+        answer,
+        "{}",
+        text.lines().filter(|line| *line == "New").count()
+    )
+}
+
+fn full_round(alloc: Global, dag: &mut Dag, round: u64, text: &mut String) -> Told {
+    for author in 0..4 {
+        add(alloc, dag, Way::Bare, (round, author), &[0, 1, 2, 3], text)?;
+    }
+    Ok(())
+}
+
+// What a DAG says of a certificate that it isn't given, and whether the word asks so.
+fn ask(
+    alloc: Global,
+    dag: &Dag,
+    name: &str,
+    numbers: &[u64],
+    answer: &mut String,
+) -> Result<bool, AllocError> {
+    match (name, numbers) {
+        ("answer", [round, author, parents @ ..]) => {
+            let certificate = certificate_of(alloc, dag, *round, *author, parents)?;
+            let digest = digest_of(&certificate);
+            write_added(answer, &dag.answer(&certificate, &digest))?
+        }
+        ("has_parents", [round, author, parents @ ..]) => {
+            let certificate = certificate_of(alloc, dag, *round, *author, parents)?;
+            writeln!(
+                answer,
+                "has_parents {}",
+                dag.has_parents(&certificate.header)
+            )?
+        }
+        _ => return Ok(false),
+    }
+    Ok(true)
+}

@@ -1,0 +1,177 @@
+//! Certificates and coins in the order in which they come, and what they commit.
+
+ghost use Rattle.std.specs.Prelude.{◌≡◌, ◌<◌, length};
+ghost use Rattle.wire.specs.Digests.{header_digest_of, certificate_digest_of};
+
+use crate::words::{Told, author_of, numbers_in, round_of, write_slot};
+use committee::Committee;
+use dag::{Added, Dag};
+use std::alloc::{AllocError, Global};
+use tusk::Coins;
+use wire::{
+    Author, BatchReferences, Certificate, Digest, HeaderBody, ParentReference, ParentReferences,
+    Round, VoteEntries, certificate_digest, header_digest,
+};
+
+// What a node keeps to order by.
+#[derive(Drop)]
+struct Playing<'a> {
+    alloc: Global,
+    committee: &'a Committee,
+    dag: Dag<'a>,
+    coins: Coins,
+    last: Option<u64>,
+}
+
+/// Plays these words from the genesis on, and tells what each answers.
+pub fn play_words(alloc: Global, committee: &Committee, words: &str, answer: &mut String) -> Told {
+    let mut playing = Playing {
+        alloc,
+        committee,
+        dag: Dag::new(alloc, committee)?,
+        coins: Coins::new(alloc),
+        last: None,
+    };
+    for word in words.split_whitespace() {
+        let (name, rest) = word.split_once('-').unwrap_or((word, ""));
+        let numbers = numbers_in(alloc, rest, '.')?;
+        match (name, numbers.as_slice()) {
+            ("add", [round, author, parents @ ..]) => {
+                playing.add(*round, author_of(*author), parents, answer)?
+            }
+            ("coin", [value]) => playing.coin(*value, answer)?,
+            ("leaders", _) => playing.tell_leaders(answer)?,
+            _ => answer.push_str("bad word\n")?,
+        }
+    }
+    Ok(())
+}
+
+// A header's references to the certificates of these authors in the round below; of one that isn't held the digest is zeros.
+fn parents_of(
+    alloc: Global,
+    dag: &Dag,
+    below: Round,
+    authors: &[u64],
+) -> Result<ParentReferences, AllocError> {
+    let mut parents = ParentReferences::new(alloc);
+    for author in authors {
+        let author = author_of(*author);
+        let certificate = match dag.digest(below, author) {
+            Some(digest) => *digest,
+            None => Digest([0; 32]),
+        };
+        if parents.len() < wire::MAX_PARENTS && parents.may_follow(author) {
+            parents.push(ParentReference {
+                author,
+                certificate,
+            })?;
+        }
+    }
+    Ok(parents)
+}
+
+fn digest_of(certificate: &Certificate) -> Digest
+    ensures { result.0 ≡ certificate_digest_of (header_digest_of certificate.now.header) certificate.now.header.round certificate.now.header.author.0 }
+{
+    let header = &certificate.header;
+    certificate_digest(&header_digest(header), header.round, header.author)
+}
+
+impl<'a> Playing<'a> {
+    fn certificate(
+        &self,
+        round: u64,
+        author: Author,
+        parents: &[u64],
+    ) -> Result<Certificate, AllocError> {
+        let below = round_of(round.saturating_sub(1));
+        let parents = parents_of(self.alloc, &self.dag, below, parents)?;
+        Ok(Certificate {
+            header: HeaderBody {
+                author,
+                round: round_of(round),
+                batches: BatchReferences::new(self.alloc),
+                parents,
+            },
+            votes: VoteEntries::new(self.alloc),
+        })
+    }
+
+    fn add(&mut self, round: u64, author: Author, parents: &[u64], answer: &mut String) -> Told {
+        let certificate = self.certificate(round, author, parents)?;
+        let digest = digest_of(&certificate);
+        if certificate.header.author.0 >= self.dag.committee().size()
+            || certificate.header.parents.as_slice().is_empty()
+        {
+            return answer.push_str("no member or no parent\n");
+        }
+        match self.dag.answer(&certificate, &digest) {
+            Ok(Added::New) => {}
+            Ok(Added::Known) => return answer.push_str("Known\n"),
+            Err(refusal) => return writeln!(answer, "{refusal}"),
+        }
+        answer.push_str("New\n")?;
+        let chain = self
+            .coins
+            .committed_by(self.alloc, &self.dag, &certificate, self.last)?;
+        let _ = self.dag.add_digested(certificate, digest);
+        self.commit(&chain, answer)
+    }
+
+    fn coin(&mut self, value: u64, answer: &mut String) -> Told {
+        let chain = self
+            .coins
+            .committed_with(self.alloc, &self.dag, value, self.last)?;
+        self.coins.push(value)?;
+        writeln!(answer, "coin {}", self.coins.count())?;
+        self.commit(&chain, answer)
+    }
+
+    // Looks for these leaders in the DAG as it is now, and takes the last one as committed.
+    fn commit(&mut self, chain: &[(Round, Author)], answer: &mut String) -> Told {
+        let again = self.coins.chain_from(self.alloc, &self.dag, self.last)?;
+        if again.as_slice() != chain {
+            answer.push_str("otherwise\n")?;
+        }
+        let Some(last) = chain.last() else {
+            return Ok(());
+        };
+        let floor = round_of(last.0.number().saturating_sub(self.committee.depth()));
+        write!(answer, "chain")?;
+        for leader in chain {
+            write_slot(answer, leader)?;
+        }
+        answer.push_str("\n")?;
+        self.last = self.coins.top(&self.dag);
+        self.dag.commit_to(last.0);
+        if floor.number() < self.dag.base().number() {
+            self.dag.drop_below(floor);
+        }
+        writeln!(
+            answer,
+            "top {} floor {}",
+            self.last.unwrap_or(0),
+            self.dag.floor().number()
+        )
+    }
+
+    // The leaders of the waves from the floor on.
+    fn tell_leaders(&self, answer: &mut String) -> Told {
+        answer.push_str("leaders")?;
+        for wave in 1..self.coins.count() as u64 + 1 {
+            if 2 * wave > self.dag.floor().number() {
+                self.tell_leader(wave, answer)?;
+            }
+        }
+        answer.push_str("\n")
+    }
+
+    fn tell_leader(&self, wave: u64, answer: &mut String) -> Told {
+        write!(answer, " {wave}:")?;
+        match self.coins.leader(&self.dag, wave) {
+            Some((round, author)) => write!(answer, "{}.{}", round.number(), author.0),
+            None => answer.push_str("none"),
+        }
+    }
+}

@@ -1,0 +1,4 @@
+pub mod Supporting
+pub mod Chains
+pub mod Downwards
+pub mod Adding
