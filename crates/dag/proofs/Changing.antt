@@ -4,7 +4,8 @@ use Rattle.std.proofs.Math.Path.{fun_ext}
 use Rattle.std.specs.Prelude.{nat_le, option_map, option_and_then, is_some, All, if◌then◌else◌, ◌==◌, ◌&&◌, ◌||◌}
 use Rattle.std.specs.Option.{option_map_or}
 use Rattle.std.proofs.lemmas.Bool.{cases_Bool, eqb-true, eq-eqb, leb-true, true≢false}
-use Rattle.std.proofs.lemmas.List.{length-map}
+use Rattle.std.proofs.lemmas.List.{length-map, append-nil, take_all}
+use Rattle.std.proofs.Math.ListN.{drop_of_length-le}
 use Rattle.std.proofs.lemmas.Option.{same_Some, none-some}
 use Rattle.committee.specs.Charter.{Charter}
 use Rattle.model.specs.Holdings.{all_held}
@@ -83,6 +84,12 @@ pub mark_not : (authors : ℕ → Bool) (row now : List (Option Entry)) (i : ℕ
 mark_not authors row now i is fails =
     let level : 0 + i ≡ i = omega arith in
     is ∙ mark_passes 0 authors row i (ap authors level ∙ fails) ∙ ap (λ k. marked_up_to authors row k) (sym (add-one i))
+
+-- all slots have their marks
+pub marked_whole : (authors : ℕ → Bool) (row : List (Option Entry)) (i : ℕ) → length row ≤ i → marked_up_to authors row i ≡ marked_row authors row
+marked_whole authors row i past =
+    ap (λ l. marked_from 0 authors l ++ drop i row) (take_all i row past) ∙ ap (λ l. marked_from 0 authors row ++ l) (drop_of_length-le row past)
+    ∙ append-nil (marked_from 0 authors row)
 
 -- ---- rows with marks in one of them
 

@@ -11,4 +11,5 @@ pub mod Looking
 pub mod Changing
 pub mod Dropping
 pub mod Trimming
+pub mod Unmarked
 pub mod Inserting

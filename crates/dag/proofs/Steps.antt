@@ -3,7 +3,8 @@ use Rattle.std.proofs.Common.{length-append, ◌≡◌, ℕ, zero, suc, ◌+◌,
 use Rattle.std.specs.Prelude.{◌||◌, ◌&&◌}
 use Rattle.std.specs.List.{list_any, range_with_len}
 use Rattle.std.proofs.Math.Seq.{set-append_seam}
-use Rattle.std.proofs.lemmas.List.{map-append, append_assoc, length-replicate}
+use Rattle.std.proofs.lemmas.List.{map-append, append_assoc, append-nil, length-replicate, take_all}
+use Rattle.std.proofs.Math.ListN.{drop_of_length-le}
 use Rattle.std.proofs.lemmas.List.Folds.{list_any-append}
 use Rattle.committee.specs.Charter.{numbers}
 use Rattle.committee.specs.Sets.{has}
@@ -78,6 +79,10 @@ firsts size count = map (λ author. Some (first author)) (numbers count) ++ repl
 length-firsts : (from count : ℕ) → length (map (λ author. Some (first author)) (range_with_len from count)) ≡ count
 length-firsts from zero = refl
 length-firsts from (suc count) = ap suc (length-firsts (from + 1) count)
+
+-- those up to the end are all
+pub mapped_whole : {X : Type 0} (f : X → X) (xs : List X) (i : ℕ) → length xs ≤ i → map f (take i xs) ++ drop i xs ≡ map f xs
+mapped_whole f xs i past = ap (λ l. map f l ++ drop i xs) (take_all i xs past) ∙ ap (λ l. map f xs ++ l) (drop_of_length-le xs past) ∙ append-nil (map f xs)
 
 pub firsts_more : (size count : ℕ) → count < size → slice_set (firsts size count) count (Some (first count)) ≡ firsts size (count + 1)
 firsts_more size count within =

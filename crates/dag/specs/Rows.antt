@@ -1,5 +1,5 @@
 -- What is kept by round and author.
-use Rattle.std.specs.Prelude.{ℕ, zero, suc, ◌+◌, ◌-◌, ◌&&◌, nat_le, Bool, true, false, List, [], ◌∷◌, map, length, take, Option, None, unwrap_or, option_map, option_and_then, slice_get, if◌then◌else◌}
+use Rattle.std.specs.Prelude.{◌≡◌, ℕ, zero, suc, ◌+◌, ◌-◌, ◌&&◌, not, nat_le, Bool, true, false, List, [], ◌∷◌, map, length, take, Option, None, unwrap_or, option_map, option_and_then, slice_get, if◌then◌else◌}
 use Rattle.std.specs.List.{list_any, range_with_len}
 use Rattle.std.specs.Option.{option_map_or}
 use Rattle.model.specs.Holdings.{genesis}
@@ -15,6 +15,14 @@ use Rattle.dag.specs.declared.entry.Entry.{Entry}
 -- what a row has of an author
 abbrev pub slot_at : List (Option Entry) → ℕ → Option Entry
 slot_at row author = option_and_then (λ slot. slot) (slice_get row author)
+
+-- it has a certificate of an author without a mark
+abbrev pub is_unmarked : List (Option Entry) → ℕ → Bool
+is_unmarked row author = option_map_or (λ entry. not entry.marked) (slot_at row author) false
+
+-- beside a row is the set of those whose certificates have no mark
+abbrev pub IsRow : List (Option Entry) → MemberSet → Type 0
+IsRow row unmarked = (author : ℕ) → has unmarked author ≡ is_unmarked row author
 
 -- a certificate with its mark
 abbrev pub marked : Entry → Entry

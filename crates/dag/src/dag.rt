@@ -3,6 +3,7 @@
 ghost use Rattle.std.specs.Prelude.{◌≡◌, ◌≢◌, ◌&&◌, nat_lt, ◌+◌, ◌-◌, ◌<◌, ◌≤◌, ◌^◌, ℕ, true, false, max, not, nat_le, length, map, Ok, Err, Some, is_some, IfOk, OnOk, OnErr, option_copied, if◌then◌else◌};
 ghost use Rattle.committee.specs.Charter.{numbers};
 ghost use Rattle.committee.specs.Sets.{has};
+ghost use Rattle.committee.specs.declared.members.TheConstants.{MAX_MEMBERS};
 ghost use Rattle.model.specs.Holdings.{genesis, is_low, all_held};
 ghost use Rattle.model.specs.Slots.{certificate_digest, slots_of};
 ghost use Rattle.dag.specs.Rows.{first};
@@ -117,7 +118,7 @@ fn first_entry(alloc: Global, author: Author) -> Result<Entry, AllocError>
 
 // The row of the genesis.
 fn first_row(alloc: Global, size: u16) -> Result<Row, AllocError>
-    requires { size ≤ 32 }
+    requires { size ≤ MAX_MEMBERS }
     ensures { IfOk result (λ row. row ≡ map (λ author. Some (first author)) (numbers size)) }
 {
     let mut row = Row::empty(alloc, size as usize)?;
@@ -464,13 +465,7 @@ impl<'a> Dag<'a> {
     pub fn unmarked_at(&self, round: Round) -> MemberSet
         ensures { (author : ℕ) → has result author ≡ (is_some (slots_in self.now round author) && not (marked_in self.now round author)) }
     {
-        let mut authors = MemberSet::none();
-        for author in 0..self.committee.size() {
-            if self.get(round, Author(author)).is_some() && !self.is_marked(round, Author(author)) {
-                authors.insert(Author(author));
-            }
-        }
-        authors
+        rows::unmarked(&self.rows, self.floor, round.number())
     }
 
     /// Marks what the slots of these authors of a round hold. It takes no memory.

@@ -52,12 +52,14 @@ impl Reached {
         }
     }
 
-    /// Gives back all sets but so many.
+    /// Gives back all sets but so many. Their memory goes with the last of them.
     pub(crate) fn keep(&mut self, count: usize)
         ensures { self.new ≡ take count self.old }
     {
         self.sets.truncate(count);
-        self.sets.shrink_to_fit();
+        if self.sets.is_empty() {
+            self.sets.shrink_to_fit();
+        }
     }
 }
 

@@ -1,9 +1,10 @@
 //! What is kept of one round.
 
-ghost use Rattle.std.specs.Prelude.{◌≡◌, ℕ, ◌<◌, ◌&&◌, ◌^◌, map, length, None, Some, IfOk, is_some, count_by, option_copied, option_map, slice_set, replicate};
+ghost use Rattle.std.specs.Prelude.{◌≡◌, ℕ, ◌<◌, ◌&&◌, ◌^◌, map, length, None, Some, false, IfOk, is_some, count_by, option_copied, option_map, slice_set, replicate};
 ghost use Rattle.std.specs.List.{list_any, range_with_len};
 ghost use Rattle.committee.specs.Sets.{has};
-ghost use Rattle.dag.specs.Rows.{marked, marked_row, trimmed, passes_on, slot_at};
+ghost use Rattle.committee.specs.declared.members.TheConstants.{MAX_MEMBERS};
+ghost use Rattle.dag.specs.Rows.{is_unmarked, marked, marked_row, trimmed, passes_on, slot_at};
 
 use crate::entry::Entry;
 use committee::MemberSet;
@@ -15,15 +16,20 @@ use wire::Author;
 #[derive(Drop)]
 pub struct Row {
     slots: Vec<Option<Entry>>,
+    // Whose certificates have no mark.
+    unmarked: MemberSet,
 }
 
 impl Model for Row {
     ghost use Rattle.std.specs.Prelude.{List, Option};
     ghost use Rattle.dag.specs.declared.entry.Entry.{Entry};
+    ghost use Rattle.dag.specs.Rows.{IsRow};
 
     ghost Value = { List (Option Entry) };
 
     ghost view = { λ r. r.slots.items };
+
+    ghost invariant = { λ r. IsRow r.slots.items r.unmarked };
 }
 
 fn mark(slot: &mut Option<Entry>)
@@ -51,7 +57,10 @@ impl Row {
         for _ in 0..size {
             slots.push(None)?;
         }
-        Ok(Row { slots })
+        Ok(Row {
+            slots,
+            unmarked: MemberSet::none(),
+        })
     }
 
     /// What is kept of an author.
@@ -64,12 +73,22 @@ impl Row {
         }
     }
 
-    /// Keeps a certificate of an author.
+    /// Keeps a certificate of an author, which has no mark.
     pub(crate) fn set(&mut self, author: u16, entry: Entry)
-        requires { author < length self.old }
+        requires within { author < length self.old }
+        requires member { author < MAX_MEMBERS }
+        requires without_mark { entry.marked ≡ false }
         ensures { self.new ≡ slice_set self.old author (Some entry) }
     {
         self.slots[author as usize] = Some(entry);
+        self.unmarked.insert(Author(author));
+    }
+
+    /// The authors whose certificates have no mark.
+    pub(crate) fn unmarked(&self) -> MemberSet
+        ensures { (author : ℕ) → has result author ≡ is_unmarked self.now author }
+    {
+        self.unmarked
     }
 
     /// Marks the certificates of these authors.
@@ -82,6 +101,7 @@ impl Row {
                 mark(&mut self.slots[i]);
             }
         }
+        self.unmarked.remove_all(authors);
     }
 
     /// Gives back all sets of each certificate but so many.

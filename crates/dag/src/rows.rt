@@ -1,7 +1,8 @@
 //! The rows of a DAG, from its floor on.
 
-ghost use Rattle.std.specs.Prelude.{◌≡◌, ℕ, if◌then◌else◌, ◌+◌, ◌-◌, ◌<◌, ◌≤◌, ◌++◌, ◌==◌, ◌^◌, suc, nat_le, length, take, drop, [], None, Some, IfOk, OnOk, OnErr, All, option_copied, slice_get, slice_set, get_or, replicate};
+ghost use Rattle.std.specs.Prelude.{◌≡◌, ℕ, if◌then◌else◌, ◌+◌, ◌-◌, ◌<◌, ◌≤◌, ◌++◌, ◌==◌, ◌^◌, suc, nat_le, not, length, take, drop, [], None, Some, IfOk, OnOk, OnErr, All, option_copied, slice_get, slice_set, get_or, replicate, false};
 ghost use Rattle.std.specs.List.{list_any, list_all};
+ghost use Rattle.std.specs.Option.{option_map_or};
 ghost use Rattle.committee.specs.Sets.{has};
 ghost use Rattle.committee.specs.declared.members.TheConstants.{MAX_MEMBERS};
 ghost use Rattle.dag.specs.Graph.{row_at};
@@ -40,6 +41,16 @@ pub(crate) fn entry(
     }
 }
 
+/// The authors whose certificates of a round have no mark.
+pub(crate) fn unmarked(rows: &VecDeque<Row>, floor: Round, round: u64) -> MemberSet
+    ensures { (author : ℕ) → has result author ≡ option_map_or (λ entry. not entry.marked) (row_at floor rows.now.items round author) false }
+{
+    match row(rows, floor, round) {
+        Some(row) => row.unmarked(),
+        None => MemberSet::none(),
+    }
+}
+
 // So many rows without a certificate.
 fn empty_rows(alloc: Global, size: usize, count: usize) -> Result<VecDeque<Row>, AllocError>
     ensures { IfOk result (λ rows. rows.items ≡ replicate count (replicate size None)) }
@@ -71,10 +82,12 @@ pub(crate) fn extend(
     Ok(())
 }
 
-/// Keeps a certificate in a slot.
+/// Keeps a certificate in a slot, without a mark.
 pub(crate) fn put(rows: &mut VecDeque<Row>, place: usize, author: Author, entry: Entry)
     requires row { place < length rows.old.items }
     requires slot { author.0 < length (get_or rows.old.items place []) }
+    requires member { author.0 < MAX_MEMBERS }
+    requires without_mark { entry.marked ≡ false }
     ensures { rows.new.items ≡ slice_set rows.old.items place (slice_set (get_or rows.old.items place []) author.0 (Some entry)) }
 {
     rows[place].set(author.0, entry);

@@ -1,3 +1,4 @@
 pub mod Failing
 pub mod Naming
 pub mod Passing
+pub mod RisingFaults

@@ -6,7 +6,9 @@ mod digested;
 mod error;
 mod faults;
 mod laws;
+mod making;
 
 pub use checked::{Checked, check, recheck};
 pub use error::CheckError;
 pub use laws::{ones_are_counted, passed_have_quorums};
+pub use making::make;

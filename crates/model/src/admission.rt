@@ -1,12 +1,43 @@
 //! What an event is answered.
 
-ghost use Rattle.std.specs.Prelude.{◌≡◌, ◌++◌, ◌∷◌, [], OnOk, OnErr};
-ghost use Rattle.model.specs.Admitting.{is_new};
+ghost use Rattle.std.specs.Prelude.{◌≡◌, ◌+◌, ◌*◌, ◌<◌, ◌≤◌, ◌^◌, ◌++◌, ◌∷◌, [], OnOk, OnErr, IfOk, drop, length, take};
+ghost use Rattle.model.specs.Admitting.{is_new, pieces};
+ghost use Rattle.wire.specs.declared.limits.TheConstants.{MAX_ORDER_DIGESTS};
 
 use crate::refusal::Refusal;
 use std::alloc::{AllocError, Global};
 use std::marker::Model;
-use wire::Output;
+use wire::{Digest, MAX_ORDER_DIGESTS, OrderDigests, Output};
+
+// The digests from a place on.
+fn part_from(digests: &[Digest], place: usize) -> &[Digest]
+    requires { place ≤ length digests.now }
+    ensures { result.now ≡ drop place digests.now }
+{
+    &digests[place..]
+}
+
+// The first digests, at most so many.
+fn first_of(digests: &[Digest], most: usize) -> &[Digest]
+    ensures value { result.now ≡ take most digests.now }
+    ensures few { length result.now ≤ most }
+{
+    if digests.len() <= most {
+        return digests;
+    }
+    &digests[..most]
+}
+
+fn order_digests(alloc: Global, digests: &[Digest]) -> Result<OrderDigests, AllocError>
+    requires { length digests.now ≤ MAX_ORDER_DIGESTS }
+    ensures { IfOk result (λ found. found ≡ digests.now) }
+{
+    let mut found = OrderDigests::new(alloc);
+    for digest in digests {
+        found.push(*digest)?;
+    }
+    Ok(found)
+}
 
 /// What an event puts out, in its order.
 #[derive(Debug, Drop)]
@@ -49,6 +80,36 @@ impl Outputs {
     {
         self.list.append(&mut others.list)?;
         Ok(())
+    }
+
+    /// Adds what is added to an order behind so many digests, in pieces as large as an output may be. `AllocError` where a
+    /// growth was refused.
+    pub fn push_order(
+        &mut self,
+        alloc: Global,
+        start: u64,
+        digests: &[Digest],
+    ) -> Result<(), AllocError>
+        requires { start + length digests.now < 2 ^ 63 }
+        ensures { OnOk result (self.new ≡ self.old ++ pieces start digests.now) }
+    {
+        for piece in 0..(digests.len() + (MAX_ORDER_DIGESTS - 1)) / MAX_ORDER_DIGESTS {
+            let place = MAX_ORDER_DIGESTS * piece;
+            let part = first_of(part_from(digests, place), MAX_ORDER_DIGESTS);
+            let digests = order_digests(alloc, part)?;
+            self.push(Output::Order {
+                start: start + place as u64,
+                digests,
+            })?;
+        }
+        Ok(())
+    }
+
+    /// The outputs, in their order.
+    pub fn into_vec(self) -> Vec<Output>
+        ensures { result.items ≡ self }
+    {
+        self.list
     }
 
     /// The outputs, in their order.

@@ -1,4 +1,4 @@
-pub mod Ranges
 mod Voters
-pub mod Sets
 pub mod Items
+pub mod Ranges
+pub mod Sets

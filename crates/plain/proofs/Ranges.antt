@@ -1,12 +1,7 @@
 -- Numbers in a row, and what is made of them.
-use Rattle.std.proofs.Common.{◌≡◌, ℕ, suc, ◌+◌, ◌-◌, ◌<◌, List, [], ◌∷◌, ◌++◌, Option, Some, None, ap, sym, ◌∙◌, arith, append_assoc, map}
+use Rattle.std.proofs.Common.{◌≡◌, ℕ, suc, ◌+◌, ◌-◌, ◌<◌, List, [], ◌∷◌, ◌++◌, Option, Some, None, ap, sym, ◌∙◌, arith, append_assoc}
 use Rattle.std.specs.List.{range_with_len, filter_map, cons_option, flat_map}
-
--- those from a number on: itself, and those from the next one on
-pub range_from : (a n : ℕ) → a < n → range_with_len a (n - a) ≡ a ∷ range_with_len (a + 1) (n - (a + 1))
-range_from a n h =
-    let more : n - a ≡ suc (n - (a + 1)) = omega (arith, h) in
-    ap (range_with_len a) more
+use Rattle.model.proofs.Ranges.{range_from}
 
 -- what is made of those from a number on, where something is made of it
 pub one_more : {X : Type 0} (make : ℕ → Option X) (xs : List X) (x : X) (a n : ℕ) → a < n → make a ≡ Some x
@@ -30,10 +25,3 @@ round_more make xs low high h =
     let more : high - low ≡ suc (high - (low + 1)) = omega (arith, h) in
     append_assoc xs (make (low + 1)) (flat_map make (range_with_len (low + 1 + 1) (high - (low + 1))))
     ∙ ap (λ n. xs ++ flat_map make (range_with_len (low + 1) n)) (sym more)
-
--- what each of those from a number on is mapped to
-pub mapped_more : {X : Type 0} (make : ℕ → X) (xs : List X) (a n : ℕ) → a < n
-    → (xs ++ make a ∷ []) ++ map make (range_with_len (a + 1) (n - (a + 1))) ≡ xs ++ map make (range_with_len a (n - a))
-mapped_more make xs a n h =
-    append_assoc xs (make a ∷ []) (map make (range_with_len (a + 1) (n - (a + 1))))
-    ∙ ap (λ numbers. xs ++ map make numbers) (sym (range_from a n h))

@@ -4,15 +4,12 @@ ghost use Rattle.std.specs.Prelude.{◌≡◌, ◌+◌, ◌<◌, ◌≤◌, ◌^
 ghost use Rattle.model.specs.Admitting as admitting;
 ghost use Rattle.model.specs.Nodes.{node_view};
 
-use crate::parts::first_of;
 use model::{Node, Outputs};
 use plain::held::Held;
 use plain::holdings::own_vote;
 use sigface::Sign;
 use std::alloc::{AllocError, Global};
-use wire::{
-    Batch, BatchAck, Digest, Header, MAX_ORDER_DIGESTS, OrderDigests, Output, batch_digest,
-};
+use wire::{Batch, BatchAck, Digest, Header, Output, batch_digest};
 
 /// For a batch.
 pub fn batch_outputs<S: Sign>(
@@ -53,49 +50,6 @@ pub fn header_outputs<S: Sign>(
     Ok(outputs)
 }
 
-/// The digests from a place on.
-fn part_from(digests: &[Digest], place: usize) -> &[Digest]
-    requires { place ≤ length digests.now }
-    ensures { result.now ≡ drop place digests.now }
-{
-    &digests[place..]
-}
-
-fn order_digests(alloc: Global, digests: &[Digest]) -> Result<OrderDigests, AllocError>
-    requires { length digests.now ≤ MAX_ORDER_DIGESTS }
-    ensures { IfOk result (λ found. found ≡ digests.now) }
-{
-    let mut found = OrderDigests::new(alloc);
-    for digest in digests {
-        found.push(*digest)?;
-    }
-    Ok(found)
-}
-
-/// Adds a list that follows so many digests of the order, in pieces.
-fn push_pieces(
-    alloc: Global,
-    outputs: &mut Outputs,
-    start: u64,
-    digests: &[Digest],
-) -> Result<(), AllocError>
-    requires { start + length digests.now < 2 ^ 63 }
-    ensures { OnOk result (outputs.new ≡ outputs.old ++ admitting.pieces start digests.now) }
-{
-    for piece in 0..(digests.len() + (MAX_ORDER_DIGESTS - 1)) / MAX_ORDER_DIGESTS {
-        let place = MAX_ORDER_DIGESTS * piece;
-        let digests = order_digests(
-            alloc,
-            first_of(part_from(digests, place), MAX_ORDER_DIGESTS),
-        )?;
-        outputs.push(Output::Order {
-            start: start + place as u64,
-            digests,
-        })?;
-    }
-    Ok(())
-}
-
 /// What a list has behind so many as another one has.
 fn behind<'a>(before: &[Digest], after: &'a [Digest]) -> &'a [Digest]
     ensures value { result.now ≡ drop (length before.now) after.now }
@@ -116,7 +70,7 @@ fn push_grown(
 ) -> Result<(), AllocError>
     ensures { OnOk result (outputs.new ≡ outputs.old ++ admitting.pieces (length before.now) (drop (length before.now) after.now)) }
 {
-    push_pieces(alloc, outputs, before.len() as u64, behind(before, after))
+    outputs.push_order(alloc, before.len() as u64, behind(before, after))
 }
 
 /// Adds what is added to the order.

@@ -7,13 +7,9 @@ use crate::error::FormError;
 use crate::labels::Labels;
 use crate::signing::signer;
 use crate::words::hex_bytes;
-use sigface::Sign;
+use header::make;
 use std::alloc::{AllocError, Global};
-use wire::{
-    Author, Batch, BatchReference, BatchReferences, Header, HeaderBody, MAX_BATCHES, MAX_PARENTS,
-    MAX_TRANSACTION_BYTES, OpenBatch, ParentReference, ParentReferences, Round, WireError,
-    header_digest,
-};
+use wire::{Author, Batch, BatchReference, MAX_TRANSACTION_BYTES, OpenBatch, ParentReference, Round};
 
 /// Defines the header of a form, with its batches sorted by digest. A bad word or label comes before the first fault
 /// that reading its bytes would meet; either defines nothing.
@@ -24,16 +20,9 @@ pub fn define_header(alloc: Global, labels: &mut Labels, form: &Form<'_>) -> Res
     let certificates = certificates_of(alloc, labels, form.parents)?;
     let named = batches_of(alloc, labels, form.batches)?;
     let round = Round::new(form.round)?;
-    let batches = rising_batches(alloc, &named)?;
-    let parents = rising_parents(alloc, &certificates)?;
-    let body = HeaderBody {
-        author: form.author,
-        round,
-        batches,
-        parents,
-    };
-    let signature = signer(form.author).sign(&header_digest(&body));
-    labels.define_header(form.label, Header { body, signature })?;
+    let signer = signer(form.author);
+    let header = make(alloc, &signer, form.author, round, &named, &certificates)?;
+    labels.define_header(form.label, header)?;
     Ok(())
 }
 
@@ -84,39 +73,6 @@ fn reference_to(labels: &Labels, name: &str) -> Option<BatchReference> {
         }),
         None => None,
     }
-}
-
-// The batches, which are at most so many and rise.
-fn rising_batches(alloc: Global, named: &[BatchReference]) -> Result<BatchReferences, WireError> {
-    if named.len() > MAX_BATCHES {
-        return Err(WireError::TooMany);
-    }
-    let mut batches = BatchReferences::new(alloc);
-    for batch in named {
-        if !batches.may_follow(&batch.digest) {
-            return Err(WireError::NotCanonical);
-        }
-        batches.push(*batch)?;
-    }
-    Ok(batches)
-}
-
-// The parents, which are at most so many and rise.
-fn rising_parents(
-    alloc: Global,
-    certificates: &[ParentReference],
-) -> Result<ParentReferences, WireError> {
-    if certificates.len() > MAX_PARENTS {
-        return Err(WireError::TooMany);
-    }
-    let mut parents = ParentReferences::new(alloc);
-    for certificate in certificates {
-        if !parents.may_follow(certificate.author) {
-            return Err(WireError::NotCanonical);
-        }
-        parents.push(*certificate)?;
-    }
-    Ok(parents)
 }
 
 /// Defines a batch, or its label alone where its transactions pass a limit.

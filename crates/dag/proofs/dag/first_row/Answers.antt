@@ -6,7 +6,11 @@ use Rattle.dag.proofs.dag.first_row.Goals as goal
 pub set-requires : goal.set-requires
 set-requires c =
     let long = ap length c.loop-author.invariant ∙ length-all c.args.size c.loop-author.author (omega (arith, c.loop-author-test.true)) in
-    omega (arith, long, c.loop-author-test.true)
+    record {
+      within = omega (arith, long, c.loop-author-test.true);
+      member = omega (arith, c.requires, c.loop-author-test.true);
+      without_mark = ap (λ (e : Entry). e.marked) c.in_ok-first_entry.ensures;
+    }
 
 pub loop-author-preserved : goal.loop-author-preserved
 loop-author-preserved c =

@@ -1,6 +1,6 @@
 use Rattle.std.proofs.Common.{◌∙◌}
 use Rattle.model.specs.Holdings.{genesis}
-use Rattle.plain.proofs.Ranges.{mapped_more}
+use Rattle.model.proofs.Ranges.{mapped_more}
 use Rattle.plain.proofs.certificates.first.Goals as goal
 
 pub loop-author-preserved : goal.loop-author-preserved
