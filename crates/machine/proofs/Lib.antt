@@ -1,4 +1,3 @@
-pub mod Answering
 mod BatchesStay
 mod Behind
 mod CertificatesStay
@@ -8,12 +7,10 @@ mod Deciding
 mod Enough
 mod Following
 mod FreshSound
-pub mod Grown
 mod NewThere
 mod OrderStays
 mod Passing
 mod Proposing
-pub mod PuttingOut
 mod SoundProposing
 mod SoundRounds
 mod Standing
@@ -21,3 +18,7 @@ mod Starting
 mod Staying
 mod Step
 mod VotesStay
+pub mod Answering
+pub mod Floors
+pub mod Grown
+pub mod PuttingOut

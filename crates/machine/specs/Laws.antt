@@ -1,5 +1,5 @@
 -- What ties the machine to histories.
-use Rattle.std.specs.Prelude.{◌≡◌, ◌<◌, ◌≤◌, ◌⊎◌, ℕ, Bool, not, true, false, IsTrue, List, [], ◌∷◌, ◌++◌, ◌+◌, length, drop, filter, flat_map, nat_lt, ⊤, Option, Some, None, if◌then◌else◌}
+use Rattle.std.specs.Prelude.{◌≡◌, ◌<◌, ◌≤◌, ◌⊎◌, ℕ, Bool, not, true, false, IsTrue, List, [], ◌∷◌, ◌++◌, ◌+◌, length, drop, filter, flat_map, nat_lt, nat_le, ⊤, Option, Some, None, if◌then◌else◌}
 use Rattle.wire.specs.declared.limits.TheConstants.{MAX_ORDER_DIGESTS}
 use Rattle.wire.specs.declared.output.Output.TheVariants as output
 use Rattle.laws.specs.Laws.{Begins, HoldsFrom, SayTheSame, ordered_since, own_event}
@@ -154,6 +154,24 @@ KeptIsSound = (node : Node) (history : History) → IsLegal node history → IsS
 abbrev pub SoundProposes : Type 0
 SoundProposes = (node : Node) (state : State) (header : Header) → IsNode node → IsSound node state → proposed node state ≡ Some header
     → IsTaken node (own_event node header) × (answered node state (own_event node header) ≡ New (header_outputs node header))
+
+-- ---- behind a new event
+
+-- an event that a node takes is new at a sound state
+pub record Comes (node : Node) (state : State) (event : Event) : Type 0 where
+  pub node_is : IsNode node
+  pub sound : IsSound node state
+  pub taken : IsTaken node event
+  pub new : IsTrue (is_new (answered node state event))
+
+-- the state behind it has the floor of the one with all that it adds
+abbrev pub FloorsAgree : Type 0
+FloorsAgree = (node : Node) (state : State) (event : Event) → Comes node state event
+    → floor_in node (grown node state event.message) ≡ floor_in node (after node state event)
+
+-- a round is low where it is no higher than the floor
+abbrev pub LowIsToTheFloor : Type 0
+LowIsToTheFloor = (floor round : ℕ) → is_low floor round ≡ nat_le round floor
 
 -- ---- a part of a sound state
 

@@ -2,7 +2,7 @@
 //! that tie it to histories. Each law is what a function without a body ensures.
 #![tactic(auto)]
 
-ghost use Rattle.machine.specs.Laws.{StartsFresh, StateFollows, StateAnswers, StateIsReady, StateProposes, AnswersAlike, KeptDecides, KeptFollows, KeptProposes, OrderIsPutOut, StateStands, FreshIsSound, SoundStays, KeptIsSound, SoundProposes, HeldGoesOn, HeldIsEnoughNow, HeldIsEnoughBehind};
+ghost use Rattle.machine.specs.Laws.{StartsFresh, StateFollows, StateAnswers, StateIsReady, StateProposes, AnswersAlike, KeptDecides, KeptFollows, KeptProposes, OrderIsPutOut, StateStands, FreshIsSound, SoundStays, KeptIsSound, SoundProposes, FloorsAgree, LowIsToTheFloor, HeldGoesOn, HeldIsEnoughNow, HeldIsEnoughBehind};
 
 /// What is kept of the empty history is the fresh state.
 pub fn starts_fresh()
@@ -79,6 +79,16 @@ pub fn kept_is_sound()
 /// What a sound state proposes is taken, and new there.
 pub fn sound_proposes()
     ensures { SoundProposes }
+{}
+
+/// The state behind an event that is new at a sound one has the floor of the state with all that the event adds.
+pub fn floors_agree()
+    ensures { FloorsAgree }
+{}
+
+/// A round is low where it is no higher than the floor.
+pub fn low_is_to_the_floor()
+    ensures { LowIsToTheFloor }
 {}
 
 /// Slots that hold from a round on what others hold do so with one certificate more in both, and without what lies below a

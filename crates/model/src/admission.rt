@@ -90,7 +90,8 @@ impl Outputs {
         start: u64,
         digests: &[Digest],
     ) -> Result<(), AllocError>
-        requires { start + length digests.now < 2 ^ 63 }
+        requires start { start < 2 ^ 63 }
+        requires few { length digests.now < 2 ^ 63 }
         ensures { OnOk result (self.new ≡ self.old ++ pieces start digests.now) }
     {
         for piece in 0..(digests.len() + (MAX_ORDER_DIGESTS - 1)) / MAX_ORDER_DIGESTS {

@@ -59,6 +59,8 @@ fn laws_hold() {
     machine::sound_stays();
     machine::kept_is_sound();
     machine::sound_proposes();
+    machine::floors_agree();
+    machine::low_is_to_the_floor();
     machine::held_goes_on();
     machine::held_is_enough_now();
     machine::held_is_enough_behind();
