@@ -15,6 +15,20 @@ EQUAL = [1, 1, 1, 1]
 SILENCE = 5
 
 
+class Remembering(Node):
+    """A node that looks once for what a certificate reaches: the parents of what is held are there, or never come."""
+
+    def __init__(self, depth, committee):
+        super().__init__(depth, committee)
+        self.pasts = {}
+
+    def past(self, certificate):
+        slot = certificate.round, certificate.author
+        if slot not in self.pasts:
+            self.pasts[slot] = super().past(certificate)
+        return self.pasts[slot]
+
+
 class Played:
     """A node that is given certificates and coins, the words that say so, and the lines that are expected."""
 
@@ -22,7 +36,8 @@ class Played:
 
     def __init__(self, depth, stakes):
         self.stakes, self.depth = stakes, depth
-        self.node = Node(depth, Committee(stakes))
+        self.node = Remembering(depth, Committee(stakes))
+        self.ordered = []
         self.words, self.lines = [], []
         self.commits = self.longest = self.late = 0
 
@@ -34,15 +49,17 @@ class Played:
         held = [self.node.certificates.get((round_ - 1, parent)) or Header('none', parent, 2 ** 40, [], []) for parent in parents]
         return Header('%d.%d' % (round_, author), author, round_, held, [])
 
-    def tell_commit(self, before, chain_before):
+    def tell_commit(self, chain_before):
         """What is committed now and wasn't before."""
         node = self.node
-        chain, order = node.chain(), node.order()
-        assert [c.label for c in order[:len(before)]] == [c.label for c in before]
-        new = [leader for leader in chain if leader.round > (chain_before[-1].round if chain_before else 0)]
+        chain = node.chain()
+        assert chain[:len(chain_before)] == chain_before
+        new = chain[len(chain_before):]
         if not new:
-            assert len(order) == len(before)
             return
+        before, order = self.ordered, node.order()
+        assert [c.label for c in order[:len(before)]] == [c.label for c in before]
+        self.ordered = order
         self.commits += 1
         self.longest = max(self.longest, len(new))
         self.lines.append(' '.join(['chain'] + [self.slot(leader) for leader in new]))
@@ -61,18 +78,18 @@ class Played:
     def add(self, round_, author, parents):
         self.words.append('add-' + '.'.join(map(str, [round_, author] + parents)))
         header = self.certificate(round_, author, parents)
-        before, chain = self.node.order(), self.node.chain()
+        chain = self.node.chain()
         answer, _ = self.node.certificate(header, [])
         told = {'new': 'New', 'known': 'Known', 'refused 3': '2 TooOld', 'refused 7': '3 CertConflict', 'refused 4': '5 MissingParents'}
         self.lines.append(next(told[start] for start in told if answer.startswith(start)))
-        self.tell_commit(before, chain)
+        self.tell_commit(chain)
 
     def coin(self, value):
         self.words.append('coin-%d' % value)
-        before, chain = self.node.order(), self.node.chain()
+        chain = self.node.chain()
         self.node.coins.append(value)
         self.lines.append('coin %d' % len(self.node.coins))
-        self.tell_commit(before, chain)
+        self.tell_commit(chain)
 
     def look(self):
         """The leaders of the waves from the floor on."""
@@ -148,6 +165,16 @@ def left_out():
     played.case('what the depth leaves out is never ordered')
 
 
+def full_rounds(rounds):
+    """All members over all of the round below, and for each wave the coin of the next member in turn."""
+    played = Played(50, EQUAL)
+    for round_ in range(1, rounds + 1):
+        rows(played, [round_], [0, 1, 2, 3], [0, 1, 2, 3])
+        if round_ % 2 == 1 and round_ > 1:
+            played.coin((round_ // 2 - 1) % 4)
+    played.case('%d full rounds, and coins for each member in turn' % rounds)
+
+
 class Drawn(Played):
     """Certificates as they may come: by round, some late, some again, some that are refused."""
 
@@ -219,6 +246,7 @@ late_supporter()
 reached_leader()
 skipped_leader()
 left_out()
+full_rounds(200)
 drawn(1, 2, EQUAL, 300)
 drawn(2, 3, EQUAL, 300)
 drawn(3, 50, EQUAL, 300)

@@ -127,6 +127,13 @@ impl<'a> Assembly<'a> {
         &self.header
     }
 
+    /// The header's digest.
+    pub fn digest(&self) -> &Digest
+        ensures { result.now.0 ≡ header_digest_of self.now.header.body }
+    {
+        &self.digest
+    }
+
     /// Whether this member's vote is counted.
     pub fn voted(&self, voter: Author) -> bool
         ensures { result ≡ has_voted self.now.places voter.0 }

@@ -6,6 +6,7 @@ ghost use Rattle.wire.specs.Digests.{header_digest_of, certificate_digest_of};
 use crate::words::{Told, author_of, numbers_in, round_of, write_slot};
 use committee::Committee;
 use dag::{Added, Dag};
+use flatten::{Lengthening, mark, segment};
 use std::alloc::{AllocError, Global};
 use tusk::Coins;
 use wire::{
@@ -21,6 +22,7 @@ struct Playing<'a> {
     dag: Dag<'a>,
     coins: Coins,
     last: Option<u64>,
+    previous: Option<(Round, Author)>,
 }
 
 /// Plays these words from the genesis on, and tells what each answers.
@@ -31,6 +33,7 @@ pub fn play_words(alloc: Global, committee: &Committee, words: &str, answer: &mu
         dag: Dag::new(alloc, committee)?,
         coins: Coins::new(alloc),
         last: None,
+        previous: None,
     };
     for word in words.split_whitespace() {
         let (name, rest) = word.split_once('-').unwrap_or((word, ""));
@@ -115,8 +118,9 @@ impl<'a> Playing<'a> {
         let chain = self
             .coins
             .committed_by(self.alloc, &self.dag, &certificate, self.last)?;
+        let made = self.lengthen(&chain)?;
         let _ = self.dag.add_digested(certificate, digest);
-        self.commit(&chain, answer)
+        self.commit(&chain, &made, answer)
     }
 
     fn coin(&mut self, value: u64, answer: &mut String) -> Told {
@@ -125,13 +129,28 @@ impl<'a> Playing<'a> {
             .committed_with(self.alloc, &self.dag, value, self.last)?;
         self.coins.push(value)?;
         writeln!(answer, "coin {}", self.coins.count())?;
-        self.commit(&chain, answer)
+        let made = self.lengthen(&chain)?;
+        self.commit(&chain, &made, answer)
     }
 
-    // Looks for these leaders in the DAG as it is now, and takes the last one as committed.
-    fn commit(&mut self, chain: &[(Round, Author)], answer: &mut String) -> Told {
+    // What these leaders order, and before that what each beginning of them does.
+    fn lengthen(&self, chain: &[(Round, Author)]) -> Result<Vec<Lengthening>, AllocError> {
+        let mut made = Vec::new(self.alloc);
+        for count in 1..chain.len() + 1 {
+            made.push(Lengthening::new(self.alloc, &self.dag, &chain[..count], self.previous)?)?;
+        }
+        Ok(made)
+    }
+
+    // Looks for these leaders in the DAG as it is now, tells what each orders, and takes the last one as committed.
+    fn commit(
+        &mut self,
+        chain: &[(Round, Author)],
+        made: &[Lengthening],
+        answer: &mut String,
+    ) -> Told {
         let again = self.coins.chain_from(self.alloc, &self.dag, self.last)?;
-        if again.as_slice() != chain {
+        if again.as_slice() != chain || !self.is_alike(chain, made)? {
             answer.push_str("otherwise\n")?;
         }
         let Some(last) = chain.last() else {
@@ -143,6 +162,11 @@ impl<'a> Playing<'a> {
             write_slot(answer, leader)?;
         }
         answer.push_str("\n")?;
+        self.tell_orders(made, answer)?;
+        if let Some(all) = made.last() {
+            mark(&mut self.dag, all);
+            self.previous = Some(all.last());
+        }
         self.last = self.coins.top(&self.dag);
         self.dag.commit_to(last.0);
         if floor.number() < self.dag.base().number() {
@@ -154,6 +178,49 @@ impl<'a> Playing<'a> {
             self.last.unwrap_or(0),
             self.dag.floor().number()
         )
+    }
+
+    // Whether the first of leaders orders alone what it does as their beginning.
+    fn is_alike(
+        &self,
+        chain: &[(Round, Author)],
+        made: &[Lengthening],
+    ) -> Result<bool, AllocError> {
+        match (chain.first(), made.first()) {
+            (Some(leader), Some(one)) => {
+                let alone = segment(self.alloc, &self.dag, *leader, self.previous)?;
+                Ok(alone.as_slice() == one.digests())
+            }
+            _ => Ok(true),
+        }
+    }
+
+    // What each leader orders: what its beginning has behind that of the one before.
+    fn tell_orders(&self, made: &[Lengthening], answer: &mut String) -> Told {
+        let mut told = 0;
+        for one in made {
+            let digests = one.digests();
+            answer.push_str("orders")?;
+            for digest in digests.iter().skip(told) {
+                self.tell_digest(digest, answer)?;
+            }
+            answer.push_str("\n")?;
+            told = digests.len();
+        }
+        Ok(())
+    }
+
+    // The slot of a certificate of this digest.
+    fn tell_digest(&self, digest: &Digest, answer: &mut String) -> Told {
+        for number in self.dag.floor().number()..self.dag.end() {
+            for author in 0..self.dag.committee().size() {
+                let slot = (round_of(number), Author(author));
+                if self.dag.digest(slot.0, slot.1) == Some(digest) {
+                    write_slot(answer, &slot)?;
+                }
+            }
+        }
+        Ok(())
     }
 
     // The leaders of the waves from the floor on.

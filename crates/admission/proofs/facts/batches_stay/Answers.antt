@@ -1,0 +1,5 @@
+use Rattle.admission.proofs.Behind.{batches_stay}
+use Rattle.admission.proofs.facts.batches_stay.Goals as goal
+
+pub returns : goal.returns
+returns c = batches_stay

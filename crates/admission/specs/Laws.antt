@@ -1,0 +1,63 @@
+-- What ties the tables of batches and votes to states.
+use Rattle.std.specs.Prelude.{◌≡◌, ℕ, ◌==◌, false, true, []}
+use Rattle.std.specs.FinMap as map
+use Rattle.std.specs.Option.{option_map_or}
+use Rattle.wire.specs.declared.message.Message.TheVariants as message
+use Rattle.model.specs.Nodes.{Node}
+use Rattle.model.specs.Proposing as proposing
+use Rattle.model.specs.States.{State, has_own_batch, floor_in}
+use Rattle.model.specs.States as states
+use Rattle.model.specs.Words.{Digest, Event, Header}
+use Rattle.machine.specs.Laws.{Comes}
+use Rattle.machine.specs.Machine.{after, fresh}
+use Rattle.batchstore.specs.Stock.{Stock, IsStock, batch_in, has_with, has_own, holds, is_available, nameable}
+use Rattle.votebook.specs.Votes.{Votes, ForgetsTo}
+use Rattle.admission.specs.Batches.{HasBatches, changes_batches}
+use Rattle.admission.specs.Votes.{HasVotes, with_vote, is_peers_header}
+
+-- ---- batches
+
+-- each look-up in a store says what the state says
+pub record ReadsAlike (node : Node) (state : State) (stock : Stock) : Type 0 where
+  pub same_batch : (digest : Digest) → batch_in stock digest ≡ states.batch_in state digest
+  pub same_own : (digest : Digest) → has_own stock digest ≡ has_own_batch node state digest
+  pub same_holds : (digest : Digest) (member : ℕ) → holds stock digest member ≡ states.holds node state digest member
+  pub same_available : (digest : Digest) → is_available stock digest ≡ states.is_available node state digest
+  pub same_with : (digest : Digest) (worker : ℕ) → has_with stock digest worker ≡ option_map_or (λ batch. batch.worker == worker) (states.batch_in state digest) false
+
+abbrev pub BatchesRead : Type 0
+BatchesRead = (node : Node) (state : State) (stock : Stock) → HasBatches node state stock → ReadsAlike node state stock
+
+-- a store lists the batches that the state may propose
+abbrev pub NameableAgrees : Type 0
+NameableAgrees = (node : Node) (state : State) (stock : Stock) → IsStock stock → HasBatches node state stock → nameable stock ≡ proposing.nameable node state
+
+-- a message that changes nothing of batches leaves the store at the state behind the event
+abbrev pub BatchesStay : Type 0
+BatchesStay = (node : Node) (state : State) (event : Event) (stock : Stock) → HasBatches node state stock → changes_batches node event.message ≡ false
+    → HasBatches node (after node state event) stock
+
+-- ---- votes
+
+-- where a new event is no header of another member, the book without what fell low has the votes of the state behind it
+abbrev pub VotesStay : Type 0
+VotesStay = (node : Node) (state : State) (event : Event) (votes later : Votes) → Comes node state event → HasVotes node state votes
+    → is_peers_header node event.message ≡ false → ForgetsTo (floor_in node (after node state event)) votes later
+    → HasVotes node (after node state event) later
+
+-- where it is one, the book with the vote for it, without what fell low, has them
+abbrev pub VoteIsKept : Type 0
+VoteIsKept = (node : Node) (state : State) (event : Event) (header : Header) (votes later : Votes) → Comes node state event → HasVotes node state votes
+    → event.message ≡ message.Header header → is_peers_header node event.message ≡ true
+    → ForgetsTo (floor_in node (after node state event)) (with_vote votes header.body) later
+    → HasVotes node (after node state event) later
+
+-- ---- the beginning
+
+-- a store without batches and a book without votes have what the fresh state has
+pub record HasNothing (node : Node) : Type 0 where
+  pub batches : HasBatches node (fresh node) (record { charter = node.charter; own = node.own.0; held = [] })
+  pub votes : HasVotes node (fresh node) map.empty
+
+abbrev pub StartsEmpty : Type 0
+StartsEmpty = (node : Node) → HasNothing node

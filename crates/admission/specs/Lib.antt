@@ -1,0 +1,4 @@
+pub mod Answers
+pub mod Batches
+pub mod Votes
+pub mod Laws

@@ -1,0 +1,197 @@
+//! What batches, acknowledgements and own headers come to.
+
+ghost use Rattle.std.specs.Prelude.{◌≡◌, ◌<◌, true, false, length, None, IfOk};
+ghost use Rattle.std.specs.List.{list_all};
+ghost use Rattle.model.specs.Admitting.{batch_outputs as outputs_of, held_batch_answer};
+ghost use Rattle.model.specs.Nodes.{Node};
+ghost use Rattle.model.specs.declared.admission.Admission.TheVariants.{New};
+ghost use Rattle.wire.specs.declared.message.Message.TheVariants as message;
+ghost use Rattle.batchstore.specs.Stock.{digest_of, held_at};
+ghost use Rattle.batchstore.specs.Answer.{is_full as spec_full, with_batch, with_names};
+ghost use Rattle.admission.specs.Answers.{IsAnswer, RefusesAs, is_new_step};
+ghost use Rattle.admission.specs.Batches.{as_refusal, AnswersFrom, RefusesFrom, GoesOn, GoesOnWithOwn, MayNameAll, may_name_by};
+
+use crate::step::Step;
+use batchstore::{Acked, BatchStore, StoreRefusal};
+use model::Refusal;
+use std::alloc::{AllocError, Global};
+use wire::{Author, Batch, BatchAck, BatchReference, Digest, Header, Output};
+
+// What a batch of this digest puts out: an own one goes to all, and of another one its author learns that it is held.
+fn batch_outputs(
+    alloc: Global,
+    own: Author,
+    digest: &Digest,
+    batch: &Batch,
+) -> Result<Vec<Output>, AllocError>
+    requires { digest.now ≡ digest_of batch.now }
+    ensures { IfOk result (λ outputs. (node : Node) → node.own ≡ own → outputs_of node batch.now ≡ outputs.items) }
+{
+    let output = if batch.author() == own {
+        Output::Batch(batch.share()?)
+    } else {
+        Output::Ack {
+            to: batch.author(),
+            ack: BatchAck {
+                author: own,
+                batch: *digest,
+            },
+        }
+    };
+    let mut outputs = Vec::new(alloc);
+    outputs.push(output)?;
+    Ok(outputs)
+}
+
+// What a batch comes to where this one is held under its digest.
+fn known_batch(
+    alloc: Global,
+    own: Author,
+    digest: &Digest,
+    held: &Batch,
+    batch: &Batch,
+) -> Result<Step, Refusal>
+    requires { digest.now ≡ digest_of held.now }
+    ensures answer { (node : Node) → node.own ≡ own → IsAnswer (held_batch_answer node held.now batch.now) result }
+    ensures refused { (node : Node) → RefusesAs (held_batch_answer node held.now batch.now) result }
+    ensures known { is_new_step result ≡ false }
+{
+    if held.body() != batch.body() {
+        return Err(Refusal::DigestClash);
+    }
+    match batch_outputs(alloc, own, digest, held) {
+        Ok(outputs) => Ok(Step::Known(outputs)),
+        Err(_) => Err(Refusal::Memory),
+    }
+}
+
+// Holds a new batch for which there is room.
+fn new_batch(
+    alloc: Global,
+    own: Author,
+    batches: &mut BatchStore,
+    digest: &Digest,
+    batch: Batch,
+) -> Result<Step, Refusal>
+    requires digested { digest.now ≡ digest_of batch }
+    requires free { held_at batches.old digest.now ≡ None }
+    requires room { spec_full batches.old ≡ false }
+    ensures answer { (node : Node) → node.own ≡ own → IsAnswer (New (outputs_of node batch)) result }
+    ensures new { is_new_step result ≡ true → batches.new ≡ with_batch batches.old batch }
+    ensures same { is_new_step result ≡ false → batches.new ≡ batches.old }
+{
+    let outputs = match batch_outputs(alloc, own, digest, &batch) {
+        Ok(outputs) => outputs,
+        Err(_) => return Err(Refusal::Memory),
+    };
+    match batches.put_digested(*digest, batch) {
+        Ok(_) => Ok(Step::New(outputs)),
+        Err(_) => Err(Refusal::Memory),
+    }
+}
+
+// Whether as many batches are held as the committee allows.
+fn is_full(batches: &BatchStore) -> bool
+    ensures { result ≡ spec_full batches.now }
+{
+    batches.len() >= batches.committee().batches() as usize
+}
+
+/// Takes a batch of this digest into the store of the member of this number. A known one puts out what the held one did.
+///
+/// # Errors
+/// `DigestClash` where another batch is held under its digest, `StoreFull` where it is new and as many are held as the
+/// committee allows, `Memory` where a growth was refused. They change nothing.
+pub fn take_batch(
+    alloc: Global,
+    own: Author,
+    batches: &mut BatchStore,
+    digest: &Digest,
+    batch: Batch,
+) -> Result<Step, Refusal>
+    requires digested { digest.now ≡ digest_of batch }
+    requires own { own.0 ≡ batches.old.own }
+    ensures answer { AnswersFrom batches.old (message.Batch batch) result }
+    ensures refused { RefusesFrom batches.old (message.Batch batch) result }
+    ensures new { is_new_step result ≡ true → GoesOn batches.old batches.new (message.Batch batch) }
+    ensures same { is_new_step result ≡ false → batches.new ≡ batches.old }
+{
+    if let Some(held) = batches.get(digest) {
+        return known_batch(alloc, own, digest, held, &batch);
+    }
+    if is_full(batches) {
+        return Err(Refusal::StoreFull);
+    }
+    new_batch(alloc, own, batches, digest, batch)
+}
+
+/// Takes an acknowledgement by a member into the store.
+///
+/// # Errors
+/// `NotOurs` where no own batch of the digest is held, `Memory` where a growth was refused. They change nothing.
+pub fn take_ack(alloc: Global, batches: &mut BatchStore, ack: &BatchAck) -> Result<Step, Refusal>
+    requires { ack.now.author.0 < length batches.old.charter.keys }
+    ensures answer { AnswersFrom batches.old (message.BatchAck ack.now) result }
+    ensures refused { RefusesFrom batches.old (message.BatchAck ack.now) result }
+    ensures new { is_new_step result ≡ true → GoesOn batches.old batches.new (message.BatchAck ack.now) }
+    ensures same { is_new_step result ≡ false → batches.new ≡ batches.old }
+{
+    match batches.ack(ack.author, &ack.batch) {
+        Ok(Acked::New) => Ok(Step::New(Vec::new(alloc))),
+        Ok(Acked::Known) => Ok(Step::Known(Vec::new(alloc))),
+        Err(refusal) => Err(refusal_of(refusal)),
+    }
+}
+
+// A store's refusal, as admission says it.
+fn refusal_of(refusal: StoreRefusal) -> Refusal
+    ensures { result ≡ as_refusal refusal }
+{
+    match refusal {
+        StoreRefusal::Memory => Refusal::Memory,
+        StoreRefusal::DigestClash => Refusal::DigestClash,
+        StoreRefusal::Full => Refusal::StoreFull,
+        StoreRefusal::NotOurs => Refusal::NotOurs,
+    }
+}
+
+// Whether a header of this author may name a batch.
+fn may_name(batches: &BatchStore, own: Author, author: Author, named: &BatchReference) -> bool
+    requires { own.0 ≡ batches.now.own }
+    ensures { result ≡ may_name_by batches.now author named.now }
+{
+    batches.holds(&named.digest, named.worker)
+        && (author != own || batches.available(&named.digest))
+}
+
+// Whether a header of this author may name each of these batches.
+fn may_name_each(
+    batches: &BatchStore,
+    own: Author,
+    author: Author,
+    named: &[BatchReference],
+) -> bool
+    requires { own.0 ≡ batches.now.own }
+    ensures { result ≡ list_all (may_name_by batches.now author) named.now }
+{
+    named
+        .iter()
+        .all(|named| may_name(batches, own, author, named))
+}
+
+/// Whether a header may name all its batches: each is held with that worker, and for an own header available.
+pub fn may_name_all(batches: &BatchStore, own: Author, header: &Header) -> bool
+    requires { own.0 ≡ batches.now.own }
+    ensures { MayNameAll batches.now header.now result }
+{
+    let named = header.body.batches.as_slice();
+    may_name_each(batches, own, header.body.author, named)
+}
+
+/// Marks the batches that a header names. For a new own header the store is then at the state behind it. It takes no memory.
+pub fn name_all(batches: &mut BatchStore, header: &Header)
+    ensures named { batches.new ≡ with_names batches.old header.now.body.batches }
+    ensures behind { GoesOnWithOwn batches.old batches.new header.now }
+{
+    batches.name(header.body.batches.as_slice());
+}

@@ -1,0 +1,2 @@
+pub mod Headers
+pub mod Laws

@@ -1,0 +1,9 @@
+pub mod Ranges
+pub mod Places
+pub mod References
+pub mod Steps
+pub mod Below
+pub mod Picking
+pub mod Marking
+pub mod Leaders
+pub mod Staying

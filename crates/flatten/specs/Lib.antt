@@ -1,0 +1,4 @@
+pub mod Segments
+pub mod Sets
+pub mod Lengthening
+pub mod Laws

@@ -1,0 +1,51 @@
+-- What leaders order over what a DAG holds.
+use Rattle.std.specs.Prelude.{◌≡◌, ℕ, ◌-◌, ◌≤◌, ◌&&◌, not, cond, Bool, true, List, [], ◌∷◌, map, length, filter_map, sum_by, Option, Some, is_some, option_and_then}
+use Rattle.std.specs.Option.{option_map_or}
+use Rattle.model.specs.Ordering.{is_past, rounds_to}
+use Rattle.model.specs.Ordering as ordering
+use Rattle.model.specs.Slots.{certificate_digest}
+use Rattle.model.specs.Words.{Author, Certificate, Digest}
+use Rattle.dag.specs.Graph.{Graph, slots_in, marked_in, reaches_in}
+use Rattle.tusk.specs.Chain.{ledger_in}
+
+-- what an optional slot holds
+abbrev pub held_at : Graph → Option (ℕ × Author) → Option Certificate
+held_at graph slot = option_and_then (λ s. slots_in graph s.0 s.1.0) slot
+
+-- from a round on, exactly those certificates are marked that a leader's history has; no coin is asked
+abbrev pub IsMarkedPast : Graph → ℕ → Option Certificate → Type 0
+IsMarkedPast graph low previous = (round author : ℕ) (c : Certificate) → low ≤ round → slots_in graph round author ≡ Some c
+    → marked_in graph round author ≡ is_past (ledger_in graph []) previous c
+
+-- a leader reaches a certificate that the one before doesn't
+abbrev pub is_new_to : Graph → Option Certificate → Certificate → Certificate → Bool
+is_new_to graph previous leader certificate =
+    ordering.reaches_in (ledger_in graph []) leader certificate && not (is_past (ledger_in graph []) previous certificate)
+
+-- how many references to parents the certificates name that a leader reaches and the one before doesn't
+abbrev pub references_in : Graph → Option Certificate → Certificate → ℕ
+references_in graph previous leader =
+    sum_by (λ c. cond (is_new_to graph previous leader c) (length c.header.parents) 0) (rounds_to (ledger_in graph []) leader.header.round)
+
+-- the digests of certificates
+abbrev pub digests_of : List Certificate → List Digest
+digests_of certificates = map (λ c. certificate_digest c.header) certificates
+
+-- ---- several leaders
+
+-- the certificates of leaders' slots
+abbrev pub leaders_in : Graph → List (ℕ × Author) → List Certificate
+leaders_in graph slots = filter_map (λ slot. slots_in graph slot.0 slot.1.0) slots
+
+-- leaders follow one on the other, the oldest first: each is held, and reaches the one before
+abbrev pub AreLinked : Graph → Option (ℕ × Author) → List (ℕ × Author) → Type 0
+AreLinked graph previous [] = Unit {0}
+AreLinked graph previous (leader ∷ leaders) =
+    (is_some (slots_in graph leader.0 leader.1.0) ≡ true)
+    × (option_map_or (λ (before : ℕ × Author). reaches_in graph leader.0 leader.1.0 before.0 before.1.0) previous true ≡ true)
+    × AreLinked graph (Some leader) leaders
+
+-- of what the first of leaders may order, exactly that is marked that the leader before them reaches
+abbrev pub IsMarkedFor : Graph → Option (ℕ × Author) → List (ℕ × Author) → Type 0
+IsMarkedFor graph previous [] = Unit {0}
+IsMarkedFor graph previous (first ∷ leaders) = IsMarkedPast graph (first.0 - graph.charter.depth) (held_at graph previous)

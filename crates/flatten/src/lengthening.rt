@@ -1,0 +1,108 @@
+//! What a commit of several leaders does.
+
+ghost use Rattle.std.specs.Prelude.{◌≡◌, ℕ, ◌-◌, ◌<◌, ◌||◌, ◌&&◌, nat_le, true, length, List, Some, IfOk, slice_get};
+ghost use Rattle.model.specs.Ordering.{segments};
+ghost use Rattle.dag.specs.Graph.{slots_in, marked_in, reaches_in, end_in};
+ghost use Rattle.tusk.specs.Chain.{ledger_in};
+ghost use Rattle.flatten.specs.Lengthening.{IsOf};
+ghost use Rattle.flatten.specs.Segments.{held_at, digests_of, leaders_in, AreLinked, IsMarkedPast, IsMarkedFor};
+
+use crate::segments::{lowest, order};
+use crate::sets::{round_of, set_at, unordered};
+use committee::MemberSet;
+use dag::Dag;
+use std::alloc::{AllocError, Global};
+use std::marker::Model;
+use wire::{Author, Digest, Round};
+
+/// What a commit of several leaders will do to the order and the marks. All of the memory that it needs is taken. Contracts
+/// see what was made.
+#[derive(Drop)]
+pub struct Lengthening {
+    digests: Vec<Digest>,
+    last: (Round, Author),
+    // Of the rounds from this one on, whose certificates are unordered behind the last leader.
+    low: u64,
+    unordered: Vec<MemberSet>,
+}
+
+impl Model for Lengthening {
+    ghost use Rattle.flatten.specs.Lengthening.{Made};
+
+    ghost Value = { Made };
+
+    ghost view = { λ m. record { digests = m.digests.items; last = m.last; low = m.low; unordered = m.unordered.items } };
+}
+
+impl Lengthening {
+    /// What is done by committing leaders, the oldest first, where the leader before them was that of another slot, or none.
+    ///
+    /// # Errors
+    /// `AllocError` where a growth was refused.
+    pub fn new(
+        alloc: Global,
+        dag: &Dag,
+        chain: &[(Round, Author)],
+        previous: Option<(Round, Author)>,
+    ) -> Result<Lengthening, AllocError>
+        requires some { 0 < length chain.now }
+        ensures digests { IfOk result (λ made. (coins : List ℕ) → AreLinked dag.now previous chain.now → IsMarkedFor dag.now previous chain.now
+            → made.digests ≡ digests_of (segments (ledger_in dag.now coins) (held_at dag.now previous) (leaders_in dag.now chain.now))) }
+        ensures last { IfOk result (λ made. slice_get chain.now (length chain.now - 1) ≡ Some made.last) }
+        ensures of { IfOk result (λ made. AreLinked dag.now previous chain.now → IsMarkedFor dag.now previous chain.now → IsOf dag.now made) }
+    {
+        dag.limits_hold();
+        let _ = previous;
+        let last = chain[chain.len() - 1];
+        let low = lowest(dag, chain[0].0);
+        let mut unordered = unordered(alloc, dag, low, last.0.number())?;
+        let mut digests = Vec::new(alloc);
+        for place in 0..chain.len() {
+            order(alloc, dag, chain[place], low, &mut unordered, &mut digests)?;
+        }
+        Ok(Lengthening {
+            digests,
+            last,
+            low,
+            unordered,
+        })
+    }
+
+    /// The digests of what the leaders order, one leader after the other.
+    pub fn digests(&self) -> &[Digest]
+        ensures { result.now ≡ self.now.digests }
+    {
+        &self.digests
+    }
+
+    /// The last of the leaders.
+    pub fn last(&self) -> (Round, Author)
+        ensures { result ≡ self.now.last }
+    {
+        self.last
+    }
+}
+
+/// Marks what leaders order, in the DAG that this was made of: what is marked behind it, at most the depth below the last
+/// leader, is what that reaches. It takes no memory.
+pub fn mark(dag: &mut Dag, made: &Lengthening)
+    ensures charter { dag.new.charter ≡ dag.old.charter }
+    ensures floor { dag.new.floor ≡ dag.old.floor }
+    ensures base { dag.new.base ≡ dag.old.base }
+    ensures end { end_in dag.new ≡ end_in dag.old }
+    ensures slots { (round author : ℕ) → slots_in dag.new round author ≡ slots_in dag.old round author }
+    ensures kept { (round author : ℕ) → marked_in dag.old round author ≡ true → marked_in dag.new round author ≡ true }
+    ensures exact { IsOf dag.old made.now → (round author : ℕ)
+        → marked_in dag.new round author ≡ (marked_in dag.old round author || (nat_le (made.now.last.0 - dag.old.charter.depth) round && reaches_in dag.old made.now.last.0 made.now.last.1.0 round author)) }
+    ensures marked { IsOf dag.old made.now → IsMarkedPast dag.new (made.now.last.0 - dag.new.charter.depth) (held_at dag.new (Some made.now.last)) }
+{
+    dag.limits_hold();
+    let (last, _) = made.last;
+    let first = lowest(dag, last).max(made.low);
+    for number in first..last.number() + 1 {
+        let round = round_of(number);
+        let mut authors = dag.unmarked_at(round);
+        authors.remove_all(&set_at(&made.unordered, (number - made.low) as usize));
+        dag.mark(round, &authors);
+    }
+}

@@ -1,0 +1,12 @@
+pub mod Chaining
+pub mod Coming
+pub mod Committing
+pub mod Extending
+pub mod Growing
+pub mod Naming
+pub mod Preparing
+pub mod Ready
+pub mod Rooting
+pub mod Rounds
+pub mod Standing
+pub mod Staying

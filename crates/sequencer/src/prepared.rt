@@ -1,0 +1,47 @@
+//! What a certificate or a coin will add to the order.
+
+ghost use Rattle.std.specs.Prelude.{◌≡◌, ◌<◌, length, IfOk};
+ghost use Rattle.sequencer.specs.Sequence.{digests_in, IsMadeOf};
+
+use dag::Dag;
+use flatten::Lengthening;
+use std::alloc::{AllocError, Global};
+use wire::{Author, Digest, Round};
+
+/// What a certificate or a coin will add to the order, and mark. All of the memory that it needs is taken.
+#[derive(Drop)]
+pub struct Prepared {
+    // None where no leader is committed.
+    pub(crate) committed: Option<Lengthening>,
+}
+
+impl Prepared {
+    // What leaders of these slots, the oldest first, add to the order behind the last one. `AllocError` where a growth was
+    // refused.
+    pub(crate) fn new(
+        alloc: Global,
+        dag: &Dag,
+        chain: &[(Round, Author)],
+        last: Option<(Round, Author)>,
+    ) -> Result<Prepared, AllocError>
+        ensures { IfOk result (λ prepared. IsMadeOf dag.now last chain.now prepared.committed) }
+    {
+        if chain.is_empty() {
+            return Ok(Prepared { committed: None });
+        }
+        let made = Lengthening::new(alloc, dag, chain, last)?;
+        Ok(Prepared {
+            committed: Some(made),
+        })
+    }
+
+    /// The digests that it adds to the order.
+    pub fn digests(&self) -> &[Digest]
+        ensures { result.now ≡ digests_in self.now }
+    {
+        match &self.committed {
+            Some(made) => made.digests(),
+            None => &[],
+        }
+    }
+}

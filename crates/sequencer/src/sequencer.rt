@@ -1,0 +1,224 @@
+//! The certificates, the coins and the order.
+
+ghost use Rattle.std.specs.Prelude.{◌≡◌, ℕ, ◌+◌, ◌-◌, ◌<◌, ◌≤◌, ◌++◌, length, Ok, Some, IfOk, OnOk, OnErr, vec_len, vec_capacity};
+ghost use Rattle.committee.specs.Charter.{Charter};
+ghost use Rattle.machine.specs.Machine.{certificate_of, fresh, after, round_in};
+ghost use Rattle.machine.specs.Sound.{IsSound};
+ghost use Rattle.model.specs.Histories.{as_coin};
+ghost use Rattle.model.specs.Nodes.{Node};
+ghost use Rattle.model.specs.Slots.{certificate_digest};
+ghost use Rattle.model.specs.States.{State};
+ghost use Rattle.model.specs.Words.{Event};
+ghost use Rattle.dag.specs.Answer.{answer};
+ghost use Rattle.dag.specs.declared.answers.Added.TheVariants.{New};
+ghost use Rattle.sequencer.specs.Sequence.{IsAt, ComesTo, IsPrepared, CommitsTo, digests_in, wave_in};
+ghost use Rattle.wire.specs.declared.round.TheConstants.Round.{MAX};
+
+use crate::facts::states_go_on;
+use crate::prepared::Prepared;
+use committee::Committee;
+use dag::Dag;
+use flatten::{made_stays, mark};
+use std::alloc::{AllocError, Global};
+use std::marker::Model;
+use tusk::Coins;
+use wire::{Author, Certificate, Digest, Round};
+
+/// The certificates, the coins and the order of one validator. Contracts see the DAG, the coins, the slot of the last
+/// committed leader, and the order.
+#[derive(Drop)]
+pub struct Sequencer<'a> {
+    dag: Dag<'a>,
+    coins: Coins,
+    last: Option<(Round, Author)>,
+    order: Vec<Digest>,
+}
+
+impl<'a> Model for Sequencer<'a> {
+    ghost use Rattle.sequencer.specs.Sequence.{Sequence};
+
+    ghost Value = { Sequence };
+
+    ghost view = { λ s. record { graph = s.dag; coins = s.coins; last = s.last; order = s.order.items } };
+}
+
+fn round_of(number: u64) -> Round
+    requires { number ≤ MAX }
+    ensures { result ≡ number }
+{
+    match Round::new(number) {
+        Ok(round) => round,
+        Err(_) => unreachable!(),
+    }
+}
+
+// The round at the depth below another one, or that of the genesis.
+fn below(committee: &Committee, round: Round) -> Round
+    ensures { result ≡ round - committee.now.depth }
+{
+    round_of(round.number().saturating_sub(committee.depth()))
+}
+
+// The wave of a leader's slot.
+fn wave_of(last: Option<(Round, Author)>) -> Option<u64>
+    ensures { result ≡ wave_in last }
+{
+    match last {
+        Some((round, _)) => Some((round.number() + 1) / 2),
+        None => None,
+    }
+}
+
+// Adds digests behind others, in room that is there.
+fn add_all(digests: &mut Vec<Digest>, more: &[Digest])
+    requires { vec_len digests.old + length more.now ≤ vec_capacity digests.old }
+    ensures { digests.new.items ≡ digests.old.items ++ more.now }
+{
+    for digest in more {
+        digests.push_reserved(*digest);
+    }
+}
+
+impl<'a> Sequencer<'a> {
+    /// That of a validator that has taken nothing: it holds the genesis. `AllocError` where a growth was refused.
+    pub fn new(alloc: Global, committee: &'a Committee) -> Result<Sequencer<'a>, AllocError>
+        ensures { IfOk result (λ made. (node : Node) → node.charter ≡ committee.now → IsAt node (fresh node) made) }
+    {
+        Ok(Sequencer {
+            dag: Dag::new(alloc, committee)?,
+            coins: Coins::new(alloc),
+            last: None,
+            order: Vec::new(alloc),
+        })
+    }
+
+    /// The DAG.
+    pub fn dag(&self) -> &Dag<'a>
+        ensures { result.now ≡ self.now.graph }
+    {
+        &self.dag
+    }
+
+    /// The coins.
+    pub fn coins(&self) -> &Coins
+        ensures { result.now ≡ self.now.coins }
+    {
+        &self.coins
+    }
+
+    /// The digests of the certificates that are ordered.
+    pub fn order(&self) -> &[Digest]
+        ensures { result.now ≡ self.now.order }
+    {
+        &self.order
+    }
+
+    /// 1 plus the greatest round of which a quorum of authors has certificates. The rounds are asked from the last one that
+    /// is held downwards to the floor.
+    pub fn round(&self) -> u64
+        ensures value { (node : Node) (state : State) → IsSound node state → IsAt node state self.now → result ≡ round_in node state }
+        ensures limit { result ≤ MAX + 1 }
+    {
+        self.dag.limits_hold();
+        let quorum = self.dag.committee().quorum();
+        let end = self.dag.end();
+        for past in 0..end - self.dag.floor().number() {
+            let number = end - 1 - past;
+            if quorum <= self.dag.stake_at(round_of(number)) {
+                return number + 1;
+            }
+        }
+        1
+    }
+
+    /// What a new certificate will add to the order, before it is held. `AllocError` where a growth was refused.
+    pub fn prepare(&self, alloc: Global, certificate: &Certificate) -> Result<Prepared, AllocError>
+        requires member { certificate.now.header.author.0 < length self.now.graph.charter.keys }
+        ensures { IfOk result (λ prepared. (node : Node) (state : State) (event : Event) → ComesTo node state event self.now
+            → certificate_of node state event.message ≡ Some certificate.now → IsPrepared node state event self.now prepared) }
+    {
+        self.dag.limits_hold();
+        let last = wave_of(self.last);
+        let chain = self
+            .coins
+            .committed_by(alloc, &self.dag, certificate, last)?;
+        Prepared::new(alloc, &self.dag, &chain, self.last)
+    }
+
+    /// What the coin of the next wave will add to the order. `AllocError` where a growth was refused.
+    pub fn prepare_coin(&self, alloc: Global, value: u64) -> Result<Prepared, AllocError>
+        ensures { IfOk result (λ prepared. (node : Node) (state : State) (event : Event) → ComesTo node state event self.now
+            → as_coin event.message ≡ Some value → IsPrepared node state event self.now prepared) }
+    {
+        self.dag.limits_hold();
+        let last = wave_of(self.last);
+        let chain = self.coins.committed_with(alloc, &self.dag, value, last)?;
+        Prepared::new(alloc, &self.dag, &chain, self.last)
+    }
+
+    /// Holds a new certificate of this digest, and orders what was prepared for it. `AllocError` where a growth was refused:
+    /// nothing has changed then.
+    pub fn hold(
+        &mut self,
+        certificate: Certificate,
+        digest: Digest,
+        prepared: &Prepared,
+    ) -> Result<(), AllocError>
+        requires member { certificate.header.author.0 < length self.old.graph.charter.keys }
+        requires named { 0 < length certificate.header.parents }
+        requires digested { digest ≡ certificate_digest certificate.header }
+        requires new { answer self.old.graph certificate ≡ Ok New }
+        ensures order { OnOk result (self.new.order ≡ self.old.order ++ digests_in prepared.now) }
+        ensures at { OnOk result ((node : Node) (state : State) (event : Event) → ComesTo node state event self.old
+            → certificate_of node state event.message ≡ Some certificate → IsPrepared node state event self.old prepared.now
+            → IsAt node (after node state event) self.new) }
+        ensures err { OnErr result (self.new ≡ self.old) }
+    {
+        self.dag.limits_hold();
+        // What can fail comes first.
+        self.order.reserve(prepared.digests().len())?;
+        self.dag.hold(certificate, digest)?;
+        self.dag.limits_hold();
+        add_all(&mut self.order, prepared.digests());
+        self.commit(prepared);
+        made_stays();
+        states_go_on();
+        Ok(())
+    }
+
+    /// Takes the coin of the next wave, and orders what was prepared for it. `AllocError` where a growth was refused: nothing
+    /// has changed then.
+    pub fn push(&mut self, value: u64, prepared: &Prepared) -> Result<(), AllocError>
+        ensures order { OnOk result (self.new.order ≡ self.old.order ++ digests_in prepared.now) }
+        ensures at { OnOk result ((node : Node) (state : State) (event : Event) → ComesTo node state event self.old
+            → as_coin event.message ≡ Some value → IsPrepared node state event self.old prepared.now
+            → IsAt node (after node state event) self.new) }
+        ensures err { OnErr result (self.new ≡ self.old) }
+    {
+        self.dag.limits_hold();
+        // What can fail comes first.
+        self.order.reserve(prepared.digests().len())?;
+        self.coins.push(value)?;
+        add_all(&mut self.order, prepared.digests());
+        self.commit(prepared);
+        states_go_on();
+        Ok(())
+    }
+
+    // Marks what was prepared, and drops what lies below the new floor. It takes no memory.
+    fn commit(&mut self, prepared: &Prepared)
+        ensures graph { CommitsTo self.old.graph self.old.last prepared.now.committed self.new.graph self.new.last }
+        ensures coins { self.new.coins ≡ self.old.coins }
+        ensures order { self.new.order ≡ self.old.order }
+    {
+        if let Some(made) = &prepared.committed {
+            let (round, author) = made.last();
+            let floor = below(self.dag.committee(), round);
+            mark(&mut self.dag, made);
+            self.dag.commit_to(round);
+            self.dag.limits_hold();
+            self.dag.drop_below(floor);
+            self.last = Some((round, author));
+        }
+    }
+}
