@@ -9,8 +9,7 @@ mod votes;
 
 pub use batches::{may_name_all, name_all, take_ack, take_batch};
 pub use facts::{
-    batches_read, batches_stay, nameable_agrees, starts_empty,
-    vote_is_kept, votes_stay,
+    batches_read, batches_stay, nameable_agrees, starts_empty, vote_is_kept, votes_stay,
 };
 pub use model::Refusal;
 pub use step::Step;

@@ -5,7 +5,4 @@ mod assemblies;
 mod facts;
 
 pub use assemblies::Assemblies;
-pub use facts::{
-    header_comes, others_come, starts_fresh, vote_comes,
-    votes_agree,
-};
+pub use facts::{header_comes, others_come, starts_fresh, vote_comes, votes_agree};

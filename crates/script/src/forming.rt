@@ -9,7 +9,9 @@ use crate::signing::signer;
 use crate::words::hex_bytes;
 use header::make;
 use std::alloc::{AllocError, Global};
-use wire::{Author, Batch, BatchReference, MAX_TRANSACTION_BYTES, OpenBatch, ParentReference, Round};
+use wire::{
+    Author, Batch, BatchReference, MAX_TRANSACTION_BYTES, OpenBatch, ParentReference, Round,
+};
 
 /// Defines the header of a form, with its batches sorted by digest. A bad word or label comes before the first fault
 /// that reading its bytes would meet; either defines nothing.

@@ -28,7 +28,7 @@ loop-i-preserved c =
           }
       | else-contains w ↦
           let fails : authors i ≡ false = sym c.contains.ensures ∙ w.if-contains.false in
-          rw w.self-inside-is record { slots = mark_not authors old items i so_far fails; unmarked = c.loop-i.invariant.unmarked; }
+          rw w.self-inside-is record { slots = mark_not authors old items i so_far fails; unmarked = c.loop-i.invariant.unmarked }
     ]
 
 pub invariant_of-self : goal.invariant_of-self

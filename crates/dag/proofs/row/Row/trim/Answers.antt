@@ -17,7 +17,7 @@ loop-i-preserved c =
     let inside : c.loop-i.i < length items = omega (arith, c.loop-i-test.true, c.len-i-end.ensures, long, all) in
     record {
       slots = ap (slice_set items c.loop-i.i) c.trim.ensures
-        ∙ mapped_more (option_map (trimmed c.args.count)) c.args.self.now items c.loop-i.i old so_far inside c.index_mut.ensures.value;
+          ∙ mapped_more (option_map (trimmed c.args.count)) c.args.self.now items c.loop-i.i old so_far inside c.index_mut.ensures.value;
       unmarked = c.loop-i.invariant.unmarked;
     }
 
