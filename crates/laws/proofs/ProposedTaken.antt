@@ -6,8 +6,8 @@ use Rattle.std.proofs.lemmas.Bool.{and_from, lt-ltb}
 use Rattle.std.proofs.lemmas.List.Elements.{All-nil, All-cons, All-weaker, All-contains_itself}
 use Rattle.wire.specs.Events.{Event}
 use Rattle.wire.specs.Fields.{IsDigest}
-use Rattle.wire.specs.Grammar.{IsBatchReference, AreBatches, AreParents, IsHeader}
-use Rattle.wire.specs.References.{batches_rise, parents_rise, digest_before, placed}
+use Rattle.wire.specs.Grammar.{IsHeader}
+use Rattle.wire.specs.References.{IsBatchReference, AreBatches, AreParents, batches_rise, parents_rise, digest_before, placed}
 use Rattle.wire.proofs.DigestLemmas.{are_digest_bytes}
 use Rattle.model.specs.Admitting.{IsTaken, IsLegal}
 use Rattle.model.specs.Histories.{History, batches}

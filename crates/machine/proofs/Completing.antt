@@ -9,8 +9,7 @@ use Rattle.committee.specs.Charter.{stake_of, weight, quorum_of}
 use Rattle.committee.proofs.Weights.{weight-same}
 use Rattle.header.specs.Checks.{accepts_all, is_member, is_signed, named_weight, vote_signed}
 use Rattle.wire.specs.Fields.{IsSignature}
-use Rattle.wire.specs.Grammar.{AreVotes}
-use Rattle.wire.specs.References.{votes_rise}
+use Rattle.wire.specs.References.{AreVotes, votes_rise}
 use Rattle.wire.specs.Digests.{header_digest_of}
 use Rattle.wire.specs.declared.message.Message.TheVariants as message
 use Rattle.model.specs.Admitting.{IsTaken}

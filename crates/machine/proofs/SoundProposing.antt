@@ -9,8 +9,8 @@ use Rattle.std.proofs.lemmas.List.Elements.{All-contains, All-contains_itself, A
 use Rattle.std.proofs.lemmas.List.FromFn.{length-range_with_len}
 use Rattle.std.proofs.lemmas.Option.{same_Some, none-some, slice_get-get_or}
 use Rattle.wire.specs.Fields.{IsDigest, IsNumber}
-use Rattle.wire.specs.Grammar.{IsBatchReference, IsHeader, AreBatches, AreParents}
-use Rattle.wire.specs.References.{digest_before}
+use Rattle.wire.specs.Grammar.{IsHeader}
+use Rattle.wire.specs.References.{IsBatchReference, AreBatches, AreParents, digest_before}
 use Rattle.wire.proofs.DigestLemmas.{are_digest_bytes}
 use Rattle.wire.specs.declared.message.Message.TheVariants as message
 use Rattle.committee.specs.Charter.{numbers, stake_of, weight, quorum_of}

@@ -1,5 +1,5 @@
 -- Which values are messages, and which bytes spell them.
-use Rattle.std.specs.Prelude.{◌≡◌, ℕ, ◌<◌, ◌≤◌, ◌^◌, List, length, All, IsTrue}
+use Rattle.std.specs.Prelude.{◌≡◌, ℕ, ◌<◌, ◌^◌, List}
 use Rattle.wire.specs.declared.header.HeaderBody.{HeaderBody}
 use Rattle.wire.specs.declared.header.Header.{Header}
 use Rattle.wire.specs.declared.header.Vote.{Vote}
@@ -8,52 +8,15 @@ use Rattle.wire.specs.declared.message.BatchAck.{BatchAck}
 use Rattle.wire.specs.declared.message.Coin.{Coin}
 use Rattle.wire.specs.declared.message.Message.{Message}
 use Rattle.wire.specs.declared.message.Message.TheVariants as message
-use Rattle.wire.specs.declared.references.BatchReference.{BatchReference}
-use Rattle.wire.specs.declared.references.ParentReference.{ParentReference}
-use Rattle.wire.specs.declared.votes.VoteEntry.{VoteEntry}
-use Rattle.wire.specs.declared.limits.TheConstants.{MAX_BATCHES, MAX_PARENTS, MAX_VOTES}
-use Rattle.wire.specs.Fields.{IsNumber, IsAuthor, IsDigest, IsSignature, IsRound, IsWave}
+use Rattle.wire.specs.Fields.{IsAuthor, IsDigest, IsSignature, IsRound, IsWave}
 use Rattle.wire.specs.Batches.{IsBatch}
-use Rattle.wire.specs.References.{batches_rise, parents_rise, votes_rise}
+use Rattle.wire.specs.References.{AreBatches, AreParents, AreVotes}
 use Rattle.wire.specs.Spelling.{spelling}
 
 -- an acknowledgement is by a member, of a batch's digest
 pub record IsAck (a : BatchAck) : Type 0 where
   pub author : IsAuthor a.author
   pub batch : IsDigest a.batch
-
--- a batch is named by its digest, and by the worker that holds it
-pub record IsBatchReference (b : BatchReference) : Type 0 where
-  pub digest : IsDigest b.digest
-  pub worker : IsNumber b.worker
-
--- a parent is named by its author, and by its certificate's digest
-pub record IsParentReference (p : ParentReference) : Type 0 where
-  pub author : IsAuthor p.author
-  pub certificate : IsDigest p.certificate
-
--- a vote in a certificate is by a voter, with its signature
-pub record IsVoteEntry (v : VoteEntry) : Type 0 where
-  pub voter : IsAuthor v.voter
-  pub signature : IsSignature v.signature
-
--- a header names at most 128 batches, which rise by digest
-pub record AreBatches (batches : List BatchReference) : Type 0 where
-  pub few : length batches ≤ MAX_BATCHES
-  pub each : All IsBatchReference batches
-  pub rise : IsTrue (batches_rise batches)
-
--- a header names at most 31 parents, which rise by author, so no author twice
-pub record AreParents (parents : List ParentReference) : Type 0 where
-  pub few : length parents ≤ MAX_PARENTS
-  pub each : All IsParentReference parents
-  pub rise : IsTrue (parents_rise parents)
-
--- a certificate has at most 31 votes, which rise by voter, so no voter twice
-pub record AreVotes (votes : List VoteEntry) : Type 0 where
-  pub few : length votes ≤ MAX_VOTES
-  pub each : All IsVoteEntry votes
-  pub rise : IsTrue (votes_rise votes)
 
 -- the body of a header has an author, a round, batches and parents
 pub record IsHeaderBody (h : HeaderBody) : Type 0 where

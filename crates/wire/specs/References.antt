@@ -1,13 +1,15 @@
--- The order of the lists of headers and certificates.
-use Rattle.std.specs.Prelude.{Bool, List, [], ◌∷◌, nat_lt, if◌then◌else◌}
+-- The lists of headers and certificates: what each entry has, how many there are, and their order.
+use Rattle.std.specs.Prelude.{◌≤◌, All, Bool, IsTrue, List, [], ◌∷◌, length, nat_lt, if◌then◌else◌}
 use Rattle.std.specs.Ordering.{nat_cmp, is_lt}
 use Rattle.std.specs.Cmp.Lexicographic.{slice_cmp}
 use Rattle.std.specs.Str.{bytes_eq}
 use Rattle.wire.specs.declared.keys.Author.{Author}
 use Rattle.wire.specs.declared.keys.Digest.{Digest}
+use Rattle.wire.specs.declared.limits.TheConstants.{MAX_BATCHES, MAX_PARENTS, MAX_VOTES}
 use Rattle.wire.specs.declared.references.BatchReference.{BatchReference}
 use Rattle.wire.specs.declared.references.ParentReference.{ParentReference}
 use Rattle.wire.specs.declared.votes.VoteEntry.{VoteEntry}
+use Rattle.wire.specs.Fields.{IsNumber, IsAuthor, IsDigest, IsSignature}
 use Rattle.wire.specs.Rising.{rises, follows}
 
 -- of two digests, the first byte that differs tells which comes first
@@ -45,3 +47,36 @@ votes_rise = rises (λ a b. nat_lt a.voter.0 b.voter.0)
 -- a vote by this voter may come next
 abbrev pub vote_follows : List VoteEntry → Author → Bool
 vote_follows votes voter = follows (λ a. nat_lt a.voter.0 voter.0) votes
+
+-- a batch is named by its digest, and by the worker that holds it
+pub record IsBatchReference (b : BatchReference) : Type 0 where
+  pub digest : IsDigest b.digest
+  pub worker : IsNumber b.worker
+
+-- a parent is named by its author, and by its certificate's digest
+pub record IsParentReference (p : ParentReference) : Type 0 where
+  pub author : IsAuthor p.author
+  pub certificate : IsDigest p.certificate
+
+-- a vote in a certificate is by a voter, with its signature
+pub record IsVoteEntry (v : VoteEntry) : Type 0 where
+  pub voter : IsAuthor v.voter
+  pub signature : IsSignature v.signature
+
+-- a header names at most 128 batches, which rise by digest
+pub record AreBatches (batches : List BatchReference) : Type 0 where
+  pub few : length batches ≤ MAX_BATCHES
+  pub each : All IsBatchReference batches
+  pub rise : IsTrue (batches_rise batches)
+
+-- a header names at most 31 parents, which rise by author, so no author twice
+pub record AreParents (parents : List ParentReference) : Type 0 where
+  pub few : length parents ≤ MAX_PARENTS
+  pub each : All IsParentReference parents
+  pub rise : IsTrue (parents_rise parents)
+
+-- a certificate has at most 31 votes, which rise by voter, so no voter twice
+pub record AreVotes (votes : List VoteEntry) : Type 0 where
+  pub few : length votes ≤ MAX_VOTES
+  pub each : All IsVoteEntry votes
+  pub rise : IsTrue (votes_rise votes)

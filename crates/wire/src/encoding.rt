@@ -5,7 +5,8 @@ ghost use Rattle.wire.specs.declared.limits.TheConstants.{MAX_BATCH_BYTES, MAX_B
 ghost use Rattle.wire.specs.Spelling.{batch_reference_bytes, parent_reference_bytes, vote_entry_bytes, batches_bytes, parents_bytes, votes_bytes, header_body, header_body_len, spelling, length_of};
 ghost use Rattle.wire.specs.Fields.{EachIsByte, IsDigest, IsSignature};
 ghost use Rattle.wire.specs.Batches.{IsBatch};
-ghost use Rattle.wire.specs.Grammar.{IsBatchReference, IsParentReference, IsVoteEntry, AreBatches, AreParents, AreVotes, IsAck, IsHeaderBody, IsHeader, IsVote, IsCertificate, IsCoin, IsMessage, Spells};
+ghost use Rattle.wire.specs.Grammar.{IsAck, IsHeaderBody, IsHeader, IsVote, IsCertificate, IsCoin, IsMessage, Spells};
+ghost use Rattle.wire.specs.References.{IsBatchReference, IsParentReference, IsVoteEntry, AreBatches, AreParents, AreVotes};
 
 use crate::batch::Batch;
 use crate::header::{Certificate, Header, HeaderBody, Vote};
@@ -34,28 +35,21 @@ pub const CERTIFICATE_TAG: u8 = 5;
 /// The tag of a coin message.
 pub const COIN_TAG: u8 = 6;
 
-fn put_bytes(out: &mut Vec<u8>, bytes: &[u8]) -> Result<(), AllocError>
-    ensures bytes { OnOk result (out.new.items ≡ out.old.items ++ bytes.now) }
-    ensures len { OnOk result (length out.new.items ≡ length out.old.items + length bytes.now) }
-    ensures fits { OnOk result (EachIsByte bytes.now) }
-{
-    out.extend_from_slice(bytes)
-}
-
 pub(crate) fn put_digest(out: &mut Vec<u8>, digest: &Digest) -> Result<(), AllocError>
     ensures bytes { OnOk result (out.new.items ≡ out.old.items ++ digest.now.0) }
     ensures len { OnOk result (length out.new.items ≡ length out.old.items + 32) }
     ensures fits { OnOk result (IsDigest digest.now) }
 {
-    put_bytes(out, &digest.0)
+    digest.limits_hold();
+    out.extend_from_slice(&digest.0)
 }
 
 fn put_signature(out: &mut Vec<u8>, signature: &Signature) -> Result<(), AllocError>
     ensures bytes { OnOk result (out.new.items ≡ out.old.items ++ signature.now.0) }
     ensures len { OnOk result (length out.new.items ≡ length out.old.items + 64) }
-    ensures fits { OnOk result (IsSignature signature.now) }
 {
-    put_bytes(out, &signature.0)
+    signature.limits_hold();
+    out.extend_from_slice(&signature.0)
 }
 
 pub(crate) fn put_batch(out: &mut Vec<u8>, batch: &Batch) -> Result<(), AllocError>
@@ -73,6 +67,7 @@ pub(crate) fn put_ack(out: &mut Vec<u8>, ack: &BatchAck) -> Result<(), AllocErro
     ensures len { OnOk result (length out.new.items ≡ length out.old.items + 35) }
     ensures fits { OnOk result (IsAck ack.now) }
 {
+    ack.limits_hold();
     out.push(ACK_TAG)?;
     out.extend_from_slice(&two_bytes(ack.author.0))?;
     put_digest(out, &ack.batch)
@@ -81,7 +76,6 @@ pub(crate) fn put_ack(out: &mut Vec<u8>, ack: &BatchAck) -> Result<(), AllocErro
 fn put_batch_reference(out: &mut Vec<u8>, batch: &BatchReference) -> Result<(), AllocError>
     ensures bytes { OnOk result (out.new.items ≡ out.old.items ++ batch_reference_bytes batch.now) }
     ensures len { OnOk result (length out.new.items ≡ length out.old.items + 34) }
-    ensures fits { OnOk result (IsBatchReference batch.now) }
 {
     put_digest(out, &batch.digest)?;
     out.extend_from_slice(&two_bytes(batch.worker))
@@ -90,7 +84,6 @@ fn put_batch_reference(out: &mut Vec<u8>, batch: &BatchReference) -> Result<(), 
 fn put_batches(out: &mut Vec<u8>, batches: &BatchReferences) -> Result<(), AllocError>
     ensures bytes { OnOk result (out.new.items ≡ out.old.items ++ batches_bytes batches.now) }
     ensures len { OnOk result (length out.new.items ≡ length out.old.items + (2 + 34 * length batches.now)) }
-    ensures fits { OnOk result (AreBatches batches.now) }
     ensures few { OnOk result (length batches.now ≤ MAX_BATCHES) }
 {
     let list = batches.as_slice();
@@ -104,7 +97,6 @@ fn put_batches(out: &mut Vec<u8>, batches: &BatchReferences) -> Result<(), Alloc
 fn put_parent_reference(out: &mut Vec<u8>, parent: &ParentReference) -> Result<(), AllocError>
     ensures bytes { OnOk result (out.new.items ≡ out.old.items ++ parent_reference_bytes parent.now) }
     ensures len { OnOk result (length out.new.items ≡ length out.old.items + 34) }
-    ensures fits { OnOk result (IsParentReference parent.now) }
 {
     out.extend_from_slice(&two_bytes(parent.author.0))?;
     put_digest(out, &parent.certificate)
@@ -113,7 +105,6 @@ fn put_parent_reference(out: &mut Vec<u8>, parent: &ParentReference) -> Result<(
 fn put_parents(out: &mut Vec<u8>, parents: &ParentReferences) -> Result<(), AllocError>
     ensures bytes { OnOk result (out.new.items ≡ out.old.items ++ parents_bytes parents.now) }
     ensures len { OnOk result (length out.new.items ≡ length out.old.items + (2 + 34 * length parents.now)) }
-    ensures fits { OnOk result (AreParents parents.now) }
     ensures few { OnOk result (length parents.now ≤ MAX_PARENTS) }
 {
     let list = parents.as_slice();
@@ -127,7 +118,6 @@ fn put_parents(out: &mut Vec<u8>, parents: &ParentReferences) -> Result<(), Allo
 fn put_vote_entry(out: &mut Vec<u8>, entry: &VoteEntry) -> Result<(), AllocError>
     ensures bytes { OnOk result (out.new.items ≡ out.old.items ++ vote_entry_bytes entry.now) }
     ensures len { OnOk result (length out.new.items ≡ length out.old.items + 66) }
-    ensures fits { OnOk result (IsVoteEntry entry.now) }
 {
     out.extend_from_slice(&two_bytes(entry.voter.0))?;
     put_signature(out, &entry.signature)
@@ -137,7 +127,6 @@ fn put_votes(out: &mut Vec<u8>, votes: &VoteEntries) -> Result<(), AllocError>
     ensures bytes { OnOk result (out.new.items ≡ out.old.items ++ votes_bytes votes.now) }
     ensures len { OnOk result (length out.new.items ≡ length out.old.items + (2 + 66 * length votes.now)) }
     ensures few { OnOk result (length votes.now ≤ MAX_VOTES) }
-    ensures fits { OnOk result (AreVotes votes.now) }
 {
     let list = votes.as_slice();
     out.extend_from_slice(&two_bytes(list.len() as u16))?;
@@ -151,7 +140,6 @@ fn put_header_body(out: &mut Vec<u8>, header: &HeaderBody) -> Result<(), AllocEr
     ensures bytes { OnOk result (out.new.items ≡ out.old.items ++ header_body header.now) }
     ensures len { OnOk result (length out.new.items ≡ length out.old.items + header_body_len header.now) }
     ensures few { OnOk result (header_body_len header.now ≤ 14 + 34 * (MAX_BATCHES + MAX_PARENTS)) }
-    ensures fits { OnOk result (IsHeaderBody header.now) }
 {
     out.extend_from_slice(&two_bytes(header.author.0))?;
     out.extend_from_slice(&eight_bytes(header.round.number()))?;
@@ -166,6 +154,7 @@ pub(crate) fn put_header(out: &mut Vec<u8>, header: &Header) -> Result<(), Alloc
     ensures limit { OnOk result (length_of (Message.Header header.now) ≤ 1 + (14 + 34 * (MAX_BATCHES + MAX_PARENTS) + 64)) }
     ensures fits { OnOk result (IsHeader header.now) }
 {
+    header.limits_hold();
     out.push(HEADER_TAG)?;
     put_header_body(out, &header.body)?;
     put_signature(out, &header.signature)
@@ -176,6 +165,7 @@ pub(crate) fn put_vote(out: &mut Vec<u8>, vote: &Vote) -> Result<(), AllocError>
     ensures len { OnOk result (length out.new.items ≡ length out.old.items + 109) }
     ensures fits { OnOk result (IsVote vote.now) }
 {
+    vote.limits_hold();
     out.push(VOTE_TAG)?;
     put_digest(out, &vote.header)?;
     out.extend_from_slice(&eight_bytes(vote.round.number()))?;
@@ -193,6 +183,7 @@ pub(crate) fn put_certificate(
     ensures limit { OnOk result (length_of (Message.Certificate certificate.now) ≤ 1 + (14 + 34 * (MAX_BATCHES + MAX_PARENTS) + (2 + 66 * MAX_VOTES))) }
     ensures fits { OnOk result (IsCertificate certificate.now) }
 {
+    certificate.limits_hold();
     out.push(CERTIFICATE_TAG)?;
     put_header_body(out, &certificate.header)?;
     put_votes(out, &certificate.votes)
@@ -201,7 +192,6 @@ pub(crate) fn put_certificate(
 fn put_coin(out: &mut Vec<u8>, coin: &Coin) -> Result<(), AllocError>
     ensures bytes { OnOk result (out.new.items ≡ out.old.items ++ spelling (Message.Coin coin.now)) }
     ensures len { OnOk result (length out.new.items ≡ length out.old.items + 17) }
-    ensures fits { OnOk result (IsCoin coin.now) }
 {
     out.push(COIN_TAG)?;
     out.extend_from_slice(&eight_bytes(coin.wave.number()))?;
@@ -213,7 +203,6 @@ fn put_message(out: &mut Vec<u8>, message: &Message) -> Result<(), AllocError>
     ensures bytes { OnOk result (out.new.items ≡ out.old.items ++ spelling message.now) }
     ensures len { OnOk result (length out.new.items ≡ length out.old.items + length_of message.now) }
     ensures limit { OnOk result (length_of message.now ≤ 1 + MAX_BATCH_BYTES) }
-    ensures fits { OnOk result (IsMessage message.now) }
 {
     match message {
         Message::Batch(batch) => put_batch(out, batch),
@@ -232,6 +221,7 @@ pub fn encode(alloc: Global, message: &Message) -> Result<Vec<u8>, AllocError>
     // So it fits a frame, with a sender before it.
     ensures limit { IfOk result (λ bytes. length bytes.items ≤ 1 + MAX_BATCH_BYTES) }
 {
+    message.limits_hold();
     let mut out = Vec::new(alloc);
     put_message(&mut out, message)?;
     Ok(out)

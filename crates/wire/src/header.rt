@@ -1,6 +1,7 @@
 //! Headers, the votes on them, and their certificates.
 
 ghost use Rattle.std.specs.Prelude.{◌≡◌, [], IfOk};
+ghost use Rattle.wire.specs.Grammar.{IsHeaderBody, IsHeader, IsVote, IsCertificate};
 
 use crate::keys::{Author, Digest, Signature};
 use crate::references::{BatchReferences, ParentReferences};
@@ -61,6 +62,16 @@ impl HeaderBody {
     {
         self.clone()
     }
+
+    /// What holds of each body of a header. The call does nothing.
+    pub fn limits_hold(&self)
+        ensures { IsHeaderBody self.now }
+    {
+        self.author.limits_hold();
+        self.round.number();
+        self.batches.as_slice();
+        self.parents.as_slice();
+    }
 }
 
 impl Header {
@@ -70,6 +81,27 @@ impl Header {
     {
         self.clone()
     }
+
+    /// What holds of each header. The call does nothing.
+    pub fn limits_hold(&self)
+        ensures { IsHeader self.now }
+    {
+        self.body.limits_hold();
+        self.signature.limits_hold();
+    }
+}
+
+impl Vote {
+    /// What holds of each vote. The call does nothing.
+    pub fn limits_hold(&self)
+        ensures { IsVote self.now }
+    {
+        self.header.limits_hold();
+        self.round.number();
+        self.author.limits_hold();
+        self.voter.limits_hold();
+        self.signature.limits_hold();
+    }
 }
 
 impl Certificate {
@@ -78,6 +110,14 @@ impl Certificate {
         ensures { IfOk result (λ certificate. certificate ≡ self.now) }
     {
         self.clone()
+    }
+
+    /// What holds of each certificate. The call does nothing.
+    pub fn limits_hold(&self)
+        ensures { IsCertificate self.now }
+    {
+        self.header.limits_hold();
+        self.votes.as_slice();
     }
 
     /// The genesis certificate of an author: round 0, no batches, no parents, no votes.

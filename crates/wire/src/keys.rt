@@ -1,5 +1,9 @@
 //! Names of fixed size: members, digests, keys and signatures.
 
+ghost use Rattle.wire.specs.Fields.{EachIsByte, IsAuthor, IsDigest, IsSignature};
+
+use crate::numbers::fits_two_bytes;
+
 /// A member of the committee, by its number from 0 on. On the wire it may have any value of two bytes.
 #[derive(Clone, Copy, Debug, PartialEq, Eq, PartialOrd, Ord, Hash)]
 pub struct Author(pub u16);
@@ -15,3 +19,37 @@ pub struct Key(pub [u8; 32]);
 /// A signature of 64 bytes.
 #[derive(Clone, Copy, Debug, PartialEq, Eq)]
 pub struct Signature(pub [u8; 64]);
+
+// What holds of bytes. The call does nothing.
+fn are_bytes(bytes: &[u8])
+    ensures { EachIsByte bytes.now }
+{
+    let _ = bytes;
+}
+
+impl Author {
+    /// What holds of each author: its number has two bytes. The call does nothing.
+    pub fn limits_hold(&self)
+        ensures { IsAuthor self.now }
+    {
+        fits_two_bytes(self.0);
+    }
+}
+
+impl Digest {
+    /// What holds of each digest: it has 32 bytes. The call does nothing.
+    pub fn limits_hold(&self)
+        ensures { IsDigest self.now }
+    {
+        are_bytes(&self.0);
+    }
+}
+
+impl Signature {
+    /// What holds of each signature: it has 64 bytes. The call does nothing.
+    pub fn limits_hold(&self)
+        ensures { IsSignature self.now }
+    {
+        are_bytes(&self.0);
+    }
+}

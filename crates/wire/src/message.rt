@@ -1,8 +1,11 @@
 //! What validators send one another.
 
+ghost use Rattle.wire.specs.Grammar.{IsAck, IsCoin, IsMessage};
+
 use crate::batch::Batch;
 use crate::header::{Certificate, Header, Vote};
 use crate::keys::{Author, Digest};
+use crate::numbers::fits_eight_bytes;
 use crate::round::Wave;
 
 /// That a member holds a batch.
@@ -38,4 +41,42 @@ pub enum Message {
     Certificate(Certificate),
     /// A wave's coin.
     Coin(Coin),
+}
+
+impl BatchAck {
+    /// What holds of each acknowledgement. The call does nothing.
+    pub fn limits_hold(&self)
+        ensures { IsAck self.now }
+    {
+        self.author.limits_hold();
+        self.batch.limits_hold();
+    }
+}
+
+impl Coin {
+    /// What holds of each coin. The call does nothing.
+    pub fn limits_hold(&self)
+        ensures { IsCoin self.now }
+    {
+        self.wave.number();
+        fits_eight_bytes(self.value);
+    }
+}
+
+impl Message {
+    /// What holds of each message: it keeps all limits. The call does nothing.
+    pub fn limits_hold(&self)
+        ensures { IsMessage self.now }
+    {
+        match self {
+            Message::Batch(batch) => {
+                batch.body();
+            }
+            Message::BatchAck(ack) => ack.limits_hold(),
+            Message::Header(header) => header.limits_hold(),
+            Message::Vote(vote) => vote.limits_hold(),
+            Message::Certificate(certificate) => certificate.limits_hold(),
+            Message::Coin(coin) => coin.limits_hold(),
+        }
+    }
 }

@@ -34,3 +34,17 @@ pub(crate) fn four_bytes(number: u32) -> [u8; 4]
     BigEndian::write_u32(&mut bytes, number);
     bytes
 }
+
+// What holds of a number of two bytes. The call does nothing.
+pub(crate) fn fits_two_bytes(number: u16)
+    ensures { number < 2 ^ 16 }
+{
+    let _ = number;
+}
+
+// What holds of a number of eight bytes. The call does nothing.
+pub(crate) fn fits_eight_bytes(number: u64)
+    ensures { number < 2 ^ 64 }
+{
+    let _ = number;
+}

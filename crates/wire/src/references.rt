@@ -2,9 +2,10 @@
 
 ghost use Rattle.std.specs.Prelude.{◌≡◌, ◌<◌, ◌≤◌, ◌++◌, [], ◌∷◌, List, length, IsTrue, ◌↔◌, OnOk, OnErr};
 ghost use Rattle.wire.specs.declared.limits.TheConstants.{MAX_BATCHES, MAX_PARENTS};
-ghost use Rattle.wire.specs.References.{batch_follows, parent_follows, batches_rise, parents_rise};
+ghost use Rattle.wire.specs.References.{AreBatches, AreParents, IsBatchReference, IsParentReference, batch_follows, parent_follows, batches_rise, parents_rise};
 
 use crate::keys::{Author, Digest};
+use crate::numbers::fits_two_bytes;
 use std::alloc::{AllocError, Global};
 use std::marker::Model;
 
@@ -17,6 +18,16 @@ pub struct BatchReference {
     pub worker: u16,
 }
 
+impl BatchReference {
+    /// What holds of each reference to a batch. The call does nothing.
+    pub fn limits_hold(&self)
+        ensures { IsBatchReference self.now }
+    {
+        self.digest.limits_hold();
+        fits_two_bytes(self.worker);
+    }
+}
+
 /// A certificate of the round before that a header names: its author, and its digest.
 #[derive(Clone, Copy, Debug, PartialEq, Eq)]
 pub struct ParentReference {
@@ -26,6 +37,16 @@ pub struct ParentReference {
     pub certificate: Digest,
 }
 
+impl ParentReference {
+    /// What holds of each reference to a parent. The call does nothing.
+    pub fn limits_hold(&self)
+        ensures { IsParentReference self.now }
+    {
+        self.author.limits_hold();
+        self.certificate.limits_hold();
+    }
+}
+
 /// The batches of a header: at most `MAX_BATCHES`, their digests rising strictly.
 #[derive(Clone, Debug, Drop)]
 pub struct BatchReferences {
@@ -33,16 +54,15 @@ pub struct BatchReferences {
 }
 
 impl Model for BatchReferences {
-    ghost use Rattle.std.specs.Prelude.{List, IsTrue, length, ◌≤◌};
+    ghost use Rattle.std.specs.Prelude.{List};
     ghost use Rattle.wire.specs.declared.references.BatchReference.{BatchReference};
-    ghost use Rattle.wire.specs.declared.limits.TheConstants.{MAX_BATCHES};
-    ghost use Rattle.wire.specs.References.{batches_rise};
+    ghost use Rattle.wire.specs.References.{AreBatches};
 
     ghost Value = { List BatchReference };
 
     ghost view = { λ r. r.list.items };
 
-    ghost invariant = { λ r. (length r.list.items ≤ MAX_BATCHES) × IsTrue (batches_rise r.list.items) };
+    ghost invariant = { λ r. AreBatches r.list.items };
 }
 
 impl BatchReferences {
@@ -88,6 +108,7 @@ impl BatchReferences {
         ensures ok { OnOk result (self.new ≡ self.old ++ batch ∷ []) }
         ensures err { OnErr result (self.new ≡ self.old) }
     {
+        batch.limits_hold();
         self.list.push(batch)?;
         Ok(())
     }
@@ -97,6 +118,7 @@ impl BatchReferences {
         ensures value { result.now ≡ self.now }
         ensures limit { length self.now ≤ MAX_BATCHES }
         ensures order { IsTrue (batches_rise self.now) }
+        ensures fits { AreBatches self.now }
     {
         &self.list
     }
@@ -109,16 +131,15 @@ pub struct ParentReferences {
 }
 
 impl Model for ParentReferences {
-    ghost use Rattle.std.specs.Prelude.{List, IsTrue, length, ◌≤◌};
+    ghost use Rattle.std.specs.Prelude.{List};
     ghost use Rattle.wire.specs.declared.references.ParentReference.{ParentReference};
-    ghost use Rattle.wire.specs.declared.limits.TheConstants.{MAX_PARENTS};
-    ghost use Rattle.wire.specs.References.{parents_rise};
+    ghost use Rattle.wire.specs.References.{AreParents};
 
     ghost Value = { List ParentReference };
 
     ghost view = { λ r. r.list.items };
 
-    ghost invariant = { λ r. (length r.list.items ≤ MAX_PARENTS) × IsTrue (parents_rise r.list.items) };
+    ghost invariant = { λ r. AreParents r.list.items };
 }
 
 impl ParentReferences {
@@ -164,6 +185,7 @@ impl ParentReferences {
         ensures ok { OnOk result (self.new ≡ self.old ++ parent ∷ []) }
         ensures err { OnErr result (self.new ≡ self.old) }
     {
+        parent.limits_hold();
         self.list.push(parent)?;
         Ok(())
     }
@@ -173,6 +195,7 @@ impl ParentReferences {
         ensures value { result.now ≡ self.now }
         ensures limit { length self.now ≤ MAX_PARENTS }
         ensures order { IsTrue (parents_rise self.now) }
+        ensures fits { AreParents self.now }
     {
         &self.list
     }

@@ -2,7 +2,7 @@
 
 ghost use Rattle.std.specs.Prelude.{◌≡◌, ◌<◌, ◌≤◌, ◌++◌, [], ◌∷◌, List, length, IsTrue, ◌↔◌, OnOk, OnErr};
 ghost use Rattle.wire.specs.declared.limits.TheConstants.{MAX_VOTES};
-ghost use Rattle.wire.specs.References.{vote_follows, votes_rise};
+ghost use Rattle.wire.specs.References.{AreVotes, IsVoteEntry, vote_follows, votes_rise};
 
 use crate::keys::{Author, Signature};
 use std::alloc::{AllocError, Global};
@@ -17,6 +17,16 @@ pub struct VoteEntry {
     pub signature: Signature,
 }
 
+impl VoteEntry {
+    /// What holds of each vote of a certificate. The call does nothing.
+    pub fn limits_hold(&self)
+        ensures { IsVoteEntry self.now }
+    {
+        self.voter.limits_hold();
+        self.signature.limits_hold();
+    }
+}
+
 /// The votes of a certificate: at most `MAX_VOTES`, their voters rising strictly.
 #[derive(Clone, Debug, Drop)]
 pub struct VoteEntries {
@@ -24,16 +34,15 @@ pub struct VoteEntries {
 }
 
 impl Model for VoteEntries {
-    ghost use Rattle.std.specs.Prelude.{List, IsTrue, length, ◌≤◌};
+    ghost use Rattle.std.specs.Prelude.{List};
     ghost use Rattle.wire.specs.declared.votes.VoteEntry.{VoteEntry};
-    ghost use Rattle.wire.specs.declared.limits.TheConstants.{MAX_VOTES};
-    ghost use Rattle.wire.specs.References.{votes_rise};
+    ghost use Rattle.wire.specs.References.{AreVotes};
 
     ghost Value = { List VoteEntry };
 
     ghost view = { λ v. v.list.items };
 
-    ghost invariant = { λ v. (length v.list.items ≤ MAX_VOTES) × IsTrue (votes_rise v.list.items) };
+    ghost invariant = { λ v. AreVotes v.list.items };
 }
 
 impl VoteEntries {
@@ -79,6 +88,7 @@ impl VoteEntries {
         ensures ok { OnOk result (self.new ≡ self.old ++ vote ∷ []) }
         ensures err { OnErr result (self.new ≡ self.old) }
     {
+        vote.limits_hold();
         self.list.push(vote)?;
         Ok(())
     }
@@ -88,6 +98,7 @@ impl VoteEntries {
         ensures value { result.now ≡ self.now }
         ensures limit { length self.now ≤ MAX_VOTES }
         ensures order { IsTrue (votes_rise self.now) }
+        ensures fits { AreVotes self.now }
     {
         &self.list
     }

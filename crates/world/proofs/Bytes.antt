@@ -13,7 +13,8 @@ use Rattle.model.specs.Words.{Event}
 use Rattle.records.specs.Records.{record_of, configuration_of}
 use Rattle.wire.specs.Batches.{Contents, transaction_bytes, batch_body, IsTransaction, IsBatch}
 use Rattle.wire.specs.Fields as fields
-use Rattle.wire.specs.Grammar.{IsBatchReference, IsParentReference, IsVoteEntry, AreBatches, AreParents, AreVotes, IsHeaderBody, IsMessage}
+use Rattle.wire.specs.Grammar.{IsHeaderBody, IsMessage}
+use Rattle.wire.specs.References.{IsBatchReference, IsParentReference, IsVoteEntry, AreBatches, AreParents, AreVotes}
 use Rattle.wire.specs.Spelling.{batch_reference_bytes, parent_reference_bytes, vote_entry_bytes, batches_bytes, parents_bytes, votes_bytes, header_body, spelling}
 use Rattle.wire.specs.declared.header.HeaderBody.{HeaderBody}
 use Rattle.wire.specs.declared.keys.Key.{Key}

@@ -2,7 +2,7 @@ use Rattle.std.proofs.Common.{◌≡◌, ℕ, ◌+◌, ◌*◌, ◌<◌, ◌++�
 use Rattle.std.specs.Int.{w16, to_be_bytes}
 use Rattle.std.specs.List.{flat_map}
 use Rattle.wire.specs.declared.references.BatchReference.{BatchReference}
-use Rattle.wire.specs.Grammar.{IsBatchReference}
+use Rattle.wire.specs.References.{IsBatchReference}
 use Rattle.wire.specs.Spelling.{batch_reference_bytes}
 use Rattle.wire.proofs.encoding.put_batches.Given as goal
 
@@ -11,5 +11,4 @@ abbrev pub invariant-loop-batch : goal.invariant-loop-batch
 invariant-loop-batch l = record {
   bytes : l.out.items ≡ l.fn.out.items ++ (to_be_bytes w16 (length l.list) ++ flat_map batch_reference_bytes (take l.batch-index l.list));
   len : length l.out.items ≡ length l.fn.out.items + (2 + 34 * l.batch-index);
-  each : (k : ℕ) (d : BatchReference) → k < l.batch-index → IsBatchReference (get_or l.list k d);
 }

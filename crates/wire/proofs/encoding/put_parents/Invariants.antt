@@ -2,7 +2,7 @@ use Rattle.std.proofs.Common.{◌≡◌, ℕ, ◌+◌, ◌*◌, ◌<◌, ◌++�
 use Rattle.std.specs.Int.{w16, to_be_bytes}
 use Rattle.std.specs.List.{flat_map}
 use Rattle.wire.specs.declared.references.ParentReference.{ParentReference}
-use Rattle.wire.specs.Grammar.{IsParentReference}
+use Rattle.wire.specs.References.{IsParentReference}
 use Rattle.wire.specs.Spelling.{parent_reference_bytes}
 use Rattle.wire.proofs.encoding.put_parents.Given as goal
 
@@ -11,5 +11,4 @@ abbrev pub invariant-loop-parent : goal.invariant-loop-parent
 invariant-loop-parent l = record {
   bytes : l.out.items ≡ l.fn.out.items ++ (to_be_bytes w16 (length l.list) ++ flat_map parent_reference_bytes (take l.parent-index l.list));
   len : length l.out.items ≡ length l.fn.out.items + (2 + 34 * l.parent-index);
-  each : (k : ℕ) (d : ParentReference) → k < l.parent-index → IsParentReference (get_or l.list k d);
 }

@@ -2,7 +2,7 @@ use Rattle.std.proofs.Common.{◌≡◌, ℕ, ◌+◌, ◌*◌, ◌<◌, ◌++�
 use Rattle.std.specs.Int.{w16, to_be_bytes}
 use Rattle.std.specs.List.{flat_map}
 use Rattle.wire.specs.declared.votes.VoteEntry.{VoteEntry}
-use Rattle.wire.specs.Grammar.{IsVoteEntry}
+use Rattle.wire.specs.References.{IsVoteEntry}
 use Rattle.wire.specs.Spelling.{vote_entry_bytes}
 use Rattle.wire.proofs.encoding.put_votes.Given as goal
 
@@ -11,5 +11,4 @@ abbrev pub invariant-loop-vote : goal.invariant-loop-vote
 invariant-loop-vote l = record {
   bytes : l.out.items ≡ l.fn.out.items ++ (to_be_bytes w16 (length l.list) ++ flat_map vote_entry_bytes (take l.vote-index l.list));
   len : length l.out.items ≡ length l.fn.out.items + (2 + 66 * l.vote-index);
-  each : (k : ℕ) (d : VoteEntry) → k < l.vote-index → IsVoteEntry (get_or l.list k d);
 }
