@@ -1,8 +1,7 @@
 -- When a store of batches has what a state has of batches, and what it then answers.
 use Rattle.std.specs.Prelude.{◌≡◌, ℕ, IsTrue, ◌==◌, ◌&&◌, ◌||◌, not, Bool, true, false, map, Result}
-use Rattle.std.specs.List.{list_all}
 use Rattle.wire.specs.declared.message.Message.TheVariants as message
-use Rattle.model.specs.Admitting.{is_new, is_own, may_name}
+use Rattle.model.specs.Admitting.{is_new, is_own}
 use Rattle.model.specs.Nodes.{Node}
 use Rattle.model.specs.States.{State}
 use Rattle.model.specs.Words.{Author, BatchReference, Digest, Event, Header, Message}
@@ -54,11 +53,6 @@ GoesOnWithOwn before later header = (node : Node) (state : State) (event : Event
 -- by a store, a header of this author may name a batch: it is held with that worker, and for an own header it is available
 abbrev pub may_name_by : Stock → Author → BatchReference → Bool
 may_name_by stock author named = has_with stock named.digest named.worker && (not (author.0 == stock.own) || is_available stock named.digest)
-
--- whether a header may name all its batches, at each state that the store has the batches of
-abbrev pub MayNameAll : Stock → Header → Bool → Type 0
-MayNameAll stock header result = (node : Node) (state : State) → HasBatches node state stock
-    → result ≡ list_all (may_name node state header) header.body.batches
 
 -- a message changes what is held of batches: it is one, an acknowledgement, or an own header
 abbrev pub changes_batches : Node → Message → Bool

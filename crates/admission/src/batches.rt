@@ -9,7 +9,7 @@ ghost use Rattle.wire.specs.declared.message.Message.TheVariants as message;
 ghost use Rattle.batchstore.specs.Stock.{digest_of, held_at};
 ghost use Rattle.batchstore.specs.Answer.{is_full as spec_full, with_batch, with_names};
 ghost use Rattle.admission.specs.Answers.{IsAnswer, RefusesAs, is_new_step};
-ghost use Rattle.admission.specs.Batches.{as_refusal, AnswersFrom, RefusesFrom, GoesOn, GoesOnWithOwn, MayNameAll, may_name_by};
+ghost use Rattle.admission.specs.Batches.{as_refusal, AnswersFrom, RefusesFrom, GoesOn, GoesOnWithOwn, may_name_by};
 
 use crate::step::Step;
 use batchstore::{Acked, BatchStore, StoreRefusal};
@@ -182,7 +182,7 @@ fn may_name_each(
 /// Whether a header may name all its batches: each is held with that worker, and for an own header available.
 pub fn may_name_all(batches: &BatchStore, own: Author, header: &Header) -> bool
     requires { own.0 ≡ batches.now.own }
-    ensures { MayNameAll batches.now header.now result }
+    ensures { result ≡ list_all (may_name_by batches.now header.now.body.author) header.now.body.batches }
 {
     let named = header.body.batches.as_slice();
     may_name_each(batches, own, header.body.author, named)

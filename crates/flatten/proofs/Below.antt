@@ -26,14 +26,14 @@ use Rattle.flatten.proofs.Steps.{reaches_on, reaches_from, past_on}
 -- ---- what has a parent that no leader has ordered yet isn't ordered yet either
 
 -- the two certificates of a reference that counts
-record HasParent (graph : Graph) (round author below other : ℕ) : Type 0 where
-  child : Certificate
-  held_child : slots_in graph round author ≡ Some child
-  parent : Certificate
-  held_parent : slots_in graph below other ≡ Some parent
-  names : is_parent parent child ≡ true
+pub record HasParent (graph : Graph) (round author below other : ℕ) : Type 0 where
+  pub child : Certificate
+  pub held_child : slots_in graph round author ≡ Some child
+  pub parent : Certificate
+  pub held_parent : slots_in graph below other ≡ Some parent
+  pub names : is_parent parent child ≡ true
 
-parent_of : (graph : Graph) (round author below other : ℕ) → has_parent_in graph round author below other ≡ true → HasParent graph round author below other
+pub parent_of : (graph : Graph) (round author below other : ℕ) → has_parent_in graph round author below other ≡ true → HasParent graph round author below other
 parent_of graph round author below other has =
     elim (given_or_none (slots_in graph round author)) [
       | inr none ↦ absurd (true≢false (sym has ∙ ap (λ o. option_map_or (λ child. option_map_or (λ c. is_parent c child) (slots_in graph below other) false) o false) none))

@@ -19,8 +19,8 @@ use Rattle.dag.specs.Graph.{Graph, IsGraph, slots_in, marked_in, size_in, reache
 use Rattle.dag.proofs.Paths.{same_held}
 use Rattle.dag.proofs.Tests.{any_from}
 use Rattle.tusk.specs.Chain.{ledger_in}
-use Rattle.flatten.specs.Lengthening.{IsOf}
-use Rattle.flatten.specs.Segments.{held_at, digests_of, leaders_in, AreLinked, IsMarkedFor}
+use Rattle.flatten.specs.Lengthening.{FitsTo}
+use Rattle.flatten.specs.Segments.{leader_held, references_in, references_by, digests_of, leaders_in, AreLinked, IsMarkedFor}
 use Rattle.flatten.specs.Sets.{is_in, is_unmarked_in, lowest_in, AreUnordered, Leads, HasAllOf}
 use Rattle.flatten.proofs.Below.{reaches_of}
 use Rattle.flatten.proofs.Picking.{first_unordered}
@@ -52,8 +52,8 @@ reach_over n slots placed start mid end held held' one other =
     let count : (mid.header.round - end.header.round) + (start.header.round - mid.header.round) ≡ start.header.round - end.header.round = omega (arith, above, below) in
     and_from _ _ (le-leb end.header.round start.header.round (omega (arith, above, below))) (subst (λ k. has_path n slots k start end ≡ true) count path)
 
-has_all : (graph : Graph) → IsGraph graph → (before : Option (ℕ × Author)) (leader : ℕ × Author) (c : Certificate) → slots_in graph leader.0 leader.1.0 ≡ Some c
-    → option_map_or (λ (b : ℕ × Author). reaches_in graph leader.0 leader.1.0 b.0 b.1.0) before true ≡ true → HasAllOf graph (held_at graph before) c
+pub has_all : (graph : Graph) → IsGraph graph → (before : Option (ℕ × Author)) (leader : ℕ × Author) (c : Certificate) → slots_in graph leader.0 leader.1.0 ≡ Some c
+    → option_map_or (λ (b : ℕ × Author). reaches_in graph leader.0 leader.1.0 b.0 b.1.0) before true ≡ true → HasAllOf graph (leader_held graph before) c
 has_all graph is None leader c held link = λ round author e there past. absurd cc
 has_all graph is (Some before) leader c held link =
     let down = reaches_of graph leader.0 leader.1.0 before.0 before.1.0 link in
@@ -65,7 +65,7 @@ has_all graph is (Some before) leader c held link =
     subst (λ p. HasAllOf graph p c) (sym down.held_end) all
 
 -- a leader isn't below one that it reaches
-link_above : (graph : Graph) → IsGraph graph → (before leader : ℕ × Author) → reaches_in graph leader.0 leader.1.0 before.0 before.1.0 ≡ true → before.0 ≤ leader.0
+pub link_above : (graph : Graph) → IsGraph graph → (before leader : ℕ × Author) → reaches_in graph leader.0 leader.1.0 before.0 before.1.0 ≡ true → before.0 ≤ leader.0
 link_above graph is before leader link =
     let down = reaches_of graph leader.0 leader.1.0 before.0 before.1.0 link in
     let place = slot_is leader.0 leader.1.0 down.start.header (is.placed leader.0 leader.1.0 down.start down.held_start) in
@@ -92,29 +92,31 @@ all_within graph is before (leader ∷ next ∷ more) last linked at =
 -- ---- one leader after the other
 
 -- so many leaders were taken, the last of them was `before`, and the others are left; the sets are unordered before these, from
--- where the last one orders on; it reaches what is marked; what they order is still to come
-pub record IsBehind (graph : Graph) (total : List Digest) (low high : ℕ) (before : Option (ℕ × Author)) (left : List (ℕ × Author)) (sets : List MemberSet) (digests : List Digest) : Type 0 where
+-- where the last one orders on; it reaches what is marked; what they order is still to come, and no more is to be read than their
+-- references
+pub record IsBehind (graph : Graph) (total : List Digest) (most low high : ℕ) (before : Option (ℕ × Author)) (left : List (ℕ × Author)) (sets : List MemberSet) (digests : List Digest) (reads : ℕ) : Type 0 where
   pub from : ℕ
   pub least : low ≤ from
   pub next : (leader : ℕ × Author) (more : List (ℕ × Author)) → left ≡ leader ∷ more → from ≤ lowest_in graph leader.0
   pub ends : left ≡ [] → (leader : ℕ × Author) → before ≡ Some leader → (from ≤ lowest_in graph leader.0) × (is_some (slots_in graph leader.0 leader.1.0) ≡ true)
   pub linked : AreLinked graph before left
   pub within : All (λ (s : ℕ × Author). s.0 ≤ high) left
-  pub unordered : AreUnordered graph (held_at graph before) low from high sets
-  pub marked : (round author : ℕ) (c : Certificate) → low ≤ round → slots_in graph round author ≡ Some c → marked_in graph round author ≡ true → is_past (ledger_in graph []) (held_at graph before) c ≡ true
-  pub whole : digests ++ digests_of (segments (ledger_in graph []) (held_at graph before) (leaders_in graph left)) ≡ total
+  pub unordered : AreUnordered graph (leader_held graph before) low from high sets
+  pub marked : (round author : ℕ) (c : Certificate) → low ≤ round → slots_in graph round author ≡ Some c → marked_in graph round author ≡ true → is_past (ledger_in graph []) (leader_held graph before) c ≡ true
+  pub whole : digests ++ digests_of (segments (ledger_in graph []) (leader_held graph before) (leaders_in graph left)) ≡ total
+  pub few : reads + references_by graph (leader_held graph before) (leaders_in graph left) ≤ most
 
 -- before any is taken
 pub none_taken : (graph : Graph) → IsGraph graph → (previous : Option (ℕ × Author)) (chain : List (ℕ × Author)) (first last : ℕ × Author) (low : ℕ) (sets : List MemberSet) (digests : List Digest) → AreLinked graph previous chain → IsMarkedFor graph previous chain
     → slice_get chain 0 ≡ Some first → slice_get chain (length chain - 1) ≡ Some last → low ≡ lowest_in graph first.0 → length sets ≡ last.0 + 1 - low
     → ((place author : ℕ) → place < length sets → is_in sets place author ≡ is_unmarked_in graph (low + place) author) → digests ≡ []
-    → IsBehind graph (digests_of (segments (ledger_in graph []) (held_at graph previous) (leaders_in graph chain))) low last.0 previous chain sets digests
+    → IsBehind graph (digests_of (segments (ledger_in graph []) (leader_held graph previous) (leaders_in graph chain))) (references_by graph (leader_held graph previous) (leaders_in graph chain)) low last.0 previous chain sets digests 0
 none_taken graph is previous [] first last low sets digests linked marks at at' lowest long unmarked none = absurd cc
 none_taken graph is previous (leader ∷ more) first last low sets digests linked marks at at' lowest long unmarked none =
     let same : leader ≡ first = same_Some leader first at in
     let round : leader.0 ≡ first.0 = ap (λ (s : ℕ × Author). s.0) same in
     let lowest' : low ≡ lowest_in graph leader.0 = lowest ∙ ap (lowest_in graph) (sym round) in
-    let unordered = first_unordered graph (held_at graph previous) leader.0 low last.0 sets marks lowest' long unmarked in
+    let unordered = first_unordered graph (leader_held graph previous) leader.0 low last.0 sets marks lowest' long unmarked in
     record {
       from = low;
       least = omega arith;
@@ -124,27 +126,29 @@ none_taken graph is previous (leader ∷ more) first last low sets digests linke
       ends = λ e. absurd cc;
       linked = linked;
       within = all_within graph is previous (leader ∷ more) last linked at';
-      unordered = subst (λ k. AreUnordered graph (held_at graph previous) low k last.0 sets) (sym lowest') unordered;
+      unordered = subst (λ k. AreUnordered graph (leader_held graph previous) low k last.0 sets) (sym lowest') unordered;
       marked = λ r a c above held marked. sym (marks r a c (omega (arith, above, lowest')) held) ∙ marked;
-      whole = ap (λ l. l ++ digests_of (segments (ledger_in graph []) (held_at graph previous) (leaders_in graph (leader ∷ more)))) none;
+      whole = ap (λ l. l ++ digests_of (segments (ledger_in graph []) (leader_held graph previous) (leaders_in graph (leader ∷ more)))) none;
+      few = omega arith;
     }
   where
     head_same : (one other : ℕ × Author) (ones others : List (ℕ × Author)) → one ∷ ones ≡ other ∷ others → one ≡ other
     head_same one other ones others e = same_Some one other (ap (λ l. slice_get l 0) e)
 
 -- one more is taken
-pub one_taken : (graph : Graph) → IsGraph graph → (total : List Digest) (low high : ℕ) (before : Option (ℕ × Author)) (leader : ℕ × Author) (more : List (ℕ × Author)) (sets sets' : List MemberSet) (digests digests' : List Digest)
-    → IsBehind graph total low high before (leader ∷ more) sets digests
-    → ((c : Certificate) → Leads graph (held_at graph before) leader low high sets c → digests' ≡ digests ++ digests_of (segment (ledger_in graph []) (held_at graph before) c))
-    → ((c : Certificate) → Leads graph (held_at graph before) leader low high sets c → HasAllOf graph (held_at graph before) c → AreUnordered graph (Some c) low (lowest_in graph leader.0) high sets')
-    → IsBehind graph total low high (Some leader) more sets' digests'
-one_taken graph is total low high before leader more sets sets' digests digests' was written unordered =
+pub one_taken : (graph : Graph) → IsGraph graph → (total : List Digest) (most low high : ℕ) (before : Option (ℕ × Author)) (leader : ℕ × Author) (more : List (ℕ × Author)) (sets sets' : List MemberSet) (digests digests' : List Digest) (reads one reads' : ℕ)
+    → IsBehind graph total most low high before (leader ∷ more) sets digests reads → reads' ≤ reads + one
+    → ((c : Certificate) → Leads graph (leader_held graph before) leader low high sets c → digests' ≡ digests ++ digests_of (segment (ledger_in graph []) (leader_held graph before) c))
+    → ((c : Certificate) → Leads graph (leader_held graph before) leader low high sets c → HasAllOf graph (leader_held graph before) c → AreUnordered graph (Some c) low (lowest_in graph leader.0) high sets')
+    → ((c : Certificate) → Leads graph (leader_held graph before) leader low high sets c → one ≤ references_in graph (leader_held graph before) c)
+    → IsBehind graph total most low high (Some leader) more sets' digests' reads'
+one_taken graph is total most low high before leader more sets sets' digests digests' reads one reads' was counted written unordered read =
     elim (given_or_none (slots_in graph leader.0 leader.1.0)) [
       | inr none ↦ let bad = rw none at was.linked.0 in absurd cc
       | inl c ↦
           let least = was.least in
           let next = was.next leader more refl in
-          let leads : Leads graph (held_at graph before) leader low high sets c.0 = record {
+          let leads : Leads graph (leader_held graph before) leader low high sets c.0 = record {
             held = c.1;
             least = omega (arith, least, next);
             within = All-head (λ (s : ℕ × Author). s.0 ≤ high) leader more was.within;
@@ -154,6 +158,10 @@ one_taken graph is total low high before leader more sets sets' digests digests'
           let ledger = ledger_in graph [] in
           let rest = leaders_in graph more in
           let expand : leaders_in graph (leader ∷ more) ≡ c.0 ∷ rest = let at = c.1 in rw at refl in
+          let here = read c.0 leads in
+          let few = was.few in
+          let parts : references_by graph (leader_held graph before) (leaders_in graph (leader ∷ more)) ≡ references_in graph (leader_held graph before) c.0 + references_by graph (Some c.0) rest = ap (references_by graph (leader_held graph before)) expand in
+          let later : references_by graph (leader_held graph (Some leader)) rest ≡ references_by graph (Some c.0) rest = ap (λ p. references_by graph p rest) c.1 in
           record {
             from = lowest_in graph leader.0;
             least = omega (arith, least, next);
@@ -170,32 +178,35 @@ one_taken graph is total low high before leader more sets sets' digests digests'
             within = All-tail (λ (s : ℕ × Author). s.0 ≤ high) leader more was.within;
             unordered = subst (λ p. AreUnordered graph p low (lowest_in graph leader.0) high sets') (sym c.1) (unordered c.0 leads all);
             marked = λ r a e above held marked. subst (λ p. is_past ledger p e ≡ true) (sym c.1) (all r a e held (was.marked r a e above held marked));
-            whole = ap (λ d. d ++ digests_of (segments ledger (held_at graph (Some leader)) rest)) (written c.0 leads)
-                ∙ ap (λ p. (digests ++ digests_of (segment ledger (held_at graph before) c.0)) ++ digests_of (segments ledger p rest)) c.1
-                ∙ append_assoc digests (digests_of (segment ledger (held_at graph before) c.0)) (digests_of (segments ledger (Some c.0) rest))
-                ∙ ap (λ l. digests ++ l) (sym (map-append (λ (d : Certificate). certificate_digest d.header) (segment ledger (held_at graph before) c.0) (segments ledger (Some c.0) rest)))
-                ∙ ap (λ l. digests ++ digests_of (segments ledger (held_at graph before) l)) (sym expand)
+            whole = ap (λ d. d ++ digests_of (segments ledger (leader_held graph (Some leader)) rest)) (written c.0 leads)
+                ∙ ap (λ p. (digests ++ digests_of (segment ledger (leader_held graph before) c.0)) ++ digests_of (segments ledger p rest)) c.1
+                ∙ append_assoc digests (digests_of (segment ledger (leader_held graph before) c.0)) (digests_of (segments ledger (Some c.0) rest))
+                ∙ ap (λ l. digests ++ l) (sym (map-append (λ (d : Certificate). certificate_digest d.header) (segment ledger (leader_held graph before) c.0) (segments ledger (Some c.0) rest)))
+                ∙ ap (λ l. digests ++ digests_of (segments ledger (leader_held graph before) l)) (sym expand)
                 ∙ was.whole;
+            few = omega (arith, here, few, parts, later, counted);
           }
     ]
 
 -- when all are taken, what they order is written, and the rest is that of the last
-pub all_taken : (graph : Graph) → (total : List Digest) (low : ℕ) (before : Option (ℕ × Author)) (left : List (ℕ × Author)) (last : ℕ × Author) (sets : List MemberSet) (digests : List Digest) → IsBehind graph total low last.0 before left sets digests
-    → left ≡ [] → before ≡ Some last → (digests ≡ total) × IsOf graph (record { digests = digests; last = last; low = low; unordered = sets })
-all_taken graph total low before left last sets digests was none same =
+pub all_taken : (graph : Graph) → (total : List Digest) (most low : ℕ) (before : Option (ℕ × Author)) (left : List (ℕ × Author)) (last : ℕ × Author) (sets : List MemberSet) (digests : List Digest) (reads : ℕ) → IsBehind graph total most low last.0 before left sets digests reads
+    → left ≡ [] → before ≡ Some last → (digests ≡ total) × FitsTo graph (record { digests = digests; last = last; low = low; unordered = sets; reads = reads }) × (reads ≤ most)
+all_taken graph total most low before left last sets digests reads was none same =
     let ends = was.ends none last same in
     let least = was.least in
-    let within = ends.0 in (
+    let within = ends.0 in
+    let few = was.few in (
       sym (append-nil digests)
-          ∙ ap (λ l. digests ++ digests_of (segments (ledger_in graph []) (held_at graph before) (leaders_in graph l))) (sym none)
+          ∙ ap (λ l. digests ++ digests_of (segments (ledger_in graph []) (leader_held graph before) (leaders_in graph l))) (sym none)
           ∙ was.whole,
       record {
         held = ends.1;
         low = omega (arith, least, within);
         unordered = λ r a c above below held. was.unordered r a c (omega (arith, above, within)) below held
-            ∙ ap (λ p. not (is_past (ledger_in graph []) (held_at graph p) c)) same;
-        marked = λ r a c above held marked. subst (λ p. is_past (ledger_in graph []) (held_at graph p) c ≡ true) same (was.marked r a c (omega (arith, above, within, least)) held marked);
+            ∙ ap (λ p. not (is_past (ledger_in graph []) (leader_held graph p) c)) same;
+        marked = λ r a c above held marked. subst (λ p. is_past (ledger_in graph []) (leader_held graph p) c ≡ true) same (was.marked r a c (omega (arith, above, within, least)) held marked);
       },
+      omega (arith, few),
     )
 
 -- ---- by places

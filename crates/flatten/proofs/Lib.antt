@@ -4,6 +4,8 @@ pub mod References
 pub mod Steps
 pub mod Below
 pub mod Picking
+pub mod Taking
 pub mod Marking
 pub mod Leaders
+pub mod Following
 pub mod Staying

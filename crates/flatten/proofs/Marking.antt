@@ -17,8 +17,8 @@ use Rattle.dag.specs.Changes.{IsMarked}
 use Rattle.dag.specs.Graph.{Graph, IsGraph, slots_in, marked_in, size_in, reaches_in, end_in}
 use Rattle.dag.proofs.Steps.{or_false}
 use Rattle.tusk.specs.Chain.{ledger_in}
-use Rattle.flatten.specs.Lengthening.{Made, IsOf}
-use Rattle.flatten.specs.Segments.{held_at, IsMarkedPast}
+use Rattle.flatten.specs.Lengthening.{Made, FitsTo}
+use Rattle.flatten.specs.Segments.{leader_held, IsMarkedPast}
 use Rattle.flatten.specs.Sets.{is_in, lowest_in}
 use Rattle.flatten.proofs.Below.{reaches_by}
 
@@ -110,7 +110,7 @@ not_not true = refl
 not_not false = refl
 
 -- what the sets leave of the rounds is what the last leader reaches
-left_is_reached : (graph : Graph) → IsGraph graph → (made : Made) → IsOf graph made → (d : Certificate) → slots_in graph made.last.0 made.last.1.0 ≡ Some d → (first number : ℕ) → first ≡ lowest_in graph made.last.0 → number ≡ made.last.0 + 1
+left_is_reached : (graph : Graph) → IsGraph graph → (made : Made) → FitsTo graph made → (d : Certificate) → slots_in graph made.last.0 made.last.1.0 ≡ Some d → (first number : ℕ) → first ≡ lowest_in graph made.last.0 → number ≡ made.last.0 + 1
     → (r a : ℕ) → ((nat_le first r && nat_lt r number) && (is_some (slots_in graph r a) && not (is_in made.unordered (r - made.low) a))) ≡ (nat_le (made.last.0 - graph.charter.depth) r && reaches_in graph made.last.0 made.last.1.0 r a)
 left_is_reached graph is made of d leader first number from to r a =
     let last = made.last.0 in
@@ -147,14 +147,14 @@ left_is_reached graph is made of d leader first number from to r a =
                   ∙ ap (λ b. b && (is_some (slots_in graph r a) && not (is_in made.unordered (r - made.low) a))) within
                   ∙ ap (λ b. b && not (is_in made.unordered (r - made.low) a)) some
                   ∙ ap not past
-                  ∙ not_not (is_past (ledger_in graph []) (held_at graph (Some made.last)) c.0)
+                  ∙ not_not (is_past (ledger_in graph []) (leader_held graph (Some made.last)) c.0)
                   ∙ ap (λ o. is_past (ledger_in graph []) o c.0) leader
                   ∙ sym (ap (λ b. b && reaches_in graph last made.last.1.0 r a) is_deep ∙ reached)
             ]
           ]
     ]
 
-pub exact_marks : (before now : Graph) → IsGraph before → (made : Made) → IsOf before made → (first number : ℕ) → first ≡ max (lowest_in before made.last.0) made.low
+pub exact_marks : (before now : Graph) → IsGraph before → (made : Made) → FitsTo before made → (first number : ℕ) → first ≡ max (lowest_in before made.last.0) made.low
     → made.last.0 + 1 ≤ number → (first ≤ made.last.0 + 1 → number ≤ made.last.0 + 1) → IsSoFar before now first number made.low made.unordered → (r a : ℕ)
     → marked_in now r a ≡ (marked_in before r a || (nat_le (made.last.0 - before.charter.depth) r && reaches_in before made.last.0 made.last.1.0 r a))
 exact_marks before now is made of first number from to end so_far r a =
@@ -170,9 +170,9 @@ exact_marks before now is made of first number from to end so_far r a =
     ]
 
 -- the marks are those of the last leader
-pub marked_past : (before now : Graph) → IsGraph before → (made : Made) → IsOf before made → now.charter ≡ before.charter → ((r a : ℕ) → slots_in now r a ≡ slots_in before r a)
+pub marked_past : (before now : Graph) → IsGraph before → (made : Made) → FitsTo before made → now.charter ≡ before.charter → ((r a : ℕ) → slots_in now r a ≡ slots_in before r a)
     → ((r a : ℕ) → marked_in now r a ≡ (marked_in before r a || (nat_le (made.last.0 - before.charter.depth) r && reaches_in before made.last.0 made.last.1.0 r a)))
-    → IsMarkedPast now (made.last.0 - now.charter.depth) (held_at now (Some made.last))
+    → IsMarkedPast now (made.last.0 - now.charter.depth) (leader_held now (Some made.last))
 marked_past before now is made of charter slots exact r a c above held =
     let held' : slots_in before r a ≡ Some c = sym (slots r a) ∙ held in
     let depth : made.last.0 - now.charter.depth ≡ made.last.0 - before.charter.depth = ap (λ (ch : Charter). made.last.0 - ch.depth) charter in

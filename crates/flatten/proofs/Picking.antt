@@ -10,7 +10,7 @@ use Rattle.std.proofs.lemmas.List.Elements.{filter-append}
 use Rattle.std.proofs.lemmas.List.Sums.{sum_by-cons, sum_by-append}
 use Rattle.committee.specs.Charter.{numbers}
 use Rattle.committee.specs.declared.sets.MemberSet.{MemberSet}
-use Rattle.model.specs.Ordering.{is_past, is_ordered_by, segment}
+use Rattle.model.specs.Ordering.{is_past, is_ordered_by, rounds_to, segment}
 use Rattle.model.specs.Slots.{certificate_digest, round_of, has_path, reaches}
 use Rattle.model.specs.Words.{Author, Certificate, Digest}
 use Rattle.laws.proofs.Lists.{given_or_none}
@@ -149,26 +149,26 @@ segment_is graph is previous leader low high unordered ordered c leads long sets
     ∙ ap (λ k. flat_map make (range_with_len 1 k)) (sym count ∙ sym at.0)
     ∙ sym (digests_by_round test (round_of n slots) (range_with_len 1 c.header.round))
 
--- no more is read than the references of what is new to the leader
-pub reads_few : (graph : Graph) → IsGraph graph → (previous : Option Certificate) (leader : ℕ × Author) (low high : ℕ) (unordered : List MemberSet) (c : Certificate) → Leads graph previous leader low high unordered c
-    → (bottom : ℕ) → lowest_in graph leader.0 ≤ bottom → bottom ≤ leader.0
-    → sum_by (λ r. parents_of graph r (orders_in graph leader.0 leader.1.0 low unordered r)) (range_with_len (bottom + 1) (leader.0 - bottom)) ≤ references_in graph previous c
-reads_few graph is previous leader low high unordered c leads bottom least within =
+-- no more is read than the references of what passes a test, where that is what a leader orders of the rounds above one
+pub reads_within : (graph : Graph) → IsGraph graph → (leader : ℕ × Author) (c : Certificate) → slots_in graph leader.0 leader.1.0 ≡ Some c → (low bottom : ℕ) (sets : List MemberSet) (test : Certificate → Bool) → bottom ≤ leader.0
+    → ((r a : ℕ) (e : Certificate) → bottom < r → r ≤ leader.0 → slots_in graph r a ≡ Some e → orders_in graph leader.0 leader.1.0 low sets r a ≡ test e)
+    → sum_by (λ r. parents_of graph r (orders_in graph leader.0 leader.1.0 low sets r)) (range_with_len (bottom + 1) (leader.0 - bottom)) ≤ sum_by (λ e. cond (test e) (length e.header.parents) 0) (rounds_to (ledger_in graph []) c.header.round)
+reads_within graph is leader c held low bottom sets test within passes =
     let n = size_in graph in
     let slots = slots_in graph in
-    let g : Certificate → ℕ = λ e. cond (is_new_to graph previous c e) (length e.header.parents) 0 in
-    let f : ℕ → ℕ = λ r. parents_of graph r (orders_in graph leader.0 leader.1.0 low unordered r) in
+    let g : Certificate → ℕ = λ e. cond (test e) (length e.header.parents) 0 in
+    let f : ℕ → ℕ = λ r. parents_of graph r (orders_in graph leader.0 leader.1.0 low sets r) in
     let all : ℕ → ℕ = λ r. sum_by g (round_of n slots r) in
-    let at = slot_is leader.0 leader.1.0 c.header (is.placed leader.0 leader.1.0 c leads.held) in
+    let at = slot_is leader.0 leader.1.0 c.header (is.placed leader.0 leader.1.0 c held) in
     let same : sum_by f (range_with_len (bottom + 1) (leader.0 - bottom)) ≡ sum_by all (range_with_len (bottom + 1) (leader.0 - bottom)) =
     sums_same f all (bottom + 1) (leader.0 - bottom)
-    (λ r above below. summed (slots r) (λ a. cond (orders_in graph leader.0 leader.1.0 low unordered r a) (parents_at graph r a) 0) g (numbers n)
-    (λ a e held. ap (λ b. cond b (parents_at graph r a) 0) (orders_new graph is previous leader low high unordered c leads r a e (omega (arith, above, least)) (omega (arith, below)) held)
-    ∙ ap (λ (o : Option Certificate). cond (is_new_to graph previous c e) (option_map_or (λ d. length d.header.parents) o 0) 0) held)
-    (λ a none. nothing (orders_in graph leader.0 leader.1.0 low unordered r a) (parents_at graph r a) (ap (λ (o : Option Certificate). option_map_or (λ d. length d.header.parents) o 0) none))) in
+    (λ r above below. summed (slots r) (λ a. cond (orders_in graph leader.0 leader.1.0 low sets r a) (parents_at graph r a) 0) g (numbers n)
+    (λ a e there. ap (λ b. cond b (parents_at graph r a) 0) (passes r a e (omega (arith, above)) (omega (arith, below)) there)
+    ∙ ap (λ (o : Option Certificate). cond (test e) (option_map_or (λ d. length d.header.parents) o 0) 0) there)
+    (λ a none. nothing (orders_in graph leader.0 leader.1.0 low sets r a) (parents_at graph r a) (ap (λ (o : Option Certificate). option_map_or (λ d. length d.header.parents) o 0) none))) in
     let count : c.header.round ≡ bottom + (leader.0 - bottom) = omega (arith, at.0, within) in
     let from : 1 + bottom ≡ bottom + 1 = omega arith in
-    let whole : references_in graph previous c ≡ sum_by all (range_with_len 1 bottom) + sum_by all (range_with_len (bottom + 1) (leader.0 - bottom)) =
+    let whole : sum_by g (rounds_to (ledger_in graph []) c.header.round) ≡ sum_by all (range_with_len 1 bottom) + sum_by all (range_with_len (bottom + 1) (leader.0 - bottom)) =
     sum_lists g (round_of n slots) (range_with_len 1 c.header.round)
     ∙ ap (λ k. sum_by all (range_with_len 1 k)) count
     ∙ ap (sum_by all) (range_parts 1 bottom (leader.0 - bottom))
@@ -179,6 +179,14 @@ reads_few graph is previous leader low high unordered c leads bottom least withi
     nothing : (b : Bool) (k : ℕ) → k ≡ 0 → cond b k 0 ≡ 0
     nothing true k none = none
     nothing false k none = refl
+
+-- no more is read than the references of what is new to the leader
+pub reads_few : (graph : Graph) → IsGraph graph → (previous : Option Certificate) (leader : ℕ × Author) (low high : ℕ) (unordered : List MemberSet) (c : Certificate) → Leads graph previous leader low high unordered c
+    → (bottom : ℕ) → lowest_in graph leader.0 ≤ bottom → bottom ≤ leader.0
+    → sum_by (λ r. parents_of graph r (orders_in graph leader.0 leader.1.0 low unordered r)) (range_with_len (bottom + 1) (leader.0 - bottom)) ≤ references_in graph previous c
+reads_few graph is previous leader low high unordered c leads bottom least within =
+    reads_within graph is leader c leads.held low bottom unordered (is_new_to graph previous c) within
+    (λ r a e above below held. orders_new graph is previous leader low high unordered c leads r a e (omega (arith, above, least)) below held)
 
 -- behind a leader those are unordered whom it doesn't reach
 pub unordered_next : (graph : Graph) → IsGraph graph → (previous : Option Certificate) (leader : ℕ × Author) (low high : ℕ) (unordered ordered new : List MemberSet) (c : Certificate) → Leads graph previous leader low high unordered c

@@ -1,18 +1,14 @@
--- What stays as it was where a certificate enters or old ones go.
-use Rattle.std.specs.Prelude.{◌≡◌, ◌<◌, ◌≤◌, ℕ, true, List, All, Option, Ok, is_some, IfSome}
-use Rattle.model.specs.Ordering.{segments}
+-- What stays as it was where a certificate enters, and what each of leaders that are linked meets.
+use Rattle.std.specs.Prelude.{◌≡◌, ◌<◌, ◌-◌, ℕ, true, List, ◌∷◌, ◌++◌, Option, Some, Ok, is_some}
+use Rattle.laws.specs.Laws.{last_or}
 use Rattle.model.specs.Words.{Author, Certificate}
 use Rattle.dag.specs.Answer.{answer}
-use Rattle.dag.specs.Changes.{IsWith, IsDropped}
+use Rattle.dag.specs.Changes.{IsWith}
 use Rattle.dag.specs.Graph.{Graph, IsGraph, size_in, slots_in}
 use Rattle.dag.specs.declared.answers.Added.TheVariants.{New}
-use Rattle.tusk.specs.Chain.{ledger_in}
-use Rattle.flatten.specs.Lengthening.{Made, IsOf}
-use Rattle.flatten.specs.Segments.{held_at, leaders_in, AreLinked, IsMarkedPast}
-
--- a slot holds a certificate
-abbrev pub IsHeld : Graph → ℕ × Author → Type 0
-IsHeld graph slot = is_some (slots_in graph slot.0 slot.1.0) ≡ true
+use Rattle.flatten.specs.Lengthening.{Made, FitsTo}
+use Rattle.flatten.specs.Segments.{leader_held, AreLinked, IsMarkedFor, IsMarkedBefore}
+use Rattle.flatten.specs.Sets.{HasAllOf}
 
 -- a new certificate of a member enters a DAG
 pub record Enters (before after : Graph) (certificate : Certificate) : Type 0 where
@@ -24,25 +20,16 @@ pub record Enters (before after : Graph) (certificate : Certificate) : Type 0 wh
 -- what was made of the DAG before, below the round of the certificate, is made of the DAG with it
 abbrev pub MadeStays : Type 0
 MadeStays = (before after : Graph) (certificate : Certificate) (made : Made) → Enters before after certificate → made.last.0 < certificate.header.round
-    → IsOf before made → IsOf after made
+    → FitsTo before made → FitsTo after made
 
--- what leaders order that were held before, and whether they follow one on the other
-pub record OrderAlike (before after : Graph) (previous : Option (ℕ × Author)) (leaders : List (ℕ × Author)) : Type 0 where
-  pub segments : (coins : List ℕ)
-      → segments (ledger_in after coins) (held_at after previous) (leaders_in after leaders) ≡ segments (ledger_in before coins) (held_at before previous) (leaders_in before leaders)
-  pub linked : AreLinked before previous leaders → AreLinked after previous leaders
-  pub were_linked : AreLinked after previous leaders → AreLinked before previous leaders
+-- a leader is held and reaches all that the one before it does, whose history has what is marked: what `segment` gives for it behind
+-- that one is the definition's segment
+pub record Follows (graph : Graph) (previous : Option (ℕ × Author)) (leader : ℕ × Author) : Type 0 where
+  pub held : is_some (slots_in graph leader.0 leader.1.0) ≡ true
+  pub all : (c : Certificate) → slots_in graph leader.0 leader.1.0 ≡ Some c → HasAllOf graph (leader_held graph previous) c
+  pub marked : IsMarkedBefore graph (leader.0 - graph.charter.depth) (leader_held graph previous)
 
-abbrev pub SegmentsStay : Type 0
-SegmentsStay = (before after : Graph) (certificate : Certificate) (previous : Option (ℕ × Author)) (leaders : List (ℕ × Author)) → Enters before after certificate
-    → IfSome previous (IsHeld before) → All (IsHeld before) leaders → OrderAlike before after previous leaders
-
--- what a leader reaches that was held before is what is marked, where it was
-abbrev pub MarksStay : Type 0
-MarksStay = (before after : Graph) (certificate : Certificate) (low : ℕ) (previous : Option (ℕ × Author)) → Enters before after certificate
-    → IfSome previous (IsHeld before) → IsMarkedPast before low (held_at before previous) → IsMarkedPast after low (held_at after previous)
-
--- so it is where nothing below a round is held any more, if the leader still is
-abbrev pub MarksStayAbove : Type 0
-MarksStayAbove = (before after : Graph) (bottom low : ℕ) (previous : Option (ℕ × Author)) → IsGraph before → IsDropped before after bottom
-    → IfSome previous (λ leader. bottom ≤ leader.0) → IsMarkedPast before low (held_at before previous) → IsMarkedPast after low (held_at after previous)
+-- so it is with each of leaders that are linked, where exactly the history of the one before the first of them is marked
+abbrev pub EachFollows : Type 0
+EachFollows = (graph : Graph) (previous : Option (ℕ × Author)) (front rest : List (ℕ × Author)) (leader : ℕ × Author) → IsGraph graph
+    → AreLinked graph previous (front ++ leader ∷ rest) → IsMarkedFor graph previous (front ++ leader ∷ rest) → Follows graph (last_or previous front) leader

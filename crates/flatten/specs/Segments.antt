@@ -1,21 +1,28 @@
 -- What leaders order over what a DAG holds.
-use Rattle.std.specs.Prelude.{◌≡◌, ℕ, ◌-◌, ◌≤◌, ◌&&◌, not, cond, Bool, true, List, [], ◌∷◌, map, length, filter_map, sum_by, Option, Some, is_some, option_and_then}
+use Rattle.std.specs.Prelude.{◌≡◌, ℕ, ◌+◌, ◌-◌, ◌≤◌, ◌&&◌, nat_lt, not, cond, Bool, true, List, [], ◌∷◌, map, length, filter_map, sum_by, Option, Some, is_some, option_and_then}
 use Rattle.std.specs.Option.{option_map_or}
 use Rattle.model.specs.Ordering.{is_past, rounds_to}
 use Rattle.model.specs.Ordering as ordering
 use Rattle.model.specs.Slots.{certificate_digest}
 use Rattle.model.specs.Words.{Author, Certificate, Digest}
-use Rattle.dag.specs.Graph.{Graph, slots_in, marked_in, reaches_in}
+use Rattle.dag.specs.Graph.{Graph, slots_in, marked_in, has_parent_in, reaches_in}
 use Rattle.tusk.specs.Chain.{ledger_in}
 
 -- what an optional slot holds
-abbrev pub held_at : Graph → Option (ℕ × Author) → Option Certificate
-held_at graph slot = option_and_then (λ s. slots_in graph s.0 s.1.0) slot
+abbrev pub leader_held : Graph → Option (ℕ × Author) → Option Certificate
+leader_held graph slot = option_and_then (λ s. slots_in graph s.0 s.1.0) slot
 
 -- from a round on, exactly those certificates are marked that a leader's history has; no coin is asked
 abbrev pub IsMarkedPast : Graph → ℕ → Option Certificate → Type 0
 IsMarkedPast graph low previous = (round author : ℕ) (c : Certificate) → low ≤ round → slots_in graph round author ≡ Some c
     → marked_in graph round author ≡ is_past (ledger_in graph []) previous c
+
+-- from a round on, a leader's history has each certificate that is marked, and with it what that has as a parent is marked
+pub record IsMarkedBefore (graph : Graph) (low : ℕ) (previous : Option Certificate) : Type 0 where
+  pub past : (round author : ℕ) (c : Certificate) → low ≤ round → slots_in graph round author ≡ Some c → marked_in graph round author ≡ true
+      → is_past (ledger_in graph []) previous c ≡ true
+  pub closed : (round author other : ℕ) → low ≤ round → marked_in graph (round + 1) author ≡ true → has_parent_in graph (round + 1) author round other ≡ true
+      → marked_in graph round other ≡ true
 
 -- a leader reaches a certificate that the one before doesn't
 abbrev pub is_new_to : Graph → Option Certificate → Certificate → Certificate → Bool
@@ -27,6 +34,16 @@ abbrev pub references_in : Graph → Option Certificate → Certificate → ℕ
 references_in graph previous leader =
     sum_by (λ c. cond (is_new_to graph previous leader c) (length c.header.parents) 0) (rounds_to (ledger_in graph []) leader.header.round)
 
+-- a leader's history has a certificate above a round that isn't marked
+abbrev pub is_unmarked_past : Graph → ℕ → Option Certificate → Certificate → Bool
+is_unmarked_past graph low leader certificate =
+    nat_lt low certificate.header.round && (is_past (ledger_in graph []) leader certificate && not (marked_in graph certificate.header.round certificate.header.author.0))
+
+-- how many references to parents the certificates above a round name that a leader reaches and that aren't marked
+abbrev pub unmarked_references_in : Graph → ℕ → Option Certificate → ℕ
+unmarked_references_in graph low leader =
+    option_map_or (λ c. sum_by (λ d. cond (is_unmarked_past graph low leader d) (length d.header.parents) 0) (rounds_to (ledger_in graph []) c.header.round)) leader 0
+
 -- the digests of certificates
 abbrev pub digests_of : List Certificate → List Digest
 digests_of certificates = map (λ c. certificate_digest c.header) certificates
@@ -36,6 +53,11 @@ digests_of certificates = map (λ c. certificate_digest c.header) certificates
 -- the certificates of leaders' slots
 abbrev pub leaders_in : Graph → List (ℕ × Author) → List Certificate
 leaders_in graph slots = filter_map (λ slot. slots_in graph slot.0 slot.1.0) slots
+
+-- how many references to parents the certificates name that leaders reach, each of them those that the one before doesn't
+abbrev pub references_by : Graph → Option Certificate → List Certificate → ℕ
+references_by graph previous [] = 0
+references_by graph previous (leader ∷ leaders) = references_in graph previous leader + references_by graph (Some leader) leaders
 
 -- leaders follow one on the other, the oldest first: each is held, and reaches the one before
 abbrev pub AreLinked : Graph → Option (ℕ × Author) → List (ℕ × Author) → Type 0
@@ -48,4 +70,4 @@ AreLinked graph previous (leader ∷ leaders) =
 -- of what the first of leaders may order, exactly that is marked that the leader before them reaches
 abbrev pub IsMarkedFor : Graph → Option (ℕ × Author) → List (ℕ × Author) → Type 0
 IsMarkedFor graph previous [] = Unit {0}
-IsMarkedFor graph previous (first ∷ leaders) = IsMarkedPast graph (first.0 - graph.charter.depth) (held_at graph previous)
+IsMarkedFor graph previous (first ∷ leaders) = IsMarkedPast graph (first.0 - graph.charter.depth) (leader_held graph previous)

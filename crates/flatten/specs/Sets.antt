@@ -74,3 +74,13 @@ pub record Leads (graph : Graph) (previous : Option Certificate) (leader : ℕ �
 -- what the leader before reaches a leader reaches too
 abbrev pub HasAllOf : Graph → Option Certificate → Certificate → Type 0
 HasAllOf graph previous leader = (round author : ℕ) (c : Certificate) → slots_in graph round author ≡ Some c → is_past (ledger_in graph []) previous c ≡ true → is_past (ledger_in graph []) (Some leader) c ≡ true
+
+-- a leader's slot reaches a slot, if there is a leader
+abbrev pub is_past_in : Graph → Option (ℕ × Author) → ℕ → ℕ → Bool
+is_past_in graph leader round author = option_map_or (λ (slot : ℕ × Author). reaches_in graph slot.0 slot.1.0 round author) leader false
+
+-- sets that begin with a round go up to another one, no lower than that of a leader that is held, and are closed
+pub record IsTakenFrom (graph : Graph) (leader : Option (ℕ × Author)) (low high : ℕ) (sets : List MemberSet) : Type 0 where
+  pub within : (slot : ℕ × Author) → leader ≡ Some slot → is_some (slots_in graph slot.0 slot.1.0) ≡ true → slot.0 ≤ high
+  pub whole : high < low + length sets
+  pub closed : AreClosed graph low low high sets

@@ -1,11 +1,12 @@
 //! What a commit of several leaders does.
 
-ghost use Rattle.std.specs.Prelude.{◌≡◌, ℕ, ◌-◌, ◌<◌, ◌||◌, ◌&&◌, nat_le, true, length, List, Some, IfOk, slice_get};
+ghost use Rattle.std.specs.Prelude.{◌≡◌, ℕ, ◌-◌, ◌<◌, ◌≤◌, ◌||◌, ◌&&◌, nat_le, true, length, List, Option, Some, IfOk, slice_get};
 ghost use Rattle.model.specs.Ordering.{segments};
 ghost use Rattle.dag.specs.Graph.{slots_in, marked_in, reaches_in, end_in};
+ghost use Rattle.model.specs.Words.{Author};
 ghost use Rattle.tusk.specs.Chain.{ledger_in};
-ghost use Rattle.flatten.specs.Lengthening.{IsOf};
-ghost use Rattle.flatten.specs.Segments.{held_at, digests_of, leaders_in, AreLinked, IsMarkedPast, IsMarkedFor};
+ghost use Rattle.flatten.specs.Lengthening.{FitsTo};
+ghost use Rattle.flatten.specs.Segments.{leader_held, references_by, digests_of, leaders_in, AreLinked, IsMarkedPast, IsMarkedFor};
 
 use crate::segments::{lowest, order};
 use crate::sets::{round_of, set_at, unordered};
@@ -24,6 +25,8 @@ pub struct Lengthening {
     // Of the rounds from this one on, whose certificates are unordered behind the last leader.
     low: u64,
     unordered: Vec<MemberSet>,
+    // How many references to parents were read.
+    reads: u64,
 }
 
 impl Model for Lengthening {
@@ -31,11 +34,12 @@ impl Model for Lengthening {
 
     ghost Value = { Made };
 
-    ghost view = { λ m. record { digests = m.digests.items; last = m.last; low = m.low; unordered = m.unordered.items } };
+    ghost view = { λ m. record { digests = m.digests.items; last = m.last; low = m.low; unordered = m.unordered.items; reads = m.reads } };
 }
 
 impl Lengthening {
-    /// What is done by committing leaders, the oldest first, where the leader before them was that of another slot, or none.
+    /// What is done by committing leaders, the oldest first, of which each reaches the one before, and the first of them the
+    /// last one that was committed, which reaches what is marked.
     ///
     /// # Errors
     /// `AllocError` where a growth was refused.
@@ -43,28 +47,31 @@ impl Lengthening {
         alloc: Global,
         dag: &Dag,
         chain: &[(Round, Author)],
-        previous: Option<(Round, Author)>,
     ) -> Result<Lengthening, AllocError>
         requires some { 0 < length chain.now }
-        ensures digests { IfOk result (λ made. (coins : List ℕ) → AreLinked dag.now previous chain.now → IsMarkedFor dag.now previous chain.now
-            → made.digests ≡ digests_of (segments (ledger_in dag.now coins) (held_at dag.now previous) (leaders_in dag.now chain.now))) }
+        ensures digests { IfOk result (λ made. (previous : Option (ℕ × Author)) (coins : List ℕ) → AreLinked dag.now previous chain.now → IsMarkedFor dag.now previous chain.now
+            → made.digests ≡ digests_of (segments (ledger_in dag.now coins) (leader_held dag.now previous) (leaders_in dag.now chain.now))) }
         ensures last { IfOk result (λ made. slice_get chain.now (length chain.now - 1) ≡ Some made.last) }
-        ensures of { IfOk result (λ made. AreLinked dag.now previous chain.now → IsMarkedFor dag.now previous chain.now → IsOf dag.now made) }
+        ensures of { IfOk result (λ made. (previous : Option (ℕ × Author)) → AreLinked dag.now previous chain.now → IsMarkedFor dag.now previous chain.now → FitsTo dag.now made) }
+        ensures reads { IfOk result (λ made. (previous : Option (ℕ × Author)) → AreLinked dag.now previous chain.now → IsMarkedFor dag.now previous chain.now
+            → made.reads ≤ references_by dag.now (leader_held dag.now previous) (leaders_in dag.now chain.now)) }
     {
         dag.limits_hold();
-        let _ = previous;
         let last = chain[chain.len() - 1];
         let low = lowest(dag, chain[0].0);
         let mut unordered = unordered(alloc, dag, low, last.0.number())?;
         let mut digests = Vec::new(alloc);
+        let mut reads: u64 = 0;
         for place in 0..chain.len() {
-            order(alloc, dag, chain[place], low, &mut unordered, &mut digests)?;
+            let more = order(alloc, dag, chain[place], low, &mut unordered, &mut digests)?;
+            reads = reads.saturating_add(more);
         }
         Ok(Lengthening {
             digests,
             last,
             low,
             unordered,
+            reads,
         })
     }
 
@@ -81,6 +88,13 @@ impl Lengthening {
     {
         self.last
     }
+
+    /// How many references to parents were read for it: those of certificates up to the base that a leader orders, each once.
+    pub fn reads(&self) -> u64
+        ensures { result ≡ self.now.reads }
+    {
+        self.reads
+    }
 }
 
 /// Marks what leaders order, in the DAG that this was made of: what is marked behind it, at most the depth below the last
@@ -92,9 +106,9 @@ pub fn mark(dag: &mut Dag, made: &Lengthening)
     ensures end { end_in dag.new ≡ end_in dag.old }
     ensures slots { (round author : ℕ) → slots_in dag.new round author ≡ slots_in dag.old round author }
     ensures kept { (round author : ℕ) → marked_in dag.old round author ≡ true → marked_in dag.new round author ≡ true }
-    ensures exact { IsOf dag.old made.now → (round author : ℕ)
+    ensures exact { FitsTo dag.old made.now → (round author : ℕ)
         → marked_in dag.new round author ≡ (marked_in dag.old round author || (nat_le (made.now.last.0 - dag.old.charter.depth) round && reaches_in dag.old made.now.last.0 made.now.last.1.0 round author)) }
-    ensures marked { IsOf dag.old made.now → IsMarkedPast dag.new (made.now.last.0 - dag.new.charter.depth) (held_at dag.new (Some made.now.last)) }
+    ensures marked { FitsTo dag.old made.now → IsMarkedPast dag.new (made.now.last.0 - dag.new.charter.depth) (leader_held dag.new (Some made.now.last)) }
 {
     dag.limits_hold();
     let (last, _) = made.last;

@@ -9,6 +9,6 @@ mod parents;
 mod segments;
 mod sets;
 
-pub use facts::{made_stays, marks_stay, marks_stay_above, segments_stay};
+pub use facts::{each_follows, made_stays};
 pub use lengthening::{Lengthening, mark};
 pub use segments::{segment, segment_counted};

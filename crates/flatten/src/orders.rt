@@ -1,6 +1,6 @@
 //! Which certificates a leader orders.
 
-ghost use Rattle.std.specs.Prelude.{◌≡◌, ℕ, ◌+◌, ◌-◌, ◌<◌, ◌≤◌, ◌^◌, nat_le, true, length, sum_by, is_some, IfOk, OnOk, if◌then◌else◌};
+ghost use Rattle.std.specs.Prelude.{◌≡◌, ℕ, ◌+◌, ◌-◌, ◌*◌, ◌<◌, ◌≤◌, ◌^◌, nat_le, true, length, sum_by, is_some, IfOk, OnOk, if◌then◌else◌};
 ghost use Rattle.std.specs.List.{range_with_len};
 ghost use Rattle.committee.specs.Sets.{has};
 ghost use Rattle.dag.specs.Graph.{slots_in, reaches_in};
@@ -59,6 +59,7 @@ pub(crate) fn ordered(
         → (place other : ℕ) → place < count → is_in sets.items place other ≡ orders_in dag.now round author.0 low unordered.now (round - place) other) }
     ensures reads { OnOk result (AreClosed dag.now low (round + 1 - count) round unordered.now
         → reads.new ≤ sum_by (λ r. parents_of dag.now r (orders_in dag.now round author.0 low unordered.now r)) (range_with_len (round + 2 - count) (count - 1))) }
+    ensures most { OnOk result (reads.new ≤ 1000 * (count - 1)) }
 {
     dag.limits_hold();
     let top = round.number();

@@ -100,7 +100,7 @@ pub new_in : (node : Node) (state : State) (event : Event) (sequence : Sequence)
     → answer sequence.graph certificate ≡ Ok New
 new_in node state event sequence certificate comes is =
     let at = comes.at in
-    let free = free_by node state event.sender event.message certificate comes.sound comes.new is in
+    let free = free_by node state event.sender event.message certificate comes.comes.sound comes.comes.new is in
     let header = certificate.header in
     let high : is_low sequence.graph.floor header.round ≡ false = ap (λ f. is_low f header.round) at.floor ∙ free.high in
     let none : slots_in sequence.graph header.round header.author.0 ≡ None = ap (λ (s : Slots). s header.round header.author.0) at.slots ∙ free.free in

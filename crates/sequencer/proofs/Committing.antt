@@ -24,10 +24,10 @@ use Rattle.dag.specs.Graph.{Graph, IsGraph, Placed, size_in, placed_at, slots_in
 use Rattle.tusk.specs.Chain.{slot_of}
 use Rattle.tusk.specs.Chain as chain
 use Rattle.flatten.specs.Laws.{MadeStays}
-use Rattle.flatten.specs.Lengthening.{Made, IsOf}
-use Rattle.flatten.specs.Segments.{held_at}
+use Rattle.flatten.specs.Lengthening.{Made, FitsTo}
+use Rattle.flatten.specs.Segments.{leader_held}
 use Rattle.sequencer.specs.Laws.{AreKnown}
-use Rattle.sequencer.specs.Sequence.{Sequence, IsAt, ComesTo, IsPrepared, IsCommitted, CommitsTo, digests_in}
+use Rattle.sequencer.specs.Sequence.{Sequence, IsAt, ComesTo, IsPrepared, IsCommitted, CommitsTo, prepared_digests}
 use Rattle.sequencer.specs.declared.prepared.Prepared.{Prepared}
 use Rattle.sequencer.proofs.Chaining.{IsSame, steps, same_last, higher_last}
 use Rattle.sequencer.proofs.Coming.{new_in, no_coin}
@@ -72,7 +72,7 @@ grown_same node state event sequence later comes ext is last =
     let at = comes.at in
     let now = ledger_in node (grown node state event.message) in
     let before = ledger_in node state in
-    let was = last_held node state comes.node_is comes.sound in
+    let was = last_held node state comes.comes.node_is comes.comes.sound in
     record {
       charter = is.charter ∙ at.charter;
       slots = is.slots;
@@ -135,8 +135,8 @@ nothing_newer node state event sequence comes ext last =
       | inr higher ↦
           let is : sequence.last ≡ Some (slot_of higher.1) = sym last ∙ ap (option_map slot_of) (higher_last before now higher.0 higher.1 higher.2) in
           let round : option_map_or (λ (s : ℕ × Author). s.0) sequence.last 0 ≡ higher.1.header.round = ap (λ o. option_map_or (λ (s : ℕ × Author). s.0) o 0) is in
-          let place = leader_place now higher.0 higher.1 (members_some node comes.node_is) ext.placed_after higher.2.leads in
-          let lower = below_wave node state sequence comes.node_is comes.sound comes.at in
+          let place = leader_place now higher.0 higher.1 (members_some node comes.comes.node_is) ext.placed_after higher.2.leads in
+          let lower = below_wave node state sequence comes.comes.node_is comes.comes.sound comes.at in
           let low = higher.2.low in
           absurd (omega (arith, round, place.0, lower, low))
     ]
@@ -184,19 +184,19 @@ floor_is node state slot wave last is =
     ap (floor_of node) is.is_top ∙ ap (λ (r : ℕ). r - node.charter.depth) odd
 
 grown_committed : (node : Node) (state : State) (event : Event) (sequence : Sequence) (later new : Graph) (made : Made) → ComesTo node state event sequence → Extends state.slots (grown node state event.message).slots
-    → IsStepped node state event sequence.graph later → IsOf later made → option_map slot_of (last_leader (ledger_in node (grown node state event.message))) ≡ Some made.last
+    → IsStepped node state event sequence.graph later → FitsTo later made → option_map slot_of (last_leader (ledger_in node (grown node state event.message))) ≡ Some made.last
     → option_map_or (λ (s : ℕ × Author). s.0) sequence.last 0 < made.last.0 → (is : IsCommitted later new made)
     → IsGrownTo node state event is.marked × (floor_in node (grown node state event.message) ≡ made.last.0 - later.charter.depth)
 grown_committed node state event sequence later new made comes ext stepped of last newer is =
     let at = comes.at in
     let behind = grown node state event.message in
     let now = ledger_in node behind in
-    let end = last_of node behind made.last comes.node_is ext.placed_after last in
+    let end = last_of node behind made.last comes.comes.node_is ext.placed_after last in
     let charter : is.marked.charter ≡ node.charter = is.charter ∙ stepped.charter ∙ at.charter in
     let slots : slots_in is.marked ≡ behind.slots = fun_ext (λ round. fun_ext (λ author. is.slots round author)) ∙ stepped.slots in
     let depth : later.charter.depth ≡ node.charter.depth = ap (λ (x : Charter). x.depth) (stepped.charter ∙ at.charter) in
     let floor = floor_is node behind made.last end.0 end.1 end.2 in
-    let held : held_at is.marked (Some made.last) ≡ last_leader now = ap (λ (s : Slots). s made.last.0 made.last.1.0) slots ∙ end.2.held ∙ sym end.2.is_last in (
+    let held : leader_held is.marked (Some made.last) ≡ last_leader now = ap (λ (s : Slots). s made.last.0 made.last.1.0) slots ∙ end.2.held ∙ sym end.2.is_last in (
       record {
         charter = charter;
         slots = slots;
@@ -219,12 +219,12 @@ grown_committed node state event sequence later new made comes ext stepped of la
 
 pub goes_on : AreKnown → (node : Node) (state : State) (event : Event) (sequence : Sequence) (later : Graph) (prepared : Prepared) (new : Sequence) → ComesTo node state event sequence
     → Extends state.slots (grown node state event.message).slots → IsPrepared node state event sequence prepared → IsStepped node state event sequence.graph later
-    → ((made : Made) → prepared.committed ≡ Some made → IsOf later made) → CommitsTo later sequence.last prepared.committed new.graph new.last
-    → new.coins ≡ (grown node state event.message).coins → new.order ≡ sequence.order ++ digests_in prepared → IsAt node (after node state event) new
+    → ((made : Made) → prepared.committed ≡ Some made → FitsTo later made) → CommitsTo later sequence.last prepared.committed new.graph new.last
+    → new.coins ≡ (grown node state event.message).coins → new.order ≡ sequence.order ++ prepared_digests prepared → IsAt node (after node state event) new
 goes_on known node state event sequence later prepared new comes ext ready stepped of commits coins order =
     let behind = grown node state event.message in
     let back = is_behind known node state event sequence comes ext in
-    let ordered : new.order ≡ behind.order = order ∙ ap (λ l. l ++ digests_in prepared) comes.at.order ∙ ap (λ l. state.order ++ l) ready.digests in
+    let ordered : new.order ≡ behind.order = order ∙ ap (λ l. l ++ prepared_digests prepared) comes.at.order ∙ ap (λ l. state.order ++ l) ready.digests in
     elim (given_or_none prepared.committed) [
       | inr none ↦
           let last : option_map slot_of (last_leader (ledger_in node behind)) ≡ sequence.last = ready.last ∙ ap (λ o. option_map_or (λ (made : Made). Some made.last) o sequence.last) none in
@@ -248,7 +248,7 @@ goes_on known node state event sequence later prepared new comes ext ready stepp
 -- with a certificate
 pub held_on : AreKnown → MadeStays → (node : Node) (state : State) (event : Event) (sequence : Sequence) (certificate : Certificate) (later : Graph) (prepared : Prepared) (new : Sequence) → ComesTo node state event sequence
     → certificate_of node state event.message ≡ Some certificate → IsPrepared node state event sequence prepared → IsGraph sequence.graph → certificate.header.author.0 < size_in sequence.graph
-    → IsGraph later → IsWith sequence.graph later certificate → CommitsTo later sequence.last prepared.committed new.graph new.last → new.coins ≡ sequence.coins → new.order ≡ sequence.order ++ digests_in prepared
+    → IsGraph later → IsWith sequence.graph later certificate → CommitsTo later sequence.last prepared.committed new.graph new.last → new.coins ≡ sequence.coins → new.order ≡ sequence.order ++ prepared_digests prepared
     → IsAt node (after node state event) new
 held_on known stays node state event sequence certificate later prepared new comes adds ready graph member sound more commits coins order =
     let ext = certificate_extends node state event sequence certificate later comes adds graph more in
@@ -273,7 +273,7 @@ held_on known stays node state event sequence certificate later prepared new com
               let round : made.last.0 ≡ option_map_or (λ (s : ℕ × Author). s.0) sequence.last 0 = ap (λ o. option_map_or (λ (s : ℕ × Author). s.0) o 0) was in
               absurd (omega (arith, round, newer))
           | inr higher ↦
-              let place = leader_place now higher.0 higher.1 (members_some node comes.node_is) ext.placed_after higher.2.leads in
+              let place = leader_place now higher.0 higher.1 (members_some node comes.comes.node_is) ext.placed_after higher.2.leads in
               let same : slot_of higher.1 ≡ made.last = same_Some (slot_of higher.1) made.last (sym (ap (option_map slot_of) (higher_last before now higher.0 higher.1 higher.2)) ∙ last) in
               let round : higher.1.header.round ≡ made.last.0 = ap (λ (s : ℕ × Author). s.0) same in
               let level = above_last node state event sequence certificate later comes adds graph more higher.0 higher.1 higher.2 in
@@ -283,9 +283,9 @@ held_on known stays node state event sequence certificate later prepared new com
 -- with a coin
 pub pushed_on : AreKnown → (node : Node) (state : State) (event : Event) (sequence : Sequence) (value : ℕ) (prepared : Prepared) (new : Sequence) → ComesTo node state event sequence → as_coin event.message ≡ Some value
     → IsPrepared node state event sequence prepared → IsGraph sequence.graph → CommitsTo sequence.graph sequence.last prepared.committed new.graph new.last → new.coins ≡ sequence.coins ++ value ∷ []
-    → new.order ≡ sequence.order ++ digests_in prepared → IsAt node (after node state event) new
+    → new.order ≡ sequence.order ++ prepared_digests prepared → IsAt node (after node state event) new
 pushed_on known node state event sequence value prepared new comes adds ready graph commits coins order =
-    let ext = coin_extends node state event value adds comes.sound in
+    let ext = coin_extends node state event value adds comes.comes.sound in
     let stepped : IsStepped node state event sequence.graph sequence.graph =
     record { sound = graph; charter = refl; floor = refl; base = refl; slots = comes.at.slots ∙ sym (coin_slots node state event value adds); marked = λ round author. refl } in
     goes_on known node state event sequence sequence.graph prepared new comes ext ready stepped ready.made commits

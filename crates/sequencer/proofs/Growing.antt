@@ -65,13 +65,13 @@ above_last node state event sequence certificate later comes is graph more wave 
     let before = sequence.graph in
     let coins = sequence.coins in
     let new = is_new before certificate (new_in node state event sequence certificate comes is) in
-    let at = at_wave node state sequence comes.node_is comes.sound comes.at in
+    let at = at_wave node state sequence comes.comes.node_is comes.comes.sound comes.at in
     let now = with_certificate before later coins in
     let same : now ≡ states.ledger_in node (grown node state event.message) = same_ledger before later certificate coins more ∙ later_ledger node state event sequence certificate later comes.at is more in
     let committed : is_directly_committed now (suc wave) ≡ true =
     ap (λ l. is_directly_committed l (suc wave)) same ∙ ap (λ o. option_map_or (has_support (states.ledger_in node (grown node state event.message))) o false) higher.leads ∙ higher.supported in
     let within = (committed_within now (suc wave) committed).1 in
-    let waves = wave_is node state sequence comes.node_is comes.sound comes.at in
+    let waves = wave_is node state sequence comes.comes.node_is comes.comes.sound comes.at in
     let low = higher.low in
     let long = length-append coins [] in
     let impossible : (v : ℕ) → ((w : ℕ) → w ≢ v → certificate.header.round ≢ 2 * w) → suc wave ≢ v → ⊥ =

@@ -10,3 +10,5 @@ pub mod Rooting
 pub mod Rounds
 pub mod Standing
 pub mod Staying
+pub mod ByHistory
+pub mod OrdersByHistory

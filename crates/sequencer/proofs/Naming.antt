@@ -101,11 +101,11 @@ names_by node state sender (message.Coin coin) certificate sound taken is = absu
 
 pub names_some : (node : Node) (state : State) (event : Event) (sequence : Sequence) (certificate : Certificate) → ComesTo node state event sequence → certificate_of node state event.message ≡ Some certificate
     → 0 < length certificate.header.parents
-names_some node state event sequence certificate comes is = names_by node state event.sender event.message certificate comes.sound comes.taken is
+names_some node state event sequence certificate comes is = names_by node state event.sender event.message certificate comes.comes.sound comes.comes.taken is
 
 pub certificates_are_new : CertificatesAreNew
 certificates_are_new node state event sequence certificate comes is = record {
   new = new_in node state event sequence certificate comes is;
-  member = subst (λ (x : Charter). certificate.header.author.0 < length x.keys) (sym comes.at.charter) (member_by node state event.sender event.message certificate comes.node_is comes.sound comes.taken is);
+  member = subst (λ (x : Charter). certificate.header.author.0 < length x.keys) (sym comes.at.charter) (member_by node state event.sender event.message certificate comes.comes.node_is comes.comes.sound comes.comes.taken is);
   named = names_some node state event sequence certificate comes is;
 }

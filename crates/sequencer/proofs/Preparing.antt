@@ -22,7 +22,7 @@ use Rattle.dag.specs.Graph.{Graph, size_in, slots_in}
 use Rattle.dag.specs.Graph as dag
 use Rattle.tusk.specs.Chain.{ledger_in, slot_of, base_of}
 use Rattle.tusk.specs.Chain as chain
-use Rattle.flatten.specs.Segments.{held_at, digests_of, leaders_in, AreLinked, IsMarkedPast}
+use Rattle.flatten.specs.Segments.{leader_held, digests_of, leaders_in, AreLinked, IsMarkedPast}
 use Rattle.sequencer.specs.Sequence.{Sequence, IsAt, wave_in}
 use Rattle.sequencer.proofs.Chaining.{AreChained, chained_held, newer_chained, steps, same_last, higher_last}
 use Rattle.sequencer.proofs.Rooting.{reaches_last}
@@ -119,7 +119,7 @@ below_wave node state sequence node_is sound at =
 
 -- ---- slots and certificates
 
-pub held_last : (graph : Graph) (previous : Option Certificate) → WasHeld (slots_in graph) previous → held_at graph (option_map slot_of previous) ≡ previous
+pub held_last : (graph : Graph) (previous : Option Certificate) → WasHeld (slots_in graph) previous → leader_held graph (option_map slot_of previous) ≡ previous
 held_last graph None held = refl
 held_last graph (Some c) held = held c refl
 
@@ -130,7 +130,7 @@ leaders_are graph (c ∷ certificates) held =
     let rest = leaders_are graph certificates (λ d inside. held d (Contains-later c certificates d inside)) in
     rw here (ap (λ l. c ∷ l) rest)
 
-linked : (graph : Graph) (coins : List ℕ) (previous : Option Certificate) (certificates : List Certificate) → AreChained (ledger_in graph coins) previous certificates → WasHeld (slots_in graph) previous
+pub linked : (graph : Graph) (coins : List ℕ) (previous : Option Certificate) (certificates : List Certificate) → AreChained (ledger_in graph coins) previous certificates → WasHeld (slots_in graph) previous
     → AreLinked graph (option_map slot_of previous) (map slot_of certificates)
 linked graph coins previous [] chained was = tt
 linked graph coins previous (c ∷ certificates) chained was = (
@@ -158,18 +158,18 @@ last_behind (y ∷ front) x =
 -- what its leaders are over what the DAG held before it
 pub record IsChainOf (node : Node) (state : State) (event : Event) (sequence : Sequence) (slots : List (ℕ × Author)) : Type 0 where
   pub linked : AreLinked sequence.graph sequence.last slots
-  pub digests : digests_of (segments (ledger_in sequence.graph sequence.coins) (held_at sequence.graph sequence.last) (leaders_in sequence.graph slots))
+  pub digests : digests_of (segments (ledger_in sequence.graph sequence.coins) (leader_held sequence.graph sequence.last) (leaders_in sequence.graph slots))
       ≡ newly_ordered (states.ledger_in node state) (states.ledger_in node (grown node state event.message))
   pub none : slots ≡ [] → option_map slot_of (last_leader (states.ledger_in node (grown node state event.message))) ≡ sequence.last
   pub some : (slot : ℕ × Author) → slice_get slots (length slots - 1) ≡ Some slot
       → (option_map slot_of (last_leader (states.ledger_in node (grown node state event.message))) ≡ Some slot) × (option_map_or (λ (s : ℕ × Author). s.0) sequence.last 0 < slot.0)
 
-pub marked_past : (node : Node) (state : State) (sequence : Sequence) → IsNode node → IsSound node state → IsAt node state sequence → (low : ℕ) → IsMarkedPast sequence.graph low (held_at sequence.graph sequence.last)
+pub marked_past : (node : Node) (state : State) (sequence : Sequence) → IsNode node → IsSound node state → IsAt node state sequence → (low : ℕ) → IsMarkedPast sequence.graph low (leader_held sequence.graph sequence.last)
 marked_past node state sequence node_is sound at low round author c above held =
     let before = states.ledger_in node state in
     let previous = last_leader before in
     let was : WasHeld (slots_in sequence.graph) previous = subst (λ (s : Slots). WasHeld s previous) (sym at.slots) (last_held node state node_is sound) in
-    let last : held_at sequence.graph sequence.last ≡ previous = ap (held_at sequence.graph) at.last ∙ held_last sequence.graph previous was in
+    let last : leader_held sequence.graph sequence.last ≡ previous = ap (leader_held sequence.graph) at.last ∙ held_last sequence.graph previous was in
     at.marked round author c held
     ∙ sym (ap (λ (l : Ledger). is_past l previous c) (same_ledger node state sequence at))
     ∙ sym (ap (λ o. is_past (ledger_in sequence.graph []) o c) last)
@@ -191,7 +191,7 @@ chain_of node state event sequence node_is sound at ext slots all =
     let chained : AreChained before previous leaders = newer_chained before later ext node_is.charter more previous (reaches_last node state node_is sound) in
     let held_before = chained_held before previous leaders chained in
     let held : (c : Certificate) → Contains leaders c → IsIn (slots_in graph) c = λ c inside. subst (λ (s : Slots). IsIn s c) (sym at.slots) (held_before c inside) in
-    let last : held_at graph sequence.last ≡ previous = ap (held_at graph) at.last ∙ held_last graph previous was in
+    let last : leader_held graph sequence.last ≡ previous = ap (leader_held graph) at.last ∙ held_last graph previous was in
     let digests : List Certificate → List Digest = map (λ c. certificate_digest c.header) in
     record {
       linked = subst (AreLinked graph sequence.last) (sym all)

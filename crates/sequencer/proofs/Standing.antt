@@ -40,11 +40,11 @@ is_behind known node state event sequence comes ext =
     let later = grown node state event.message in
     let behind = after node state event in
     let low = floor_in node behind in
-    let sound = known.sound_stays node state event comes.node_is comes.sound comes.taken comes.new in
+    let sound = known.sound_stays node state event comes.comes.node_is comes.comes.sound comes.comes.taken comes.comes.new in
     let whole : HoldsFrom 0 later.slots later.slots = record { placed = ext.placed_after; same = λ round author above. refl } in
-    let from = (known.enough_behind node state event 0 later.slots comes.node_is comes.sound comes.taken comes.new (omega arith) whole).behind in
-    let same = known.enough_now node behind low later.slots comes.node_is sound (omega arith) from in
-    let stands = (known.state_stands node state event comes.node_is comes.sound comes.taken comes.new).floor in
+    let from = (known.enough_behind node state event 0 later.slots comes.comes.node_is comes.comes.sound comes.comes.taken comes.comes.new (omega arith) whole).behind in
+    let same = known.enough_now node behind low later.slots comes.comes.node_is sound (omega arith) from in
+    let stands = (known.state_stands node state event comes.comes.node_is comes.comes.sound comes.comes.taken comes.comes.new).floor in
     let floors = same.same_floor in
     record {
       sound = sound;
@@ -146,5 +146,5 @@ stands node state event before sequence graph comes back sound is dropped coins 
           dropped.marked round author ∙ ap (λ b. if b then false else marked_in graph round author) not
           ∙ is.marked round author c kept.0 kept.1
           ∙ ap (λ o. is_past (ledger_in node later) o c) back.lasts
-          ∙ past_stays node state event graph sequence.graph back comes.node_is sound is dropped slots round author c held (last_leader (ledger_in node behind)) (last_held node behind comes.node_is back.sound);
+          ∙ past_stays node state event graph sequence.graph back comes.comes.node_is sound is dropped slots round author c held (last_leader (ledger_in node behind)) (last_held node behind comes.comes.node_is back.sound);
     }

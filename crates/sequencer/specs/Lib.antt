@@ -1,2 +1,3 @@
 pub mod Sequence
 pub mod Laws
+pub mod ByHistory

@@ -1,19 +1,18 @@
 -- What a sequencer has, and when that is what a state has.
-use Rattle.std.specs.Prelude.{◌≡◌, ◌<◌, ℕ, ◌+◌, ◌-◌, ◌/◌, max, IsTrue, List, [], length, slice_get, Option, Some, None, option_map}
+use Rattle.std.specs.Prelude.{◌≡◌, ◌<◌, ℕ, ◌+◌, ◌-◌, ◌/◌, max, List, [], length, slice_get, Option, Some, None, option_map}
 use Rattle.std.specs.Option.{option_map_or}
-use Rattle.model.specs.Admitting.{is_new, IsTaken}
-use Rattle.model.specs.Nodes.{Node, IsNode}
+use Rattle.model.specs.Nodes.{Node}
 use Rattle.model.specs.Ordering.{is_past, segments}
 use Rattle.model.specs.States.{State, ledger_in, floor_in}
 use Rattle.model.specs.Words.{Author, Certificate, Digest, Event}
-use Rattle.machine.specs.Machine.{answered, grown, last_leader, newly_ordered}
-use Rattle.machine.specs.Sound.{IsSound}
+use Rattle.machine.specs.Laws.{Comes}
+use Rattle.machine.specs.Machine.{grown, last_leader, newly_ordered}
 use Rattle.dag.specs.Changes.{IsDropped}
 use Rattle.dag.specs.Graph.{Graph, IsGraph, slots_in, marked_in}
 use Rattle.tusk.specs.Chain.{slot_of}
 use Rattle.tusk.specs.Chain as chain
-use Rattle.flatten.specs.Lengthening.{Made, IsOf}
-use Rattle.flatten.specs.Segments.{held_at, digests_of, leaders_in, AreLinked, IsMarkedPast, IsMarkedFor}
+use Rattle.flatten.specs.Lengthening.{Made, FitsTo}
+use Rattle.flatten.specs.Segments.{leader_held, digests_of, leaders_in, AreLinked, IsMarkedPast, IsMarkedFor}
 use Rattle.sequencer.specs.declared.prepared.Prepared.{Prepared}
 
 -- a sequencer: the certificates, the coins, the slot of the last committed leader, and the order
@@ -41,22 +40,19 @@ wave_in last = option_map (λ slot. (slot.0 + 1) / 2) last
 
 -- an event is new at a sound state, which a sequencer is at
 pub record ComesTo (node : Node) (state : State) (event : Event) (sequence : Sequence) : Type 0 where
-  pub node_is : IsNode node
-  pub sound : IsSound node state
-  pub taken : IsTaken node event
-  pub new : IsTrue (is_new (answered node state event))
+  pub comes : Comes node state event
   pub at : IsAt node state sequence
 
 -- the digests that are prepared
-abbrev pub digests_in : Prepared → List Digest
-digests_in prepared = option_map_or (λ (made : Made). made.digests) prepared.committed []
+abbrev pub prepared_digests : Prepared → List Digest
+prepared_digests prepared = option_map_or (λ (made : Made). made.digests) prepared.committed []
 
 -- what is prepared is what an event adds to the order: its digests, and the marks of leaders newer than the last one
 pub record IsPrepared (node : Node) (state : State) (event : Event) (sequence : Sequence) (prepared : Prepared) : Type 0 where
-  pub digests : digests_in prepared ≡ newly_ordered (ledger_in node state) (ledger_in node (grown node state event.message))
+  pub digests : prepared_digests prepared ≡ newly_ordered (ledger_in node state) (ledger_in node (grown node state event.message))
   pub last : option_map slot_of (last_leader (ledger_in node (grown node state event.message)))
       ≡ option_map_or (λ (made : Made). Some made.last) prepared.committed sequence.last
-  pub made : (made : Made) → prepared.committed ≡ Some made → IsOf sequence.graph made
+  pub made : (made : Made) → prepared.committed ≡ Some made → FitsTo sequence.graph made
   pub newer : (made : Made) → prepared.committed ≡ Some made → option_map_or (λ (slot : ℕ × Author). slot.0) sequence.last 0 < made.last.0
 
 -- ---- a commit
@@ -70,7 +66,7 @@ pub record IsCommitted (before after : Graph) (made : Made) : Type 0 where
   pub floor : marked.floor ≡ before.floor
   pub base : marked.base ≡ max before.base made.last.0
   pub slots : (round author : ℕ) → slots_in marked round author ≡ slots_in before round author
-  pub marks : IsOf before made → IsMarkedPast marked (made.last.0 - before.charter.depth) (held_at marked (Some made.last))
+  pub marks : FitsTo before made → IsMarkedPast marked (made.last.0 - before.charter.depth) (leader_held marked (Some made.last))
   pub dropped : IsDropped marked after (made.last.0 - before.charter.depth)
 
 -- so it is with the last leader's slot, where leaders are committed, and else both stay
@@ -83,9 +79,9 @@ CommitsTo before last (Some made) after new_last = IsCommitted before after made
 -- what was made of leaders of these slots behind the last one
 pub record IsMadeOfAll (graph : Graph) (last : Option (ℕ × Author)) (slots : List (ℕ × Author)) (made : Made) : Type 0 where
   pub digests : (coins : List ℕ) → AreLinked graph last slots → IsMarkedFor graph last slots
-      → made.digests ≡ digests_of (segments (chain.ledger_in graph coins) (held_at graph last) (leaders_in graph slots))
+      → made.digests ≡ digests_of (segments (chain.ledger_in graph coins) (leader_held graph last) (leaders_in graph slots))
   pub last_slot : slice_get slots (length slots - 1) ≡ Some made.last
-  pub of : AreLinked graph last slots → IsMarkedFor graph last slots → IsOf graph made
+  pub of : AreLinked graph last slots → IsMarkedFor graph last slots → FitsTo graph made
 
 -- nothing is made of none
 abbrev pub IsMadeOf : Graph → Option (ℕ × Author) → List (ℕ × Author) → Option Made → Type 0

@@ -1,5 +1,6 @@
 //! Laws. Each is what a function without a body ensures.
 
+ghost use Rattle.sequencer.specs.ByHistory.{ChainsByHistory, OrdersByHistory};
 ghost use Rattle.sequencer.specs.Laws.{SequenceStays, CertificatesAreNew, IsLedgerOf, DagIsEnough, AreKnown};
 
 /// An event that adds neither a certificate nor a coin leaves a sequencer at the state behind it.
@@ -22,6 +23,19 @@ pub fn is_ledger_of()
 pub fn dag_is_enough()
     ensures { DagIsEnough }
 {}
+
+/// A DAG that holds as much, whose base is the round of the last leader that was committed at the history that begins the
+/// other, has with the coins of that one its leaders, its greatest committed wave and the slots of its newer leaders.
+pub fn chains_by_history()
+    ensures { ChainsByHistory }
+{}
+
+/// What each of these leaders orders there, behind the one before it, is what it orders at that history.
+pub fn orders_by_history()
+    ensures { OrdersByHistory }
+{
+    flatten::each_follows();
+}
 
 // What a state is behind an event.
 pub(crate) fn states_go_on()

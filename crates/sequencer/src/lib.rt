@@ -6,6 +6,9 @@ mod facts;
 mod prepared;
 mod sequencer;
 
-pub use facts::{certificates_are_new, dag_is_enough, is_ledger_of, sequence_stays};
+pub use facts::{
+    certificates_are_new, chains_by_history, dag_is_enough, is_ledger_of, orders_by_history,
+    sequence_stays,
+};
 pub use prepared::Prepared;
 pub use sequencer::Sequencer;

@@ -1,7 +1,8 @@
 //! What a certificate or a coin will add to the order.
 
-ghost use Rattle.std.specs.Prelude.{◌≡◌, ◌<◌, length, IfOk};
-ghost use Rattle.sequencer.specs.Sequence.{digests_in, IsMadeOf};
+ghost use Rattle.std.specs.Prelude.{◌≡◌, ℕ, ◌<◌, length, Option, IfOk};
+ghost use Rattle.model.specs.Words.{Author};
+ghost use Rattle.sequencer.specs.Sequence.{prepared_digests, IsMadeOf};
 
 use dag::Dag;
 use flatten::Lengthening;
@@ -16,20 +17,19 @@ pub struct Prepared {
 }
 
 impl Prepared {
-    // What leaders of these slots, the oldest first, add to the order behind the last one. `AllocError` where a growth was
-    // refused.
+    // What leaders of these slots, the oldest first, add to the order behind the one that was committed last. `AllocError`
+    // where a growth was refused.
     pub(crate) fn new(
         alloc: Global,
         dag: &Dag,
         chain: &[(Round, Author)],
-        last: Option<(Round, Author)>,
     ) -> Result<Prepared, AllocError>
-        ensures { IfOk result (λ prepared. IsMadeOf dag.now last chain.now prepared.committed) }
+        ensures { IfOk result (λ prepared. (last : Option (ℕ × Author)) → IsMadeOf dag.now last chain.now prepared.committed) }
     {
         if chain.is_empty() {
             return Ok(Prepared { committed: None });
         }
-        let made = Lengthening::new(alloc, dag, chain, last)?;
+        let made = Lengthening::new(alloc, dag, chain)?;
         Ok(Prepared {
             committed: Some(made),
         })
@@ -37,7 +37,7 @@ impl Prepared {
 
     /// The digests that it adds to the order.
     pub fn digests(&self) -> &[Digest]
-        ensures { result.now ≡ digests_in self.now }
+        ensures { result.now ≡ prepared_digests self.now }
     {
         match &self.committed {
             Some(made) => made.digests(),

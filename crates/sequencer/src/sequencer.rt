@@ -11,7 +11,7 @@ ghost use Rattle.model.specs.States.{State};
 ghost use Rattle.model.specs.Words.{Event};
 ghost use Rattle.dag.specs.Answer.{answer};
 ghost use Rattle.dag.specs.declared.answers.Added.TheVariants.{New};
-ghost use Rattle.sequencer.specs.Sequence.{IsAt, ComesTo, IsPrepared, CommitsTo, digests_in, wave_in};
+ghost use Rattle.sequencer.specs.Sequence.{IsAt, ComesTo, IsPrepared, CommitsTo, prepared_digests, wave_in};
 ghost use Rattle.wire.specs.declared.round.TheConstants.Round.{MAX};
 
 use crate::facts::states_go_on;
@@ -142,7 +142,7 @@ impl<'a> Sequencer<'a> {
         let chain = self
             .coins
             .committed_by(alloc, &self.dag, certificate, last)?;
-        Prepared::new(alloc, &self.dag, &chain, self.last)
+        Prepared::new(alloc, &self.dag, &chain)
     }
 
     /// What the coin of the next wave will add to the order. `AllocError` where a growth was refused.
@@ -153,7 +153,7 @@ impl<'a> Sequencer<'a> {
         self.dag.limits_hold();
         let last = wave_of(self.last);
         let chain = self.coins.committed_with(alloc, &self.dag, value, last)?;
-        Prepared::new(alloc, &self.dag, &chain, self.last)
+        Prepared::new(alloc, &self.dag, &chain)
     }
 
     /// Holds a new certificate of this digest, and orders what was prepared for it. `AllocError` where a growth was refused:
@@ -168,7 +168,8 @@ impl<'a> Sequencer<'a> {
         requires named { 0 < length certificate.header.parents }
         requires digested { digest ≡ certificate_digest certificate.header }
         requires new { answer self.old.graph certificate ≡ Ok New }
-        ensures order { OnOk result (self.new.order ≡ self.old.order ++ digests_in prepared.now) }
+        ensures order { OnOk result (self.new.order ≡ self.old.order ++ prepared_digests prepared.now) }
+        ensures charter { OnOk result (self.new.graph.charter ≡ self.old.graph.charter) }
         ensures at { OnOk result ((node : Node) (state : State) (event : Event) → ComesTo node state event self.old
             → certificate_of node state event.message ≡ Some certificate → IsPrepared node state event self.old prepared.now
             → IsAt node (after node state event) self.new) }
@@ -189,7 +190,8 @@ impl<'a> Sequencer<'a> {
     /// Takes the coin of the next wave, and orders what was prepared for it. `AllocError` where a growth was refused: nothing
     /// has changed then.
     pub fn push(&mut self, value: u64, prepared: &Prepared) -> Result<(), AllocError>
-        ensures order { OnOk result (self.new.order ≡ self.old.order ++ digests_in prepared.now) }
+        ensures order { OnOk result (self.new.order ≡ self.old.order ++ prepared_digests prepared.now) }
+        ensures charter { OnOk result (self.new.graph.charter ≡ self.old.graph.charter) }
         ensures at { OnOk result ((node : Node) (state : State) (event : Event) → ComesTo node state event self.old
             → as_coin event.message ≡ Some value → IsPrepared node state event self.old prepared.now
             → IsAt node (after node state event) self.new) }
@@ -208,6 +210,7 @@ impl<'a> Sequencer<'a> {
     // Marks what was prepared, and drops what lies below the new floor. It takes no memory.
     fn commit(&mut self, prepared: &Prepared)
         ensures graph { CommitsTo self.old.graph self.old.last prepared.now.committed self.new.graph self.new.last }
+        ensures charter { self.new.graph.charter ≡ self.old.graph.charter }
         ensures coins { self.new.coins ≡ self.old.coins }
         ensures order { self.new.order ≡ self.old.order }
     {

@@ -137,7 +137,7 @@ impl<'a> Playing<'a> {
     fn lengthen(&self, chain: &[(Round, Author)]) -> Result<Vec<Lengthening>, AllocError> {
         let mut made = Vec::new(self.alloc);
         for count in 1..chain.len() + 1 {
-            made.push(Lengthening::new(self.alloc, &self.dag, &chain[..count], self.previous)?)?;
+            made.push(Lengthening::new(self.alloc, &self.dag, &chain[..count])?)?;
         }
         Ok(made)
     }
@@ -180,19 +180,23 @@ impl<'a> Playing<'a> {
         )
     }
 
-    // Whether the first of leaders orders alone what it does as their beginning.
+    // Whether each of leaders orders, asked alone behind the one before it, what its beginning has behind that one's.
     fn is_alike(
         &self,
         chain: &[(Round, Author)],
         made: &[Lengthening],
     ) -> Result<bool, AllocError> {
-        match (chain.first(), made.first()) {
-            (Some(leader), Some(one)) => {
-                let alone = segment(self.alloc, &self.dag, *leader, self.previous)?;
-                Ok(alone.as_slice() == one.digests())
+        let mut previous = self.previous;
+        let mut told = 0;
+        for (leader, one) in chain.iter().zip(made.iter()) {
+            let alone = segment(self.alloc, &self.dag, *leader, previous)?;
+            if !one.digests().iter().skip(told).eq(alone.iter()) {
+                return Ok(false);
             }
-            _ => Ok(true),
+            previous = Some(*leader);
+            told = one.digests().len();
         }
+        Ok(true)
     }
 
     // What each leader orders: what its beginning has behind that of the one before.

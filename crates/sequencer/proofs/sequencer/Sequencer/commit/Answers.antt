@@ -3,7 +3,7 @@ use Rattle.committee.specs.Charter.{Charter}
 use Rattle.dag.specs.Changes.{IsDropped}
 use Rattle.dag.specs.Graph.{Graph, slots_in}
 use Rattle.flatten.specs.Lengthening.{Made}
-use Rattle.flatten.specs.Segments.{held_at, IsMarkedPast}
+use Rattle.flatten.specs.Segments.{leader_held, IsMarkedPast}
 use Rattle.model.specs.Words.{Author}
 use Rattle.sequencer.specs.Sequence.{Sequence, IsCommitted, CommitsTo}
 use Rattle.sequencer.proofs.sequencer.Sequencer.commit.Goals as goal
@@ -25,8 +25,8 @@ returns-in-Some-clause-graph c =
       base = ap (λ (g : Graph). g.base) c.commit_to.ensures ∙ ap (λ (b : ℕ). max b c.last-round.result.0) c.mark.ensures.base ∙ ap (λ (r : ℕ). max before.base r) round;
       slots = λ r a. ap (λ (g : Graph). slots_in g r a) c.commit_to.ensures ∙ c.mark.ensures.slots r a;
       marks = λ of.
-          subst (λ (g : Graph). IsMarkedPast g (made.last.0 - before.charter.depth) (held_at g (Some made.last))) (sym c.commit_to.ensures)
-          (subst (λ (x : Charter). IsMarkedPast c.mark.new.dag (made.last.0 - x.depth) (held_at c.mark.new.dag (Some made.last))) c.mark.ensures.charter (c.mark.ensures.marked of));
+          subst (λ (g : Graph). IsMarkedPast g (made.last.0 - before.charter.depth) (leader_held g (Some made.last))) (sym c.commit_to.ensures)
+          (subst (λ (x : Charter). IsMarkedPast c.mark.new.dag (made.last.0 - x.depth) (leader_held c.mark.new.dag (Some made.last))) c.mark.ensures.charter (c.mark.ensures.marked of));
       dropped = subst (IsDropped marked c.drop_below.new.self) floor c.drop_below.ensures;
     } in
     subst (λ (o : Option Made). CommitsTo c.args.self.now.graph c.args.self.now.last o c.drop_below.new.self (Some (c.last-round.result.0, c.last-round.result.1))) (sym c.in-Some.is)

@@ -14,5 +14,5 @@ returns c =
     subst (λ (s : Sequence). IsPrepared node state event s prepared) c.self.view_is
     (ready_with node state event v c.args.value c.wave_of-last.result c.in_ok-chain.chain.items prepared (subst (ComesTo node state event) (sym c.self.view_is) comes) adds c.wave_of-last.ensures
     (λ at. c.in_ok-chain.ensures {u = tt} at)
-    (subst (λ (l : List (ℕ × Author)). IsMadeOf inside.dag inside.last l prepared.committed) c.deref.ensures.value made)))
+    (subst (λ (l : List (ℕ × Author)). IsMadeOf inside.dag inside.last l prepared.committed) c.deref.ensures.value (made inside.last))))
     c.new.ensures

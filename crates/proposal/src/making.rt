@@ -1,0 +1,28 @@
+//! The header of given parts.
+
+ghost use Rattle.std.specs.Prelude.{◌≡◌, None, IfOk};
+ghost use Rattle.header.specs.Making.{batches_fault, parents_fault, body_of, signed_by};
+
+use sigface::Sign;
+use std::alloc::{AllocError, Global};
+use wire::{Author, BatchReference, Header, ParentReference, Round, WireError};
+
+/// The signed header of these parts, which rise and are few enough. `AllocError` where a growth was refused.
+pub(crate) fn signed<S: Sign>(
+    alloc: Global,
+    signer: &S,
+    own: Author,
+    round: Round,
+    batches: &[BatchReference],
+    parents: &[ParentReference],
+) -> Result<Header, AllocError>
+    requires batches { batches_fault batches.now ≡ None }
+    requires parents { parents_fault parents.now ≡ None }
+    ensures { IfOk result (λ header. header ≡ signed_by (S.signature_of signer.now) (body_of own round batches.now parents.now)) }
+{
+    match header::make(alloc, signer, own, round, batches, parents) {
+        Ok(header) => Ok(header),
+        Err(WireError::Memory) => Err(AllocError),
+        Err(_) => unreachable!(),
+    }
+}

@@ -1,0 +1,38 @@
+//! The certificates that a header names.
+
+ghost use Rattle.std.specs.Prelude.{◌≡◌, IfOk, option_map};
+ghost use Rattle.model.specs.Proposing.{as_parent};
+ghost use Rattle.dag.specs.Graph.{slots_in};
+ghost use Rattle.proposal.specs.Tables.{parents_in};
+
+use dag::Dag;
+use std::alloc::{AllocError, Global};
+use wire::{Author, ParentReference, Round};
+
+// What a slot holds, as a header names it.
+fn parent(dag: &Dag, round: Round, author: Author) -> Option<ParentReference>
+    ensures { result ≡ option_map as_parent (slots_in dag.now round author.0) }
+{
+    // The certificate's author is that of its slot.
+    dag.limits_hold();
+    match dag.digest(round, author) {
+        Some(digest) => Some(ParentReference {
+            author,
+            certificate: *digest,
+        }),
+        None => None,
+    }
+}
+
+/// All certificates of a round by author, as a header names them. `AllocError` where a growth was refused.
+pub(crate) fn parents_of(
+    alloc: Global,
+    dag: &Dag,
+    round: Round,
+) -> Result<Vec<ParentReference>, AllocError>
+    ensures { IfOk result (λ parents. parents.items ≡ parents_in dag.now round) }
+{
+    (0..dag.committee().size())
+        .filter_map(|author| parent(dag, round, Author(author)))
+        .collect(alloc)
+}

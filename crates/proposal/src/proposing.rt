@@ -1,0 +1,82 @@
+//! What a validator proposes.
+
+ghost use Rattle.std.specs.Prelude.{◌≡◌, ◌-◌, IfOk};
+ghost use Rattle.model.specs.Nodes.{Node};
+ghost use Rattle.model.specs.States.{State};
+ghost use Rattle.machine.specs.Machine.{proposed};
+ghost use Rattle.proposal.specs.Tables.{AreAt, free_round as free_in, header_in_round};
+
+use crate::making::signed;
+use crate::parents::parents_of;
+use admission::nameable_agrees;
+use assemblies::Assemblies;
+use batchstore::BatchStore;
+use dag::Dag;
+use sequencer::Sequencer;
+use sigface::Sign;
+use std::alloc::{AllocError, Global};
+use wire::{Author, Header, Round};
+
+// The round of this number, if there is one and it has no own header.
+fn free_round(headers: &Assemblies, number: u64) -> Option<Round>
+    ensures { result ≡ free_in headers.now number }
+{
+    let Ok(round) = Round::new(number) else {
+        return None;
+    };
+    if headers.header(round).is_some() {
+        return None;
+    }
+    Some(round)
+}
+
+// The round below another one. The genesis has none, and gives itself.
+fn below(round: Round) -> Round
+    ensures { result ≡ round - 1 }
+{
+    match Round::new(round.number().saturating_sub(1)) {
+        Ok(below) => below,
+        Err(_) => unreachable!(),
+    }
+}
+
+// The header of a round.
+fn header_for<S: Sign>(
+    alloc: Global,
+    signer: &S,
+    own: Author,
+    batches: &BatchStore,
+    dag: &Dag,
+    round: Round,
+) -> Result<Header, AllocError>
+    ensures { IfOk result (λ header. header ≡ header_in_round (S.signature_of signer.now) own batches.now dag.now round) }
+{
+    let batches = batches.least_nameable(alloc)?;
+    let parents = parents_of(alloc, dag, below(round))?;
+    // The parents are members', and a header takes as many.
+    dag.limits_hold();
+    signed(alloc, signer, own, round, &batches, &parents)
+}
+
+/// The header that a validator proposes: over all certificates of the round below its own, with the least batches that may be
+/// named, up to a header's limit. None where the round has an own header, or is past the greatest round. `AllocError` where a
+/// growth was refused.
+pub fn propose<S: Sign>(
+    alloc: Global,
+    signer: &S,
+    own: Author,
+    batches: &BatchStore,
+    headers: &Assemblies,
+    sequencer: &Sequencer,
+) -> Result<Option<Header>, AllocError>
+    ensures { IfOk result (λ found. (node : Node) (state : State) → AreAt node state own (S.signature_of signer.now) batches.now headers.now sequencer.now → found ≡ proposed node state) }
+{
+    let Some(round) = free_round(headers, sequencer.round()) else {
+        return Ok(None);
+    };
+    // The store lists what the state may propose.
+    batches.limits_hold();
+    nameable_agrees();
+    let header = header_for(alloc, signer, own, batches, sequencer.dag(), round)?;
+    Ok(Some(header))
+}

@@ -1,0 +1,63 @@
+-- What a DAG says of a legal history, of which it holds the certificates from a round on.
+use Rattle.std.specs.Prelude.{◌≡◌, ◌≤◌, ◌*◌, ◌-◌, ◌++◌, ℕ, List, ◌∷◌, map, Option, None, Some, option_map}
+use Rattle.laws.specs.Laws.{HoldsFrom, last_or, committed_at}
+use Rattle.model.specs.Admitting.{IsLegal}
+use Rattle.model.specs.Histories.{History, coins}
+use Rattle.model.specs.Holdings.{floor, slots, ledger_at}
+use Rattle.model.specs.Nodes.{Node}
+use Rattle.model.specs.Ordering.{leader, top, newer, last_wave, segment}
+use Rattle.model.specs.Words.{Author, Certificate}
+use Rattle.dag.specs.Graph.{Graph, IsGraph, slots_in}
+use Rattle.tusk.specs.Chain.{ledger_in, slot_of, base_of, IsBased, IsChain, IsFrom}
+use Rattle.flatten.specs.Segments.{leader_held, AreLinked, IsMarkedPast, IsMarkedFor, IsMarkedBefore}
+use Rattle.flatten.specs.Sets.{HasAllOf}
+
+-- a DAG holds what a legal history holds from a round on, which is no higher than the floor of one that begins it; of that one
+-- this is the last committed wave, or there is none, and the DAG's base is the round of the wave's leader, or 1
+pub record HoldsHistory (node : Node) (before more : History) (low : ℕ) (graph : Graph) (last : Option ℕ) : Type 0 where
+  pub legal : IsLegal node (before ++ more)
+  pub graph_is : IsGraph graph
+  pub charter : graph.charter ≡ node.charter
+  pub low_enough : low ≤ floor node before
+  pub held : HoldsFrom low (slots_in graph) (slots node (before ++ more))
+  pub last_is : top (ledger_at node before) ≡ last
+  pub base : graph.base ≡ base_of last
+
+-- with the history's coins the DAG's leaders, its greatest committed wave and the newer leaders' slots are those of the history
+pub record ChainsAre (node : Node) (before later : History) (low : ℕ) (graph : Graph) (last : Option ℕ) : Type 0 where
+  pub based : IsBased graph (coins later)
+  pub from : IsFrom graph (coins later) last
+  pub same_leader : (wave : ℕ) → low ≤ 2 * wave - 1 → leader (ledger_in graph (coins later)) wave ≡ leader (ledger_at node later) wave
+  pub same_top : top (ledger_in graph (coins later)) ≡ top (ledger_at node later)
+  pub same_chain : (chain : List (ℕ × Author)) → IsChain (ledger_in graph (coins later)) last chain
+      → chain ≡ map slot_of (newer (ledger_at node later) (last_wave (ledger_at node before)))
+
+-- so it is where the DAG holds enough
+abbrev pub ChainsByHistory : Type 0
+ChainsByHistory = (node : Node) (before more : History) (low : ℕ) (graph : Graph) (last : Option ℕ) → HoldsHistory node before more low graph last
+    → ChainsAre node before (before ++ more) low graph last
+
+-- the last leader that is committed at a history
+abbrev pub last_leader_at : Node → History → Option Certificate
+last_leader_at node history = last_or None (committed_at node history)
+
+-- a leader is held and reaches all that the one before it does, what is marked lies in the history of that one, and what the leader
+-- orders behind it is what it orders at a history
+pub record OrdersAs (node : Node) (later : History) (graph : Graph) (previous : Option Certificate) (c : Certificate) : Type 0 where
+  pub held : slots_in graph c.header.round c.header.author.0 ≡ Some c
+  pub all : HasAllOf graph (leader_held graph (option_map slot_of previous)) c
+  pub marked : IsMarkedBefore graph (c.header.round - graph.charter.depth) (leader_held graph (option_map slot_of previous))
+  pub same_segment : (values : List ℕ) → segment (ledger_in graph values) (leader_held graph (option_map slot_of previous)) c ≡ segment (ledger_at node later) previous c
+
+-- the newer leaders follow one on the other behind the last one from before, of which the marks are, and each of them orders what
+-- it orders at the later history
+pub record OrdersAre (node : Node) (before later : History) (graph : Graph) : Type 0 where
+  pub linked : AreLinked graph (option_map slot_of (last_leader_at node before)) (map slot_of (newer (ledger_at node later) (last_wave (ledger_at node before))))
+  pub marked : IsMarkedFor graph (option_map slot_of (last_leader_at node before)) (map slot_of (newer (ledger_at node later) (last_wave (ledger_at node before))))
+  pub each : (front rest : List Certificate) (c : Certificate) → newer (ledger_at node later) (last_wave (ledger_at node before)) ≡ front ++ c ∷ rest
+      → OrdersAs node later graph (last_or (last_leader_at node before) front) c
+
+-- so it is where the DAG holds enough, and exactly what the last leader from before reaches is marked from the floor on
+abbrev pub OrdersByHistory : Type 0
+OrdersByHistory = (node : Node) (before more : History) (low : ℕ) (graph : Graph) (last : Option ℕ) → HoldsHistory node before more low graph last
+    → IsMarkedPast graph (floor node before) (last_leader_at node before) → OrdersAre node before (before ++ more) graph

@@ -1,0 +1,8 @@
+mod Beside
+mod Deciding
+mod Closing
+mod Committing
+mod Answering
+mod Voting
+mod Heading
+mod Readying

@@ -1,0 +1,51 @@
+//! Batches and acknowledgements.
+
+ghost use Rattle.std.specs.Prelude.{◌≡◌, true, false};
+ghost use Rattle.wire.specs.declared.message.Message.TheVariants as message;
+ghost use Rattle.batchstore.specs.Stock.{digest_of};
+ghost use Rattle.admission.specs.Answers.{is_new_step};
+ghost use Rattle.tables.specs.Standing.{MeetSome, Answers, Refuses, GoOn};
+
+use crate::facts::others_stay;
+use crate::tables::Tables;
+use admission::{Refusal, Step};
+use std::alloc::Global;
+use wire::{Batch, BatchAck, Digest};
+
+impl<'a> Tables<'a> {
+    /// Takes a batch of this digest.
+    ///
+    /// # Errors
+    /// What admission answers, or `Memory` where a growth was refused. They change nothing.
+    pub fn take_batch(
+        &mut self,
+        alloc: Global,
+        digest: &Digest,
+        batch: Batch,
+    ) -> Result<Step, Refusal>
+        requires meets { MeetSome self.old (message.Batch batch) }
+        requires digested { digest.now ≡ digest_of batch }
+        ensures answer { Answers self.old (message.Batch batch) result }
+        ensures refused { Refuses self.old (message.Batch batch) result }
+        ensures at { is_new_step result ≡ true → GoOn self.old self.new (message.Batch batch) }
+        ensures same { is_new_step result ≡ false → self.new ≡ self.old }
+    {
+        others_stay();
+        admission::take_batch(alloc, self.own, &mut self.batches, digest, batch)
+    }
+
+    /// Takes an acknowledgement.
+    ///
+    /// # Errors
+    /// What admission answers, or `Memory` where a growth was refused. They change nothing.
+    pub fn take_ack(&mut self, alloc: Global, ack: &BatchAck) -> Result<Step, Refusal>
+        requires meets { MeetSome self.old (message.BatchAck ack.now) }
+        ensures answer { Answers self.old (message.BatchAck ack.now) result }
+        ensures refused { Refuses self.old (message.BatchAck ack.now) result }
+        ensures at { is_new_step result ≡ true → GoOn self.old self.new (message.BatchAck ack.now) }
+        ensures same { is_new_step result ≡ false → self.new ≡ self.old }
+    {
+        others_stay();
+        admission::take_ack(alloc, &mut self.batches, ack)
+    }
+}

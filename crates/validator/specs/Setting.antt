@@ -1,0 +1,20 @@
+-- What a validator is set up with, as a node.
+use Rattle.committee.specs.Charter.{Charter}
+use Rattle.model.specs.Nodes.{Node}
+use Rattle.model.specs.Words.{Author, Digest, Signature}
+use Rattle.wire.specs.declared.keys.Key.{Key}
+
+-- a member's number, its committee and its signer
+pub record Setting (S : Type 0) : Type 0 where
+  pub own : Author
+  pub charter : Charter
+  pub signer : S
+
+-- the node of it, with the signer's key and the signatures that it gives
+abbrev pub node_of : {S : Type 0} → (S → Key) → (S → Digest → Signature) → Setting S → Node
+node_of own_key signature_of setting = record {
+  own = setting.own;
+  charter = setting.charter;
+  key = own_key setting.signer;
+  sign = signature_of setting.signer;
+}

@@ -1,0 +1,58 @@
+-- When a validator stands at a state.
+use Rattle.std.specs.Prelude.{◌≡◌, ◌++◌, ◌∷◌, [], IsTrue, Result}
+use Rattle.model.specs.Admitting.{is_new, header_outputs, IsTaken, IsLegal}
+use Rattle.model.specs.Giving.{kept}
+use Rattle.model.specs.Histories.{History}
+use Rattle.model.specs.Holdings.{order}
+use Rattle.model.specs.Nodes.{Node}
+use Rattle.model.specs.States.{State}
+use Rattle.model.specs.Words.{Digest, Event, Header, Signature}
+use Rattle.model.specs.declared.admission.Admission.TheVariants.{New}
+use Rattle.model.specs.declared.refusal.Refusal.{Refusal}
+use Rattle.laws.specs.Laws.{Begins, own_event}
+use Rattle.machine.specs.Machine.{answered, after}
+use Rattle.machine.specs.Sound.{IsSound}
+use Rattle.admission.specs.Answers.{IsAnswer, RefusesAs}
+use Rattle.admission.specs.declared.step.Step.{Step}
+use Rattle.tables.specs.Standing.{AreAt, Meets}
+use Rattle.tables.specs.declared.tables.Tables.{Tables}
+use Rattle.validator.specs.Setting.{Setting}
+
+-- a validator: what it is set up with, and its tables
+pub record Standing (S : Type 0) : Type 0 where
+  pub setting : Setting S
+  pub tables : Tables
+
+-- tables stand at a node's state: it is a sound one, and they are exactly it
+pub record AreAtSound (node : Node) (tables : Tables) (state : State) : Type 0 where
+  pub sound : IsSound node state
+  pub at : AreAt node state tables
+
+-- there is such a state
+abbrev pub StandSomewhere : Node → Tables → Type 0
+StandSomewhere node tables = (state : State) × AreAtSound node tables state
+
+-- behind a new event: the longer history is legal, tables stand at what is kept of it, and its order begins with that from before
+pub record GoesOn (node : Node) (history : History) (event : Event) (later : Tables) : Type 0 where
+  pub legal : IsLegal node (history ++ event ∷ [])
+  pub at : AreAtSound node later (kept node (history ++ event ∷ []))
+  pub order : Begins (order node history) (order node (history ++ event ∷ []))
+
+-- a header is taken as the node's own, and new
+pub record IsNewThere (node : Node) (state : State) (header : Header) : Type 0 where
+  pub taken : IsTaken node (own_event node header)
+  pub new : answered node state (own_event node header) ≡ New (header_outputs node header)
+
+-- ---- what comes of an event, at each state of a node with these signatures that the tables have all of
+
+abbrev pub AnswersEvent : Tables → (Digest → Signature) → Event → Result Step Refusal → Type 0
+AnswersEvent tables sign event result = (node : Node) (state : State) → Meets node state event tables event.message → node.sign ≡ sign
+    → IsAnswer (answered node state event) result
+
+abbrev pub RefusesEvent : Tables → (Digest → Signature) → Event → Result Step Refusal → Type 0
+RefusesEvent tables sign event result = (node : Node) (state : State) → Meets node state event tables event.message → node.sign ≡ sign
+    → RefusesAs (answered node state event) result
+
+abbrev pub GoOnBehind : Tables → Tables → (Digest → Signature) → Event → Type 0
+GoOnBehind before later sign event = (node : Node) (state : State) → Meets node state event before event.message → node.sign ≡ sign
+    → IsTrue (is_new (answered node state event)) → AreAt node (after node state event) later

@@ -1,0 +1,79 @@
+//! What a validator is set up with.
+
+ghost use Rattle.std.specs.Prelude.{◌≡◌, IfSome, IsNone, ◌↔◌, ◌<◌, Some, slice_get, length};
+ghost use Rattle.model.specs.Nodes.{IsNode};
+ghost use Rattle.validator.specs.Setting.{node_of};
+
+use committee::Committee;
+use model::Node;
+use sigface::Sign;
+use std::marker::Model;
+use wire::Author;
+
+/// A member of a committee with its signer. Contracts see all three.
+#[derive(Drop)]
+pub struct Config<S: Sign> {
+    node: Node<S>,
+}
+
+impl<S: Sign> Model for Config<S> {
+    ghost use Rattle.model.specs.Nodes.{IsNode};
+    ghost use Rattle.validator.specs.Setting.{Setting, node_of};
+
+    ghost Value = { Setting S };
+
+    ghost view = { λ c. record { own = c.node.own; charter = c.node.committee; signer = c.node.signer } };
+
+    ghost invariant = { λ c. IsNode (node_of S.own_key S.signature_of (record { own = c.node.own; charter = c.node.committee; signer = c.node.signer })) };
+}
+
+impl<S: Sign> Config<S> {
+    /// That of the member of this number. None where it is no member, or the signer's key isn't its key.
+    pub fn new(committee: Committee, own: Author, signer: S) -> Option<Config<S>>
+    where
+        S: Drop,
+        ensures some { IfSome result (λ config. config ≡ record { own = own; charter = committee; signer = signer }) }
+        ensures none { IsNone result → slice_get committee.keys own.0 ≡ Some (S.own_key signer) → ⊥ }
+    {
+        committee.limits_hold();
+        let key = signer.key();
+        if committee.key(own) != Some(&key) {
+            return None;
+        }
+        Some(Config {
+            node: Node {
+                own,
+                committee,
+                signer,
+            },
+        })
+    }
+
+    /// The committee.
+    pub fn committee(&self) -> &Committee
+        ensures { result.now ≡ self.now.charter }
+    {
+        &self.node.committee
+    }
+
+    /// The member's number.
+    pub fn own(&self) -> Author
+        ensures { result ≡ self.now.own }
+    {
+        self.node.own
+    }
+
+    /// The signer.
+    pub fn signer(&self) -> &S
+        ensures { result.now ≡ self.now.signer }
+    {
+        &self.node.signer
+    }
+
+    /// What holds of each: it is a member of its committee with its signer's key. The call does nothing.
+    pub fn limits_hold(&self)
+        ensures { IsNode (node_of S.own_key S.signature_of self.now) }
+    {
+        let _ = &self.node;
+    }
+}

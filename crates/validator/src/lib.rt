@@ -1,0 +1,11 @@
+//! The validator: what it answers each event, and what it keeps.
+#![tactic(auto)]
+
+mod config;
+mod ready;
+mod taking;
+mod validator;
+
+pub use admission::{Refusal, Step};
+pub use config::Config;
+pub use validator::Validator;

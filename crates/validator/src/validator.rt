@@ -1,0 +1,177 @@
+//! The validator.
+
+ghost use Rattle.std.specs.Prelude.{◌≡◌, ◌+◌, ◌≤◌, true, false, None, IfOk, IfSome};
+ghost use Rattle.header.specs.Checks.{fault_of, accepts_all};
+ghost use Rattle.model.specs.Admitting.{admit, IsLegal};
+ghost use Rattle.model.specs.Giving.{kept};
+ghost use Rattle.model.specs.Histories.{History};
+ghost use Rattle.model.specs.Holdings.{order as order_of};
+ghost use Rattle.model.specs.States.{State, floor_in};
+ghost use Rattle.machine.specs.Machine.{answered, after, fresh, is_ready, proposed, round_in};
+ghost use Rattle.admission.specs.Answers.{IsAnswer, RefusesAs, is_new_step};
+ghost use Rattle.validator.specs.Setting.{node_of};
+ghost use Rattle.validator.specs.Standing.{AreAtSound, GoesOn, IsNewThere};
+ghost use Rattle.wire.specs.declared.round.TheConstants.Round.{MAX};
+
+use crate::config::Config;
+use crate::ready::is_ready;
+use crate::taking::take;
+use admission::{Refusal, Step};
+use committee::Committee;
+use header::Checked;
+use sigface::Sign;
+use std::alloc::{AllocError, Global};
+use std::marker::Model;
+use tables::Tables;
+use wire::{Author, Digest, Header, Round};
+
+/// A validator without a disk. It answers events, keeps what it has to, and orders. Contracts see its configuration and
+/// its tables, which are always those of a sound state.
+#[derive(Drop)]
+pub struct Validator<'a, S: Sign> {
+    alloc: Global,
+    config: &'a Config<S>,
+    tables: Tables<'a>,
+}
+
+impl<'a, S: Sign> Model for Validator<'a, S> {
+    ghost use Rattle.validator.specs.Setting.{node_of};
+    ghost use Rattle.validator.specs.Standing.{Standing, StandSomewhere};
+    ghost use Rattle.std.specs.Coded.{codes};
+    ghost use Rattle.votebook.specs.contracts.book.VoteBook as votes;
+
+    ghost Value = { Standing S };
+
+    ghost coded = { Prim.hlevel (codes, S.code, votes.the_row.coded) };
+
+    ghost view = { λ v. record { setting = v.config.now; tables = v.tables } };
+
+    ghost invariant = { λ v. StandSomewhere (node_of S.own_key S.signature_of v.config.now) v.tables };
+}
+
+impl<'a, S: Sign> Validator<'a, S> {
+    /// One that has taken nothing: it holds the genesis. `AllocError` where a growth was refused.
+    pub fn new(alloc: Global, config: &'a Config<S>) -> Result<Validator<'a, S>, AllocError>
+        ensures setting { IfOk result (λ made. made.setting ≡ config.now) }
+        ensures at { IfOk result (λ made. AreAtSound (node_of S.own_key S.signature_of config.now) made.tables (fresh (node_of S.own_key S.signature_of config.now))) }
+    {
+        machine::fresh_is_sound();
+        config.limits_hold();
+        let tables = Tables::new(alloc, config.committee(), config.own())?;
+        Ok(Validator {
+            alloc,
+            config,
+            tables,
+        })
+    }
+
+    /// The committee.
+    pub fn committee(&self) -> &Committee
+        ensures { result.now ≡ self.now.setting.charter }
+    {
+        self.config.committee()
+    }
+
+    /// Takes an event that passed the checks of its committee, and tells what comes of it. A known event changes nothing.
+    ///
+    /// # Errors
+    /// The refusal of admission, or `Memory` where a growth was refused. They change nothing.
+    pub fn step(&mut self, event: Checked) -> Result<Step, Refusal>
+        requires passed { fault_of self.old.setting.charter accepts_all event ≡ None }
+        ensures answer { (state : State) → AreAtSound (node_of S.own_key S.signature_of self.old.setting) self.old.tables state
+            → IsAnswer (answered (node_of S.own_key S.signature_of self.old.setting) state event) result }
+        ensures refused { (state : State) → AreAtSound (node_of S.own_key S.signature_of self.old.setting) self.old.tables state
+            → RefusesAs (answered (node_of S.own_key S.signature_of self.old.setting) state event) result }
+        ensures at { is_new_step result ≡ true → (state : State) → AreAtSound (node_of S.own_key S.signature_of self.old.setting) self.old.tables state
+            → AreAtSound (node_of S.own_key S.signature_of self.old.setting) self.new.tables (after (node_of S.own_key S.signature_of self.old.setting) state event) }
+        ensures same { is_new_step result ≡ false → self.new ≡ self.old }
+        ensures setting { self.new.setting ≡ self.old.setting }
+        // Said of a legal history: where the tables are what is kept of it, the answer is that of admission, and behind a new
+        // event they are what is kept of the longer one, whose order begins with that from before.
+        ensures admits { (history : History) → IsLegal (node_of S.own_key S.signature_of self.old.setting) history
+            → AreAtSound (node_of S.own_key S.signature_of self.old.setting) self.old.tables (kept (node_of S.own_key S.signature_of self.old.setting) history)
+            → IsAnswer (admit (node_of S.own_key S.signature_of self.old.setting) history event) result }
+        ensures longer { is_new_step result ≡ true → (history : History) → IsLegal (node_of S.own_key S.signature_of self.old.setting) history
+            → AreAtSound (node_of S.own_key S.signature_of self.old.setting) self.old.tables (kept (node_of S.own_key S.signature_of self.old.setting) history)
+            → GoesOn (node_of S.own_key S.signature_of self.old.setting) history event self.new.tables }
+    {
+        machine::sound_stays();
+        machine::state_answers();
+        machine::state_follows();
+        laws::order_grows();
+        self.config.limits_hold();
+        event.message().limits_hold();
+        take(&mut self.tables, self.alloc, self.config.signer(), event)
+    }
+
+    /// The order: the digests of the certificates that are ordered.
+    pub fn order(&self) -> &[Digest]
+        ensures at { (state : State) → AreAtSound (node_of S.own_key S.signature_of self.now.setting) self.now.tables state → result.now ≡ state.order }
+        ensures scratch { (history : History)
+            → AreAtSound (node_of S.own_key S.signature_of self.now.setting) self.now.tables (kept (node_of S.own_key S.signature_of self.now.setting) history)
+            → result.now ≡ order_of (node_of S.own_key S.signature_of self.now.setting) history }
+    {
+        self.tables.sequencer().order()
+    }
+
+    /// The validator's round, up to `Round::MAX + 1`: 1 plus the greatest round of which a quorum of authors has certificates.
+    pub fn round(&self) -> u64
+        ensures at { (state : State) → AreAtSound (node_of S.own_key S.signature_of self.now.setting) self.now.tables state
+            → result ≡ round_in (node_of S.own_key S.signature_of self.now.setting) state }
+        ensures limit { result ≤ MAX + 1 }
+    {
+        self.tables.sequencer().round()
+    }
+
+    /// The floor: nothing of a lower round is held, and no header, vote or certificate of a round up to it is taken, if it is
+    /// above 0.
+    pub fn floor(&self) -> Round
+        ensures { (state : State) → AreAtSound (node_of S.own_key S.signature_of self.now.setting) self.now.tables state
+            → result ≡ floor_in (node_of S.own_key S.signature_of self.now.setting) state }
+    {
+        self.tables.floor()
+    }
+
+    /// The digest of the header that has the vote of an author and round; an own header has the own one. None for low rounds.
+    pub fn voted(&self, author: Author, round: Round) -> Option<Digest>
+        ensures { (state : State) → AreAtSound (node_of S.own_key S.signature_of self.now.setting) self.now.tables state
+            → result ≡ state.votes round author.0 }
+    {
+        assemblies::votes_agree();
+        self.tables.voted(author, round)
+    }
+
+    /// Whether an event that passed the checks is ready: its answer isn't that a parent is missing.
+    pub fn ready(&self, event: &Checked) -> bool
+        requires passed { fault_of self.now.setting.charter accepts_all event.now ≡ None }
+        ensures { (state : State) → AreAtSound (node_of S.own_key S.signature_of self.now.setting) self.now.tables state
+            → result ≡ is_ready (node_of S.own_key S.signature_of self.now.setting) state event.now }
+    {
+        self.config.limits_hold();
+        event.message().limits_hold();
+        is_ready(&self.tables, event)
+    }
+
+    /// The header that the validator proposes: over all certificates of the round below its own, with the at most
+    /// `MAX_BATCHES` least digests of available own batches that no own header has named. None where its round has an own
+    /// header, or is past `Round::MAX`. `AllocError` where a growth was refused.
+    pub fn propose(&self) -> Result<Option<Header>, AllocError>
+        ensures at { IfOk result (λ found. (state : State) → AreAtSound (node_of S.own_key S.signature_of self.now.setting) self.now.tables state
+            → found ≡ proposed (node_of S.own_key S.signature_of self.now.setting) state) }
+        // Taken back as an event, it is new.
+        ensures new { IfOk result (λ found. (state : State) → AreAtSound (node_of S.own_key S.signature_of self.now.setting) self.now.tables state
+            → IfSome found (IsNewThere (node_of S.own_key S.signature_of self.now.setting) state)) }
+    {
+        self.config.limits_hold();
+        machine::sound_proposes();
+        let tables = &self.tables;
+        proposal::propose(
+            self.alloc,
+            self.config.signer(),
+            self.config.own(),
+            tables.batches(),
+            tables.headers(),
+            tables.sequencer(),
+        )
+    }
+}
