@@ -131,6 +131,14 @@ def late_supporter():
     played.case('a late supporter commits a leader')
 
 
+def at_once():
+    """Three of four members over the same three; the coin commits the leader that all support."""
+    played = Played(50, EQUAL)
+    rows(played, [1, 2, 3], [0, 1, 2], [0, 1, 2])
+    played.coin(1)
+    played.case('a coin commits a leader that all support')
+
+
 def reached_leader():
     played = Played(50, EQUAL)
     one_supporter(played, [1, 2, 3])
@@ -242,6 +250,7 @@ def drawn(start, depth, stakes, events):
     played.case('%d random certificates and coins, %s, stakes %s, start value %d' % (events, words, ' '.join(map(str, stakes)), start))
 
 
+at_once()
 late_supporter()
 reached_leader()
 skipped_leader()
