@@ -2,11 +2,15 @@
 """Draws histories of one node's events and writes them as cases for the tests of the definitions.
 
     tools/histories.py START DEPTH EVENTS [STAKES] > CASES
+    tools/histories.py --play=BESIDE START DEPTH EVENTS [STAKES] > CASES
 
 START is the value that all is drawn from, DEPTH the committee's depth, EVENTS how many new events a history has.
 STAKES, as 3,1,1,1, has a stake for each member; without it there are four members with the stake 1. Member 0 is the
 node. Each event stands with the answer and the outputs that the rules of docs/FORMATS.md give, as this program computes
-them: it shares nothing with the code of the repository. See docs/FORMATS.md for the language.
+them: it shares nothing with the code of the repository. See docs/FORMATS.md for the language. With --play the events stand
+alone, and behind them how often each answer comes and what there is at the end: that is for the tests of the validator.
+There each 50 events end with a line `sum N`, a running sum over all that was answered and put out, and over what is held
+and proposed behind each event. BESIDE is how many of the events are compared with the plain program too.
 """
 import hashlib
 import random
@@ -14,6 +18,9 @@ import sys
 
 OWN, EQUAL_STAKES = 0, [1, 1, 1, 1]
 MAX_PIECE, MAX_NAMED = 16000, 128
+
+# Between two lines with the running sum there are so many events.
+BETWEEN_SUMS = 50
 
 
 def sha(letter, text):
@@ -88,7 +95,7 @@ class Node:
         self.certificates = {(0, a): Header('g%d' % a, a, 0, [], []) for a in committee.members}
         self.voters = {}
         self.coins = []
-        self.events = 0
+        self.events, self.ordered = 0, 0
 
     # ---- the order
 
@@ -193,6 +200,7 @@ class Node:
         after = self.order()
         assert after[:len(before)] == before, 'an order was taken back'
         added, lines = after[len(before):], []
+        self.ordered = len(after)
         for place in range(0, len(added), MAX_PIECE):
             piece = added[place:place + MAX_PIECE]
             lines.append('order %d %s' % (len(before) + place, ' '.join(c.label for c in piece)))
@@ -293,6 +301,21 @@ class Node:
         return self.new(self.grown(before))
 
 
+class Sum:
+    """A running sum over bytes, FNV-1a of 64 bits."""
+
+    def __init__(self):
+        self.value = 14695981039346656037
+
+    def add(self, text):
+        for byte in text:
+            self.value = (self.value ^ byte) * 1099511628211 % 2 ** 64
+
+    def add_digest(self, digest):
+        """A digest, or that there is none."""
+        self.add(b'\0' if digest is None else b'\1' + digest)
+
+
 class Drawn:
     """A history as it is drawn, and the lines of its case."""
 
@@ -302,6 +325,7 @@ class Drawn:
         self.node, self.lines, self.seen = Node(depth, committee), [], {}
         self.all_headers, self.all_batches = [], []
         self.limit = 1048576
+        self.sum, self.given, self.pieces, self.proposals = Sum(), 0, 0, 0
 
     def one_in(self, count):
         return self.random.randrange(count) == 0
@@ -339,6 +363,54 @@ class Drawn:
         self.lines += ['> out ' + output for output in outputs]
         key = word if word.startswith('refused') else word.split()[0]
         self.seen[key] = self.seen.get(key, 0) + 1
+        self.sum_up(word, outputs)
+
+    # ---- the running sum
+
+    def sum_up(self, word, outputs):
+        """Adds what an event is answered, and what there is behind it."""
+        self.given += 1
+        self.sum.add(bytes([word != 'refused 4 MissingParents']))
+        kinds = {'new': b'\0', 'known': b'\1', 'refused': b'\2'}
+        self.sum.add(kinds[word.split()[0]])
+        if word.startswith('refused'):
+            self.sum.add(bytes([int(word.split()[1])]))
+        for output in outputs:
+            self.sum_output(*output.split())
+        self.sum_state()
+        if self.given % BETWEEN_SUMS == 0:
+            self.lines.append('sum %d' % self.sum.value)
+
+    def sum_output(self, kind, first, *rest):
+        self.sum.add(kind.encode())
+        if kind in ('batch', 'ack'):
+            self.sum.add(self.labelled(first).digest)
+        elif kind in ('header', 'vote'):
+            self.sum.add(self.labelled(first).digest)
+        elif kind == 'certificate':
+            self.sum.add(self.labelled(first).certificate + b''.join(u16(int(voter)) for voter in rest[0].split(',')))
+        else:
+            self.pieces += 1
+            self.sum.add(u64(int(first)) + b''.join(self.labelled(label).certificate for label in rest))
+
+    def labelled(self, label):
+        """The header or batch of a label: they are numbered in the order in which they came."""
+        return (self.all_batches if label[0] == 'b' else self.all_headers)[int(label[1:])]
+
+    def sum_state(self):
+        """Adds the round, the floor, how much is ordered, the votes near the floor and the round, and the proposal."""
+        node = self.node
+        round_, floor = node.round(), node.floor()
+        self.sum.add(u64(round_) + u64(floor) + u64(node.ordered))
+        for near in [*range(floor, floor + 3), round_ - 1, round_, round_ + 1]:
+            for author in self.committee.members:
+                held = None if node.is_low(near) else node.headers.get((near, author))
+                self.sum.add_digest(held and held.digest)
+        proposal = node.propose()
+        if proposal:
+            self.proposals += 1
+            proposal = Header('-', OWN, *proposal)
+        self.sum.add_digest(proposal and proposal.digest)
 
     # ---- forms
 
@@ -533,9 +605,37 @@ def history(start, depth, events, committee):
     return drawn
 
 
+def tell_all(drawn, depth, words):
+    """The case of the definitions: each event with what it is answered."""
+    print('set depth %d' % depth)
+    for word in words:
+        print('stakes ' + word)
+    print('tell outputs')
+    print('\n'.join(line for line in drawn.lines if not line.startswith('sum ')))
+
+
+def tell_play(drawn, depth, words, beside):
+    """The case of the validator: the events, and then what they come to."""
+    looks, node = {'floor', 'round', 'propose', 'flush', 'order'}, drawn.node
+    print('depth %d' % depth)
+    for word in words:
+        print('stakes ' + word)
+    print('\n'.join(line for line in drawn.lines if not line.startswith('>') and line not in looks))
+    print('play %d' % beside)
+    print('> new %d, known %d' % (drawn.seen.get('new', 0), drawn.seen.get('known', 0)))
+    refused = sorted((int(word.split()[1]), count) for word, count in drawn.seen.items() if word.startswith('refused'))
+    for number, count in refused:
+        print('> refused %d: %d' % (number, count))
+    print('> pieces of the order %d, proposals %d' % (drawn.pieces, drawn.proposals))
+    print('> round %d, floor %d, ordered %d' % (node.round(), node.floor(), len(node.order())))
+    print('> beside the plain program %d' % min(beside, drawn.given))
+
+
 def main():
-    start, depth, events = map(int, sys.argv[1:4])
-    words = sys.argv[4:5]
+    plays = sys.argv[1].startswith('--play=')
+    arguments = sys.argv[2:] if plays else sys.argv[1:]
+    start, depth, events = map(int, arguments[:3])
+    words = arguments[3:4]
     stakes = [int(stake) for word in words for stake in word.split(',')] or EQUAL_STAKES
     drawn = history(start, depth, events, Committee(stakes))
     node = drawn.node
@@ -546,11 +646,10 @@ def main():
           % (node.round(), node.floor(), node.top() or 0, len(node.chain()), len(node.order())))
     for word in sorted(drawn.seen):
         print('# %s: %d' % (word, drawn.seen[word]))
-    print('set depth %d' % depth)
-    for word in words:
-        print('stakes ' + word)
-    print('tell outputs')
-    print('\n'.join(drawn.lines))
+    if plays:
+        tell_play(drawn, depth, words, int(sys.argv[1].removeprefix('--play=')))
+    else:
+        tell_all(drawn, depth, words)
 
 
 if __name__ == '__main__':

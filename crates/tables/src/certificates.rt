@@ -1,6 +1,6 @@
 //! Certificates.
 
-ghost use Rattle.std.specs.Prelude.{◌≡◌, ◌<◌, ◌++◌, true, false, length, Ok, Some, IfOk, OnOk, OnErr};
+ghost use Rattle.std.specs.Prelude.{◌≡◌, ◌++◌, true, false, Some, IfOk, OnOk, OnErr};
 ghost use Rattle.wire.specs.declared.message.Message.TheVariants as message;
 ghost use Rattle.model.specs.Admitting.{order_outputs};
 ghost use Rattle.model.specs.Nodes.{Node};
@@ -8,8 +8,6 @@ ghost use Rattle.model.specs.Slots.{certificate_digest};
 ghost use Rattle.model.specs.States.{State};
 ghost use Rattle.model.specs.Words.{Event};
 ghost use Rattle.machine.specs.Machine.{certificate_of, grown, after};
-ghost use Rattle.dag.specs.Answer.{answer};
-ghost use Rattle.dag.specs.declared.answers.Added.TheVariants as added;
 ghost use Rattle.sequencer.specs.Laws.{IsNewTo};
 ghost use Rattle.sequencer.specs.Sequence.{ComesTo, IsAt};
 ghost use Rattle.admission.specs.Answers.{is_new_step};

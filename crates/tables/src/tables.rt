@@ -1,15 +1,12 @@
 //! The tables.
 
-ghost use Rattle.std.specs.Prelude.{◌≡◌, ◌<◌, ◌≤◌, length, IfOk};
+ghost use Rattle.std.specs.Prelude.{◌≡◌, ◌<◌, length, IfOk};
 ghost use Rattle.model.specs.Nodes.{Node};
-ghost use Rattle.model.specs.States.{State, floor_in};
-ghost use Rattle.machine.specs.Machine.{fresh, round_in};
-ghost use Rattle.machine.specs.Sound.{IsSound};
+ghost use Rattle.machine.specs.Machine.{fresh};
 ghost use Rattle.votebook.specs.Votes.{ForgetsTo};
 ghost use Rattle.assemblies.specs.Headers.{IsForgotten};
 ghost use Rattle.tables.specs.Standing.{AreAt};
 ghost use Rattle.tables.specs.Decisions.{voted_by};
-ghost use Rattle.wire.specs.declared.round.TheConstants.Round.{MAX};
 
 use assemblies::Assemblies;
 use batchstore::BatchStore;

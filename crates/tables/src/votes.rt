@@ -1,6 +1,6 @@
 //! Votes on own headers.
 
-ghost use Rattle.std.specs.Prelude.{◌≡◌, ◌∷◌, [], true, false, IfOk, OnOk, OnErr};
+ghost use Rattle.std.specs.Prelude.{◌≡◌, true, false, IfOk, OnOk, OnErr};
 ghost use Rattle.wire.specs.declared.message.Message.TheVariants as message;
 ghost use Rattle.dag.specs.Graph.{slots_in};
 ghost use Rattle.assemblies.specs.Headers.{answer_in};

@@ -1,6 +1,6 @@
 //! What a validator is set up with.
 
-ghost use Rattle.std.specs.Prelude.{◌≡◌, IfSome, IsNone, ◌↔◌, ◌<◌, Some, slice_get, length};
+ghost use Rattle.std.specs.Prelude.{◌≡◌, IfSome, IsNone, Some, slice_get};
 ghost use Rattle.model.specs.Nodes.{IsNode};
 ghost use Rattle.validator.specs.Setting.{node_of};
 
