@@ -1,12 +1,14 @@
 -- What a state that a store has the batches of answers, by what the store has.
-use Rattle.std.proofs.Common.{◌≡◌, ℕ, Bool, true, false, List, [], length, Option, Some, None, inl, inr, ap, sym, subst, arith, ◌∙◌}
+use Rattle.std.proofs.Common.{◌≡◌, ℕ, Bool, true, false, List, [], length, Option, Some, None, inl, inr, refl, ap, sym, subst, arith, ◌∙◌}
 use Rattle.std.proofs.Math.Path.{fun_ext}
 use Rattle.std.specs.Prelude.{◌==◌, ◌&&◌, ◌||◌, not, nat_le, option_map, if◌then◌else◌}
 use Rattle.std.specs.List.{list_all, list_any}
 use Rattle.std.specs.Option.{option_map_or}
+use Rattle.std.specs.Str.{bytes_eq}
 use Rattle.std.proofs.lemmas.Bool.{and_parts, true≢false}
 use Rattle.std.proofs.lemmas.Grind.{common_steps}
 use Rattle.std.proofs.lemmas.List.{length-map}
+use Rattle.wire.specs.Batches.{batch_body}
 use Rattle.model.specs.Admitting.{when◌gives◌else◌, is_new, is_own, batch_outputs, held_batch_answer, batch_answer, ack_answer, may_name, header_answer}
 use Rattle.model.specs.Nodes.{Node}
 use Rattle.model.specs.Slots.{same_digest}
@@ -14,7 +16,7 @@ use Rattle.model.specs.States as states
 use Rattle.model.specs.States.{State, has_own_batch}
 use Rattle.model.specs.Words.{Author, BatchAck, BatchReference, Contents, Digest, Event, Header, Message}
 use Rattle.model.specs.declared.admission.Admission.TheVariants.{New, Known, Refused}
-use Rattle.model.specs.declared.refusal.Refusal.TheVariants.{NotOurs, StoreFull}
+use Rattle.model.specs.declared.refusal.Refusal.TheVariants.{NotOurs, StoreFull, DigestClash}
 use Rattle.model.specs.declared.refusal.Refusal.{Refusal}
 use Rattle.std.proofs.lemmas.Option.{same_Some, none-some}
 use Rattle.laws.proofs.Lists.{given_or_none}
@@ -96,6 +98,37 @@ ack_ours node state stock ack has own =
 pub not_refused : (known : Bool) (refusal : Refusal) → (if known then Known [] else New []) ≡ Refused refusal → ⊥
 not_refused true refusal is = cc
 not_refused false refusal is = cc
+
+-- ---- what is new
+
+held_not_new : (node : Node) (held batch : Contents) → is_new (held_batch_answer node held batch) ≡ false
+held_not_new node held batch = same_not_new (bytes_eq (batch_body held) (batch_body batch))
+  where
+    same_not_new : (same : Bool) → is_new (if same then Known (batch_outputs node held) else Refused DigestClash) ≡ false
+    same_not_new true = refl
+    same_not_new false = refl
+
+pub held_is_known : (node : Node) (state : State) (stock : Stock) (batch held : Contents) → HasBatches node state stock → Some held ≡ batch_in stock (digest_of batch)
+    → is_new (batch_answer node state batch) ≡ false
+held_is_known node state stock batch held has is = ap is_new (answer_held node state stock batch held has (sym is)) ∙ held_not_new node held batch
+
+pub new_if_room : (node : Node) (state : State) (stock : Stock) (batch : Contents) → HasBatches node state stock → None ≡ batch_in stock (digest_of batch)
+    → is_new (batch_answer node state batch) ≡ not (is_full stock)
+new_if_room node state stock batch has is =
+    ap is_new (answer_free node state stock batch has (none_under stock (digest_of batch) is)) ∙ in_room (is_full stock)
+  where
+    in_room : (full : Bool) → is_new (if full then Refused StoreFull else New (batch_outputs node batch)) ≡ not full
+    in_room true = refl
+    in_room false = refl
+
+pub new_if_uncounted : (node : Node) (state : State) (stock : Stock) (ack : BatchAck) → HasBatches node state stock
+    → is_new (ack_answer node state ack) ≡ (has_own stock ack.batch && not (holds stock ack.batch ack.author.0))
+new_if_uncounted node state stock ack has = ap is_new (answer_ack node state stock ack has) ∙ uncounted (has_own stock ack.batch) (holds stock ack.batch ack.author.0)
+  where
+    uncounted : (own counted : Bool) → is_new (if not own then Refused NotOurs else if counted then Known [] else New []) ≡ (own && not counted)
+    uncounted false counted = refl
+    uncounted true true = refl
+    uncounted true false = refl
 
 -- ---- headers
 

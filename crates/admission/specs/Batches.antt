@@ -39,6 +39,11 @@ abbrev pub RefusesFrom : Stock → Message → Result Step Refusal → Type 0
 RefusesFrom stock came result = (node : Node) (state : State) (event : Event) → event.message ≡ came → HasBatches node state stock
     → RefusesAs (answered node state event) result
 
+-- this is whether such a state finds the event new
+abbrev pub IsNewFrom : Stock → Message → Bool → Type 0
+IsNewFrom stock came result = (node : Node) (state : State) (event : Event) → event.message ≡ came → HasBatches node state stock
+    → result ≡ is_new (answered node state event)
+
 -- the later store has the batches of the state behind an event with the message, where the earlier one had those of the state
 abbrev pub GoesOn : Stock → Stock → Message → Type 0
 GoesOn before later came = (node : Node) (state : State) (event : Event) → event.message ≡ came → HasBatches node state before

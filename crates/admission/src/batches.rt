@@ -4,12 +4,13 @@ ghost use Rattle.std.specs.Prelude.{◌≡◌, ◌<◌, true, false, length, Non
 ghost use Rattle.std.specs.List.{list_all};
 ghost use Rattle.model.specs.Admitting.{batch_outputs as outputs_of, held_batch_answer};
 ghost use Rattle.model.specs.Nodes.{Node};
+ghost use Rattle.model.specs.Words.{Contents};
 ghost use Rattle.model.specs.declared.admission.Admission.TheVariants.{New};
 ghost use Rattle.wire.specs.declared.message.Message.TheVariants as message;
 ghost use Rattle.batchstore.specs.Stock.{digest_of, held_at};
 ghost use Rattle.batchstore.specs.Answer.{is_full as spec_full, with_batch, with_names};
 ghost use Rattle.admission.specs.Answers.{IsAnswer, RefusesAs, is_new_step};
-ghost use Rattle.admission.specs.Batches.{as_refusal, AnswersFrom, RefusesFrom, GoesOn, GoesOnWithOwn, may_name_by};
+ghost use Rattle.admission.specs.Batches.{as_refusal, AnswersFrom, RefusesFrom, IsNewFrom, GoesOn, GoesOnWithOwn, may_name_by};
 
 use crate::step::Step;
 use batchstore::{Acked, BatchStore, StoreRefusal};
@@ -125,6 +126,16 @@ pub fn take_batch(
     new_batch(alloc, own, batches, digest, batch)
 }
 
+/// Whether a batch of this digest would be new: none is held under it, and there is room. It takes no memory.
+pub fn is_new_batch(batches: &BatchStore, digest: &Digest) -> bool
+    ensures { (batch : Contents) → digest.now ≡ digest_of batch → IsNewFrom batches.now (message.Batch batch) result }
+{
+    match batches.get(digest) {
+        Some(_) => false,
+        None => !is_full(batches),
+    }
+}
+
 /// Takes an acknowledgement by a member into the store.
 ///
 /// # Errors
@@ -141,6 +152,14 @@ pub fn take_ack(alloc: Global, batches: &mut BatchStore, ack: &BatchAck) -> Resu
         Ok(Acked::Known) => Ok(Step::Known(Vec::new(alloc))),
         Err(refusal) => Err(refusal_of(refusal)),
     }
+}
+
+/// Whether an acknowledgement would be new: an own batch of the digest is held, and its member isn't counted. It takes no
+/// memory.
+pub fn is_new_ack(batches: &BatchStore, ack: &BatchAck) -> bool
+    ensures { IsNewFrom batches.now (message.BatchAck ack.now) result }
+{
+    batches.acked(ack.author, &ack.batch) == Some(false)
 }
 
 // A store's refusal, as admission says it.

@@ -7,7 +7,7 @@ mod facts;
 mod step;
 mod votes;
 
-pub use batches::{may_name_all, name_all, take_ack, take_batch};
+pub use batches::{is_new_ack, is_new_batch, may_name_all, name_all, take_ack, take_batch};
 pub use facts::{
     batches_read, batches_stay, nameable_agrees, starts_empty, vote_is_kept, votes_stay,
 };

@@ -252,8 +252,8 @@ impl<'a> BatchStore<'a> {
         }
     }
 
-    // Whether this member holds the own batch of this digest, or none where no own batch of the digest is held.
-    fn acked(&self, author: Author, digest: &Digest) -> Option<bool>
+    /// Whether this member holds the own batch of this digest, or none where no own batch of the digest is held.
+    pub fn acked(&self, author: Author, digest: &Digest) -> Option<bool>
         ensures { result ≡ (if has_own self.now digest.now then Some (holds self.now digest.now author.0) else None) }
     {
         let held = self.at(digest)?;

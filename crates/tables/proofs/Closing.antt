@@ -17,7 +17,7 @@ use Rattle.machine.specs.Machine.{answered}
 use Rattle.admission.specs.Answers.{IsAnswer, RefusesAs, is_new_step}
 use Rattle.admission.specs.declared.step.Step.{Step}
 use Rattle.admission.specs.declared.step.Step.TheVariants as step
-use Rattle.tables.specs.Decisions.{told}
+use Rattle.tables.specs.Decisions.{told, is_new_decision}
 use Rattle.tables.specs.Standing.{Meets}
 use Rattle.tables.specs.declared.answer.Answer.{Answer}
 use Rattle.tables.specs.declared.answer.Answer.TheVariants.{New, Known}
@@ -87,3 +87,12 @@ told_new new known (Err refusal) is = absurd (true≢false (sym is))
 
 pub new_is_told : (answer : Admission) (new known : List Output) (decision : Result Answer Refusal) → answer ≡ told new known decision → is_new answer ≡ true → answer ≡ admission.New new
 new_is_told answer new known decision is new_there = is ∙ told_new new known decision (ap is_new (sym is) ∙ new_there)
+
+-- it is new just where the decision is
+told_is_new : (new known : List Output) (decision : Result Answer Refusal) → is_new_decision decision ≡ is_new (told new known decision)
+told_is_new new known (Ok New) = refl
+told_is_new new known (Ok Known) = refl
+told_is_new new known (Err refusal) = refl
+
+pub newness_is_told : (answer : Admission) (new known : List Output) (decision : Result Answer Refusal) → answer ≡ told new known decision → is_new_decision decision ≡ is_new answer
+newness_is_told answer new known decision is = told_is_new new known decision ∙ ap is_new (sym is)

@@ -35,6 +35,12 @@ abbrev pub lacks_parents : Result Answer Refusal → Bool
 lacks_parents (Err MissingParents) = true
 lacks_parents _ = false
 
+-- what is decided is that the message will be accepted
+abbrev pub is_new_decision : Result Answer Refusal → Bool
+is_new_decision (Ok New) = true
+is_new_decision (Ok Known) = false
+is_new_decision (Err refusal) = false
+
 -- an author is the validator itself
 abbrev pub is_own_of : Tables → Author → Bool
 is_own_of tables author = author.0 == tables.own.0

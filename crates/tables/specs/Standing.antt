@@ -66,6 +66,10 @@ GoOn before later came = (node : Node) (state : State) (event : Event) → Meets
 abbrev pub IsReady : Tables → Message → Bool → Type 0
 IsReady tables came result = (node : Node) (state : State) (event : Event) → Meets node state event tables came → result ≡ is_ready node state event
 
+-- this is whether each such event is new
+abbrev pub IsNew : Tables → Message → Bool → Type 0
+IsNew tables came result = (node : Node) (state : State) (event : Event) → Meets node state event tables came → result ≡ is_new (answered node state event)
+
 -- ---- said of events from one sender
 
 abbrev pub AnswersFrom : Tables → Author → Message → Result Step Refusal → Type 0
@@ -75,6 +79,10 @@ AnswersFrom tables sender came result = (node : Node) (state : State) (event : E
 abbrev pub RefusesFrom : Tables → Author → Message → Result Step Refusal → Type 0
 RefusesFrom tables sender came result = (node : Node) (state : State) (event : Event) → Meets node state event tables came → event.sender ≡ sender
     → RefusesAs (answered node state event) result
+
+abbrev pub IsNewFrom : Tables → Author → Message → Bool → Type 0
+IsNewFrom tables sender came result = (node : Node) (state : State) (event : Event) → Meets node state event tables came → event.sender ≡ sender
+    → result ≡ is_new (answered node state event)
 
 -- ---- said of nodes that give these signatures
 

@@ -2,7 +2,7 @@
 
 ghost use Rattle.std.specs.Prelude.{◌≡◌, Ok, Err, IfOk, IfErr};
 ghost use Rattle.model.specs.declared.refusal.Refusal.TheVariants.{Memory};
-ghost use Rattle.tables.specs.Decisions.{lacks_parents};
+ghost use Rattle.tables.specs.Decisions.{lacks_parents, is_new_decision};
 ghost use Rattle.admission.specs.declared.step.Step.TheVariants as step;
 
 use admission::{Refusal, Step};
@@ -45,4 +45,11 @@ pub(crate) fn lacks_parents(decision: &Result<Answer, Refusal>) -> bool
     ensures { result ≡ lacks_parents decision.now }
 {
     matches!(decision, Err(Refusal::MissingParents))
+}
+
+/// Whether a message will be accepted.
+pub(crate) fn is_new(decision: &Result<Answer, Refusal>) -> bool
+    ensures { result ≡ is_new_decision decision.now }
+{
+    matches!(decision, Ok(Answer::New))
 }

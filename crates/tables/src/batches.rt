@@ -2,9 +2,10 @@
 
 ghost use Rattle.std.specs.Prelude.{◌≡◌, true, false};
 ghost use Rattle.wire.specs.declared.message.Message.TheVariants as message;
+ghost use Rattle.model.specs.Words.{Contents};
 ghost use Rattle.batchstore.specs.Stock.{digest_of};
 ghost use Rattle.admission.specs.Answers.{is_new_step};
-ghost use Rattle.tables.specs.Standing.{MeetSome, Answers, Refuses, GoOn};
+ghost use Rattle.tables.specs.Standing.{IsNew, MeetSome, Answers, Refuses, GoOn};
 
 use crate::facts::others_stay;
 use crate::tables::Tables;
@@ -34,6 +35,13 @@ impl<'a> Tables<'a> {
         admission::take_batch(alloc, self.own, &mut self.batches, digest, batch)
     }
 
+    /// Whether a batch of this digest would be new. It takes no memory.
+    pub fn is_batch_new(&self, digest: &Digest) -> bool
+        ensures { (batch : Contents) → digest.now ≡ digest_of batch → IsNew self.now (message.Batch batch) result }
+    {
+        admission::is_new_batch(&self.batches, digest)
+    }
+
     /// Takes an acknowledgement.
     ///
     /// # Errors
@@ -47,5 +55,12 @@ impl<'a> Tables<'a> {
     {
         others_stay();
         admission::take_ack(alloc, &mut self.batches, ack)
+    }
+
+    /// Whether an acknowledgement would be new. It takes no memory.
+    pub fn is_ack_new(&self, ack: &BatchAck) -> bool
+        ensures { IsNew self.now (message.BatchAck ack.now) result }
+    {
+        admission::is_new_ack(&self.batches, ack)
     }
 }

@@ -12,9 +12,9 @@ ghost use Rattle.sequencer.specs.Laws.{IsNewTo};
 ghost use Rattle.sequencer.specs.Sequence.{ComesTo, IsAt};
 ghost use Rattle.admission.specs.Answers.{is_new_step};
 ghost use Rattle.tables.specs.Decisions.{as_refusal, certificate_decision};
-ghost use Rattle.tables.specs.Standing.{IsReady, MeetSome, MeetNew, Answers, Refuses, GoOn, PutsOut};
+ghost use Rattle.tables.specs.Standing.{IsReady, IsNew, MeetSome, MeetNew, Answers, Refuses, GoOn, PutsOut};
 
-use crate::answer::{Answer, lacks_parents, new_step};
+use crate::answer::{Answer, is_new, lacks_parents, new_step};
 use crate::facts::others_stay;
 use crate::tables::Tables;
 use admission::{Refusal, Step};
@@ -135,5 +135,13 @@ impl<'a> Tables<'a> {
         ensures { IsReady self.now (message.Certificate certificate.now) result }
     {
         !lacks_parents(&self.certificate_decision(certificate, digest))
+    }
+
+    /// Whether a certificate of this digest would be new. It takes no memory.
+    pub fn is_certificate_new(&self, certificate: &Certificate, digest: &Digest) -> bool
+        requires { digest.now ≡ certificate_digest certificate.now.header }
+        ensures { IsNew self.now (message.Certificate certificate.now) result }
+    {
+        is_new(&self.certificate_decision(certificate, digest))
     }
 }

@@ -11,9 +11,9 @@ ghost use Rattle.machine.specs.Machine.{grown, after};
 ghost use Rattle.sequencer.specs.Sequence.{ComesTo, IsAt};
 ghost use Rattle.admission.specs.Answers.{is_new_step};
 ghost use Rattle.tables.specs.Decisions.{is_full_in, next_decision, coin_decision};
-ghost use Rattle.tables.specs.Standing.{AnswersFrom, RefusesFrom, GoOn, PutsOut};
+ghost use Rattle.tables.specs.Standing.{AnswersFrom, RefusesFrom, IsNewFrom, GoOn, PutsOut};
 
-use crate::answer::{Answer, new_step};
+use crate::answer::{Answer, is_new, new_step};
 use crate::facts::others_stay;
 use crate::tables::Tables;
 use admission::{Refusal, Step};
@@ -112,5 +112,12 @@ impl<'a> Tables<'a> {
             Ok(Answer::Known) => Ok(Step::Known(Vec::new(alloc))),
             Err(refusal) => Err(refusal),
         }
+    }
+
+    /// Whether a coin from a sender would be new. It takes no memory.
+    pub fn is_coin_new(&self, sender: Author, coin: &Coin) -> bool
+        ensures { IsNewFrom self.now sender (message.Coin coin.now) result }
+    {
+        is_new(&self.coin_decision(sender, coin))
     }
 }

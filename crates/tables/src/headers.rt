@@ -5,9 +5,9 @@ ghost use Rattle.wire.specs.declared.message.Message.TheVariants as message;
 ghost use Rattle.model.specs.Slots.{header_digest};
 ghost use Rattle.admission.specs.Answers.{is_new_step};
 ghost use Rattle.tables.specs.Decisions.{is_own_of, voted_by, voted_decision, free_decision, header_decision, vote_by, new_header_outputs, known_header_outputs};
-ghost use Rattle.tables.specs.Standing.{IsReady, MeetSome, AnswersBy, RefusesBy, GoOnBy};
+ghost use Rattle.tables.specs.Standing.{IsReady, IsNew, MeetSome, AnswersBy, RefusesBy, GoOnBy};
 
-use crate::answer::{Answer, known_step, lacks_parents, new_step};
+use crate::answer::{Answer, is_new, known_step, lacks_parents, new_step};
 use crate::facts::others_stay;
 use crate::tables::Tables;
 use admission::{Refusal, Step, keep_vote, may_name_all, name_all};
@@ -225,5 +225,14 @@ impl<'a> Tables<'a> {
         ensures { IsReady self.now (message.Header header.now) result }
     {
         !lacks_parents(&self.header_decision(header, digest))
+    }
+
+    /// Whether a header of this digest would be new. It takes no memory.
+    pub fn is_header_new(&self, header: &Header, digest: &Digest) -> bool
+        requires meets { MeetSome self.now (message.Header header.now) }
+        requires digested { digest.now ≡ header_digest header.now.body }
+        ensures { IsNew self.now (message.Header header.now) result }
+    {
+        is_new(&self.header_decision(header, digest))
     }
 }

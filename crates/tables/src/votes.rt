@@ -7,9 +7,9 @@ ghost use Rattle.assemblies.specs.Headers.{answer_in};
 ghost use Rattle.certify.specs.declared.added.Added.TheVariants as added;
 ghost use Rattle.admission.specs.Answers.{is_new_step};
 ghost use Rattle.tables.specs.Decisions.{certified_decision, open_decision, is_on_own, vote_decision, known_outputs};
-ghost use Rattle.tables.specs.Standing.{MeetSome, MeetNew, Answers, Refuses, GoOn, PutsOut};
+ghost use Rattle.tables.specs.Standing.{IsNew, MeetSome, MeetNew, Answers, Refuses, GoOn, PutsOut};
 
-use crate::answer::{Answer, known_step, new_step};
+use crate::answer::{Answer, is_new, known_step, new_step};
 use crate::certificates::hold_certificate;
 use crate::facts::others_stay;
 use crate::headers::alone;
@@ -159,5 +159,13 @@ impl<'a> Tables<'a> {
             Ok(Answer::Known) => known_step(self.known_vote(alloc, &vote)),
             Err(refusal) => Err(refusal),
         }
+    }
+
+    /// Whether a vote would be new. It takes no memory.
+    pub fn is_vote_new(&self, vote: &Vote) -> bool
+        ensures { IsNew self.now (message.Vote vote.now) result }
+    {
+        assemblies::votes_agree();
+        is_new(&self.vote_decision(vote))
     }
 }

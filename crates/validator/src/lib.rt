@@ -2,6 +2,7 @@
 #![tactic(auto)]
 
 mod config;
+mod newness;
 mod ready;
 mod taking;
 mod validator;

@@ -2,7 +2,7 @@
 
 ghost use Rattle.std.specs.Prelude.{◌≡◌, ◌+◌, ◌≤◌, true, false, None, IfOk, IfSome};
 ghost use Rattle.header.specs.Checks.{fault_of, accepts_all};
-ghost use Rattle.model.specs.Admitting.{admit, IsLegal};
+ghost use Rattle.model.specs.Admitting.{admit, is_new, IsLegal};
 ghost use Rattle.model.specs.Giving.{kept};
 ghost use Rattle.model.specs.Histories.{History};
 ghost use Rattle.model.specs.Holdings.{order as order_of};
@@ -14,6 +14,7 @@ ghost use Rattle.validator.specs.Standing.{AreAtSound, GoesOn, IsNewThere};
 ghost use Rattle.wire.specs.declared.round.TheConstants.Round.{MAX};
 
 use crate::config::Config;
+use crate::newness::is_new;
 use crate::ready::is_ready;
 use crate::taking::take;
 use admission::{Refusal, Step};
@@ -150,6 +151,17 @@ impl<'a, S: Sign> Validator<'a, S> {
         self.config.limits_hold();
         event.message().limits_hold();
         is_ready(&self.tables, event)
+    }
+
+    /// Whether an event that passed the checks would be new. It takes no memory.
+    pub fn is_new(&self, event: &Checked) -> bool
+        requires passed { fault_of self.now.setting.charter accepts_all event.now ≡ None }
+        ensures { (state : State) → AreAtSound (node_of S.own_key S.signature_of self.now.setting) self.now.tables state
+            → result ≡ is_new (answered (node_of S.own_key S.signature_of self.now.setting) state event.now) }
+    {
+        self.config.limits_hold();
+        event.message().limits_hold();
+        is_new(&self.tables, event)
     }
 
     /// The header that the validator proposes: over all certificates of the round below its own, with the at most
