@@ -4,8 +4,8 @@ use crate::words::{Told, digest_of, list, show, tell};
 use std::alloc::{AllocError, Global};
 use wire::{
     Author, Batch, Certificate, Digest, HeaderBody, MAX_TRANSACTION_BYTES, Message, OpenBatch,
-    OrderDigests, Output, WireError, batch_digest, certificate_digest, encode, encode_output,
-    header_digest,
+    OrderDigests, Output, WireError, batch_digest, certificate_digest, encode, encode_onto,
+    encode_output, encoded_len, header_digest,
 };
 use wire_read::decode;
 
@@ -19,9 +19,12 @@ pub fn written(alloc: Global, message: &Message) -> Result<Vec<u8>, AllocError> 
     encode(alloc, message)
 }
 
-/// Whether these bytes spell the message.
+/// Whether these bytes spell the message, as many as are foretold, and spell it behind others too.
 pub fn is_spelled(alloc: Global, message: &Message, bytes: &[u8]) -> Result<bool, AllocError> {
-    Ok(written(alloc, message)?.as_slice() == bytes)
+    let mut twice = written(alloc, message)?;
+    let is_spelled = twice.as_slice() == bytes && encoded_len(message) == bytes.len();
+    encode_onto(&mut twice, message)?;
+    Ok(is_spelled && twice.get(bytes.len()..).unwrap_or(&[]) == bytes)
 }
 
 /// Reads a message and writes it again.

@@ -1,6 +1,8 @@
 -- Bytes that are put one after the other.
-use Rattle.std.proofs.Common.{◌≡◌, ℕ, List, [], ◌∷◌, ◌++◌, cond, Result, Ok, Err, append_assoc, ◌∙◌}
-use Rattle.std.specs.Prelude.{OnOk, is_ok}
+use Rattle.std.proofs.Common.{◌≡◌, ℕ, Bool, true, false, List, [], ◌∷◌, ◌++◌, cond, Result, Ok, Err, append_assoc, sym, ◌∙◌}
+use Rattle.std.specs.Prelude.{OnOk, OnErr}
+use Rattle.std.proofs.lemmas.List.{append-nil}
+use Rattle.wire.specs.Putting.{Begins, Keeps}
 
 -- four pieces behind what was there
 pub four_pieces : (start a b c d one two three four : List ℕ) → one ≡ start ++ a → two ≡ one ++ b → three ≡ two ++ c → four ≡ three ++ d → four ≡ start ++ (a ++ b ++ c ++ d)
@@ -10,16 +12,19 @@ four_pieces start a b c d one two three four e1 e2 e3 e4 = rw (e4, e3, e2, e1) (
 pub tagged_pieces : (start : List ℕ) (tag : ℕ) (a b one two : List ℕ) → one ≡ start ++ tag ∷ [] → two ≡ one ++ a → two ++ b ≡ start ++ tag ∷ (a ++ b)
 tagged_pieces start tag a b one two e1 e2 = rw (e2, e1) (simp append_assoc)
 
--- where the last piece was put, all is there
-pub put_last : {X E : Type 0} (r : Result X E) (before text new whole : List ℕ) → new ≡ cond (is_ok r) (before ++ text) before → before ++ text ≡ whole → OnOk r (new ≡ whole)
-put_last (Ok x) before text new whole e same = e ∙ same
-put_last (Err x) before text new whole e same = tt
+-- a piece that was put, or was refused, keeps what was there
+pub put_kept : (put : Bool) (old text new : List ℕ) → new ≡ cond put (old ++ text) old → Keeps old new
+unfolding Begins
+put_kept true old text new e start begins = (begins.0 ++ text, rw (e, begins.1) (append_assoc start begins.0 text))
+put_kept false old text new e start begins = (begins.0, e ∙ begins.1)
 
+-- so what was there begins what is there after a refusal
+pub rest_at_refusal : {X E : Type 0} (r : Result X E) (old new : List ℕ) → Keeps old new → OnErr r ((rest : List ℕ) × (new ≡ old ++ rest))
+unfolding Begins
+rest_at_refusal (Ok x) old new kept = tt
+rest_at_refusal (Err x) old new kept = kept old ([], sym (append-nil old))
+
+-- where the last piece was put, all is there
 pub put_rest : {X E : Type 0} (r : Result X E) (before text new whole : List ℕ) → OnOk r (new ≡ before ++ text) → before ++ text ≡ whole → OnOk r (new ≡ whole)
 put_rest (Ok x) before text new whole e same = e ∙ same
 put_rest (Err x) before text new whole e same = tt
-
--- what holds anyway holds where all is well
-pub where_ok : {X E : Type 0} {P : Type 0} (r : Result X E) → P → OnOk r P
-where_ok (Ok x) h = h
-where_ok (Err x) h = tt

@@ -2,3 +2,4 @@ pub mod RisingLemmas
 pub mod Joining
 pub mod Transactions
 pub mod DigestLemmas
+mod Lengths

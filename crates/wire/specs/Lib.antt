@@ -3,6 +3,7 @@ pub mod References
 pub mod Fields
 pub mod Batches
 pub mod Spelling
+pub mod Putting
 pub mod Digests
 pub mod Reading
 pub mod Grammar

@@ -1,8 +1,9 @@
 //! Messages as bytes.
 
-ghost use Rattle.std.specs.Prelude.{◌≡◌, ◌≤◌, ◌+◌, ◌*◌, ◌++◌, ◌∷◌, length, IfOk, OnOk};
+ghost use Rattle.std.specs.Prelude.{◌≡◌, ℕ, List, ◌≤◌, ◌+◌, ◌*◌, ◌++◌, ◌∷◌, length, IfOk, OnOk, OnErr};
 ghost use Rattle.wire.specs.declared.limits.TheConstants.{MAX_BATCH_BYTES, MAX_BATCHES, MAX_PARENTS, MAX_VOTES};
 ghost use Rattle.wire.specs.Spelling.{batch_reference_bytes, parent_reference_bytes, vote_entry_bytes, batches_bytes, parents_bytes, votes_bytes, header_body, header_body_len, spelling, length_of};
+ghost use Rattle.wire.specs.Putting.{Keeps};
 ghost use Rattle.wire.specs.Fields.{EachIsByte, IsDigest, IsSignature};
 ghost use Rattle.wire.specs.Batches.{IsBatch};
 ghost use Rattle.wire.specs.Grammar.{IsAck, IsHeaderBody, IsHeader, IsVote, IsCertificate, IsCoin, IsMessage, Spells};
@@ -35,21 +36,57 @@ pub const CERTIFICATE_TAG: u8 = 5;
 /// The tag of a coin message.
 pub const COIN_TAG: u8 = 6;
 
+/// Bytes of an acknowledgement, with its tag.
+const ACK_BYTES: usize = 35;
+
+/// Bytes of a vote, with its tag.
+const VOTE_BYTES: usize = 109;
+
+/// Bytes of a coin, with its tag.
+const COIN_BYTES: usize = 17;
+
+/// Bytes of a header's body beside what it refers to: author, round and both counts.
+const HEADER_FRONT_BYTES: usize = 14;
+
+/// Bytes of a reference to a batch or to a parent.
+const REFERENCE_BYTES: usize = 34;
+
+/// Bytes of a signature.
+const SIGNATURE_BYTES: usize = 64;
+
+/// Bytes of a count.
+const COUNT_BYTES: usize = 2;
+
+/// Bytes of a vote in a certificate.
+const VOTE_ENTRY_BYTES: usize = 66;
+
+// Puts bytes. What stood there before stays, also where the growth is refused.
+#[tactic(auto, using(crate::proofs::Joining::put_kept))]
+fn put_bytes(out: &mut Vec<u8>, bytes: &[u8]) -> Result<(), AllocError>
+    ensures bytes { OnOk result (out.new.items ≡ out.old.items ++ bytes.now) }
+    ensures len { OnOk result (length out.new.items ≡ length out.old.items + length bytes.now) }
+    ensures kept { Keeps out.old.items out.new.items }
+{
+    out.extend_from_slice(bytes)
+}
+
 pub(crate) fn put_digest(out: &mut Vec<u8>, digest: &Digest) -> Result<(), AllocError>
     ensures bytes { OnOk result (out.new.items ≡ out.old.items ++ digest.now.0) }
     ensures len { OnOk result (length out.new.items ≡ length out.old.items + 32) }
     ensures fits { OnOk result (IsDigest digest.now) }
+    ensures kept { Keeps out.old.items out.new.items }
 {
     digest.limits_hold();
-    out.extend_from_slice(&digest.0)
+    put_bytes(out, &digest.0)
 }
 
 fn put_signature(out: &mut Vec<u8>, signature: &Signature) -> Result<(), AllocError>
     ensures bytes { OnOk result (out.new.items ≡ out.old.items ++ signature.now.0) }
     ensures len { OnOk result (length out.new.items ≡ length out.old.items + 64) }
+    ensures kept { Keeps out.old.items out.new.items }
 {
     signature.limits_hold();
-    out.extend_from_slice(&signature.0)
+    put_bytes(out, &signature.0)
 }
 
 pub(crate) fn put_batch(out: &mut Vec<u8>, batch: &Batch) -> Result<(), AllocError>
@@ -57,37 +94,41 @@ pub(crate) fn put_batch(out: &mut Vec<u8>, batch: &Batch) -> Result<(), AllocErr
     ensures len { OnOk result (length out.new.items ≡ length out.old.items + length_of (Message.Batch batch.now)) }
     ensures limit { OnOk result (length_of (Message.Batch batch.now) ≤ 1 + MAX_BATCH_BYTES) }
     ensures fits { OnOk result (IsBatch batch.now) }
+    ensures kept { Keeps out.old.items out.new.items }
 {
-    out.push(BATCH_TAG)?;
-    out.extend_from_slice(batch.body())
+    put_bytes(out, &[BATCH_TAG])?;
+    put_bytes(out, batch.body())
 }
 
 pub(crate) fn put_ack(out: &mut Vec<u8>, ack: &BatchAck) -> Result<(), AllocError>
     ensures bytes { OnOk result (out.new.items ≡ out.old.items ++ spelling (Message.BatchAck ack.now)) }
     ensures len { OnOk result (length out.new.items ≡ length out.old.items + 35) }
     ensures fits { OnOk result (IsAck ack.now) }
+    ensures kept { Keeps out.old.items out.new.items }
 {
     ack.limits_hold();
-    out.push(ACK_TAG)?;
-    out.extend_from_slice(&two_bytes(ack.author.0))?;
+    put_bytes(out, &[ACK_TAG])?;
+    put_bytes(out, &two_bytes(ack.author.0))?;
     put_digest(out, &ack.batch)
 }
 
 fn put_batch_reference(out: &mut Vec<u8>, batch: &BatchReference) -> Result<(), AllocError>
     ensures bytes { OnOk result (out.new.items ≡ out.old.items ++ batch_reference_bytes batch.now) }
     ensures len { OnOk result (length out.new.items ≡ length out.old.items + 34) }
+    ensures kept { Keeps out.old.items out.new.items }
 {
     put_digest(out, &batch.digest)?;
-    out.extend_from_slice(&two_bytes(batch.worker))
+    put_bytes(out, &two_bytes(batch.worker))
 }
 
 fn put_batches(out: &mut Vec<u8>, batches: &BatchReferences) -> Result<(), AllocError>
     ensures bytes { OnOk result (out.new.items ≡ out.old.items ++ batches_bytes batches.now) }
     ensures len { OnOk result (length out.new.items ≡ length out.old.items + (2 + 34 * length batches.now)) }
     ensures few { OnOk result (length batches.now ≤ MAX_BATCHES) }
+    ensures kept { Keeps out.old.items out.new.items }
 {
     let list = batches.as_slice();
-    out.extend_from_slice(&two_bytes(list.len() as u16))?;
+    put_bytes(out, &two_bytes(list.len() as u16))?;
     for batch in list {
         put_batch_reference(out, batch)?;
     }
@@ -97,8 +138,9 @@ fn put_batches(out: &mut Vec<u8>, batches: &BatchReferences) -> Result<(), Alloc
 fn put_parent_reference(out: &mut Vec<u8>, parent: &ParentReference) -> Result<(), AllocError>
     ensures bytes { OnOk result (out.new.items ≡ out.old.items ++ parent_reference_bytes parent.now) }
     ensures len { OnOk result (length out.new.items ≡ length out.old.items + 34) }
+    ensures kept { Keeps out.old.items out.new.items }
 {
-    out.extend_from_slice(&two_bytes(parent.author.0))?;
+    put_bytes(out, &two_bytes(parent.author.0))?;
     put_digest(out, &parent.certificate)
 }
 
@@ -106,9 +148,10 @@ fn put_parents(out: &mut Vec<u8>, parents: &ParentReferences) -> Result<(), Allo
     ensures bytes { OnOk result (out.new.items ≡ out.old.items ++ parents_bytes parents.now) }
     ensures len { OnOk result (length out.new.items ≡ length out.old.items + (2 + 34 * length parents.now)) }
     ensures few { OnOk result (length parents.now ≤ MAX_PARENTS) }
+    ensures kept { Keeps out.old.items out.new.items }
 {
     let list = parents.as_slice();
-    out.extend_from_slice(&two_bytes(list.len() as u16))?;
+    put_bytes(out, &two_bytes(list.len() as u16))?;
     for parent in list {
         put_parent_reference(out, parent)?;
     }
@@ -118,8 +161,9 @@ fn put_parents(out: &mut Vec<u8>, parents: &ParentReferences) -> Result<(), Allo
 fn put_vote_entry(out: &mut Vec<u8>, entry: &VoteEntry) -> Result<(), AllocError>
     ensures bytes { OnOk result (out.new.items ≡ out.old.items ++ vote_entry_bytes entry.now) }
     ensures len { OnOk result (length out.new.items ≡ length out.old.items + 66) }
+    ensures kept { Keeps out.old.items out.new.items }
 {
-    out.extend_from_slice(&two_bytes(entry.voter.0))?;
+    put_bytes(out, &two_bytes(entry.voter.0))?;
     put_signature(out, &entry.signature)
 }
 
@@ -127,9 +171,10 @@ fn put_votes(out: &mut Vec<u8>, votes: &VoteEntries) -> Result<(), AllocError>
     ensures bytes { OnOk result (out.new.items ≡ out.old.items ++ votes_bytes votes.now) }
     ensures len { OnOk result (length out.new.items ≡ length out.old.items + (2 + 66 * length votes.now)) }
     ensures few { OnOk result (length votes.now ≤ MAX_VOTES) }
+    ensures kept { Keeps out.old.items out.new.items }
 {
     let list = votes.as_slice();
-    out.extend_from_slice(&two_bytes(list.len() as u16))?;
+    put_bytes(out, &two_bytes(list.len() as u16))?;
     for vote in list {
         put_vote_entry(out, vote)?;
     }
@@ -140,9 +185,10 @@ fn put_header_body(out: &mut Vec<u8>, header: &HeaderBody) -> Result<(), AllocEr
     ensures bytes { OnOk result (out.new.items ≡ out.old.items ++ header_body header.now) }
     ensures len { OnOk result (length out.new.items ≡ length out.old.items + header_body_len header.now) }
     ensures few { OnOk result (header_body_len header.now ≤ 14 + 34 * (MAX_BATCHES + MAX_PARENTS)) }
+    ensures kept { Keeps out.old.items out.new.items }
 {
-    out.extend_from_slice(&two_bytes(header.author.0))?;
-    out.extend_from_slice(&eight_bytes(header.round.number()))?;
+    put_bytes(out, &two_bytes(header.author.0))?;
+    put_bytes(out, &eight_bytes(header.round.number()))?;
     put_batches(out, &header.batches)?;
     put_parents(out, &header.parents)?;
     Ok(())
@@ -153,9 +199,10 @@ pub(crate) fn put_header(out: &mut Vec<u8>, header: &Header) -> Result<(), Alloc
     ensures len { OnOk result (length out.new.items ≡ length out.old.items + length_of (Message.Header header.now)) }
     ensures limit { OnOk result (length_of (Message.Header header.now) ≤ 1 + (14 + 34 * (MAX_BATCHES + MAX_PARENTS) + 64)) }
     ensures fits { OnOk result (IsHeader header.now) }
+    ensures kept { Keeps out.old.items out.new.items }
 {
     header.limits_hold();
-    out.push(HEADER_TAG)?;
+    put_bytes(out, &[HEADER_TAG])?;
     put_header_body(out, &header.body)?;
     put_signature(out, &header.signature)
 }
@@ -164,13 +211,14 @@ pub(crate) fn put_vote(out: &mut Vec<u8>, vote: &Vote) -> Result<(), AllocError>
     ensures bytes { OnOk result (out.new.items ≡ out.old.items ++ spelling (Message.Vote vote.now)) }
     ensures len { OnOk result (length out.new.items ≡ length out.old.items + 109) }
     ensures fits { OnOk result (IsVote vote.now) }
+    ensures kept { Keeps out.old.items out.new.items }
 {
     vote.limits_hold();
-    out.push(VOTE_TAG)?;
+    put_bytes(out, &[VOTE_TAG])?;
     put_digest(out, &vote.header)?;
-    out.extend_from_slice(&eight_bytes(vote.round.number()))?;
-    out.extend_from_slice(&two_bytes(vote.author.0))?;
-    out.extend_from_slice(&two_bytes(vote.voter.0))?;
+    put_bytes(out, &eight_bytes(vote.round.number()))?;
+    put_bytes(out, &two_bytes(vote.author.0))?;
+    put_bytes(out, &two_bytes(vote.voter.0))?;
     put_signature(out, &vote.signature)
 }
 
@@ -182,9 +230,10 @@ pub(crate) fn put_certificate(
     ensures len { OnOk result (length out.new.items ≡ length out.old.items + length_of (Message.Certificate certificate.now)) }
     ensures limit { OnOk result (length_of (Message.Certificate certificate.now) ≤ 1 + (14 + 34 * (MAX_BATCHES + MAX_PARENTS) + (2 + 66 * MAX_VOTES))) }
     ensures fits { OnOk result (IsCertificate certificate.now) }
+    ensures kept { Keeps out.old.items out.new.items }
 {
     certificate.limits_hold();
-    out.push(CERTIFICATE_TAG)?;
+    put_bytes(out, &[CERTIFICATE_TAG])?;
     put_header_body(out, &certificate.header)?;
     put_votes(out, &certificate.votes)
 }
@@ -192,18 +241,53 @@ pub(crate) fn put_certificate(
 fn put_coin(out: &mut Vec<u8>, coin: &Coin) -> Result<(), AllocError>
     ensures bytes { OnOk result (out.new.items ≡ out.old.items ++ spelling (Message.Coin coin.now)) }
     ensures len { OnOk result (length out.new.items ≡ length out.old.items + 17) }
+    ensures kept { Keeps out.old.items out.new.items }
 {
-    out.push(COIN_TAG)?;
-    out.extend_from_slice(&eight_bytes(coin.wave.number()))?;
-    out.extend_from_slice(&eight_bytes(coin.value))
+    put_bytes(out, &[COIN_TAG])?;
+    put_bytes(out, &eight_bytes(coin.wave.number()))?;
+    put_bytes(out, &eight_bytes(coin.value))
 }
 
-// Puts the spelling of a message.
-fn put_message(out: &mut Vec<u8>, message: &Message) -> Result<(), AllocError>
-    ensures bytes { OnOk result (out.new.items ≡ out.old.items ++ spelling message.now) }
-    ensures len { OnOk result (length out.new.items ≡ length out.old.items + length_of message.now) }
-    ensures limit { OnOk result (length_of message.now ≤ 1 + MAX_BATCH_BYTES) }
+// How many bytes the body of a header has.
+fn header_body_length(header: &HeaderBody) -> usize
+    ensures len { result ≡ header_body_len header.now }
+    ensures limit { result ≤ 14 + 34 * (MAX_BATCHES + MAX_PARENTS) }
 {
+    HEADER_FRONT_BYTES + REFERENCE_BYTES * (header.batches.len() + header.parents.len())
+}
+
+/// How many bytes the spelling of a message has.
+pub fn encoded_len(message: &Message) -> usize
+    ensures len { result ≡ length (spelling message.now) }
+    // So it fits a frame, with a sender before it.
+    ensures limit { result ≤ 1 + MAX_BATCH_BYTES }
+{
+    message.limits_hold();
+    match message {
+        Message::Batch(batch) => 1 + batch.body().len(),
+        Message::BatchAck(_) => ACK_BYTES,
+        Message::Header(header) => 1 + header_body_length(&header.body) + SIGNATURE_BYTES,
+        Message::Vote(_) => VOTE_BYTES,
+        Message::Certificate(certificate) => {
+            let votes = COUNT_BYTES + VOTE_ENTRY_BYTES * certificate.votes.len();
+            1 + header_body_length(&certificate.header) + votes
+        }
+        Message::Coin(_) => COIN_BYTES,
+    }
+}
+
+/// Puts the one spelling of a message behind these bytes. `AllocError` where a growth was refused: a part of it
+/// may stand there then.
+#[tactic(auto, using(crate::proofs::Joining::rest_at_refusal))]
+pub fn encode_onto(out: &mut Vec<u8>, message: &Message) -> Result<(), AllocError>
+    ensures bytes { OnOk result (out.new.items ≡ out.old.items ++ spelling message.now) }
+    ensures message { OnOk result (IsMessage message.now) }
+    ensures len { OnOk result (length out.new.items ≡ length out.old.items + length_of message.now) }
+    // So it fits a frame, with a sender before it.
+    ensures limit { OnOk result (length_of message.now ≤ 1 + MAX_BATCH_BYTES) }
+    ensures kept { OnErr result ((rest : List ℕ) × (out.new.items ≡ out.old.items ++ rest)) }
+{
+    message.limits_hold();
     match message {
         Message::Batch(batch) => put_batch(out, batch),
         Message::BatchAck(ack) => put_ack(out, ack),
@@ -221,8 +305,7 @@ pub fn encode(alloc: Global, message: &Message) -> Result<Vec<u8>, AllocError>
     // So it fits a frame, with a sender before it.
     ensures limit { IfOk result (λ bytes. length bytes.items ≤ 1 + MAX_BATCH_BYTES) }
 {
-    message.limits_hold();
     let mut out = Vec::new(alloc);
-    put_message(&mut out, message)?;
+    encode_onto(&mut out, message)?;
     Ok(out)
 }

@@ -19,7 +19,10 @@ mod votes;
 
 pub use batch::{Batch, OpenBatch};
 pub use digests::{batch_digest, certificate_digest, genesis_digest, header_digest};
-pub use encoding::{ACK_TAG, BATCH_TAG, CERTIFICATE_TAG, COIN_TAG, HEADER_TAG, VOTE_TAG, encode};
+pub use encoding::{
+    ACK_TAG, BATCH_TAG, CERTIFICATE_TAG, COIN_TAG, HEADER_TAG, VOTE_TAG, encode, encode_onto,
+    encoded_len,
+};
 pub use error::WireError;
 pub use header::{Certificate, Header, HeaderBody, Vote};
 pub use keys::{Author, Digest, Key, Signature};

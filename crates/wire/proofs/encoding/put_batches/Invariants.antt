@@ -1,9 +1,8 @@
-use Rattle.std.proofs.Common.{◌≡◌, ℕ, ◌+◌, ◌*◌, ◌<◌, ◌++◌, length, get_or, take}
+use Rattle.std.proofs.Common.{◌≡◌, ◌+◌, ◌*◌, ◌++◌, length, take}
 use Rattle.std.specs.Int.{w16, to_be_bytes}
 use Rattle.std.specs.List.{flat_map}
-use Rattle.wire.specs.declared.references.BatchReference.{BatchReference}
-use Rattle.wire.specs.References.{IsBatchReference}
 use Rattle.wire.specs.Spelling.{batch_reference_bytes}
+use Rattle.wire.specs.Putting.{Keeps}
 use Rattle.wire.proofs.encoding.put_batches.Given as goal
 
 -- the count and the batches so far were put
@@ -11,4 +10,5 @@ abbrev pub invariant-loop-batch : goal.invariant-loop-batch
 invariant-loop-batch l = record {
   bytes : l.out.items ≡ l.fn.out.items ++ (to_be_bytes w16 (length l.list) ++ flat_map batch_reference_bytes (take l.batch-index l.list));
   len : length l.out.items ≡ length l.fn.out.items + (2 + 34 * l.batch-index);
+  kept : Keeps l.fn.out.items l.out.items;
 }

@@ -1,0 +1,15 @@
+use Rattle.std.proofs.Common.{◌≡◌, ◌+◌, ◌*◌, length, ap, sym, ◌∙◌, arith, subst}
+use Rattle.wire.specs.Spelling.{spelling}
+use Rattle.wire.specs.Grammar.{IsMessage}
+use Rattle.wire.proofs.Lengths.{header_spelled, certificate_spelled}
+use Rattle.wire.proofs.encoding.encoded_len.Goals as goal
+
+pub returns-in-Header-clause-len : goal.returns-in-Header-clause-len
+returns-in-Header-clause-len c =
+    let is = subst IsMessage c.in-Header.is c.limits_hold.ensures in
+    omega (arith, c.header_body_length.ensures.len, header_spelled c.in-Header.header is, ap (λ m. length (spelling m)) c.in-Header.is)
+
+pub returns-in-Certificate-clause-len : goal.returns-in-Certificate-clause-len
+returns-in-Certificate-clause-len c =
+    let is = subst IsMessage c.in-Certificate.is c.limits_hold.ensures in
+    omega (arith, c.header_body_length-in-Certificate.ensures.len, c.len.ensures.value, certificate_spelled c.in-Certificate.certificate is, ap (λ m. length (spelling m)) c.in-Certificate.is)
