@@ -1,1 +1,2 @@
 mod Meeting
+mod NeverDown

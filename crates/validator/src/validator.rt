@@ -1,16 +1,18 @@
 //! The validator.
 
-ghost use Rattle.std.specs.Prelude.{◌≡◌, ◌+◌, ◌≤◌, true, false, None, IfOk, IfSome};
+ghost use Rattle.std.specs.Prelude.{◌≡◌, ◌≢◌, ◌+◌, ◌≤◌, true, false, not, None, IfOk, IfErr, IfSome};
 ghost use Rattle.header.specs.Checks.{fault_of, accepts_all};
 ghost use Rattle.model.specs.Admitting.{admit, is_new, IsLegal};
-ghost use Rattle.model.specs.Giving.{kept};
+ghost use Rattle.model.specs.Giving.{kept, unless_low};
 ghost use Rattle.model.specs.Histories.{History};
-ghost use Rattle.model.specs.Holdings.{order as order_of};
+ghost use Rattle.model.specs.Holdings.{order as order_of, round as round_of, floor as floor_of, voted_digest};
+ghost use Rattle.model.specs.Nodes.{IsNode};
+ghost use Rattle.model.specs.Proposing.{propose as propose_of};
 ghost use Rattle.model.specs.States.{State, floor_in};
-ghost use Rattle.machine.specs.Machine.{answered, after, fresh, is_ready, proposed, round_in};
+ghost use Rattle.machine.specs.Machine.{answered, after, fresh, is_missing_parents, is_ready, proposed, round_in};
 ghost use Rattle.admission.specs.Answers.{IsAnswer, RefusesAs, is_new_step};
 ghost use Rattle.validator.specs.Setting.{node_of};
-ghost use Rattle.validator.specs.Standing.{AreAtSound, GoesOn, IsNewThere};
+ghost use Rattle.validator.specs.Standing.{AreAtSound, GoesOn, IsNewThere, StandSomewhere};
 ghost use Rattle.wire.specs.declared.round.TheConstants.Round.{MAX};
 
 use crate::config::Config;
@@ -66,6 +68,14 @@ impl<'a, S: Sign> Validator<'a, S> {
         })
     }
 
+    /// What holds of each: it is set up as a node, and its tables are those of a sound state. The call does nothing.
+    pub fn limits_hold(&self)
+        ensures node { IsNode (node_of S.own_key S.signature_of self.now.setting) }
+        ensures sound { StandSomewhere (node_of S.own_key S.signature_of self.now.setting) self.now.tables }
+    {
+        self.config.limits_hold();
+    }
+
     /// The committee.
     pub fn committee(&self) -> &Committee
         ensures { result.now ≡ self.now.setting.charter }
@@ -87,6 +97,8 @@ impl<'a, S: Sign> Validator<'a, S> {
             → AreAtSound (node_of S.own_key S.signature_of self.old.setting) self.new.tables (after (node_of S.own_key S.signature_of self.old.setting) state event) }
         ensures same { is_new_step result ≡ false → self.new ≡ self.old }
         ensures setting { self.new.setting ≡ self.old.setting }
+        // It doesn't know of Down.
+        ensures never_down { IfErr result (λ refusal. refusal ≢ Refusal.Down) }
         // Said of a legal history: where the tables are what is kept of it, the answer is that of admission, and behind a new
         // event they are what is kept of the longer one, whose order begins with that from before.
         ensures admits { (history : History) → IsLegal (node_of S.own_key S.signature_of self.old.setting) history
@@ -119,24 +131,34 @@ impl<'a, S: Sign> Validator<'a, S> {
     pub fn round(&self) -> u64
         ensures at { (state : State) → AreAtSound (node_of S.own_key S.signature_of self.now.setting) self.now.tables state
             → result ≡ round_in (node_of S.own_key S.signature_of self.now.setting) state }
+        ensures history { (history : History) → IsLegal (node_of S.own_key S.signature_of self.now.setting) history
+            → AreAtSound (node_of S.own_key S.signature_of self.now.setting) self.now.tables (kept (node_of S.own_key S.signature_of self.now.setting) history)
+            → result ≡ round_of (node_of S.own_key S.signature_of self.now.setting) history }
         ensures limit { result ≤ MAX + 1 }
     {
+        machine::state_proposes();
         self.tables.sequencer().round()
     }
 
     /// The floor: nothing of a lower round is held, and no header, vote or certificate of a round up to it is taken, if it is
     /// above 0.
     pub fn floor(&self) -> Round
-        ensures { (state : State) → AreAtSound (node_of S.own_key S.signature_of self.now.setting) self.now.tables state
+        ensures at { (state : State) → AreAtSound (node_of S.own_key S.signature_of self.now.setting) self.now.tables state
             → result ≡ floor_in (node_of S.own_key S.signature_of self.now.setting) state }
+        ensures history { (history : History) → IsLegal (node_of S.own_key S.signature_of self.now.setting) history
+            → AreAtSound (node_of S.own_key S.signature_of self.now.setting) self.now.tables (kept (node_of S.own_key S.signature_of self.now.setting) history)
+            → result ≡ floor_of (node_of S.own_key S.signature_of self.now.setting) history }
     {
+        machine::state_proposes();
         self.tables.floor()
     }
 
     /// The digest of the header that has the vote of an author and round; an own header has the own one. None for low rounds.
     pub fn voted(&self, author: Author, round: Round) -> Option<Digest>
-        ensures { (state : State) → AreAtSound (node_of S.own_key S.signature_of self.now.setting) self.now.tables state
+        ensures at { (state : State) → AreAtSound (node_of S.own_key S.signature_of self.now.setting) self.now.tables state
             → result ≡ state.votes round author.0 }
+        ensures history { (history : History) → AreAtSound (node_of S.own_key S.signature_of self.now.setting) self.now.tables (kept (node_of S.own_key S.signature_of self.now.setting) history)
+            → result ≡ unless_low (floor_of (node_of S.own_key S.signature_of self.now.setting) history) round (voted_digest history round author.0) }
     {
         assemblies::votes_agree();
         self.tables.voted(author, round)
@@ -145,9 +167,13 @@ impl<'a, S: Sign> Validator<'a, S> {
     /// Whether an event that passed the checks is ready: its answer isn't that a parent is missing.
     pub fn ready(&self, event: &Checked) -> bool
         requires passed { fault_of self.now.setting.charter accepts_all event.now ≡ None }
-        ensures { (state : State) → AreAtSound (node_of S.own_key S.signature_of self.now.setting) self.now.tables state
+        ensures at { (state : State) → AreAtSound (node_of S.own_key S.signature_of self.now.setting) self.now.tables state
             → result ≡ is_ready (node_of S.own_key S.signature_of self.now.setting) state event.now }
+        ensures history { (history : History) → IsLegal (node_of S.own_key S.signature_of self.now.setting) history
+            → AreAtSound (node_of S.own_key S.signature_of self.now.setting) self.now.tables (kept (node_of S.own_key S.signature_of self.now.setting) history)
+            → result ≡ not (is_missing_parents (admit (node_of S.own_key S.signature_of self.now.setting) history event.now)) }
     {
+        machine::state_is_ready();
         self.config.limits_hold();
         event.message().limits_hold();
         is_ready(&self.tables, event)
@@ -156,9 +182,13 @@ impl<'a, S: Sign> Validator<'a, S> {
     /// Whether an event that passed the checks would be new. It takes no memory.
     pub fn is_new(&self, event: &Checked) -> bool
         requires passed { fault_of self.now.setting.charter accepts_all event.now ≡ None }
-        ensures { (state : State) → AreAtSound (node_of S.own_key S.signature_of self.now.setting) self.now.tables state
+        ensures at { (state : State) → AreAtSound (node_of S.own_key S.signature_of self.now.setting) self.now.tables state
             → result ≡ is_new (answered (node_of S.own_key S.signature_of self.now.setting) state event.now) }
+        ensures history { (history : History) → IsLegal (node_of S.own_key S.signature_of self.now.setting) history
+            → AreAtSound (node_of S.own_key S.signature_of self.now.setting) self.now.tables (kept (node_of S.own_key S.signature_of self.now.setting) history)
+            → result ≡ is_new (admit (node_of S.own_key S.signature_of self.now.setting) history event.now) }
     {
+        machine::state_answers();
         self.config.limits_hold();
         event.message().limits_hold();
         is_new(&self.tables, event)
@@ -170,12 +200,16 @@ impl<'a, S: Sign> Validator<'a, S> {
     pub fn propose(&self) -> Result<Option<Header>, AllocError>
         ensures at { IfOk result (λ found. (state : State) → AreAtSound (node_of S.own_key S.signature_of self.now.setting) self.now.tables state
             → found ≡ proposed (node_of S.own_key S.signature_of self.now.setting) state) }
+        ensures history { IfOk result (λ found. (history : History) → IsLegal (node_of S.own_key S.signature_of self.now.setting) history
+            → AreAtSound (node_of S.own_key S.signature_of self.now.setting) self.now.tables (kept (node_of S.own_key S.signature_of self.now.setting) history)
+            → found ≡ propose_of (node_of S.own_key S.signature_of self.now.setting) history) }
         // Taken back as an event, it is new.
         ensures new { IfOk result (λ found. (state : State) → AreAtSound (node_of S.own_key S.signature_of self.now.setting) self.now.tables state
             → IfSome found (IsNewThere (node_of S.own_key S.signature_of self.now.setting) state)) }
     {
         self.config.limits_hold();
         machine::sound_proposes();
+        machine::state_proposes();
         let tables = &self.tables;
         proposal::propose(
             self.alloc,

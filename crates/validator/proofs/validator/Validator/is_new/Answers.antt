@@ -1,8 +1,9 @@
-use Rattle.std.proofs.Common.{◌≡◌, None, ap, subst, ◌∙◌}
+use Rattle.std.proofs.Common.{◌≡◌, None, ap, sym, subst, ◌∙◌}
 use Rattle.wire.specs.Grammar.{IsMessage}
 use Rattle.header.specs.Checks.{fault_of, accepts_all}
 use Rattle.machine.specs.Machine.{answered}
 use Rattle.model.specs.Admitting.{is_new}
+use Rattle.model.specs.Giving.{kept}
 use Rattle.model.specs.Nodes.{Node}
 use Rattle.model.specs.States.{State}
 use Rattle.model.specs.Words.{Message}
@@ -21,8 +22,8 @@ is_new-requires g c =
     let within : IsMessage event.message = subst (λ (m : Message). IsMessage m) c.message.ensures c.limits_hold-2.ensures in
     record { meets = (node, c.self.invariant.0, event, meets_at node c.self.invariant.0 event tables c.limits_hold.ensures within passed c.self.invariant.1) }
 
-pub returns : goal.returns
-returns g c =
+pub returns-clause-at : goal.returns-clause-at
+returns-clause-at g c =
     let node : Node = node_of g.S.Sign.own_key g.S.Sign.signature_of c.self.inside.config.now in
     let tables : Tables = c.self.inside.tables in
     let event = c.args.event.now in
@@ -31,3 +32,10 @@ returns g c =
     subst (λ v. (state : State) → AreAtSound (node_of g.S.Sign.own_key g.S.Sign.signature_of v.setting) v.tables state
     → c.is_new.result ≡ is_new (answered (node_of g.S.Sign.own_key g.S.Sign.signature_of v.setting) state event)) c.self.view_is
     (λ state is. c.is_new.ensures node state (meets_at node state event tables c.limits_hold.ensures within passed is))
+
+pub returns-clause-history : goal.returns-clause-history
+returns-clause-history g c = λ history legal is.
+    let node : Node = node_of g.S.Sign.own_key g.S.Sign.signature_of c.args.self.now.setting in
+    let event = c.args.event.now in
+    let within : IsMessage event.message = subst (λ (m : Message). IsMessage m) c.message.ensures c.limits_hold-2.ensures in
+    returns-clause-at g c (kept node history) is ∙ ap is_new (sym (c.state_answers.ensures node history event legal (record { message = within; passed = c.requires.passed })))

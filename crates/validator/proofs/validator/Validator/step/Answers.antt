@@ -5,7 +5,7 @@ use Rattle.model.specs.Admitting.{admit, IsLegal}
 use Rattle.model.specs.Giving.{kept}
 use Rattle.model.specs.Histories.{History}
 use Rattle.model.specs.declared.admission.Admission.{Admission}
-use Rattle.machine.specs.Machine.{answered, after}
+use Rattle.machine.specs.Machine.{answered, after, grown}
 use Rattle.model.specs.Nodes.{Node}
 use Rattle.model.specs.States.{State}
 use Rattle.model.specs.Words.{Digest, Message, Signature}
@@ -14,6 +14,7 @@ use Rattle.tables.specs.Standing.{Meets}
 use Rattle.tables.specs.declared.tables.Tables.{Tables}
 use Rattle.validator.specs.Setting.{node_of}
 use Rattle.validator.specs.Standing.{AreAtSound, GoesOn}
+use Rattle.validator.proofs.NeverDown.{never_down, comes_up}
 use Rattle.validator.proofs.Meeting.{meets_at, behind, stands, answered_new, goes_on}
 use Rattle.validator.proofs.validator.Validator.step.Goals as goal
 
@@ -119,3 +120,15 @@ returns-clause-longer g c = λ new.
     goes_on c.state_answers.ensures c.state_follows.ensures c.sound_stays.ensures c.order_grows.ensures node history event c.take.new.tables legal (record { message = within; passed = passed })
     (answered_new (answered node (kept node history) event) c.take.result (c.take.ensures.answer node (kept node history) (meets (kept node history) is) signs) new)
     (behind c.sound_stays.ensures node (kept node history) event tables c.take.new.tables sign c.take.result (meets (kept node history) is) signs c.take.ensures.answer (c.take.ensures.at new) new))
+
+pub returns-clause-never_down : goal.returns-clause-never_down
+returns-clause-never_down g c =
+    let node : Node = node_of g.S.Sign.own_key g.S.Sign.signature_of c.self.inside.config.now in
+    let state : State = c.self.invariant.0 in
+    let event = c.args.event in
+    let sign : Digest → Signature = g.S.Sign.signature_of c.signer.result.now in
+    let signs : node.sign ≡ sign = ap g.S.Sign.signature_of (sym c.signer.ensures) in
+    let passed : fault_of node.charter accepts_all event ≡ None = ap (λ v. fault_of v.setting.charter accepts_all event) c.self.view_is ∙ c.requires.passed in
+    let within : IsMessage event.message = subst (λ (m : Message). IsMessage m) c.message.ensures c.limits_hold-2.ensures in
+    let meets = meets_at node state event c.self.inside.tables c.limits_hold.ensures within passed c.self.invariant.1 in
+    comes_up (answered node state event) c.take.result (c.take.ensures.answer node state meets signs) (never_down node state (grown node state event.message) event)
