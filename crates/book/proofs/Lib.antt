@@ -1,3 +1,10 @@
-pub mod Longest
-pub mod Each
-pub mod Only
+mod Drafts
+mod Due
+mod Lengths
+mod Accepting
+mod Flushing
+mod Packs
+mod Stepping
+mod Queueing
+mod Releasing
+mod Accepted

@@ -1,5 +1,5 @@
-pub mod Admission
-pub mod Step
 pub mod Pending
+pub mod OneDraft
 pub mod Queue
 pub mod Book
+pub mod Steps

@@ -1,15 +1,48 @@
--- The longest beginning of a list of records that fits a group.
-use Rattle.std.specs.Prelude.{◌≡◌, ℕ, ◌+◌, ◌≤◌, List, [], ◌∷◌, ◌++◌, length, All}
-use Rattle.journal.specs.declared.layout.TheConstants.{LENGTH_BYTES, MAX_GROUP_BYTES}
-use Rattle.journal.specs.Format.{FitsGroup}
+-- Records that are pending, group by group.
+use Rattle.std.specs.Prelude.{◌≡◌, ◌⊎◌, ℕ, ◌≤◌, List, [], ◌∷◌, ◌++◌, length, flat_map, ⊤}
+use Rattle.journal.specs.declared.layout.TheConstants.{LENGTH_BYTES, MAX_GROUP_BYTES, MAX_GROUP_RECORDS}
+use Rattle.journal.specs.Format.{FitsGroup, body_len, body_bytes}
 
--- each record fits a group by itself
-abbrev pub EachFits : List (List ℕ) → Type 0
-EachFits records = All (λ bytes. LENGTH_BYTES + length bytes ≤ MAX_GROUP_BYTES) records
+-- room for the length of a body, and then the body of these records, which are so many, within the limits of a group
+pub record IsDraft (bytes : List ℕ) (count : ℕ) : Type 0 where
+  pub records : List (List ℕ)
+  pub not_many : length records ≤ MAX_GROUP_RECORDS
+  pub not_long : body_len records ≤ MAX_GROUP_BYTES
+  pub front : List ℕ
+  pub room : length front ≡ LENGTH_BYTES
+  pub written : bytes ≡ front ++ body_bytes records
+  pub counts : count ≡ length records
 
--- the group and the rest are the records, the group fits, if there is any record, and with the next
--- record it wouldn't
+-- the group and the rest are the records, the group fits, and with the next record it wouldn't
 pub record IsLongestBeginning (records group rest : List (List ℕ)) : Type 0 where
   pub parts : records ≡ group ++ rest
   pub fits : FitsGroup group
   pub longest : (next : List ℕ) (others : List (List ℕ)) → rest ≡ next ∷ others → FitsGroup (group ++ next ∷ []) → ⊥
+
+-- a group could not take the first record of the next one
+abbrev pub IsFullBefore : List (List ℕ) → List (List ℕ) → Type 0
+IsFullBefore group [] = ⊥
+IsFullBefore group (first ∷ others) = FitsGroup (group ++ first ∷ []) → ⊥
+
+-- groups, each of which fits and could not take the first record of the next one
+abbrev pub ArePacked : List (List (List ℕ)) → Type 0
+ArePacked [] = ⊤
+ArePacked (last ∷ []) = FitsGroup last
+ArePacked (group ∷ next ∷ others) = FitsGroup group × IsFullBefore group next × ArePacked (next ∷ others)
+
+-- the records of groups, one behind the other
+abbrev pub all_records : List (List (List ℕ)) → List (List ℕ)
+all_records groups = flat_map (λ group. group) groups
+
+-- a record of this length fits the last group
+abbrev pub HasRoom : List (List (List ℕ)) → ℕ → Type 0
+HasRoom groups len = (front : List (List (List ℕ))) × (last : List (List ℕ)) × (groups ≡ front ++ last ∷ [])
+    × ((bytes : List ℕ) → length bytes ≡ len → FitsGroup (last ++ bytes ∷ []))
+
+-- there is no group, or a record of this length doesn't fit the last one
+abbrev pub HasNoRoom : List (List (List ℕ)) → ℕ → Type 0
+HasNoRoom groups len = (groups ≡ []) ⊎ IsFullLast
+  where
+    IsFullLast : Type 0
+    IsFullLast = (front : List (List (List ℕ))) × (last : List (List ℕ)) × (groups ≡ front ++ last ∷ [])
+        × ((bytes : List ℕ) → length bytes ≡ len → FitsGroup (last ++ bytes ∷ []) → ⊥)

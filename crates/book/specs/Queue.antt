@@ -1,12 +1,31 @@
--- The outputs that wait, each with its ticket.
-use Rattle.std.specs.Prelude.{ℕ, List, map}
-use Rattle.wire.specs.declared.output.Output.{Output}
+-- The outputs that wait, each with its ticket, and how long the order is at which ticket.
+use Rattle.std.specs.Prelude.{◌≡◌, ◌≢◌, ◌≤◌, ⊤, ℕ, nat_le, All, Option, Some, None, List, [], ◌∷◌, flat_map, if◌then◌else◌}
+use Rattle.model.specs.Words.{Output}
+use Rattle.world.specs.World.{Waiting}
+use Rattle.world.specs.Steps.{ticketed}
 use Rattle.book.specs.declared.queue.Queued.{Queued}
+use Rattle.book.specs.declared.reached.Reached.{Reached}
 
--- the outputs with their tickets, oldest first
-abbrev pub queue_of : List Queued → List (ℕ × Output)
-queue_of queue = map (λ queued. (queued.ticket, queued.output)) queue
+-- the outputs of these events, oldest first
+abbrev pub queue_of : List Queued → List Waiting
+queue_of events = flat_map (λ queued. ticketed queued.ticket queued.outputs.items) events
 
--- these outputs, each with this ticket
-abbrev pub ticketed : ℕ → List Output → List (ℕ × Output)
-ticketed ticket outputs = map (λ output. (ticket, output)) outputs
+-- tickets don't fall
+abbrev pub TicketsRise : List Waiting → Type 0
+TicketsRise [] = ⊤
+TicketsRise (first ∷ rest) = All (λ waiting. first.ticket ≤ waiting.ticket) rest × TicketsRise rest
+
+-- an event in the queue has an output
+abbrev pub HasOutput : Queued → Type 0
+HasOutput queued = queued.outputs.items ≢ []
+
+-- the first output, if all that it rests on is settled
+abbrev pub settled_head : ℕ → List Waiting → Option Output
+settled_head settled [] = None
+settled_head settled (first ∷ rest) = if nat_le first.ticket settled then Some first.output else None
+
+-- how long the order is at so many records, where it has this length at first, and from each of these tickets on the one that
+-- stands with it
+abbrev pub length_at : ℕ → ℕ → List Reached → ℕ
+length_at count length [] = length
+length_at count length (reached ∷ others) = if nat_le reached.ticket count then length_at count reached.length others else length

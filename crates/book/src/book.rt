@@ -1,21 +1,24 @@
 //! The book.
 
-ghost use Rattle.std.specs.Prelude.{◌≡◌, ◌+◌, ◌≤◌, ◌^◌, length};
-ghost use Rattle.journal.specs.Format.{contents};
-ghost use Rattle.book.specs.Pending.{EachFits};
+ghost use Rattle.std.specs.Prelude.{◌≡◌, ◌+◌, ◌≤◌, ◌<◌, ◌^◌, ◌++◌, ◌∷◌, [], length, IfErr, OnOk, OnErr};
+ghost use Rattle.std.specs.VecDeque.{deque_len, deque_capacity};
+ghost use Rattle.journal.specs.declared.layout.TheConstants.{LENGTH_BYTES, MAX_GROUP_BYTES};
+ghost use Rattle.records.specs.Records.{record_of};
 ghost use Rattle.book.specs.declared.book.TheConstants.{MAX_ACCEPTED};
 
-use crate::pending::{drop_front, first_group, push_record, record_of};
-use crate::queue::{Queued, enqueue};
-use crate::refusal::Refusal;
-use crate::validator::{Step, Validator};
+use crate::pending::Pending;
+use crate::queue::{Queued, dequeue, enqueue, has_settled_head};
+use crate::reached::{Reached, leave_to, note_order};
+use crate::record::record_len;
 use committee::Committee;
 use header::Checked;
 use journal::{Group, Synced};
 use sigface::Sign;
 use std::alloc::{AllocError, Global};
 use std::collections::VecDeque;
-use wire::Output;
+use std::marker::Model;
+use validator::{Refusal, Step, Validator};
+use wire::{Digest, Output};
 
 /// Records that one run may accept.
 pub const MAX_ACCEPTED: u64 = 1 << 48;
@@ -25,165 +28,349 @@ pub fn limits_in_numbers()
     ensures accepted { MAX_ACCEPTED ≡ 2 ^ 48 }
 {}
 
-/// Outputs of one event, at most.
-const MAX_OUTPUTS: usize = 1;
-
 /// What an accepted event is answered.
 #[derive(Clone, Copy, Debug, PartialEq, Eq)]
 pub struct Receipt {
     /// How many records were accepted in this run, with this one if it is new. The event's outputs go out
     /// once so many are settled.
     pub ticket: u64,
-    /// Whether the event is new; else it was accepted before.
+    /// Whether the event is new; else it is known.
     pub new: bool,
 }
 
-/// The value under the lock. Since the run's start so many records were accepted and so many settled; between
-/// the two stand those that were taken, and those that are pending.
+/// The value under the lock. Since the run's start so many records were accepted, so many of these taken, and so many
+/// settled; those that weren't taken are pending.
 #[derive(Drop)]
-pub struct Book<S: Sign> {
+pub struct Book<'a, S: Sign> {
     alloc: Global,
-    validator: Validator<S>,
-    pending: Vec<Vec<u8>>,
+    validator: Validator<'a, S>,
+    pending: Pending,
     queue: VecDeque<Queued>,
+    reached: VecDeque<Reached>,
     accepted: u64,
+    taken: u64,
     settled: u64,
+    // How long the order is behind the settled records.
+    ordered: u64,
     down: bool,
-    ghost each_fits: { EachFits (contents pending.items) },
-    ghost few: { accepted ≤ MAX_ACCEPTED },
-    ghost order: { settled + length pending.items ≤ accepted },
 }
 
-impl<S: Sign> Book<S> {
-    ghost use Rattle.std.specs.Prelude.{◌≢◌, ◌⊎◌, ◌∷◌, [], ◌++◌, ◌<◌, false, true, take, drop, IsTrue, IsNone, IsSome, None, IfOk, IfErr, IfSome, OnOk, OnErr, IsErrOf, MatchOption, MatchResult, ◌↔◌, is_some, if◌then◌else◌};
-    ghost use Rattle.std.specs.FinMap as map;
+impl<'a, S: Sign> Model for Book<'a, S> {
+    ghost use Rattle.std.specs.Prelude.{◌≡◌, ◌+◌, ◌≤◌, All, length};
+    ghost use Rattle.std.specs.Coded.{codes};
+    ghost use Rattle.votebook.specs.contracts.book.VoteBook as votes;
+    ghost use Rattle.book.specs.Book.{Shown};
+    ghost use Rattle.book.specs.Queue.{queue_of, HasOutput};
+    ghost use Rattle.book.specs.declared.book.TheConstants.{MAX_ACCEPTED};
+
+    ghost Value = { Shown S };
+
+    ghost coded = { Prim.hlevel (codes, S.code, votes.the_row.coded) };
+
+    ghost view = { λ b. record { validator = b.validator; pending = b.pending; queue = queue_of b.queue.items; accepted = b.accepted; taken = b.taken; settled = b.settled; ordered = b.ordered; reached = b.reached.items; down = b.down } };
+
+    ghost invariant = { λ b. (b.accepted ≤ MAX_ACCEPTED) × (b.taken + length b.pending ≡ b.accepted) × All HasOutput b.queue.items };
+}
+
+impl<'a, S: Sign> Book<'a, S> {
+    ghost use Rattle.std.specs.Prelude.{◌≢◌, ◌⊎◌, ◌∷◌, [], ◌++◌, ◌+◌, ◌≤◌, true, false, length, map, take, drop, IsTrue, IsNone, Ok, IfOk, IfErr, IfSome, OnErr, IsErrOf, ◌↔◌, is_some, if◌then◌else◌, List, ℕ};
     ghost use Rattle.header.specs.Checks.{fault_of, accepts_all};
-    ghost use Rattle.book.specs.declared.validator.Admission.TheVariants.{New, Known};
-    ghost use Rattle.book.specs.Admission.{Admits, IsKnownKind};
-    ghost use Rattle.book.specs.Book.{standing, with_new, with_known, releasable, MayAnswer};
+    ghost use Rattle.laws.specs.Laws.{Begins};
+    ghost use Rattle.model.specs.Giving.{kept};
+    ghost use Rattle.model.specs.Holdings.{order as order_of, round as round_of};
+    ghost use Rattle.model.specs.Histories.{History};
+    ghost use Rattle.model.specs.Admitting.{IsLegal};
+    ghost use Rattle.validator.specs.Setting.{node_of};
+    ghost use Rattle.validator.specs.Standing.{AreAtSound};
     ghost use Rattle.book.specs.Pending.{IsLongestBeginning};
+    ghost use Rattle.book.specs.Book.{Run, Stands, run_on, history_in, settled_in, with_taken, with_settled, TakesNew, TakesKnown, MayRefuse, IsFull, HasPlace, releasable, SettlesNext, GoesOutSettled};
 
     /// A book over this validator that has accepted nothing.
-    pub fn new(alloc: Global, validator: Validator<S>) -> Book<S>
-        ensures { standing result ≡ record { signs = S.signature_of validator.signer; charter = validator.committee; validator = validator.tables; pending = []; queue = []; accepted = 0; settled = 0; down = false } }
+    pub fn new(alloc: Global, validator: Validator<'a, S>) -> Book<'a, S>
+        ensures stands { (began : History) → IsLegal (node_of S.own_key S.signature_of validator.entry.setting) began
+            → AreAtSound (node_of S.own_key S.signature_of validator.entry.setting) validator.entry.tables (kept (node_of S.own_key S.signature_of validator.entry.setting) began)
+            → Stands (node_of S.own_key S.signature_of validator.entry.setting) (run_on began) result }
+        ensures validator { result.validator ≡ validator.entry }
+        ensures pending { result.pending ≡ [] }
+        ensures queue { result.queue ≡ [] }
+        ensures up { result.down ≡ false }
     {
+        let ordered = validator.order().len() as u64;
         Book {
             alloc,
             validator,
-            pending: Vec::new(alloc),
+            pending: Pending::new(alloc),
             queue: VecDeque::new(alloc),
+            reached: VecDeque::new(alloc),
             accepted: 0,
+            taken: 0,
             settled: 0,
+            ordered,
             down: false,
         }
     }
 
+    /// Its validator, which stands at all that was accepted.
+    pub fn validator(&self) -> &Validator<'a, S>
+        ensures { result.now ≡ self.now.validator }
+    {
+        &self.validator
+    }
+
     /// The committee of its validator.
     pub fn committee(&self) -> &Committee
-        ensures { result.now ≡ (standing self.now).charter }
+        ensures { result.now ≡ self.now.validator.setting.charter }
     {
         self.validator.committee()
     }
 
     /// Takes an event, which passed the checks under the book's committee. A new one gets a record, which is
-    /// pending from now on; its outputs, and those of an event that was accepted before, go out once all that was
-    /// accepted is settled. A refusal changes nothing.
+    /// pending from now on; its outputs, and those of a known event, go out once all that was accepted is settled. A
+    /// refusal changes nothing.
     pub fn accept(&mut self, event: Checked) -> Result<Receipt, Refusal>
-        requires kind { IsKnownKind (standing self.old).validator.own event }
-        requires passed { fault_of (standing self.old).charter accepts_all event ≡ None }
-        // It is down exactly where it was told so.
-        ensures down { IsErrOf result Refusal.Down ↔ IsTrue (standing self.old).down }
-        ensures new { IfOk result (λ receipt. IsTrue receipt.new → Admits (standing self.old).validator event New × (standing self.new ≡ with_new (standing self.old) event)) }
-        ensures known { IfOk result (λ receipt. receipt.new ≡ false → Admits (standing self.old).validator event Known × (standing self.new ≡ with_known (standing self.old) event)) }
-        ensures ticket { IfOk result (λ receipt. receipt.ticket ≡ (standing self.new).accepted) }
-        ensures refused { IfErr result (MayAnswer (standing self.old) event) }
-        ensures err { OnErr result (standing self.new ≡ standing self.old) }
+        requires passed { fault_of self.old.validator.setting.charter accepts_all event ≡ None }
+        // It answers Down exactly where the book is down.
+        ensures down { IsErrOf result Refusal.Down ↔ IsTrue self.old.down }
+        ensures new { IfOk result (λ receipt. receipt.new ≡ true → TakesNew (node_of S.own_key S.signature_of self.old.validator.setting) self.old self.new event) }
+        ensures known { IfOk result (λ receipt. receipt.new ≡ false → TakesKnown (node_of S.own_key S.signature_of self.old.validator.setting) self.old self.new event) }
+        ensures ticket { IfOk result (λ receipt. receipt.ticket ≡ self.new.accepted) }
+        ensures limit { IfOk result (λ receipt. receipt.ticket ≤ MAX_ACCEPTED) }
+        ensures refused { IfErr result (λ refusal. (run : Run) → Stands (node_of S.own_key S.signature_of self.old.validator.setting) run self.old
+            → MayRefuse (node_of S.own_key S.signature_of self.old.validator.setting) run self.old event refusal) }
+        ensures err { OnErr result (self.new ≡ self.old) }
+        ensures setting { self.new.validator.setting ≡ self.old.validator.setting }
     {
+        laws::outputs_given();
+        event.message().limits_hold();
         if self.down {
             return Err(Refusal::Down);
         }
-        if self.accepted == MAX_ACCEPTED && self.validator.is_new(&event) {
+        if self.has_no_place(&event) {
             return Err(Refusal::StoreFull);
         }
+        let len = record_len(&event);
         // What can fail comes first.
-        let record = record_of(self.alloc, &event)?;
-        self.pending.reserve(1)?;
-        self.queue.reserve(MAX_OUTPUTS)?;
-        match self.validator.step(event)? {
-            Step::New(outputs) => {
+        make_room(
+            &mut self.pending,
+            &mut self.queue,
+            &mut self.reached,
+            &event,
+            len,
+        )?;
+        let ordered = self.validator.order().len();
+        match self.validator.step(event) {
+            Ok(Step::New(outputs)) => {
                 self.accepted += 1;
-                push_record(&mut self.pending, record);
+                note_order(
+                    &mut self.reached,
+                    self.accepted,
+                    ordered,
+                    self.validator.order().len(),
+                );
                 enqueue(&mut self.queue, self.accepted, outputs);
                 Ok(Receipt {
                     ticket: self.accepted,
                     new: true,
                 })
             }
-            Step::Known(outputs) => {
+            Ok(Step::Known(outputs)) => {
+                self.pending.take_back(len);
                 enqueue(&mut self.queue, self.accepted, outputs);
                 Ok(Receipt {
                     ticket: self.accepted,
                     new: false,
                 })
             }
+            Err(refusal) => {
+                self.pending.take_back(len);
+                Err(refusal)
+            }
         }
     }
 
-    /// Takes the longest beginning of the pending records that fits a group; `None` where nothing is pending.
-    /// Where memory is refused, nothing was taken.
-    pub fn take(&mut self) -> Result<Option<Group>, AllocError>
-        ensures none { IfOk result (λ group. IsNone group ↔ ((standing self.old).pending ≡ [])) }
-        ensures group { IfOk result (λ group. IfSome group (λ group. IsLongestBeginning (standing self.old).pending group (standing self.new).pending)) }
-        ensures room { IfOk result (λ group. IfSome group (λ group. (standing self.new).settled + length group + length (standing self.new).pending ≤ (standing self.new).accepted)) }
-        ensures rest { standing self.new ≡ record (standing self.old) { pending = (standing self.new).pending } }
-        ensures nothing { IfOk result (λ group. IsNone group → standing self.new ≡ standing self.old) }
-        ensures err { OnErr result (standing self.new ≡ standing self.old) }
+    // Whether an event would be new, and the run can accept no more.
+    fn has_no_place(&self, event: &Checked) -> bool
+        requires passed { fault_of self.now.validator.setting.charter accepts_all event.now ≡ None }
+        ensures full { result ≡ true → (run : Run) → Stands (node_of S.own_key S.signature_of self.now.validator.setting) run self.now → IsFull (node_of S.own_key S.signature_of self.now.validator.setting) run self.now event.now }
+        ensures room { result ≡ false → HasPlace (node_of S.own_key S.signature_of self.now.validator.setting) self.now event.now }
     {
-        if self.pending.is_empty() {
+        self.validator.limits_hold();
+        self.accepted == MAX_ACCEPTED && self.validator.is_new(event)
+    }
+
+    /// Takes the longest beginning of the pending records that fits a group; `None` where nothing is pending. `AllocError` where a
+    /// growth was refused: nothing was taken then.
+    pub fn take(&mut self) -> Result<Option<Group>, AllocError>
+        ensures none { IfOk result (λ group. IsNone group ↔ (self.old.pending ≡ [])) }
+        ensures group { IfOk result (λ group. IfSome group (λ group. IsLongestBeginning self.old.pending group self.new.pending)) }
+        ensures taken { IfOk result (λ group. IfSome group (λ group. self.new ≡ record self.old { pending = self.new.pending; taken = self.old.taken + length group })) }
+        ensures stands { IfOk result (λ group. IfSome group (λ group. (run : Run) → Stands (node_of S.own_key S.signature_of self.old.validator.setting) run self.old
+            → Stands (node_of S.own_key S.signature_of self.old.validator.setting) (with_taken run (length group)) self.new)) }
+        // It has the records of exactly the events that are taken.
+        ensures records { IfOk result (λ group. IfSome group (λ group. (run : Run) → Stands (node_of S.own_key S.signature_of self.old.validator.setting) run self.old
+            → group ≡ map record_of (drop (length run.taken) (with_taken run (length group)).taken))) }
+        ensures nothing { IfOk result (λ group. IsNone group → self.new ≡ self.old) }
+        ensures err { OnErr result (self.new ≡ self.old) }
+    {
+        let Some(group) = self.pending.take()? else {
             return Ok(None);
-        }
-        let group = first_group(self.alloc, &self.pending)?;
-        drop_front(&mut self.pending, group.records_count() as usize);
+        };
+        self.taken += group.records_count();
         Ok(Some(group))
     }
 
     /// Whether a record is pending.
     pub fn has_pending(&self) -> bool
-        ensures { IsTrue result ↔ ((standing self.now).pending ≢ []) }
+        ensures { IsTrue result ↔ (self.now.pending ≢ []) }
     {
         !self.pending.is_empty()
     }
 
-    /// Says that a group is on the disk: the one that was taken first of those that aren't settled.
+    /// Says that records are on the disk: those that were taken first of what isn't settled.
     pub fn settle(&mut self, synced: Synced)
-        requires { (standing self.old).settled + synced + length (standing self.old).pending ≤ (standing self.old).accepted }
-        ensures { standing self.new ≡ record (standing self.old) { settled = (standing self.old).settled + synced } }
+        requires { SettlesNext (node_of S.own_key S.signature_of self.old.validator.setting) self.old synced }
+        ensures stands { (run : Run) → Stands (node_of S.own_key S.signature_of self.old.validator.setting) run self.old
+            → Begins synced (map record_of (drop (length run.settled) run.taken))
+            → Stands (node_of S.own_key S.signature_of self.old.validator.setting) (with_settled run (length synced)) self.new }
+        ensures settled { self.new.settled ≡ self.old.settled + length synced }
+        ensures rest { self.new ≡ record self.old { settled = self.new.settled; ordered = self.new.ordered; reached = self.new.reached } }
     {
         self.settled += synced.records();
+        self.ordered = leave_to(&mut self.reached, self.settled, self.ordered);
     }
 
     /// The first output, if all the records that it rests on are settled and the book isn't down.
     pub fn release(&mut self) -> Option<Output>
-        ensures output { result ≡ releasable (standing self.old) }
-        ensures queue { standing self.new ≡ (if is_some result then record (standing self.old) { queue = drop 1 (standing self.old).queue } else standing self.old) }
+        ensures output { result ≡ releasable self.old }
+        ensures queue { self.new ≡ (if is_some result then record self.old { queue = drop 1 self.old.queue } else self.old) }
+        ensures stands { (run : Run) → Stands (node_of S.own_key S.signature_of self.old.validator.setting) run self.old
+            → Stands (node_of S.own_key S.signature_of self.old.validator.setting) run self.new }
+        // What it gives may be given out behind what is settled.
+        ensures goes_out { IfSome result (λ output. (run : Run) → Stands (node_of S.own_key S.signature_of self.old.validator.setting) run self.old
+            → GoesOutSettled (node_of S.own_key S.signature_of self.old.validator.setting) run output) }
     {
-        if self.down || self.queue.front()?.ticket > self.settled {
+        laws::given_grows();
+        if self.down {
             return None;
         }
-        self.queue.pop_front().map(|queued| queued.output)
+        if !has_settled_head(&self.queue, self.settled) {
+            return None;
+        }
+        dequeue(&mut self.queue)
     }
 
-    /// Says that a device call failed. From now on nothing is accepted or released.
+    /// Takes the book down, as where a device call failed or the journal is full. From now on nothing is accepted or released.
     pub fn fail(&mut self)
-        ensures { standing self.new ≡ record (standing self.old) { down = true } }
+        ensures down { self.new ≡ record self.old { down = true } }
+        ensures stands { (run : Run) → Stands (node_of S.own_key S.signature_of self.old.validator.setting) run self.old
+            → Stands (node_of S.own_key S.signature_of self.old.validator.setting) run self.new }
     {
         self.down = true;
     }
 
     /// Whether `fail` was called.
     pub fn is_down(&self) -> bool
-        ensures { result ≡ (standing self.now).down }
+        ensures { result ≡ self.now.down }
     {
         self.down
     }
+
+    /// How many records were accepted in this run.
+    pub fn accepted(&self) -> u64
+        ensures value { result ≡ self.now.accepted }
+        ensures limit { result ≤ MAX_ACCEPTED }
+    {
+        self.accepted
+    }
+
+    /// How many of these were taken.
+    pub fn taken(&self) -> u64
+        ensures { result ≡ self.now.taken }
+    {
+        self.taken
+    }
+
+    /// How many of these are settled.
+    pub fn settled(&self) -> u64
+        ensures { result ≡ self.now.settled }
+    {
+        self.settled
+    }
+
+    /// The validator's round, behind all that was accepted.
+    pub fn round_now(&self) -> u64
+        ensures { (run : Run) → Stands (node_of S.own_key S.signature_of self.now.validator.setting) run self.now
+            → result ≡ round_of (node_of S.own_key S.signature_of self.now.validator.setting) (history_in run) }
+    {
+        self.validator.round()
+    }
+
+    /// The order behind the settled records, from this place on: the digests of the certificates that are ordered. It is empty past
+    /// its end.
+    ///
+    /// # Errors
+    /// `Down` where the book is down, `Memory` where a growth was refused.
+    pub fn order(&self, from: u64) -> Result<Vec<Digest>, Refusal>
+        ensures order { IfOk result (λ digests. (run : Run) → Stands (node_of S.own_key S.signature_of self.now.validator.setting) run self.now
+            → digests.items ≡ drop from (order_of (node_of S.own_key S.signature_of self.now.validator.setting) (settled_in run))) }
+        ensures down { IsErrOf result Refusal.Down ↔ IsTrue self.now.down }
+        ensures errors { IfErr result (λ refusal. (refusal ≡ Refusal.Down) ⊎ (refusal ≡ Refusal.Memory)) }
+    {
+        laws::order_grows();
+        if self.down {
+            return Err(Refusal::Down);
+        }
+        let order = self.validator.order();
+        let end = order.len().min(self.ordered as usize);
+        let start = end.min(from as usize);
+        match order[start..end].to_vec(self.alloc) {
+            Ok(digests) => Ok(digests),
+            Err(_) => Err(Refusal::Memory),
+        }
+    }
+}
+
+// Puts the record of an event behind the others, and makes room for its outputs and for how long the order then is.
+fn make_room(
+    pending: &mut Pending,
+    queue: &mut VecDeque<Queued>,
+    reached: &mut VecDeque<Reached>,
+    event: &Checked,
+    len: usize,
+) -> Result<(), Refusal>
+    requires short { LENGTH_BYTES + len ≤ MAX_GROUP_BYTES }
+    requires len { len ≡ length (record_of event.now) }
+    ensures ok { OnOk result (pending.new ≡ pending.old ++ record_of event.now ∷ []) }
+    ensures err { OnErr result (pending.new ≡ pending.old) }
+    ensures errors { IfErr result (λ refusal. refusal ≡ Refusal.Memory) }
+    ensures queue { queue.new.items ≡ queue.old.items }
+    ensures reached { reached.new.items ≡ reached.old.items }
+    ensures queue_room { OnOk result (deque_len queue.new < deque_capacity queue.new) }
+    ensures reached_room { OnOk result (deque_len reached.new < deque_capacity reached.new) }
+{
+    match put_with_room(pending, queue, reached, event, len) {
+        Ok(()) => Ok(()),
+        Err(_) => Err(Refusal::Memory),
+    }
+}
+
+fn put_with_room(
+    pending: &mut Pending,
+    queue: &mut VecDeque<Queued>,
+    reached: &mut VecDeque<Reached>,
+    event: &Checked,
+    len: usize,
+) -> Result<(), AllocError>
+    requires short { LENGTH_BYTES + len ≤ MAX_GROUP_BYTES }
+    requires len { len ≡ length (record_of event.now) }
+    ensures ok { OnOk result (pending.new ≡ pending.old ++ record_of event.now ∷ []) }
+    ensures err { OnErr result (pending.new ≡ pending.old) }
+    ensures queue { queue.new.items ≡ queue.old.items }
+    ensures reached { reached.new.items ≡ reached.old.items }
+    ensures queue_room { OnOk result (deque_len queue.new < deque_capacity queue.new) }
+    ensures reached_room { OnOk result (deque_len reached.new < deque_capacity reached.new) }
+{
+    queue.reserve(1)?;
+    reached.reserve(1)?;
+    pending.put(event, len)
 }

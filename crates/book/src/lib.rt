@@ -3,12 +3,14 @@
 #![tactic(auto)]
 
 mod book;
+mod draft;
 mod pending;
 mod queue;
-mod refusal;
-mod validator;
+mod reached;
+mod record;
+mod steps;
 
 pub use book::{Book, MAX_ACCEPTED, Receipt, limits_in_numbers};
-pub use pending::EVENT_RECORD;
-pub use refusal::Refusal;
-pub use validator::{Admission, Step, Validator};
+pub use record::EVENT_RECORD;
+pub use steps::{accept_is_a_step, release_is_a_step, settle_is_a_step, take_is_a_step};
+pub use validator::Refusal;

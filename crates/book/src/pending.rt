@@ -1,101 +1,152 @@
-//! Records that were accepted and not yet taken.
+//! Records that were accepted and not yet taken, group by group.
 
-ghost use Rattle.std.specs.Prelude.{◌≡◌, ◌++◌, ◌∷◌, [], vec_len, vec_capacity, ◌+◌, ◌<◌, ◌≤◌, ◌↔◌, IsTrue, length, take, drop, IfOk};
-ghost use Rattle.journal.specs.Format.{contents};
-ghost use Rattle.records.specs.Records.{record_of as record_bytes};
-ghost use Rattle.book.specs.Pending.{EachFits, IsLongestBeginning};
+ghost use Rattle.std.specs.Prelude.{◌≡◌, ◌+◌, ◌≤◌, ◌++◌, ◌∷◌, [], true, false, List, ℕ, length, IsTrue, IsNone, IfOk, IfSome, OnOk, OnErr, ◌↔◌};
+ghost use Rattle.journal.specs.declared.layout.TheConstants.{LENGTH_BYTES, MAX_GROUP_BYTES};
+ghost use Rattle.records.specs.Records.{record_of};
+ghost use Rattle.book.specs.Pending.{ArePacked, IsLongestBeginning, all_records, HasRoom, HasNoRoom};
 
+use crate::draft::Draft;
 use header::Checked;
-use journal::{Group, LENGTH_BYTES, MAX_GROUP_BYTES, MAX_GROUP_RECORDS};
+use journal::Group;
 use std::alloc::{AllocError, Global};
-use wire::encode;
-use wire::numbers::two_bytes;
+use std::collections::VecDeque;
+use std::marker::Model;
 
-/// What a record of an event begins with.
-pub const EVENT_RECORD: u8 = 1;
-
-/// The bytes of an event's record before its message: the kind and the sender.
-const EVENT_FRONT_BYTES: usize = 3;
-
-/// The record of an event: its kind, the sender, the message.
-pub fn record_of(alloc: Global, event: &Checked) -> Result<Vec<u8>, AllocError>
-    ensures bytes { IfOk result (λ bytes. bytes.items ≡ record_bytes event.now) }
-    ensures fits { IfOk result (λ bytes. LENGTH_BYTES + length bytes.items ≤ MAX_GROUP_BYTES) }
-{
-    let message = encode(alloc, event.message())?;
-    let mut record = Vec::with_capacity(alloc, EVENT_FRONT_BYTES + message.len())?;
-    record.push(EVENT_RECORD)?;
-    record.extend_from_slice(&two_bytes(event.sender().0))?;
-    record.extend_from_slice(&message)?;
-    Ok(record)
+/// The pending records. Contracts see them, and not where a group ends: it ends where the next record wouldn't fit.
+#[derive(Drop)]
+pub(crate) struct Pending {
+    alloc: Global,
+    drafts: VecDeque<Draft>,
 }
 
-/// The number of records of the longest beginning that fits a group.
-fn longest_beginning(pending: &[Vec<u8>]) -> usize
-    requires each { EachFits (contents pending.now) }
-    requires some { 0 < length pending.now }
-    ensures within { result ≤ length pending.now }
-    ensures longest { IsLongestBeginning (contents pending.now) (take result (contents pending.now)) (drop result (contents pending.now)) }
-{
-    let mut count = 0;
-    let mut size = 0;
-    for record in pending {
-        if !fits_behind(count, size, record.len()) {
-            return count;
+impl Model for Pending {
+    ghost use Rattle.std.specs.Prelude.{List, ℕ};
+    ghost use Rattle.book.specs.Pending.{ArePacked, all_records};
+
+    ghost Value = { List (List ℕ) };
+
+    ghost view = { λ pending. all_records pending.drafts.items };
+
+    ghost invariant = { λ pending. ArePacked pending.drafts.items };
+}
+
+impl Pending {
+    /// No record.
+    pub(crate) fn new(alloc: Global) -> Pending
+        ensures { result ≡ [] }
+    {
+        Pending {
+            alloc,
+            drafts: VecDeque::new(alloc),
         }
-        count += 1;
-        size += LENGTH_BYTES + record.len();
     }
-    count
-}
 
-// Whether a record of this length fits a group behind so many records whose body has this size.
-fn fits_behind(count: usize, size: usize, len: usize) -> bool
-    requires { size ≤ MAX_GROUP_BYTES }
-    ensures { IsTrue result ↔ ((count < MAX_GROUP_RECORDS) × (size + (LENGTH_BYTES + len) ≤ MAX_GROUP_BYTES)) }
-{
-    let room = MAX_GROUP_BYTES - size;
-    count < MAX_GROUP_RECORDS && room >= LENGTH_BYTES && len <= room - LENGTH_BYTES
-}
-
-/// Copies of records.
-fn copies(alloc: Global, records: &[Vec<u8>]) -> Result<Vec<Vec<u8>>, AllocError>
-    ensures { IfOk result (λ copies. contents copies.items ≡ contents records.now) }
-{
-    let mut copies = Vec::new(alloc);
-    for record in records {
-        copies.push(record.to_vec(alloc)?)?;
+    /// Whether there is no record.
+    pub(crate) fn is_empty(&self) -> bool
+        ensures { IsTrue result ↔ (self.now ≡ []) }
+    {
+        self.drafts.is_empty()
     }
-    Ok(copies)
+
+    /// Puts the record of an event, which has this length, behind the others. `AllocError` where a growth was refused: nothing has
+    /// changed then.
+    pub(crate) fn put(&mut self, event: &Checked, len: usize) -> Result<(), AllocError>
+        requires short { LENGTH_BYTES + len ≤ MAX_GROUP_BYTES }
+        requires len { len ≡ length (record_of event.now) }
+        ensures ok { OnOk result (self.new ≡ self.old ++ record_of event.now ∷ []) }
+        ensures err { OnErr result (self.new ≡ self.old) }
+    {
+        if last_has_room(&self.drafts, len) {
+            put_into_last(&mut self.drafts, event, len)
+        } else {
+            put_behind(self.alloc, &mut self.drafts, event, len)
+        }
+    }
+
+    /// Takes the last record away, which has this length.
+    pub(crate) fn take_back(&mut self, len: usize)
+        requires { (others : List (List ℕ)) × (last : List ℕ) × (self.old ≡ others ++ last ∷ []) × (length last ≡ len) }
+        ensures { (others : List (List ℕ)) (last : List ℕ) → self.old ≡ others ++ last ∷ [] → self.new ≡ others }
+    {
+        let Some(mut last) = self.drafts.pop_back() else {
+            unreachable!()
+        };
+        last.take_back(len);
+        if !last.is_empty() {
+            self.drafts.push_back_reserved(last);
+        }
+    }
+
+    /// Takes the longest beginning that fits a group; `None` where there is no record. `AllocError` where a growth was refused:
+    /// nothing has changed then.
+    pub(crate) fn take(&mut self) -> Result<Option<Group>, AllocError>
+        ensures none { IfOk result (λ group. IsNone group ↔ (self.old ≡ [])) }
+        ensures group { IfOk result (λ group. IfSome group (λ group. IsLongestBeginning self.old group self.new)) }
+        ensures nothing { IfOk result (λ group. IsNone group → self.new ≡ self.old) }
+        ensures err { OnErr result (self.new ≡ self.old) }
+    {
+        let Some(first) = self.drafts.pop_front() else {
+            return Ok(None);
+        };
+        match first.close() {
+            Ok(group) => Ok(Some(group)),
+            Err(first) => {
+                self.drafts.push_front_reserved(first);
+                Err(AllocError)
+            }
+        }
+    }
 }
 
-/// A group of the longest beginning of the records that fits one.
-pub fn first_group(alloc: Global, pending: &[Vec<u8>]) -> Result<Group, AllocError>
-    requires each { EachFits (contents pending.now) }
-    requires some { 0 < length pending.now }
-    ensures longest { IfOk result (λ group. IsLongestBeginning (contents pending.now) group (drop (length group) (contents pending.now))) }
-    ensures within { IfOk result (λ group. length group ≤ length pending.now) }
+// Whether a record of this length fits the last group, if there is one.
+fn last_has_room(drafts: &VecDeque<Draft>, len: usize) -> bool
+    requires { LENGTH_BYTES + len ≤ MAX_GROUP_BYTES }
+    ensures room { result ≡ true → HasRoom drafts.now.items len }
+    ensures none { result ≡ false → HasNoRoom drafts.now.items len }
 {
-    let count = longest_beginning(pending);
-    let records = copies(alloc, &pending[..count])?;
-    let Some(group) = Group::new(alloc, records)? else {
+    match drafts.back() {
+        Some(last) => last.has_room(len),
+        None => false,
+    }
+}
+
+// Puts the record of an event, which has this length, into the last group, which it fits. Where a growth is refused nothing has
+// changed.
+fn put_into_last(
+    drafts: &mut VecDeque<Draft>,
+    event: &Checked,
+    len: usize,
+) -> Result<(), AllocError>
+    requires short { LENGTH_BYTES + len ≤ MAX_GROUP_BYTES }
+    requires len { len ≡ length (record_of event.now) }
+    requires room { HasRoom drafts.old.items len }
+    ensures ok { OnOk result ((front : List (List (List ℕ))) (last : List (List ℕ)) → drafts.old.items ≡ front ++ last ∷ [] → drafts.new.items ≡ front ++ (last ++ record_of event.now ∷ []) ∷ []) }
+    ensures err { OnErr result (drafts.new.items ≡ drafts.old.items) }
+{
+    let Some(mut last) = drafts.pop_back() else {
         unreachable!()
     };
-    Ok(group)
+    let put = last.put(event, len);
+    drafts.push_back_reserved(last);
+    put
 }
 
-/// Puts a record at the end, for which there is room.
-pub fn push_record(records: &mut Vec<Vec<u8>>, bytes: Vec<u8>)
-    requires { vec_len records.old < vec_capacity records.old }
-    ensures { records.new.items ≡ records.old.items ++ bytes ∷ [] }
+// Puts the record of an event, which has this length, into a group of its own behind the others. Where a growth is refused nothing
+// has changed.
+fn put_behind(
+    alloc: Global,
+    drafts: &mut VecDeque<Draft>,
+    event: &Checked,
+    len: usize,
+) -> Result<(), AllocError>
+    requires short { LENGTH_BYTES + len ≤ MAX_GROUP_BYTES }
+    requires len { len ≡ length (record_of event.now) }
+    ensures ok { OnOk result (drafts.new.items ≡ drafts.old.items ++ (record_of event.now ∷ []) ∷ []) }
+    ensures err { OnErr result (drafts.new.items ≡ drafts.old.items) }
 {
-    records.push(bytes).unwrap();
-}
-
-/// Takes so many records away from the front.
-pub fn drop_front(records: &mut Vec<Vec<u8>>, count: usize)
-    requires { count ≤ length records.old.items }
-    ensures { records.new.items ≡ drop count records.old.items }
-{
-    records.drain(..count);
+    drafts.reserve(1)?;
+    let mut next = Draft::new(alloc)?;
+    next.put(event, len)?;
+    drafts.push_back_reserved(next);
+    Ok(())
 }

@@ -10,7 +10,7 @@ use Rattle.journal.specs.declared.layout.TheConstants.{CLOSED, LENGTH_BYTES, MAX
 use Rattle.journal.specs.Format.{FitsGroup, body_len, body_bytes, sized_body, group_bytes, IsGroup}
 
 -- the bytes of a body are those of no other records
-same_body : (a b : List (List ℕ)) → body_len a ≤ MAX_GROUP_BYTES → body_len b ≤ MAX_GROUP_BYTES → body_bytes a ≡ body_bytes b → a ≡ b
+pub same_body : (a b : List (List ℕ)) → body_len a ≤ MAX_GROUP_BYTES → body_len b ≤ MAX_GROUP_BYTES → body_bytes a ≡ body_bytes b → a ≡ b
 same_body [] [] short_a short_b same = refl
 same_body [] (s ∷ b) short_a short_b same = absurd (omega (arith, ap length same))
 same_body (r ∷ a) [] short_a short_b same = absurd (omega (arith, ap length same))

@@ -26,6 +26,8 @@ impl Model for Group {
 }
 
 impl Group {
+    ghost use Rattle.std.specs.Prelude.{List, ℕ};
+
     /// The group of these records, or `None` outside a group's limits.
     pub fn new(alloc: Global, records: Vec<Vec<u8>>) -> Result<Option<Group>, AllocError>
         ensures { IfOk result (λ group. SomeIff group (FitsGroup (contents records.items)) (contents records.items)) }
@@ -49,13 +51,21 @@ impl Group {
         self.count
     }
 
-    // The bytes to be written behind the gate of this group.
-    pub(crate) fn into_bytes(self) -> Vec<u8>
-        ensures bytes { result.items ≡ group_bytes self }
-        ensures fits { FitsGroup self }
+    /// The group that these bytes are, of so many records: the length of its body, the body, and the closed gate for the
+    /// next group.
+    pub fn of_bytes(bytes: Vec<u8>, count: u64) -> Group
+        requires { IsGroup bytes.items count }
+        ensures { (records : List (List ℕ)) → FitsGroup records → bytes.items ≡ group_bytes records → result ≡ records }
     {
-        let Group { bytes, count: _ } = self;
-        bytes
+        Group { bytes, count }
+    }
+
+    // The bytes to be written behind the gate of this group.
+    pub(crate) fn bytes(&self) -> &[u8]
+        ensures bytes { result.now ≡ group_bytes self.now }
+        ensures fits { FitsGroup self.now }
+    {
+        &self.bytes
     }
 
     // How long it is on the disk, without its own gate, in bytes.
@@ -65,7 +75,7 @@ impl Group {
         self.bytes.len() as u64
     }
 
-    // Spends a group for which there is no room.
+    // Spends a group.
     pub(crate) fn discard(self) {
         let Group { bytes: _, count: _ } = self;
     }

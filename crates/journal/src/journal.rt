@@ -24,25 +24,27 @@ pub struct Journal<D: Disk> {
     len: u64,
 }
 
-/// Says that a group is on the disk, and how many records it has. It must be spent.
+/// Says that a group is on the disk. Contracts see its records. It must be spent.
 pub struct Synced {
-    records: u64,
+    group: Group,
 }
 
 impl Model for Synced {
-    ghost use Rattle.std.specs.Prelude.{ℕ};
+    ghost use Rattle.std.specs.Prelude.{List, ℕ};
 
-    ghost Value = { ℕ };
+    ghost Value = { List (List ℕ) };
 
-    ghost view = { λ synced. synced.records };
+    ghost view = { λ synced. synced.group };
 }
 
 impl Synced {
     /// How many records the group has. It spends the word that they are on the disk.
     pub fn records(self) -> u64
-        ensures { result ≡ self }
+        ensures { result ≡ length self }
     {
-        let Synced { records } = self;
+        let Synced { group } = self;
+        let records = group.records_count();
+        group.discard();
         records
     }
 }
@@ -89,7 +91,7 @@ impl<D: Disk> Journal<D> {
         ensures alive { OnOk result (IsAlive D.content D.outcome self.new) }
         ensures records { OnOk result (stands (D.content (disk_of self.new)) ≡ stands_with (D.content (disk_of self.old)) group) }
         ensures content { OnOk result (D.content (disk_of self.new) ≡ file_with (D.content (disk_of self.old)) group) }
-        ensures synced { IfOk result (λ synced. synced ≡ length group) }
+        ensures synced { IfOk result (λ synced. synced ≡ group) }
 
         // A stop at any moment of the call leaves the records from before it, with the whole group or without.
         ensures any_moment { AtEachMoment D.clock D.outcome_since (disk_of self.old) (disk_of self.new) (IsBeforeOrAfter (D.content (disk_of self.old)) group) }
@@ -109,13 +111,13 @@ impl<D: Disk> Journal<D> {
             group.discard();
             return Err(JournalError::Full);
         }
-        let records = group.records_count();
-        if let Err(error) = write_group(&mut self.disk, self.len, group) {
+        if let Err(error) = write_group(&mut self.disk, self.len, &group) {
+            group.discard();
             self.len = DEAD;
             return Err(error);
         }
         self.len += added;
-        Ok(Synced { records })
+        Ok(Synced { group })
     }
 
     /// Gives the disk back.
@@ -128,24 +130,23 @@ impl<D: Disk> Journal<D> {
 }
 
 // Writes a group behind the closed gate that ends a file of this length, and then opens that gate.
-fn write_group<D: Disk>(disk: &mut D, len: u64, group: Group) -> Result<(), JournalError>
+fn write_group<D: Disk>(disk: &mut D, len: u64, group: &Group) -> Result<(), JournalError>
     requires ends_closed { EndsClosed (D.content disk.old) }
     requires len { len ≡ length (D.content disk.old) }
-    requires room { len + length (group_bytes group) < 2 ^ 64 }
+    requires room { len + length (group_bytes group.now) < 2 ^ 64 }
     requires firm { LeavesOnly (D.content disk.old) (D.outcome disk.old) }
 
     ensures ends_closed { OnOk result (EndsClosed (D.content disk.new)) }
-    ensures len { OnOk result (length (D.content disk.new) ≡ len + length (group_bytes group)) }
-    ensures records { OnOk result (stands (D.content disk.new) ≡ stands_with (D.content disk.old) group) }
-    ensures content { OnOk result (D.content disk.new ≡ file_with (D.content disk.old) group) }
+    ensures len { OnOk result (length (D.content disk.new) ≡ len + length (group_bytes group.now)) }
+    ensures records { OnOk result (stands (D.content disk.new) ≡ stands_with (D.content disk.old) group.now) }
+    ensures content { OnOk result (D.content disk.new ≡ file_with (D.content disk.old) group.now) }
     ensures firm { OnOk result (LeavesOnly (D.content disk.new) (D.outcome disk.new)) }
-    ensures any_moment { AtEachMoment D.clock D.outcome_since disk.old disk.new (IsBeforeOrAfter (D.content disk.old) group) }
+    ensures any_moment { AtEachMoment D.clock D.outcome_since disk.old disk.new (IsBeforeOrAfter (D.content disk.old) group.now) }
     ensures errors { IfErr result (λ error. error ≡ JournalError.Device) }
     ensures faults { D.faults disk.old ≤ D.faults disk.new }
     ensures device { OnErr result (D.faults disk.old < D.faults disk.new) }
 {
-    let bytes = group.into_bytes();
-    disk.write_at(len, &bytes)?;
+    disk.write_at(len, group.bytes())?;
     // The group has to be firm before its gate is opened.
     disk.sync()?;
     disk.write_at(len - 1, &[OPEN])?;

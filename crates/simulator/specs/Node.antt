@@ -1,6 +1,6 @@
 -- What a caller sees of the node.
 use Rattle.diskmodel.specs.declared.memory.MemDisk.{MemDisk}
-use Rattle.book.specs.Book.{Standing, standing}
+use Rattle.headerbook.specs.Book.{Standing, standing}
 use Rattle.simulator.specs.declared.node.Node.{Node}
 use Rattle.simulator.specs.Store.{disk_of_store}
 

@@ -1,7 +1,7 @@
 //! The lines that the commands print.
 
-use book::Refusal;
 use header::CheckError;
+use headerbook::Refusal;
 use std::fmt;
 use thiserror::Error;
 use wire::WireError;

@@ -3,8 +3,8 @@
 ghost use Rattle.std.specs.Prelude.{◌≡◌, ℕ, List, None, IsTrue, IfOk};
 ghost use Rattle.std.specs.List.{list_all};
 ghost use Rattle.header.specs.Checks.{fault_of, accepts_all};
-ghost use Rattle.book.specs.Admission.{IsKnownKind};
-ghost use Rattle.book.specs.Book.{standing};
+ghost use Rattle.headerbook.specs.Admission.{IsKnownKind};
+ghost use Rattle.headerbook.specs.Book.{standing};
 ghost use Rattle.simulator.specs.declared.settings.TheConstants.{OWN};
 ghost use Rattle.diskmodel.specs.Memory.{state_of};
 ghost use Rattle.simulator.specs.Queue.{is_vote};
@@ -15,10 +15,10 @@ use crate::ending::Ending;
 use crate::live::{Appended, LiveJournal};
 use crate::opening::{Opened, open};
 use crate::settings::{OWN, read_committee};
-use book::Book;
 use committee::Committee;
 use diskmodel::{CallKind, MemDisk, StopDisk};
 use header::Checked;
+use headerbook::Book;
 use journal::JournalError;
 use script::Stopping;
 use sigface::HashSign;
@@ -66,7 +66,7 @@ pub struct Node {
 
 impl Node {
     ghost use Rattle.std.specs.Prelude.{Some, MatchOption};
-    ghost use Rattle.book.specs.Book.{releasable};
+    ghost use Rattle.headerbook.specs.Book.{releasable};
     ghost use Rattle.simulator.specs.Node.{book_of, disk_of};
 
     /// The node of a committee after what is on a disk, and how many events that is.

@@ -3,16 +3,16 @@
 ghost use Rattle.std.specs.Prelude.{◌≡◌, ◌+◌, ◌*◌, [], ◌∷◌, None, length, vec_len, IfOk, IfSome};
 ghost use Rattle.committee.specs.Charter.{total_of};
 ghost use Rattle.header.specs.Checks.{fault_of, accepts_all};
-ghost use Rattle.book.specs.Admission.{IsKnownKind};
+ghost use Rattle.headerbook.specs.Admission.{IsKnownKind};
 ghost use Rattle.journal.specs.Format.{FitsGroup};
 ghost use Rattle.simulator.specs.Events.{IsOfHeader};
 
 use crate::live::{Appended, LiveJournal};
 use crate::settings::OWN;
-use book::{EVENT_RECORD, Refusal, Step, Validator};
 use committee::Committee;
 use diskmodel::Disk;
 use header::{CheckError, Checked, recheck};
+use headerbook::{EVENT_RECORD, Refusal, Step, Validator};
 use journal::{Failed, Group, JournalError, Record};
 use script::signer;
 use sigface::HashSign;

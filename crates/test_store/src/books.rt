@@ -2,8 +2,8 @@
 
 ghost use Rattle.std.specs.Prelude.{◌≡◌, None, IsTrue, IfOk};
 ghost use Rattle.header.specs.Checks.{fault_of, accepts_all};
-ghost use Rattle.book.specs.Admission.{IsKnownKind};
-ghost use Rattle.book.specs.Book.{standing};
+ghost use Rattle.headerbook.specs.Admission.{IsKnownKind};
+ghost use Rattle.headerbook.specs.Book.{standing};
 ghost use Rattle.journal.specs.Journal.{IsAlive};
 ghost use Rattle.test_store.specs.declared.books.TheConstants.{OWN};
 
@@ -11,12 +11,12 @@ use crate::Store;
 use crate::disks::tell_if;
 use crate::headers::{committee, event, header, tell_output, vote};
 use crate::words::{Told, Word, bad, put, put_number};
-use book::Refusal::{
-    Down, Equivocation, Memory, MissingBatch, MissingParents, NotOurs, StoreFull, TooOld,
-};
-use book::{Book, Refusal, Step, Validator};
 use diskmodel::{Disk, MemDisk};
 use header::Checked;
+use headerbook::Refusal::{
+    Down, Equivocation, Memory, MissingBatch, MissingParents, NotOurs, StoreFull, TooOld,
+};
+use headerbook::{Book, Refusal, Step, Validator};
 use journal::Journal;
 use sigface::HashSign;
 use std::alloc::{AllocError, Global};

@@ -2,7 +2,7 @@
 
 ghost use Rattle.std.specs.Prelude.{◌≡◌, ◌≢◌, None, IfSome, IsTrue};
 ghost use Rattle.header.specs.Checks.{fault_of, accepts_all};
-ghost use Rattle.book.specs.Admission.{IsKnownKind};
+ghost use Rattle.headerbook.specs.Admission.{IsKnownKind};
 ghost use Rattle.test_world.specs.declared.events.TheConstants.{OWN};
 
 use committee::Committee;

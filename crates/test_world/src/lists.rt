@@ -1,7 +1,7 @@
 //! Lists of random steps, made by the running code and by the plain world side by side.
 
 ghost use Rattle.std.specs.Prelude.{◌≡◌, ℕ, ◌<◌, IfOk, IsNone};
-ghost use Rattle.book.specs.Book.{standing};
+ghost use Rattle.headerbook.specs.Book.{standing};
 ghost use Rattle.journal.specs.Journal.{IsAlive};
 ghost use Rattle.test_world.specs.Room.{HasRoom};
 

@@ -1,15 +1,15 @@
 //! The code that runs: a book, and a journal on a disk in memory.
 
 ghost use Rattle.std.specs.Prelude.{◌≡◌, ◌+◌, ◌≤◌, ℕ, length, IfOk};
-ghost use Rattle.book.specs.Book.{standing};
+ghost use Rattle.headerbook.specs.Book.{standing};
 ghost use Rattle.journal.specs.Journal.{IsAlive};
 ghost use Rattle.test_world.specs.Room.{HasRoom};
 ghost use Rattle.test_world.specs.declared.events.TheConstants.{OWN};
 
 use crate::events::{OWN, committee, event_of, message_of, sender_of};
-use book::{Book, EVENT_RECORD, Receipt, Refusal, Step, Validator};
 use committee::Committee;
 use diskmodel::{Disk, MemDisk};
+use headerbook::{Book, EVENT_RECORD, Receipt, Refusal, Step, Validator};
 use journal::{Group, Journal, Record};
 use sigface::HashSign;
 use std::alloc::{AllocError, Global};

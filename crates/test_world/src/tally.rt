@@ -1,7 +1,9 @@
 //! How many steps and stops of each kind there were.
 
-use book::Receipt;
-use book::Refusal::{self, Down, Equivocation, MissingBatch, MissingParents, NotOurs, TooOld};
+use headerbook::Receipt;
+use headerbook::Refusal::{
+    self, Down, Equivocation, MissingBatch, MissingParents, NotOurs, TooOld,
+};
 use std::alloc::AllocError;
 
 /// The moment of a stop.

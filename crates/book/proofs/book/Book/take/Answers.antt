@@ -1,18 +1,34 @@
-use Rattle.std.proofs.Common.{◌≡◌, drop, length, ap, sym, subst, ◌∙◌}
-use Rattle.std.proofs.lemmas.List.{drop-map}
-use Rattle.journal.specs.Format.{contents}
+use Rattle.std.proofs.Common.{◌≡◌, ◌+◌, ℕ, List, length, take, drop, map, ap, subst}
+use Rattle.std.specs.Prelude.{Option, IfSome}
+use Rattle.records.specs.Records.{record_of}
+use Rattle.model.specs.Nodes.{Node}
+use Rattle.validator.specs.Setting.{node_of}
+use Rattle.book.specs.Queue.{queue_of}
 use Rattle.book.specs.Pending.{IsLongestBeginning}
-use Rattle.book.proofs.Each.{each-drop}
+use Rattle.book.specs.Book.{Shown, Run, Stands, with_taken}
+use Rattle.book.proofs.Flushing.{stands_taken, records_taken}
 use Rattle.book.proofs.book.Book.take.Goals as goal
 
-pub invariant_of-self-clause-each_fits : goal.invariant_of-self-clause-each_fits
-invariant_of-self-clause-each_fits g c = each-drop c.args.self.now.pending.items c.drop_front.new.records.items _ c.args.self.now.each_fits c.drop_front.ensures
+pub returns-clause-stands : goal.returns-clause-stands
+returns-clause-stands g c =
+    let b = c.self.inside in
+    let group : List (List ℕ) = c.in-Some.group in
+    let left : List (List ℕ) = c.take.new.self in
+    let node : Node = node_of g.S.Sign.own_key g.S.Sign.signature_of b.validator.setting in
+    let before : Shown g.row.S.Denot = record { validator = b.validator; pending = b.pending; queue = queue_of b.queue.items; accepted = b.accepted; taken = b.taken; settled = b.settled; ordered = b.ordered; reached = b.reached.items; down = b.down } in
+    let later : Shown g.row.S.Denot = record before { pending = left; taken = b.taken + c.records_count.result } in
+    let longest = subst (λ (o : Option (List (List ℕ))). IfSome o (λ group. IsLongestBeginning b.pending group left)) c.in-Some.is c.in_ok-group.ensures.group in
+    subst (λ (s : Shown g.row.S.Denot). (run : Run) → Stands (node_of g.S.Sign.own_key g.S.Sign.signature_of s.validator.setting) run s → Stands (node_of g.S.Sign.own_key g.S.Sign.signature_of s.validator.setting) (with_taken run (length group)) later) c.self.view_is
+    (λ run at. stands_taken node run before later at group longest (ap (λ (n : ℕ). record before { pending = left; taken = b.taken + n }) c.records_count.ensures.value))
 
-pub returns-clause-group : goal.returns-clause-group
-returns-clause-group g c =
-    let pending = c.args.self.now.pending.items in
-    let group = c.in_ok-group.group in
-    let longest = rw c.deref.ensures.value at c.in_ok-group.ensures.longest in
-    let rest : contents c.drop_front.new.records.items ≡ drop (length group) (contents pending) =
-    ap contents c.drop_front.ensures ∙ ap (λ n. contents (drop n pending)) c.records_count.ensures.value ∙ sym (drop-map (λ v. v.items) (length group) pending) in
-    subst (λ left. IsLongestBeginning (contents pending) group left) (sym rest) longest
+pub returns-clause-records : goal.returns-clause-records
+returns-clause-records g c =
+    let b = c.self.inside in
+    let group : List (List ℕ) = c.in-Some.group in
+    let left : List (List ℕ) = c.take.new.self in
+    let node : Node = node_of g.S.Sign.own_key g.S.Sign.signature_of b.validator.setting in
+    let before : Shown g.row.S.Denot = record { validator = b.validator; pending = b.pending; queue = queue_of b.queue.items; accepted = b.accepted; taken = b.taken; settled = b.settled; ordered = b.ordered; reached = b.reached.items; down = b.down } in
+    let later : Shown g.row.S.Denot = record before { pending = left } in
+    let longest = subst (λ (o : Option (List (List ℕ))). IfSome o (λ group. IsLongestBeginning b.pending group left)) c.in-Some.is c.in_ok-group.ensures.group in
+    subst (λ (s : Shown g.row.S.Denot). (run : Run) → Stands (node_of g.S.Sign.own_key g.S.Sign.signature_of s.validator.setting) run s → group ≡ map record_of (drop (length run.taken) (take (length run.taken + length group) run.accepted))) c.self.view_is
+    (λ run at. records_taken node run before later at group longest)

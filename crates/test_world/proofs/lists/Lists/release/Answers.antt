@@ -1,5 +1,5 @@
 use Rattle.std.proofs.Common.{sym, subst}
-use Rattle.book.specs.Book.{standing}
+use Rattle.headerbook.specs.Book.{standing}
 use Rattle.test_world.specs.Room.{HasRoom}
 use Rattle.test_world.proofs.lists.Lists.release.Goals as goal
 

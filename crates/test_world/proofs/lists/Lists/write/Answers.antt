@@ -1,6 +1,6 @@
-use Rattle.std.specs.Prelude.{length, IfSome, ◌+◌, ◌≤◌}
+use Rattle.std.specs.Prelude.{length, List, ℕ, IfSome, ◌+◌, ◌≤◌}
 use Rattle.std.proofs.Common.{sym, subst}
-use Rattle.book.specs.Book.{standing}
+use Rattle.headerbook.specs.Book.{standing}
 use Rattle.test_world.specs.Room.{HasRoom}
 use Rattle.test_world.proofs.lists.Lists.write.Goals as goal
 
@@ -13,4 +13,4 @@ settle-requires c =
     let before = c.beside-before.ensures.room count counted in
     let behind = c.beside-after.ensures.room count before in
     let there : HasRoom count (standing c.expect-in-Ok.new.self.book.book) = subst (λ own. HasRoom count (standing own.book)) (sym c.expect-in-Ok.ensures.book) behind in
-    subst (λ synced. HasRoom synced (standing c.expect-in-Ok.new.self.book.book)) (sym c.in-Ok.ensures.synced) there
+    subst (λ (synced : List (List ℕ)). HasRoom (length synced) (standing c.expect-in-Ok.new.self.book.book)) (sym c.in-Ok.ensures.synced) there

@@ -1,0 +1,86 @@
+-- What comes of an event.
+use Rattle.std.proofs.Common.{◌≡◌, ◌≢◌, ◌⊎◌, ℕ, ◌+◌, ◌≤◌, ◌<◌, List, [], ◌∷◌, ◌++◌, length, true, false, inl, inr, refl, sym, ap, ◌∙◌, subst, arith}
+use Rattle.std.specs.Prelude.{Result, Ok, Err}
+use Rattle.std.proofs.lemmas.Bool.{true≢false}
+use Rattle.laws.specs.Laws.{OutputsGiven}
+use Rattle.machine.specs.Machine.{answered}
+use Rattle.model.specs.Admitting.{admit, is_new, IsLegal, IsTaken}
+use Rattle.model.specs.Giving.{kept}
+use Rattle.model.specs.Histories.{History}
+use Rattle.model.specs.Holdings.{order}
+use Rattle.model.specs.Nodes.{Node}
+use Rattle.model.specs.States.{State}
+use Rattle.model.specs.Words.{Event, Output}
+use Rattle.model.specs.declared.admission.Admission.{Admission}
+use Rattle.model.specs.declared.admission.Admission.TheVariants.{New, Known, Refused}
+use Rattle.model.specs.declared.refusal.Refusal.{Refusal}
+use Rattle.model.specs.declared.refusal.Refusal.TheVariants as refusal
+use Rattle.records.specs.Records.{record_of}
+use Rattle.world.specs.World.{Waiting}
+use Rattle.world.specs.Steps.{ticketed}
+use Rattle.validator.specs.Standing.{AreAtSound, GoesOn}
+use Rattle.book.specs.declared.book.TheConstants.{MAX_ACCEPTED}
+use Rattle.book.specs.Book.{Shown, Run, Stands, history_in, TakesNew, TakesKnown, MayRefuse, IsFull, HasPlace}
+use Rattle.book.proofs.Accepting.{IsNoted, stands_new, stands_known}
+
+-- what is answered at each legal history at which the validator stands
+abbrev pub Answers : {S : Type 0} → Node → Shown S → Event → (Admission → Type 0) → Type 0
+Answers node book event P = (history : History) → IsLegal node history → AreAtSound node book.validator.tables (kept node history) → P (admit node history event)
+
+module _ {S : Type 0} (node : Node) (before later : Shown S) (event : Event) (outputs : List Output) where
+  pub takes_new : OutputsGiven → IsTaken node event → Answers node before event (λ answer. answer ≡ New outputs)
+      → ((history : History) → IsLegal node history → AreAtSound node before.validator.tables (kept node history) → GoesOn node history event later.validator.tables)
+      → later.pending ≡ before.pending ++ record_of event ∷ [] → later.queue ≡ before.queue ++ ticketed (before.accepted + 1) outputs
+      → later.accepted ≡ before.accepted + 1 → later.taken ≡ before.taken → later.settled ≡ before.settled → later.ordered ≡ before.ordered → later.down ≡ before.down
+      → (from to : ℕ) → IsNoted before.reached later.reached (before.accepted + 1) from to
+      → ((history : History) → AreAtSound node before.validator.tables (kept node history) → from ≡ length (order node history))
+      → ((history : History) → AreAtSound node later.validator.tables (kept node history) → to ≡ length (order node history))
+      → TakesNew node before later event
+  takes_new given taken_by answers goes pending queue accepted taken settled ordered down from to noted froms tos = record {
+    taken_by = taken_by;
+    outputs = outputs;
+    answer = λ run at. answers (history_in run) at.legal at.at;
+    stands = λ run at.
+        let on = goes (history_in run) at.legal at.at in
+        let noted' = subst (λ n. IsNoted before.reached later.reached (before.accepted + 1) n (length (order node (history_in run ++ event ∷ [])))) (froms (history_in run) at.at)
+        (subst (λ n. IsNoted before.reached later.reached (before.accepted + 1) from n) (tos (history_in run ++ event ∷ []) on.at) noted) in
+        stands_new given node run before later event outputs at (answers (history_in run) at.legal at.at) on pending queue accepted taken settled ordered noted';
+    queue = queue;
+    pending = pending;
+    accepted = accepted;
+    taken = taken;
+    settled = settled;
+    down = down;
+  }
+
+  pub takes_known : OutputsGiven → IsTaken node event → Answers node before event (λ answer. answer ≡ Known outputs) → later ≡ record before { queue = before.queue ++ ticketed before.accepted outputs }
+      → TakesKnown node before later event
+  takes_known given taken_by answers is = record {
+    taken_by = taken_by;
+    outputs = outputs;
+    answer = λ run at. answers (history_in run) at.legal at.at;
+    stands = λ run at. stands_known given node run before later event outputs at (answers (history_in run) at.legal at.at) is;
+    is = is;
+  }
+
+-- a known event leaves all but the queue
+pub queue_alone : {S : Type 0} (before later : Shown S) (queue : List Waiting) → later.validator ≡ before.validator → later.pending ≡ before.pending → later.queue ≡ queue → later.reached ≡ before.reached
+    → later.accepted ≡ before.accepted → later.taken ≡ before.taken → later.settled ≡ before.settled → later.ordered ≡ before.ordered → later.down ≡ before.down → later ≡ record before { queue = queue }
+queue_alone before later queue validator pending queue_is reached accepted taken settled ordered down =
+    λ i. record { validator = validator i; pending = pending i; queue = queue_is i; accepted = accepted i; taken = taken i; settled = settled i; ordered = ordered i; reached = reached i; down = down i }
+
+-- why it may be refused
+pub may_refuse : {S : Type 0} (node : Node) (run : Run) (book : Shown S) (event : Event) (why : Refusal) → (why ≡ refusal.Memory) ⊎ (admit node (history_in run) event ≡ Refused why) → why ≢ refusal.Down
+    → MayRefuse node run book event why
+may_refuse node run book event refusal.Memory comes up = tt
+may_refuse node run book event refusal.Down comes up = absurd (up refl)
+may_refuse node run book event refusal.StoreFull (inl same) up = absurd cc
+may_refuse node run book event refusal.StoreFull (inr is) up = inl is
+may_refuse node run book event other (inl same) up = absurd cc
+may_refuse node run book event other (inr is) up = is
+
+-- a new event finds a place
+pub one_more : {S : Type 0} (node : Node) (book : Shown S) (event : Event) (outputs : List Output) → HasPlace node book event → book.accepted ≤ MAX_ACCEPTED
+    → ((state : State) → AreAtSound node book.validator.tables state → answered node state event ≡ New outputs) → book.accepted + 1 ≤ MAX_ACCEPTED
+one_more node book event outputs (inl place) most new = omega (arith, place)
+one_more node book event outputs (inr old) most new = absurd (true≢false (sym (ap is_new (new old.0 old.1)) ∙ old.2))

@@ -1,0 +1,116 @@
+-- A book goes on standing when it takes an event.
+use Rattle.std.proofs.Common.{◌≡◌, ◌≢◌, ◌⊎◌, ℕ, ◌+◌, ◌≤◌, ◌<◌, List, [], ◌∷◌, ◌++◌, length, take, drop, map, inl, inr, refl, sym, ap, ◌∙◌, subst, arith, append_assoc}
+use Rattle.std.specs.Prelude.{All}
+use Rattle.std.proofs.lemmas.List.{length_push, drop-append-le, map-append}
+use Rattle.std.proofs.lemmas.List.Elements.{All-weaker, All-append, All-cons, All-nil}
+use Rattle.laws.specs.Laws.{Begins, OutputsGiven}
+use Rattle.model.specs.Admitting.{admit, IsLegal}
+use Rattle.model.specs.Giving.{kept}
+use Rattle.model.specs.Holdings.{order}
+use Rattle.model.specs.Nodes.{Node}
+use Rattle.model.specs.Words.{Event, Output}
+use Rattle.model.specs.declared.admission.Admission.TheVariants.{New, Known}
+use Rattle.records.specs.Records.{record_of}
+use Rattle.world.specs.Steps.{ticketed}
+use Rattle.validator.specs.Standing.{AreAtSound, GoesOn}
+use Rattle.book.specs.declared.reached.Reached.{Reached}
+use Rattle.book.specs.Queue.{length_at, TicketsRise}
+use Rattle.book.specs.Book.{Shown, Run, IsDue, Stands, history_in, history_to, with_accepted}
+use Rattle.book.proofs.Due.{begins_length, history_stays, history_now, history_more, due_new, due_known, rise_new}
+use Rattle.book.proofs.Lengths.{UpTo, cases_eq, cases_le, not_there, there, stays}
+
+-- what is said of a longer order: one more stands at the end where its length is another one
+abbrev pub IsNoted : (before later : List Reached) (ticket from to : ℕ) → Type 0
+IsNoted before later ticket from to = (to ≡ from → later ≡ before) × (to ≢ from → later ≡ before ++ record { ticket = ticket; length = to } ∷ [])
+
+-- the tickets stay within what was accepted
+tickets_stay : (before later : List Reached) (count from to : ℕ) → IsNoted before later (count + 1) from to → UpTo count before → UpTo (count + 1) later
+tickets_stay before later count from to noted upto =
+    let weaker : UpTo (count + 1) before = All-weaker (λ r. r.ticket ≤ count) (λ r. r.ticket ≤ count + 1) (λ r is. omega (arith, is)) before upto in
+    elim (cases_eq to from) [
+      | inl same ↦ subst (UpTo (count + 1)) (sym (noted.0 same)) weaker
+      | inr other ↦ subst (UpTo (count + 1)) (sym (noted.1 other)) (All-append (λ r. r.ticket ≤ count + 1) before (record { ticket = count + 1; length = to } ∷ []) weaker
+          (All-cons (λ r. r.ticket ≤ count + 1) (record { ticket = count + 1; length = to }) [] (omega arith) (All-nil (λ r. r.ticket ≤ count + 1))))
+    ]
+
+-- what was said of lower numbers stays
+lower_stays : (before later : List Reached) (ticket from to first count : ℕ) → IsNoted before later ticket from to → count < ticket → length_at count first later ≡ length_at count first before
+lower_stays before later ticket from to first count noted low =
+    elim (cases_eq to from) [
+      | inl same ↦ ap (length_at count first) (noted.0 same)
+      | inr other ↦ ap (length_at count first) (noted.1 other) ∙ not_there count first before (record { ticket = ticket; length = to }) low
+    ]
+
+-- and at the new one it is the new length
+now_said : (before later : List Reached) (count from to first : ℕ) → IsNoted before later (count + 1) from to → UpTo count before → length_at count first before ≡ from
+    → length_at (count + 1) first later ≡ to
+now_said before later count from to first noted upto said =
+    elim (cases_eq to from) [
+      | inl same ↦ ap (length_at (count + 1) first) (noted.0 same) ∙ stays count (count + 1) first before upto (omega arith) ∙ said ∙ sym same
+      | inr other ↦ ap (length_at (count + 1) first) (noted.1 other)
+          ∙ there (count + 1) first before (record { ticket = count + 1; length = to }) (All-weaker (λ r. r.ticket ≤ count) (λ r. r.ticket ≤ count + 1) (λ r is. omega (arith, is)) before upto) (omega arith)
+    ]
+
+module _ {S : Type 0} (given : OutputsGiven) (node : Node) (run : Run) (before later : Shown S) (event : Event) (outputs : List Output) (at : Stands node run before) where
+  -- behind a new event
+  pub stands_new : admit node (history_in run) event ≡ New outputs → GoesOn node (history_in run) event later.validator.tables
+      → later.pending ≡ before.pending ++ record_of event ∷ [] → later.queue ≡ before.queue ++ ticketed (before.accepted + 1) outputs
+      → later.accepted ≡ before.accepted + 1 → later.taken ≡ before.taken → later.settled ≡ before.settled → later.ordered ≡ before.ordered
+      → IsNoted before.reached later.reached (before.accepted + 1) (length (order node (history_in run))) (length (order node (history_in run ++ event ∷ [])))
+      → Stands node (with_accepted run event) later
+  stands_new is goes pending queue accepted taken settled ordered noted =
+      let long : length (run.accepted ++ event ∷ []) ≡ length run.accepted + 1 = length_push run.accepted event in
+      let within : length run.taken ≤ length run.accepted = begins_length run.taken run.accepted at.taken_begins in
+      let noted' = subst (λ n. IsNoted before.reached later.reached (n + 1) (length (order node (history_in run))) (length (order node (history_in run ++ event ∷ [])))) at.accepted noted in
+      let from : length_at (length run.accepted) before.ordered before.reached ≡ length (order node (history_in run)) =
+      at.lengths (length run.accepted) (omega (arith, within, begins_length run.settled run.taken at.settled_begins)) (omega arith) ∙ ap (λ h. length (order node h)) (history_now run) in
+      record {
+        legal = subst (IsLegal node) (sym (history_more run event)) goes.legal;
+        at = subst (λ h. AreAtSound node later.validator.tables (kept node h)) (sym (history_more run event)) goes.at;
+        taken_begins = record { rest = at.taken_begins.rest ++ event ∷ []; parts = ap (λ l. l ++ event ∷ []) at.taken_begins.parts ∙ append_assoc run.taken at.taken_begins.rest (event ∷ []) };
+        settled_begins = at.settled_begins;
+        pending = pending ∙ ap (λ l. l ++ record_of event ∷ []) at.pending ∙ sym (map-append record_of (drop (length run.taken) run.accepted) (event ∷ []))
+            ∙ ap (map record_of) (sym (drop-append-le (length run.taken) run.accepted (event ∷ []) within));
+        accepted = omega (arith, accepted, at.accepted, long);
+        taken = taken ∙ at.taken;
+        settled = settled ∙ at.settled;
+        due = subst (All (IsDue node (with_accepted run event))) (sym (queue ∙ ap (λ n. before.queue ++ ticketed (n + 1) outputs) at.accepted)) (due_new given node run event outputs before.queue is at.due);
+        rising = subst TicketsRise (sym (queue ∙ ap (λ n. before.queue ++ ticketed (n + 1) outputs) at.accepted)) (rise_new node run (length run.accepted + 1) outputs before.queue (omega arith) at.due at.rising);
+        ordered = ordered ∙ at.ordered;
+        lengths = λ count low high. ap (λ n. length_at count n later.reached) ordered ∙ said count low (omega (arith, high, long)) noted' from;
+        tickets = subst (λ n. UpTo n later.reached) (sym long) (tickets_stay before.reached later.reached (length run.accepted) _ _ noted' at.tickets);
+      }
+    where
+      said : (count : ℕ) → length run.settled ≤ count → count ≤ length run.accepted + 1
+          → IsNoted before.reached later.reached (length run.accepted + 1) (length (order node (history_in run))) (length (order node (history_in run ++ event ∷ [])))
+          → length_at (length run.accepted) before.ordered before.reached ≡ length (order node (history_in run))
+          → length_at count before.ordered later.reached ≡ length (order node (history_to count (with_accepted run event)))
+      said count low high noted' from =
+          elim (cases_le count (length run.accepted)) [
+            | inl old ↦ lower_stays before.reached later.reached (length run.accepted + 1) _ _ before.ordered count noted' (omega (arith, old)) ∙ at.lengths count low old
+                ∙ ap (λ h. length (order node h)) (sym (history_stays run event count old))
+            | inr new ↦
+                let here : count ≡ length run.accepted + 1 = omega (arith, high, new) in
+                let whole : history_to count (with_accepted run event) ≡ history_in run ++ event ∷ [] =
+                ap (λ n. history_to n (with_accepted run event)) (omega (arith, here, length_push run.accepted event)) ∙ history_now (with_accepted run event) ∙ history_more run event in
+                ap (λ n. length_at n before.ordered later.reached) here ∙ now_said before.reached later.reached (length run.accepted) _ _ before.ordered noted' at.tickets from
+                ∙ ap (λ h. length (order node h)) (sym whole)
+          ]
+
+  -- behind a known one
+  pub stands_known : admit node (history_in run) event ≡ Known outputs → later ≡ record before { queue = before.queue ++ ticketed before.accepted outputs } → Stands node run later
+  stands_known is same = subst (Stands node run) (sym same) (record {
+    legal = at.legal;
+    at = at.at;
+    taken_begins = at.taken_begins;
+    settled_begins = at.settled_begins;
+    pending = at.pending;
+    accepted = at.accepted;
+    taken = at.taken;
+    settled = at.settled;
+    due = subst (All (IsDue node run)) (sym (ap (λ n. before.queue ++ ticketed n outputs) at.accepted)) (due_known given node run event outputs before.queue is at.due);
+    rising = subst TicketsRise (sym (ap (λ n. before.queue ++ ticketed n outputs) at.accepted)) (rise_new node run (length run.accepted) outputs before.queue (omega arith) at.due at.rising);
+    ordered = at.ordered;
+    lengths = at.lengths;
+    tickets = at.tickets;
+  })

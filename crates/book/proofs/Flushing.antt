@@ -1,0 +1,194 @@
+-- A book goes on standing when records are taken and settled.
+use Rattle.std.proofs.Common.{◌≡◌, ℕ, zero, suc, ◌+◌, ◌≤◌, List, [], ◌∷◌, ◌++◌, length, take, drop, map, true, refl, sym, ap, ◌∙◌, subst, arith, append_assoc, append-nil, drop-drop}
+use Rattle.std.specs.Prelude.{All}
+use Rattle.std.proofs.lemmas.List.{take_all, drop_at, take_at, take-map, drop-take, take-append-le, take-append-drop, length-take-le, length-append, drop-map, length-map, length-drop}
+use Rattle.std.proofs.lemmas.List.Elements.{All-nil, All-weaker, All-tail}
+use Rattle.laws.specs.Laws.{Begins}
+use Rattle.model.specs.Admitting.{IsLegal}
+use Rattle.model.specs.Giving.{kept}
+use Rattle.model.specs.Histories.{History}
+use Rattle.model.specs.Holdings.{order}
+use Rattle.model.specs.Nodes.{Node}
+use Rattle.model.specs.Words.{Event}
+use Rattle.records.specs.Records.{record_of}
+use Rattle.world.specs.World.{Waiting, put_out}
+use Rattle.world.specs.Promise.{GoesOut}
+use Rattle.validator.specs.Standing.{AreAtSound}
+use Rattle.book.specs.declared.reached.Reached.{Reached}
+use Rattle.book.specs.Queue.{length_at, TicketsRise}
+use Rattle.book.specs.Pending.{IsLongestBeginning}
+use Rattle.book.specs.Book.{Shown, Run, IsDue, Stands, run_on, history_in, history_to, settled_in, with_taken, with_settled}
+use Rattle.book.proofs.Due.{begins_length}
+use Rattle.book.proofs.Lengths.{UpTo}
+
+-- a beginning of a list, as so many of its first elements
+begins_take : {X : Type 0} (one other : List X) → Begins one other → take (length one) other ≡ one
+begins_take one other begins = ap (take (length one)) begins.parts ∙ take-append-le (length one) one begins.rest (omega arith) ∙ take_all (length one) one (omega arith)
+
+take_begins : {X : Type 0} (count : ℕ) (xs : List X) → Begins (take count xs) xs
+take_begins count xs = record { rest = drop count xs; parts = sym (take-append-drop count xs) }
+
+-- more of the first elements begin with fewer
+longer_begins : {X : Type 0} (less more : ℕ) (xs : List X) → less ≤ more → Begins (take less xs) (take more xs)
+longer_begins {X} zero more xs le = record { rest = take more xs; parts = refl }
+longer_begins {X} (suc less) zero xs le = absurd (omega (arith, le))
+longer_begins {X} (suc less) (suc more) [] le = record { rest = []; parts = refl }
+longer_begins {X} (suc less) (suc more) (x ∷ xs) le =
+    let lower = longer_begins less more xs (omega (arith, le)) in
+    record { rest = lower.rest; parts = ap (λ l. x ∷ l) lower.parts }
+
+-- what follows the front of a list
+drop_front : {X : Type 0} (front rest all : List X) → all ≡ front ++ rest → drop (length front) all ≡ rest
+drop_front front rest all parts = ap (drop (length front)) parts ∙ drop_at front rest (length front) refl
+
+begins_trans : {X : Type 0} (one two three : List X) → Begins one two → Begins two three → Begins one three
+begins_trans one two three first second = record {
+  rest = first.rest ++ second.rest;
+  parts = second.parts ∙ ap (λ l. l ++ second.rest) first.parts ∙ append_assoc one first.rest second.rest;
+}
+
+-- what is due depends on what was accepted alone
+due_same : (node : Node) (run other : Run) (queue : List Waiting) → other.began ≡ run.began → other.accepted ≡ run.accepted → All (IsDue node run) queue → All (IsDue node other) queue
+due_same node run other queue began accepted due =
+    All-weaker (IsDue node run) (IsDue node other)
+    (λ w is. record {
+      within = subst (λ l. w.ticket ≤ length l) (sym accepted) is.within;
+      goes_out = subst (λ h. GoesOut node h (put_out w.output)) (sym (ap (λ l. l ++ take w.ticket other.accepted) began ∙ ap (λ l. run.began ++ take w.ticket l) accepted)) is.goes_out;
+    }) queue due
+
+module _ {S : Type 0} (node : Node) (run : Run) (before later : Shown S) (at : Stands node run before) where
+  -- behind a group that is taken
+  pub stands_taken : (group : List (List ℕ)) → IsLongestBeginning before.pending group later.pending → later ≡ record before { pending = later.pending; taken = before.taken + length group }
+      → Stands node (with_taken run (length group)) later
+  stands_taken group longest same =
+      let count = length run.taken + length group in
+      let rest = drop (length run.taken) run.accepted in
+      let long : length before.pending ≡ length rest = ap length at.pending ∙ length-map rest record_of in
+      let parts : length before.pending ≡ length group + length later.pending = ap length longest.parts ∙ length-append group later.pending in
+      let within : length run.taken ≤ length run.accepted = begins_length run.taken run.accepted at.taken_begins in
+      let inside : count ≤ length run.accepted = omega (arith, long, parts, length-drop (length run.taken) run.accepted, within) in
+      let taken : length (take count run.accepted) ≡ count = length-take-le count run.accepted inside in
+      let pending : later.pending ≡ map record_of (drop (length (take count run.accepted)) run.accepted) =
+      sym (drop_front group later.pending before.pending longest.parts) ∙ ap (drop (length group)) at.pending ∙ drop-map record_of (length group) rest
+      ∙ ap (map record_of) (drop-drop (length group) (length run.taken) run.accepted ∙ ap (λ n. drop n run.accepted) (sym taken)) in
+      subst (Stands node (with_taken run (length group))) (sym same) (record {
+        legal = at.legal;
+        at = at.at;
+        taken_begins = take_begins count run.accepted;
+        settled_begins = begins_trans run.settled run.taken (take count run.accepted) at.settled_begins
+            (subst (λ l. Begins l (take count run.accepted)) (begins_take run.taken run.accepted at.taken_begins) (longer_begins (length run.taken) count run.accepted (omega arith)));
+        pending = pending;
+        accepted = at.accepted;
+        taken = omega (arith, at.taken, taken);
+        settled = at.settled;
+        due = due_same node run (with_taken run (length group)) before.queue refl refl at.due;
+        rising = at.rising;
+        ordered = at.ordered;
+        lengths = at.lengths;
+        tickets = at.tickets;
+      })
+
+  -- the group has the records of those events
+  pub records_taken : (group : List (List ℕ)) → IsLongestBeginning before.pending group later.pending → group ≡ map record_of (drop (length run.taken) (take (length run.taken + length group) run.accepted))
+  records_taken group longest =
+      sym (take_at group later.pending (length group) refl) ∙ ap (take (length group)) (sym longest.parts ∙ at.pending)
+      ∙ take-map record_of (length group) (drop (length run.taken) run.accepted) ∙ ap (map record_of) (sym (drop-take (length run.taken) (length group) run.accepted))
+
+  -- a group of the records that are settled next is no longer than what is taken and not settled
+  pub settles_within : (group : List (List ℕ)) → Begins group (map record_of (drop (length run.settled) run.taken)) → length run.settled + length group ≤ length run.taken
+  settles_within group begins =
+      let rest = drop (length run.settled) run.taken in
+      omega (arith, begins_length group (map record_of rest) begins, length-map rest record_of, length-drop (length run.settled) run.taken, begins_length run.settled run.taken at.settled_begins)
+
+  -- behind a group that is settled
+  pub stands_settled : (group : List (List ℕ)) → length run.settled + length group ≤ length run.taken
+      → later.settled ≡ before.settled + length group → later ≡ record before { settled = later.settled; ordered = later.ordered; reached = later.reached }
+      → later.ordered ≡ length_at later.settled before.ordered before.reached
+      → ((count : ℕ) → later.settled ≤ count → length_at count later.ordered later.reached ≡ length_at count before.ordered before.reached)
+      → ((limit : ℕ) → UpTo limit before.reached → UpTo limit later.reached)
+      → Stands node (with_settled run (length group)) later
+  stands_settled group within settled same ordered lengths tickets =
+      let count = length run.settled + length group in
+      let high : length run.taken ≤ length run.accepted = begins_length run.taken run.accepted at.taken_begins in
+      let number : length (take count run.taken) ≡ count = length-take-le count run.taken within in
+      let is : later.settled ≡ count = omega (arith, settled, at.settled) in
+      let first : take count run.accepted ≡ take count run.taken = ap (take count) at.taken_begins.parts ∙ take-append-le count run.taken at.taken_begins.rest within in
+      subst (Stands node (with_settled run (length group))) (sym same) (record {
+        legal = at.legal;
+        at = at.at;
+        taken_begins = at.taken_begins;
+        settled_begins = take_begins count run.taken;
+        pending = at.pending;
+        accepted = at.accepted;
+        taken = at.taken;
+        settled = omega (arith, is, number);
+        due = due_same node run (with_settled run (length group)) before.queue refl refl at.due;
+        rising = at.rising;
+        ordered = ordered ∙ ap (λ n. length_at n before.ordered before.reached) is ∙ at.lengths count (omega arith) (omega (arith, within, high)) ∙ ap (λ l. length (order node (run.began ++ l))) first;
+        lengths = λ c low top. lengths c (omega (arith, low, number, is)) ∙ at.lengths c (omega (arith, low, number)) top;
+        tickets = tickets (length run.accepted) at.tickets;
+      })
+
+-- a book that is taken down stands where it stood
+pub stands_down : {S : Type 0} (node : Node) (run : Run) (before later : Shown S) → later ≡ record before { down = true } → Stands node run before → Stands node run later
+stands_down {S} node run before later same at = subst (Stands node run) (sym same) (record {
+  legal = at.legal;
+  at = at.at;
+  taken_begins = at.taken_begins;
+  settled_begins = at.settled_begins;
+  pending = at.pending;
+  accepted = at.accepted;
+  taken = at.taken;
+  settled = at.settled;
+  due = at.due;
+  rising = at.rising;
+  ordered = at.ordered;
+  lengths = at.lengths;
+  tickets = at.tickets;
+})
+
+-- and so does one whose first output left
+pub stands_released : {S : Type 0} (node : Node) (run : Run) (before later : Shown S) (first : Waiting) (rest : List Waiting) → before.queue ≡ first ∷ rest → later ≡ record before { queue = rest } → Stands node run before → Stands node run later
+stands_released {S} node run before later first rest parts same at =
+    let due : All (IsDue node run) (first ∷ rest) = subst (All (IsDue node run)) parts at.due in
+    let rising : TicketsRise (first ∷ rest) = subst TicketsRise parts at.rising in
+    subst (Stands node run) (sym same) (record {
+      legal = at.legal;
+      at = at.at;
+      taken_begins = at.taken_begins;
+      settled_begins = at.settled_begins;
+      pending = at.pending;
+      accepted = at.accepted;
+      taken = at.taken;
+      settled = at.settled;
+      due = All-tail (IsDue node run) first rest due;
+      rising = rising.1;
+      ordered = at.ordered;
+      lengths = at.lengths;
+      tickets = at.tickets;
+    })
+
+-- at first
+pub stands_first : {S : Type 0} (node : Node) (began : History) (book : Shown S) → IsLegal node began → AreAtSound node book.validator.tables (kept node began)
+    → book.pending ≡ [] → book.queue ≡ [] → book.accepted ≡ 0 → book.taken ≡ 0 → book.settled ≡ 0 → book.reached ≡ [] → book.ordered ≡ length (order node began) → Stands node (run_on began) book
+stands_first node began book legal at pending queue accepted taken settled reached ordered =
+    let same : began ++ [] ≡ began = append-nil began in
+    record {
+      legal = subst (IsLegal node) (sym same) legal;
+      at = subst (λ h. AreAtSound node book.validator.tables (kept node h)) (sym same) at;
+      taken_begins = take_begins 0 [];
+      settled_begins = take_begins 0 [];
+      pending = pending;
+      accepted = accepted;
+      taken = taken;
+      settled = settled;
+      due = subst (All (IsDue node (run_on began))) (sym queue) (All-nil (IsDue node (run_on began)));
+      rising = subst TicketsRise (sym queue) tt;
+      ordered = ordered ∙ ap (λ h. length (order node h)) (sym same);
+      lengths = λ count low high. ap (length_at count book.ordered) reached ∙ ordered ∙ ap (λ h. length (order node h)) (sym (first count));
+      tickets = subst (UpTo 0) (sym reached) (All-nil (λ r. r.ticket ≤ 0));
+    }
+  where
+    first : (count : ℕ) → began ++ take count [] ≡ began
+    first zero = append-nil began
+    first (suc count) = append-nil began

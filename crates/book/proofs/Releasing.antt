@@ -1,0 +1,94 @@
+-- What leaves a book, and what is read of it.
+use Rattle.std.proofs.Common.{◌≡◌, ◌⊎◌, ℕ, ◌+◌, ◌-◌, ◌≤◌, ◌<◌, min, List, [], ◌∷◌, ◌++◌, length, take, drop, true, false, refl, sym, ap, ◌∙◌, subst, inl, inr, arith, append_assoc}
+use Rattle.std.specs.Prelude.{All, Option, Some, None, is_some, MatchOption, Bool}
+use Rattle.std.proofs.lemmas.Bool.{true≢false}
+use Rattle.std.proofs.lemmas.List.{take-append-drop, take-append-le, take_at, drop-append-le, nil_from_length, length-drop}
+use Rattle.std.proofs.lemmas.List.Elements.{All-head}
+use Rattle.laws.specs.Laws.{Begins, GivenGrows, OrderGrows}
+use Rattle.laws.proofs.Legal.{legal-begins}
+use Rattle.model.specs.Admitting.{IsLegal}
+use Rattle.model.specs.Giving.{MayGive}
+use Rattle.model.specs.Holdings.{order}
+use Rattle.model.specs.Nodes.{Node}
+use Rattle.model.specs.Words.{Digest, Output}
+use Rattle.world.specs.World.{Waiting}
+use Rattle.book.specs.Queue.{settled_head}
+use Rattle.book.specs.Book.{Shown, Run, IsDue, Stands, history_in, history_to, settled_in, GoesOutSettled}
+use Rattle.book.proofs.Due.{begins_length}
+use Rattle.book.proofs.Lengths.{cases_le}
+use Rattle.book.proofs.Queueing.{ticket_settled}
+
+pub none_of : (o : Option Output) → is_some o ≡ false → None ≡ o
+none_of None is = refl
+none_of (Some x) is = absurd (true≢false is)
+
+-- the head that is taken out
+pub record IsHead (settled : ℕ) (queue later : List Waiting) (r : Option Output) : Type 0 where
+  pub ticket : ℕ
+  pub output : Output
+  pub is : r ≡ Some output
+  pub parts : queue ≡ record { ticket = ticket; output = output } ∷ later
+  pub within : ticket ≤ settled
+
+pub head_out : (settled : ℕ) (queue later : List Waiting) (r : Option Output) → is_some (settled_head settled queue) ≡ true
+    → MatchOption r (queue ≡ []) (λ output. (ticket : ℕ) × (queue ≡ record { ticket = ticket; output = output } ∷ later)) → IsHead settled queue later r
+head_out settled queue later None some none = absurd (true≢false (sym some ∙ ap (λ q. is_some (settled_head settled q)) none))
+head_out settled queue later (Some output) some head = record {
+  ticket = head.0;
+  output = output;
+  is = refl;
+  parts = head.1;
+  within = ticket_settled settled head.0 output later (subst (λ q. is_some (settled_head settled q) ≡ true) head.1 some);
+}
+
+module _ {S : Type 0} (node : Node) (run : Run) (book : Shown S) (at : Stands node run book) where
+  -- what is settled is a beginning of what was accepted
+  accepted_is : run.accepted ≡ run.settled ++ (at.settled_begins.rest ++ at.taken_begins.rest)
+  accepted_is = at.taken_begins.parts ∙ ap (λ l. l ++ at.taken_begins.rest) at.settled_begins.parts ∙ append_assoc run.settled at.settled_begins.rest at.taken_begins.rest
+
+  whole_is : history_in run ≡ settled_in run ++ (at.settled_begins.rest ++ at.taken_begins.rest)
+  whole_is = ap (λ l. run.began ++ l) accepted_is ∙ sym (append_assoc run.began run.settled (at.settled_begins.rest ++ at.taken_begins.rest))
+
+  legal_settled : IsLegal node (settled_in run)
+  legal_settled = legal-begins node (settled_in run) (at.settled_begins.rest ++ at.taken_begins.rest) (subst (IsLegal node) whole_is at.legal)
+
+  -- what its first settled records hold
+  to_settled : (ticket : ℕ) → ticket ≤ length run.settled → settled_in run ≡ history_to ticket run ++ drop ticket run.settled
+  to_settled ticket within =
+      let same : take ticket run.accepted ≡ take ticket run.settled = ap (take ticket) accepted_is ∙ take-append-le ticket run.settled (at.settled_begins.rest ++ at.taken_begins.rest) within in
+      ap (λ l. run.began ++ l) (sym (take-append-drop ticket run.settled)) ∙ sym (append_assoc run.began (take ticket run.settled) (drop ticket run.settled))
+      ∙ ap (λ l. (run.began ++ l) ++ drop ticket run.settled) (sym same)
+
+  pub goes_out_settled : GivenGrows → (ticket : ℕ) (output : Output) (later : List Waiting) → book.queue ≡ record { ticket = ticket; output = output } ∷ later → ticket ≤ book.settled → GoesOutSettled node run output
+  goes_out_settled grows ticket output later parts within =
+      let first : Waiting = record { ticket = ticket; output = output } in
+      let due : IsDue node run first = All-head (IsDue node run) first later (subst (All (IsDue node run)) parts at.due) in
+      let low : ticket ≤ length run.settled = omega (arith, within, at.settled) in
+      record {
+        ticket = ticket;
+        settled = low;
+        goes_out = due.goes_out;
+        may = subst (λ h. MayGive node h output) (sym (to_settled ticket low))
+            (grows node (history_to ticket run) (drop ticket run.settled) output (subst (IsLegal node) (to_settled ticket low) legal_settled) due.goes_out.1);
+      }
+
+  -- what is read of the whole order, up to where it is settled
+  pub reads : OrderGrows → (whole : List Digest) (from end start : ℕ) → whole ≡ order node (history_in run) → end ≡ min (length whole) book.ordered → start ≡ min end from
+      → take (end - start) (drop start whole) ≡ drop from (order node (settled_in run))
+  reads grows whole from end start is end_is start_is =
+      let settled = order node (settled_in run) in
+      let begins : Begins settled whole = subst (Begins settled) (ap (order node) (sym whole_is) ∙ sym is) (grows node (settled_in run) (at.settled_begins.rest ++ at.taken_begins.rest) (subst (IsLegal node) whole_is at.legal)) in
+      let long = begins_length settled whole begins in
+      let ends : end ≡ length settled = omega (arith, end_is, long, at.ordered) in
+      parts_of settled begins.rest whole begins.parts from end start ends start_is
+    where
+      parts_of : (settled rest whole : List Digest) → whole ≡ settled ++ rest → (from end start : ℕ) → end ≡ length settled → start ≡ min end from → take (end - start) (drop start whole) ≡ drop from settled
+      parts_of settled rest whole is from end start ends starts =
+          let low : start ≤ length settled = omega (arith, starts, ends) in
+          let cut : drop start whole ≡ drop start settled ++ rest = ap (drop start) is ∙ drop-append-le start settled rest low in
+          ap (take (end - start)) cut ∙ take_at (drop start settled) rest (end - start) (omega (arith, length-drop start settled, ends, low)) ∙ by_cases (cases_le from end)
+        where
+          by_cases : (from ≤ end) ⊎ (end < from) → drop start settled ≡ drop from settled
+          by_cases (inl le) = ap (λ n. drop n settled) (omega (arith, starts, le))
+          by_cases (inr more) =
+              nil_from_length (drop start settled) (omega (arith, length-drop start settled, starts, ends, more)) ∙ sym (nil_from_length (drop from settled) (omega (arith, length-drop from settled, ends, more)))

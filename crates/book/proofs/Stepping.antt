@@ -1,0 +1,143 @@
+-- What a book does is a step of its world.
+use Rattle.std.proofs.Common.{◌≡◌, ◌⊎◌, ℕ, ◌+◌, ◌≤◌, List, [], ◌∷◌, ◌++◌, length, take, drop, map, inl, inr, Bool, true, false, refl, sym, ap, ◌∙◌, subst, arith}
+use Rattle.std.specs.Prelude.{Option, Some, None, All, Contains, nat_le, if◌then◌else◌}
+use Rattle.std.proofs.lemmas.Bool.{cases_Bool, leb-true}
+use Rattle.std.proofs.lemmas.List.{take_all, length-map, length-drop, length-take-le}
+use Rattle.std.proofs.lemmas.List.Elements.{All-append, All-weaker, All-head, All-tail, All-contains_itself, Contains-append_left, Contains-append_right}
+use Rattle.journal.specs.Format.{FitsGroup}
+use Rattle.model.specs.Admitting.{admit}
+use Rattle.model.specs.Histories.{History}
+use Rattle.model.specs.Nodes.{Node}
+use Rattle.model.specs.Words.{Event, Output}
+use Rattle.model.specs.declared.admission.Admission.{Admission}
+use Rattle.model.specs.declared.admission.Admission.TheVariants.{New, Known}
+use Rattle.records.specs.Records.{record_of}
+use Rattle.world.specs.World.{World, Waiting, no_group, group_taken, gate_synced, group_in, put_out}
+use Rattle.world.specs.Steps.{Move, accept, take_to, settle, release, ticketed, with_new, with_known, with_given, IsAnswered, IsStep}
+use Rattle.book.specs.Book.{Shown, Run, Stands, with_accepted, with_taken, with_settled, TakesNew, TakesKnown, releasable}
+use Rattle.book.specs.Queue.{settled_head}
+use Rattle.book.specs.Pending.{IsLongestBeginning}
+use Rattle.book.specs.Steps.{run_of, IsOf, Moves, AcceptIsAStep, TakeIsAStep, SettleIsAStep, ReleaseIsAStep}
+use Rattle.book.proofs.Due.{begins_length}
+use Rattle.book.proofs.Flushing.{stands_taken, records_taken}
+
+-- what waits goes on waiting behind more outputs, and they wait too
+waits_more : (waiting queue more : List Waiting) → All (Contains waiting) queue → All (Contains (waiting ++ more)) (queue ++ more)
+waits_more waiting queue more all =
+    All-append (Contains (waiting ++ more)) queue more
+    (All-weaker (Contains waiting) (Contains (waiting ++ more)) (λ w. Contains-append_left waiting more w) queue all)
+    (All-weaker (Contains more) (Contains (waiting ++ more)) (λ w. Contains-append_right waiting more w) more (All-contains_itself more))
+
+-- the head of a queue that may be released
+head_of : (down : Bool) (settled : ℕ) (queue : List Waiting) (output : Output) → (if down then None else settled_head settled queue) ≡ Some output
+    → (first : Waiting) × (rest : List Waiting) × (queue ≡ first ∷ rest) × (first.output ≡ output) × (first.ticket ≤ settled)
+head_of true settled queue output is = absurd cc
+head_of false settled [] output is = absurd cc
+head_of false settled (first ∷ rest) output is =
+    elim (cases_Bool (nat_le first.ticket settled)) [
+      | inl le ↦ (let same : Some first.output ≡ Some output = rw le at is in (first, rest, refl, (cc), leb-true first.ticket settled le))
+      | inr not ↦ (let none : ◌≡◌ {A = Option Output} None (Some output) = rw not at is in absurd cc)
+    ]
+
+-- a group that is taken is one
+taken_is_no_none : group_taken ≡ no_group → ⊥
+taken_is_no_none same = absurd cc
+
+module _ {S : Type 0} (node : Node) (world : World) (before later : Shown S) (is_of : IsOf node world before) where
+  accepts : (event : Event) → TakesNew node before later event ⊎ TakesKnown node before later event → Moves node world (accept event) later
+  accepts event (inl new) =
+      let next = with_new world event new.outputs in
+      let queue : later.queue ≡ before.queue ++ ticketed (length world.accepted + 1) new.outputs = new.queue ∙ ap (λ n. before.queue ++ ticketed (n + 1) new.outputs) is_of.stands.accepted in
+      record {
+        next = next;
+        step = record { is_taken = new.taken_by; is = subst (λ a. IsAnswered world event a next) (sym (new.answer (run_of world) is_of.stands)) refl };
+        is_of = record {
+          stands = new.stands (run_of world) is_of.stands;
+          waits = subst (All (Contains next.waiting)) (sym queue) (waits_more world.waiting before.queue (ticketed (length world.accepted + 1) new.outputs) is_of.waits);
+          free = is_of.free;
+        };
+      }
+  accepts event (inr known) =
+      let next = with_known world known.outputs in
+      let queue : later.queue ≡ before.queue ++ ticketed (length world.accepted) known.outputs =
+      ap (λ (b : Shown S). b.queue) known.is ∙ ap (λ n. before.queue ++ ticketed n known.outputs) is_of.stands.accepted in
+      record {
+        next = next;
+        step = record { is_taken = known.taken_by; is = subst (λ a. IsAnswered world event a next) (sym (known.answer (run_of world) is_of.stands)) refl };
+        is_of = record {
+          stands = known.stands (run_of world) is_of.stands;
+          waits = subst (All (Contains next.waiting)) (sym queue) (waits_more world.waiting before.queue (ticketed (length world.accepted) known.outputs) is_of.waits);
+          free = is_of.free;
+        };
+      }
+
+  takes : (group : List (List ℕ)) → world.phase ≡ no_group → IsLongestBeginning before.pending group later.pending
+      → later ≡ record before { pending = later.pending; taken = before.taken + length group }
+      → (moves : Moves node world (take_to (length world.taken + length group)) later) × (group_in moves.next ≡ group)
+  takes group free longest is =
+      let same = is_of.free free in
+      let count = length world.taken + length group in
+      let records : group ≡ map record_of (drop (length world.settled) (take count world.accepted)) =
+      records_taken node (run_of world) before later is_of.stands group longest ∙ ap (λ (l : History). map record_of (drop (length l) (take count world.accepted))) same in (
+        record {
+          next = record world { taken = take count world.accepted; phase = group_taken };
+          step = record { free = free; fits = subst FitsGroup records longest.fits; is = refl };
+          is_of = record {
+            stands = stands_taken node (run_of world) before later is_of.stands group longest is;
+            waits = subst (λ (b : Shown S). All (Contains world.waiting) b.queue) (sym is) is_of.waits;
+            free = λ none. absurd (taken_is_no_none none);
+          };
+        },
+        sym records,
+      )
+
+  settles : (group : List (List ℕ)) → world.phase ≡ gate_synced → group_in world ≡ group → Stands node (with_settled (run_of world) (length group)) later → later.queue ≡ before.queue
+      → Moves node world settle later
+  settles group done is stands queue =
+      let count = length world.settled + length group in
+      let rest = drop (length world.settled) world.taken in
+      let within = begins_length world.settled world.taken is_of.stands.settled_begins in
+      let number : length world.taken ≤ count = omega (arith, ap length is, length-map rest record_of, length-drop (length world.settled) world.taken, within) in
+      record {
+        next = record world { settled = world.taken; phase = no_group };
+        step = record { done = done; is = refl };
+        is_of = record {
+          stands = subst (λ (l : History). Stands node (record (run_of world) { settled = l }) later) (take_all count world.taken number) stands;
+          waits = subst (All (Contains world.waiting)) (sym queue) is_of.waits;
+          free = λ none. refl;
+        };
+      }
+
+  releases : (output : Output) → releasable before ≡ Some output → later ≡ record before { queue = drop 1 before.queue } → Stands node (run_of world) later
+      → (ticket : ℕ) × Moves node world (release (record { ticket = ticket; output = output })) later
+  releases output is later_is stands =
+      let head = head_of before.down before.settled before.queue output is in
+      let first = head.0 in
+      let waits : All (Contains world.waiting) (first ∷ head.1) = subst (All (Contains world.waiting)) head.2 is_of.waits in (
+        first.ticket,
+        record {
+          next = with_given world (put_out output) (world.began ++ take first.ticket world.accepted);
+          step = record {
+            waits = subst (λ (o : Output). Contains world.waiting (record { ticket = first.ticket; output = o })) head.3 (All-head (Contains world.waiting) first head.1 waits);
+            ready = omega (arith, head.4, is_of.stands.settled);
+            is = refl;
+          };
+          is_of = record {
+            stands = stands;
+            waits = subst (All (Contains world.waiting)) (sym (ap (λ (b : Shown S). b.queue) later_is ∙ ap (drop 1) head.2)) (All-tail (Contains world.waiting) first head.1 waits);
+            free = is_of.free;
+          };
+        },
+      )
+
+pub accept_is_a_step : (S : Type 0) → AcceptIsAStep S
+accept_is_a_step S node world before later event is_of takes = accepts node world before later is_of event takes
+
+pub take_is_a_step : (S : Type 0) → TakeIsAStep S
+take_is_a_step S node world before later group is_of free longest is = takes node world before later is_of group free longest is
+
+pub settle_is_a_step : (S : Type 0) → SettleIsAStep S
+settle_is_a_step S node world before later group is_of done is stands queue = settles node world before later is_of group done is stands queue
+
+pub release_is_a_step : (S : Type 0) → ReleaseIsAStep S
+release_is_a_step S node world before later output is_of is later_is stands = releases node world before later is_of output is later_is stands

@@ -1,0 +1,25 @@
+//! That what a book does is a step of its world: laws, each what a function without a body ensures.
+
+ghost use Rattle.book.specs.Steps.{AcceptIsAStep, TakeIsAStep, SettleIsAStep, ReleaseIsAStep};
+
+use sigface::Sign;
+
+/// An event that a book takes, new or known, is accepted in its world.
+pub fn accept_is_a_step<S: Sign>()
+    ensures { AcceptIsAStep S }
+{}
+
+/// A group that a book takes, where none is taken, is taken in its world.
+pub fn take_is_a_step<S: Sign>()
+    ensures { TakeIsAStep S }
+{}
+
+/// The group that a book settles, once its gate is synced, is settled in its world.
+pub fn settle_is_a_step<S: Sign>()
+    ensures { SettleIsAStep S }
+{}
+
+/// What a book releases goes out in its world.
+pub fn release_is_a_step<S: Sign>()
+    ensures { ReleaseIsAStep S }
+{}

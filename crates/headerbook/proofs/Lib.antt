@@ -1,0 +1,3 @@
+pub mod Longest
+pub mod Each
+pub mod Only
