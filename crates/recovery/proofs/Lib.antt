@@ -1,0 +1,4 @@
+pub mod Configured
+pub mod Telling
+pub mod Moments
+pub mod Empty

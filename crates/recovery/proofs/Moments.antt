@@ -1,0 +1,24 @@
+-- How a run of calls of a disk goes on.
+use Rattle.std.proofs.Common.{inl, inr, ⊎_elim, ℕ, List, arith}
+use Rattle.diskmodel.specs.Disk.{AtEachMoment}
+
+module _ {D : Type 0} (clock : D → ℕ) (outcome_since : D → ℕ → List ℕ → Type 0) where
+  -- before the first call
+  pub started : (old : D) (P : List ℕ → Type 0) → ((c : List ℕ) → outcome_since old (clock old) c → P c) → AtEachMoment clock outcome_since old old P
+  started old P here = record { later = omega arith; each = here; before = λ t c le left. inl left }
+
+  -- of which more holds
+  pub weaker : (old new : D) (P Q : List ℕ → Type 0) → AtEachMoment clock outcome_since old new Q → ((c : List ℕ) → Q c → P c) → AtEachMoment clock outcome_since old new P
+  weaker old new P Q at less = record {
+    later = at.later;
+    each = λ c left. less c (at.each c left);
+    before = λ t c le left. ⊎_elim (λ before. inl before) (λ now. inr (less c now)) (at.before t c le left);
+  }
+
+  -- a run of calls more, of which each outcome has P too
+  pub joins : (old mid new : D) (P Q : List ℕ → Type 0) → AtEachMoment clock outcome_since old mid P → AtEachMoment clock outcome_since mid new Q → ((c : List ℕ) → Q c → P c) → AtEachMoment clock outcome_since old new P
+  joins old mid new P Q first second less = record {
+    later = omega (arith, first.later, second.later);
+    each = λ c left. ⊎_elim (λ before. first.each c before) (λ now. less c now) (second.before (clock old) c first.later left);
+    before = λ t c le left. ⊎_elim (λ before. first.before t c le before) (λ now. inr (less c now)) (second.before t c (omega (arith, le, first.later)) left);
+  }

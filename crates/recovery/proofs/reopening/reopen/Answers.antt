@@ -1,0 +1,73 @@
+use Rattle.std.proofs.Common.{◌≡◌, ◌≢◌, ◌∷◌, [], ◌⊎◌, inl, inr, List, ℕ, ap, sym, ◌∙◌, subst, refl, arith, true}
+use Rattle.std.proofs.lemmas.Result.{err_from_is_err_and, on_ok_weaker}
+use Rattle.journal.specs.Format.{stands}
+use Rattle.journal.specs.Journal.{disk_of, IsBeforeOrAfter, StandsAsOneOf}
+use Rattle.records.specs.Records.{configuration_of}
+use Rattle.validator.specs.Setting.{node_of}
+use Rattle.recovery.specs.Told.{told, read_journal, StandsAt, IsToldAsOneOf, Tells}
+use Rattle.recovery.proofs.Moments.{started, weaker, joins}
+use Rattle.recovery.proofs.Empty.{never_full}
+use Rattle.recovery.proofs.Telling.{told_same, tells_same, stands_same, opening_fails, as_one_of}
+use Rattle.recovery.proofs.reopening.reopen.Goals as goal
+
+pub returns-in_err-journal-clause-err : goal.returns-in_err-journal-clause-err
+returns-in_err-journal-clause-err g c =
+    let node = node_of g.S.Sign.own_key g.S.Sign.signature_of c.args.config.now in
+    let p = err_from_is_err_and c.from_residual.result c.from_residual.ensures.1 in
+    rw (p.1, p.2)
+    (λ other. opening_fails node (g.D.Disk.content c.args.disk) c.in_err-journal.field-0.0.error c.in_err-journal.ensures.damaged c.in_err-journal.ensures.never_full c.in_err-journal.ensures.never_config other)
+
+pub returns-in_err-journal-clause-any_moment_err : goal.returns-in_err-journal-clause-any_moment_err
+returns-in_err-journal-clause-any_moment_err g c =
+    let node = node_of g.S.Sign.own_key g.S.Sign.signature_of c.args.config.now in
+    let outcome = g.D.Disk.outcome c.args.disk in
+    let p = err_from_is_err_and c.from_residual.result c.from_residual.ensures.1 in
+    rw (p.1, p.2)
+    (weaker g.D.Disk.clock g.D.Disk.outcome_since c.args.disk c.in_err-journal.field-0.0.disk (IsToldAsOneOf node outcome) (StandsAsOneOf outcome) c.in_err-journal.ensures.any_moment_err
+    (λ left is. as_one_of node outcome left is))
+
+pub returns-in-Ok-clause-stands : goal.returns-in-Ok-clause-stands
+returns-in-Ok-clause-stands g c =
+    let node = node_of g.S.Sign.own_key g.S.Sign.signature_of c.args.config.now in
+    let file = g.D.Disk.content c.args.disk in
+    let mid = g.D.Disk.content (disk_of c.in_ok-journal.journal) in
+    stands_same node (told node mid) (told node file) c.in-Ok.validator.tables (told_same node mid file c.in_ok-journal.ensures.same) c.in-Ok.ensures.stands
+
+pub returns-in-Ok-clause-same : goal.returns-in-Ok-clause-same
+returns-in-Ok-clause-same g c =
+    let node = node_of g.S.Sign.own_key g.S.Sign.signature_of c.args.config.now in
+    let file = g.D.Disk.content c.args.disk in
+    let mid = g.D.Disk.content (disk_of c.in_ok-journal.journal) in
+    c.in-Ok.ensures.same ∙ told_same node mid file c.in_ok-journal.ensures.same
+
+pub returns-in-Ok-clause-any_moment : goal.returns-in-Ok-clause-any_moment
+returns-in-Ok-clause-any_moment g c =
+    let node = node_of g.S.Sign.own_key g.S.Sign.signature_of c.args.config.now in
+    let outcome = g.D.Disk.outcome c.args.disk in
+    let file = g.D.Disk.content c.args.disk in
+    let middle = disk_of c.in_ok-journal.journal in
+    let mid = g.D.Disk.content middle in
+    let P : List ℕ → Type 0 = IsToldAsOneOf node outcome in
+    let first = weaker g.D.Disk.clock g.D.Disk.outcome_since c.args.disk middle P (StandsAsOneOf outcome) c.in_ok-journal.ensures.any_moment (λ left is. as_one_of node outcome left is) in
+    joins g.D.Disk.clock g.D.Disk.outcome_since c.args.disk middle (disk_of c.validator_on.new.journal) P (λ left. told node left ≡ told node mid) first c.validator_on.ensures.any_moment
+    (λ left same. (file, g.met.D.Disk.content_is_outcome c.args.disk, same ∙ told_same node mid file c.in_ok-journal.ensures.same))
+
+pub returns-clause-err : goal.returns-clause-err
+returns-clause-err g c = λ other.
+    let node = node_of g.S.Sign.own_key g.S.Sign.signature_of c.args.config.now in
+    let file = g.D.Disk.content c.args.disk in
+    let mid = g.D.Disk.content (disk_of c.in_ok-journal.journal) in
+    tells_same c.in-Err.error (told node mid) (told node file) (told_same node mid file c.in_ok-journal.ensures.same) (c.in-Err.ensures.err other)
+
+pub returns-clause-any_moment_err : goal.returns-clause-any_moment_err
+returns-clause-any_moment_err g c =
+    let node = node_of g.S.Sign.own_key g.S.Sign.signature_of c.args.config.now in
+    let outcome = g.D.Disk.outcome c.args.disk in
+    let file = g.D.Disk.content c.args.disk in
+    let middle = disk_of c.in_ok-journal.journal in
+    let mid = g.D.Disk.content middle in
+    let P : List ℕ → Type 0 = IsToldAsOneOf node outcome in
+    let first = weaker g.D.Disk.clock g.D.Disk.outcome_since c.args.disk middle P (StandsAsOneOf outcome) c.in_ok-journal.ensures.any_moment (λ left is. as_one_of node outcome left is) in
+    let whole = joins g.D.Disk.clock g.D.Disk.outcome_since c.args.disk middle (disk_of c.validator_on.new.journal) P (λ left. told node left ≡ told node mid) first c.validator_on.ensures.any_moment
+    (λ left same. (file, g.met.D.Disk.content_is_outcome c.args.disk, same ∙ told_same node mid file c.in_ok-journal.ensures.same)) in
+    rw c.into_disk.ensures whole

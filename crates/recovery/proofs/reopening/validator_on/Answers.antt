@@ -1,0 +1,55 @@
+use Rattle.std.proofs.Common.{◌≡◌, ◌≢◌, ◌∷◌, [], ◌⊎◌, inl, inr, List, ℕ, ap, sym, ◌∙◌, subst, refl, true, length}
+use Rattle.std.proofs.lemmas.Bool.{eqb-true}
+use Rattle.std.proofs.lemmas.List.{nil_from_length}
+use Rattle.std.proofs.lemmas.Result.{err_from_is_err_and, on_ok_weaker}
+use Rattle.journal.specs.Format.{stands}
+use Rattle.journal.specs.Journal.{disk_of, IsBeforeOrAfter, StandsAsOneOf}
+use Rattle.records.specs.Records.{configuration_of}
+use Rattle.validator.specs.Setting.{node_of}
+use Rattle.recovery.specs.Told.{told, read_journal, StandsAt, IsToldAsOneOf, Tells}
+use Rattle.recovery.proofs.Moments.{started, weaker, joins}
+use Rattle.recovery.proofs.Empty.{never_full}
+use Rattle.recovery.proofs.Telling.{told_same, told_records, tells_same, stands_same, ones_from}
+use Rattle.recovery.proofs.reopening.validator_on.Goals as goal
+use Rattle.recovery.proofs.reopening.validator_on.Goals.{then-is_empty+in_ok-write_configuration, else-is_empty}
+
+pub returns-in_err-validator-clause-err : goal.returns-in_err-validator-clause-err
+returns-in_err-validator-clause-err g c =
+    let node = node_of g.S.Sign.own_key g.S.Sign.signature_of c.args.config.now in
+    let file = g.D.Disk.content (disk_of c.args.journal.now) in
+    let p = err_from_is_err_and c.from_residual.result c.from_residual.ensures.1 in
+    rw (p.1, p.2)
+    (λ other. tells_same c.in_err-validator.field-0.0 (read_journal node c.args.records.now) (told node file) (sym (told_records node file c.args.records.now c.requires.records)) c.in_err-validator.ensures.err)
+
+pub returns-clause-stands : goal.returns-clause-stands
+returns-clause-stands g c =
+    let node = node_of g.S.Sign.own_key g.S.Sign.signature_of c.args.config.now in
+    let file = g.D.Disk.content (disk_of c.args.journal.now) in
+    stands_same node (read_journal node c.args.records.now) (told node file) c.in_ok-validator.validator.tables (sym (told_records node file c.args.records.now c.requires.records)) c.in_ok-validator.ensures.stands
+
+pub write_configuration-requires-clause-ones : goal.write_configuration-requires-clause-ones
+write_configuration-requires-clause-ones g c =
+    let node = node_of g.S.Sign.own_key g.S.Sign.signature_of c.args.config.now in
+    let none : c.args.records.now ≡ [] = nil_from_length c.args.records.now (eqb-true (length c.args.records.now) 0 (sym c.is_empty.ensures ∙ c.if-is_empty.true)) in
+    ones_from node c.args.records.now c.in_ok-validator.ensures.stands.history none c.in_ok-validator.ensures.stands.is_read
+
+pub returns-clause-same : goal.returns-clause-same
+returns-clause-same g c =
+    let node = node_of g.S.Sign.own_key g.S.Sign.signature_of c.args.config.now in
+    elim c.if-is_empty.branch [
+      | then-is_empty+in_ok-write_configuration w ↦ ap (λ j. told node (g.D.Disk.content (disk_of j))) w.journal-is ∙ w.in_ok-write_configuration.ensures.same
+      | else-is_empty w ↦ ap (λ j. told node (g.D.Disk.content (disk_of j))) w.journal-is
+    ]
+
+pub returns-clause-any_moment : goal.returns-clause-any_moment
+returns-clause-any_moment g c =
+    let node = node_of g.S.Sign.own_key g.S.Sign.signature_of c.args.config.now in
+    let old = disk_of c.args.journal.now in
+    let file = g.D.Disk.content old in
+    elim c.if-is_empty.branch [
+      | then-is_empty+in_ok-write_configuration w ↦ rw w.journal-is w.write_configuration.ensures.any_moment
+      | else-is_empty w ↦
+          rw w.journal-is
+          (started g.D.Disk.clock g.D.Disk.outcome_since old (λ left. told node left ≡ told node file)
+          (λ left now. told_same node left file (ap stands (c.requires.alive.firm left (g.met.D.Disk.only_now old left now)))))
+    ]

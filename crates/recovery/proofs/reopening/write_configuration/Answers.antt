@@ -1,0 +1,59 @@
+use Rattle.std.proofs.Common.{◌≡◌, ◌≢◌, ◌∷◌, [], ◌⊎◌, inl, inr, List, ℕ, ap, sym, ◌∙◌, subst, refl, arith, true, Err}
+use Rattle.std.proofs.lemmas.Result.{err_from_is_err_and, on_ok_weaker}
+use Rattle.std.proofs.Common.{◌<◌, ◌+◌, length}
+use Rattle.journal.specs.Format.{group_bytes, stands}
+use Rattle.journal.specs.declared.layout.TheConstants.{MAX_JOURNAL_BYTES}
+use Rattle.journal.specs.Journal.{disk_of, IsBeforeOrAfter, StandsAsOneOf}
+use Rattle.records.specs.Records.{configuration_of}
+use Rattle.validator.specs.Setting.{node_of}
+use Rattle.recovery.specs.Told.{is_configuration, told, read_journal, StandsAt, IsToldAsOneOf, Tells}
+use Rattle.recovery.proofs.Moments.{started, weaker, joins}
+use Rattle.recovery.proofs.Empty.{never_full}
+use Rattle.recovery.proofs.Telling.{told_same, told_before_or_after}
+use Rattle.recovery.proofs.reopening.write_configuration.Goals as goal
+
+pub returns-in_err-group-clause-any_moment : goal.returns-in_err-group-clause-any_moment
+returns-in_err-group-clause-any_moment g c =
+    let node = node_of g.S.Sign.own_key g.S.Sign.signature_of c.args.config.now in
+    let old = disk_of c.args.journal.now in
+    let file = g.D.Disk.content old in
+    started g.D.Disk.clock g.D.Disk.outcome_since old (λ left. told node left ≡ told node file)
+    (λ left now. told_same node left file (ap stands (c.requires.alive.firm left (g.met.D.Disk.only_now old left now))))
+
+pub returns-in_err-append-clause-errors : goal.returns-in_err-append-clause-errors
+returns-in_err-append-clause-errors g c =
+    let file = g.D.Disk.content (disk_of c.args.journal.now) in
+    let configuration = configuration_of c.args.config.now.charter c.args.config.now.own in
+    let p = err_from_is_err_and c.from_residual-in_err-append.result c.from_residual-in_err-append.ensures.1 in
+    let group_is = c.in_ok-group.ensures.group ∙ (λ i. configuration_of (c.committee.ensures i) (c.own.ensures i) ∷ []) in
+    rw (p.1, p.2)
+    (elim c.in_err-append.ensures.errors [
+      | inl device ↦ inl device
+      | inr full ↦
+          absurd (never_full file configuration c.requires.alive.ends_closed c.requires.empty (omega (arith, c.in_ok-group.ensures.short, ap (λ (l : List ℕ). length l) (λ i. configuration_of (c.committee.ensures i) (c.own.ensures i))))
+          (subst (λ group. MAX_JOURNAL_BYTES < length file + length (group_bytes group)) group_is (c.in_err-append.ensures.full.0 (ap (λ e. Err e) full))))
+    ])
+
+pub returns-in_err-append-clause-any_moment : goal.returns-in_err-append-clause-any_moment
+returns-in_err-append-clause-any_moment g c =
+    let node = node_of g.S.Sign.own_key g.S.Sign.signature_of c.args.config.now in
+    let old = disk_of c.args.journal.now in
+    let file = g.D.Disk.content old in
+    weaker g.D.Disk.clock g.D.Disk.outcome_since old (disk_of c.append.new.self) (λ left. told node left ≡ told node file) (IsBeforeOrAfter file c.in_ok-group.group) c.append.ensures.any_moment
+    (λ left is. told_before_or_after node file left c.requires.ones ((λ i. is_configuration (configuration_of (sym c.committee.ensures i) (sym c.own.ensures i))) ∙ c.in_ok-group.ensures.shape) c.requires.empty (subst (λ group. IsBeforeOrAfter file group left) (c.in_ok-group.ensures.group ∙ (λ i. configuration_of (c.committee.ensures i) (c.own.ensures i) ∷ [])) is))
+
+pub returns-clause-any_moment : goal.returns-clause-any_moment
+returns-clause-any_moment g c =
+    let node = node_of g.S.Sign.own_key g.S.Sign.signature_of c.args.config.now in
+    let old = disk_of c.args.journal.now in
+    let file = g.D.Disk.content old in
+    weaker g.D.Disk.clock g.D.Disk.outcome_since old (disk_of c.append.new.self) (λ left. told node left ≡ told node file) (IsBeforeOrAfter file c.in_ok-group.group) c.append.ensures.any_moment
+    (λ left is. told_before_or_after node file left c.requires.ones ((λ i. is_configuration (configuration_of (sym c.committee.ensures i) (sym c.own.ensures i))) ∙ c.in_ok-group.ensures.shape) c.requires.empty (subst (λ group. IsBeforeOrAfter file group left) (c.in_ok-group.ensures.group ∙ (λ i. configuration_of (c.committee.ensures i) (c.own.ensures i) ∷ [])) is))
+
+pub returns-clause-same : goal.returns-clause-same
+returns-clause-same g c =
+    let node = node_of g.S.Sign.own_key g.S.Sign.signature_of c.args.config.now in
+    let file = g.D.Disk.content (disk_of c.args.journal.now) in
+    let later = g.D.Disk.content (disk_of c.append.new.self) in
+    told_before_or_after node file later c.requires.ones ((λ i. is_configuration (configuration_of (sym c.committee.ensures i) (sym c.own.ensures i))) ∙ c.in_ok-group.ensures.shape) c.requires.empty
+    (subst (λ group. IsBeforeOrAfter file group later) (c.in_ok-group.ensures.group ∙ (λ i. configuration_of (c.committee.ensures i) (c.own.ensures i) ∷ [])) (inr c.in_ok-append.ensures.records))

@@ -1,0 +1,153 @@
+-- What the bytes of a node's journal are told as: the events that they have, or why they are none of this node's.
+use Rattle.std.specs.Prelude.{◌≡◌, ◌≢◌, ℕ, ◌+◌, ◌*◌, ◌==◌, ◌&&◌, not, nat_lt, Bool, true, false, List, [], ◌∷◌, ◌++◌, length, drop, Option, Some, None, is_none, Result, Ok, Err, slice_index, if◌then◌else◌}
+use Rattle.std.specs.Int.{w16, from_be_bytes}
+use Rattle.std.specs.List.{list_all}
+use Rattle.std.specs.Option.{option_map_or}
+use Rattle.std.specs.Str.{bytes_eq}
+use Rattle.admission.specs.declared.step.Step.{Step}
+use Rattle.admission.specs.declared.step.Step.TheVariants.{New, Known}
+use Rattle.committee.specs.Charter.{Charter}
+use Rattle.header.specs.Checks.{fault_of, accepts_all}
+use Rattle.journal.specs.Format.{stands}
+use Rattle.journal.specs.declared.error.JournalError.{JournalError}
+use Rattle.journal.specs.declared.error.JournalError.TheVariants.{Memory, Damaged, ConfigMismatch}
+use Rattle.journal.specs.declared.record.Record.{Record}
+use Rattle.model.specs.Admitting.{admit, is_new, IsLegal}
+use Rattle.model.specs.Giving.{kept}
+use Rattle.model.specs.Histories.{History}
+use Rattle.model.specs.Nodes.{Node}
+use Rattle.model.specs.Words.{Author, Event, Message}
+use Rattle.model.specs.declared.refusal.Refusal.{Refusal}
+use Rattle.model.specs.declared.refusal.Refusal.TheVariants as refusals
+use Rattle.records.specs.Records.{configuration_of}
+use Rattle.recovery.specs.declared.configuration.TheConstants.{SETTINGS_BYTES, KEY_BYTES}
+use Rattle.recovery.specs.declared.events.TheConstants.{EVENT, FRONT_BYTES}
+use Rattle.tables.specs.declared.tables.Tables.{Tables}
+use Rattle.validator.specs.Standing.{AreAtSound}
+use Rattle.wire.specs.Reading.{message_of}
+use Rattle.wire.specs.declared.error.WireError.{WireError}
+
+-- ---- events
+
+-- a message with its sender, if it passes the checks of a committee, whatever its signatures
+abbrev pub if_passed : Charter → Event → Option Event
+if_passed charter event = if is_none (fault_of charter accepts_all event) then Some event else None
+
+-- what was read as a message from a sender, if it was one and passes the checks
+abbrev pub checked_in : Charter → Author → Result Message WireError → Option Event
+checked_in charter sender (Ok message) = if_passed charter (record { sender = sender; message = message })
+checked_in charter sender (Err fault) = None
+
+-- the sender that a record names
+abbrev pub sender_in : List ℕ → Author
+sender_in bytes = record { 0 = from_be_bytes w16 (slice_index bytes 1 ∷ slice_index bytes 2 ∷ []) }
+
+-- the event of a record: its kind is an event's, the message behind the sender is read, and passes the checks
+unfoldable pub event_in : Charter → List ℕ → Option Event
+event_in charter bytes =
+    if nat_lt (length bytes) FRONT_BYTES then None
+    else if not (slice_index bytes 0 == EVENT) then None
+    else checked_in charter (sender_in bytes) (message_of (drop FRONT_BYTES bytes))
+
+-- a history with an event more, which has to be new
+abbrev pub with_new : Node → History → Event → Option History
+with_new node history event = if is_new (admit node history event) then Some (history ++ event ∷ []) else None
+
+-- a history with a record's event more, or the place of the record's group
+unfoldable pub read_event : Node → History → Record → Result History ℕ
+read_event node history kept =
+    option_map_or (λ event. option_map_or (λ later. Ok later) (with_new node history event) (Err kept.gate)) (event_in node.charter kept.bytes) (Err kept.gate)
+
+-- a reading behind another one, whose place stands if it has none
+abbrev pub go_on : (History → Result History ℕ) → Result History ℕ → Result History ℕ
+go_on read (Ok history) = read history
+go_on read (Err place) = Err place
+
+-- a history with the events of records in turn, or the place of the first record at fault
+unfoldable pub read_events : Node → History → List Record → Result History ℕ
+read_events node history [] = Ok history
+read_events node history (kept ∷ rest) = go_on (λ later. read_events node later rest) (read_event node history kept)
+
+-- ---- the configuration
+
+-- how many members the bytes of a configuration count
+abbrev pub members_in : List ℕ → ℕ
+members_in bytes = from_be_bytes w16 (slice_index bytes 12 ∷ slice_index bytes 13 ∷ [])
+
+-- bytes begin as a configuration: its kind, the version
+abbrev pub has_front : List ℕ → Bool
+has_front bytes = (slice_index bytes 0 == 0) && (slice_index bytes 1 == 1)
+
+-- bytes have the shape of a configuration: they begin as one, and have the length that its members give
+unfoldable pub is_configuration : List ℕ → Bool
+is_configuration bytes = has_front bytes && (length bytes == SETTINGS_BYTES + members_in bytes * KEY_BYTES)
+
+-- none of these records stands in the first group, whose gate is at place 0
+abbrev pub is_alone : List Record → Bool
+is_alone events = list_all (λ kept. nat_lt 0 kept.gate) events
+
+-- each stake is 1: a configuration of this version has no stakes
+abbrev pub has_ones : Charter → Bool
+has_ones charter = list_all (λ stake. stake == 1) charter.stakes
+
+-- ---- a journal
+
+-- why a committee has no configuration of this version: a stake isn't 1
+abbrev pub stakes_fault : Charter → Option JournalError
+stakes_fault charter = if has_ones charter then None else Some ConfigMismatch
+
+-- why a first record with these behind it isn't the node's own configuration, alone in the first group
+abbrev pub first_fault : Node → Record → List Record → Option JournalError
+first_fault node first events =
+    if not (is_configuration first.bytes && is_alone events) then Some (Damaged first.gate)
+    else if not (has_ones node.charter) then Some ConfigMismatch
+    else if not (bytes_eq first.bytes (configuration_of node.charter node.own)) then Some ConfigMismatch
+    else None
+
+-- what was read, or damage at its place
+abbrev pub or_damaged : Result History ℕ → Result History JournalError
+or_damaged (Ok history) = Ok history
+or_damaged (Err place) = Err (Damaged place)
+
+-- the same, unless there is a fault before it
+abbrev pub unless : Option JournalError → Result History ℕ → Result History JournalError
+unless (Some error) read = Err error
+unless None read = or_damaged read
+
+-- the events of a journal's records, or why they are none. Without a record there is no event
+unfoldable pub read_journal : Node → List Record → Result History JournalError
+read_journal node [] = unless (stakes_fault node.charter) (Ok [])
+read_journal node (first ∷ events) = unless (first_fault node first events) (read_events node [] events)
+
+-- what reading the groups gave
+abbrev pub told_by : Node → Result (List Record) ℕ → Result History JournalError
+told_by node (Ok records) = read_journal node records
+told_by node (Err place) = Err (Damaged place)
+
+-- the events of a journal's bytes, or why they are none
+unfoldable pub told : Node → List ℕ → Result History JournalError
+told node bytes = told_by node (stands bytes)
+
+-- ---- what the calls answer
+
+-- the error is that of a reading, unless memory was refused
+abbrev pub Tells : {X : Type 0} → JournalError → Result X JournalError → Type 0
+Tells Memory read = Unit {0}
+Tells error read = read ≡ Err error
+
+-- a reading gave a legal history, and tables stand at what is kept of it
+pub record StandsAt {E : Type 0} (node : Node) (read : Result History E) (tables : Tables) : Type 0 where
+  pub history : History
+  pub is_read : read ≡ Ok history
+  pub legal : IsLegal node history
+  pub at : AreAtSound node tables (kept node history)
+
+-- what came of an event says that it isn't new
+abbrev pub IsOld : Result Step Refusal → Type 0
+IsOld (Ok (New outputs)) = ⊥
+IsOld (Ok (Known outputs)) = Unit {0}
+IsOld (Err refusal) = refusal ≢ refusals.Memory
+
+-- what a stop leaves is told as one of these outcomes is
+abbrev pub IsToldAsOneOf : Node → (List ℕ → Type 0) → List ℕ → Type 0
+IsToldAsOneOf node outcome left = (first : List ℕ) × outcome first × (told node left ≡ told node first)

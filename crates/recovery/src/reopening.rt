@@ -1,0 +1,185 @@
+//! Opening a node on a disk.
+
+ghost use Rattle.std.specs.Prelude.{◌≡◌, ◌≢◌, ◌⊎◌, ◌<◌, [], ◌∷◌, true, Ok, ◌&&◌, IfOk, IfErr, OnOk};
+ghost use Rattle.std.specs.Str.{bytes_eq};
+ghost use Rattle.diskmodel.specs.Disk.{AtEachMoment};
+ghost use Rattle.journal.specs.Format.{stands};
+ghost use Rattle.journal.specs.Journal.{disk_of, IsAlive, IsClosedUp};
+ghost use Rattle.records.specs.Records.{configuration_of};
+ghost use Rattle.validator.specs.Setting.{node_of};
+ghost use Rattle.recovery.specs.Told.{is_configuration as told_configuration, is_alone as told_alone, has_ones as told_ones, read_journal, told, Tells, StandsAt, IsToldAsOneOf};
+
+use crate::configuration::{configuration, configuration_group, has_ones, is_configuration};
+use crate::events::replay;
+use diskmodel::Disk;
+use journal::{Failed, Journal, JournalError, Record};
+use sigface::Sign;
+use std::alloc::{AllocError, Global};
+use validator::{Config, Validator};
+
+/// Opens a node on a disk: its journal, and the validator after the events there. An empty journal gets the configuration.
+///
+/// # Errors
+/// In this order: `Device` or `Memory`, where the disk or the memory fails; `Damaged` with the place of an open gate
+/// without a whole group behind it; `Damaged` with that of the first group, where its one record isn't a configuration;
+/// `ConfigMismatch`, where it is another one; `Damaged` with the place of the group of the first record that is no event,
+/// fails the checks, or isn't new. The disk is handed back.
+pub fn reopen<'a, S: Sign, D: Disk>(
+    alloc: Global,
+    config: &'a Config<S>,
+    disk: D,
+) -> Result<(Validator<'a, S>, Journal<D>), Failed<JournalError, D>>
+    // The validator stands at what the bytes are told as, and so is what they are then.
+    ensures setting { IfOk result (λ opened. opened.0.setting ≡ config.now) }
+    ensures stands { IfOk result (λ opened. StandsAt (node_of S.own_key S.signature_of config.now) (told (node_of S.own_key S.signature_of config.now) (D.content disk)) opened.0.tables) }
+    ensures same { IfOk result (λ opened. told (node_of S.own_key S.signature_of config.now) (D.content (disk_of opened.1)) ≡ told (node_of S.own_key S.signature_of config.now) (D.content disk)) }
+    ensures alive { IfOk result (λ opened. IsAlive D.content D.outcome opened.1) }
+
+    // Each refusal but those of memory and of the disk is what the bytes are told as.
+    ensures err { IfErr result (λ failed. failed.error ≢ JournalError.Device → Tells failed.error (told (node_of S.own_key S.signature_of config.now) (D.content disk))) }
+    ensures device { IfErr result (λ failed. failed.error ≡ JournalError.Device → D.faults disk < D.faults failed.disk) }
+    ensures never_full { IfErr result (λ failed. failed.error ≢ JournalError.Full) }
+    // Only a failure of the disk leaves other bytes than there were, but for those behind the closed gate.
+    ensures unchanged { IfErr result (λ failed. failed.error ≢ JournalError.Device → (D.content failed.disk ≡ D.content disk) ⊎ IsClosedUp (D.content disk) (D.content failed.disk)) }
+
+    // A stop at any moment of the call leaves what is told as one outcome from before it is.
+    ensures any_moment { IfOk result (λ opened. AtEachMoment D.clock D.outcome_since disk (disk_of opened.1) (IsToldAsOneOf (node_of S.own_key S.signature_of config.now) (D.outcome disk))) }
+    ensures any_moment_err { IfErr result (λ failed. AtEachMoment D.clock D.outcome_since disk failed.disk (IsToldAsOneOf (node_of S.own_key S.signature_of config.now) (D.outcome disk))) }
+{
+    let (mut journal, records) = Journal::open(alloc, disk)?;
+    match validator_on(alloc, config, &mut journal, &records) {
+        Ok(validator) => Ok((validator, journal)),
+        Err(error) => Err(Failed {
+            error,
+            disk: journal.into_disk(),
+        }),
+    }
+}
+
+// The validator after the events of a journal's records. Where there are none, the journal gets the configuration.
+fn validator_on<'a, S: Sign, D: Disk>(
+    alloc: Global,
+    config: &'a Config<S>,
+    journal: &mut Journal<D>,
+    records: &[Record],
+) -> Result<Validator<'a, S>, JournalError>
+    requires alive { IsAlive D.content D.outcome journal.old }
+    requires records { stands (D.content (disk_of journal.old)) ≡ Ok records.now }
+
+    ensures setting { IfOk result (λ validator. validator.setting ≡ config.now) }
+    ensures stands { IfOk result (λ validator. StandsAt (node_of S.own_key S.signature_of config.now) (told (node_of S.own_key S.signature_of config.now) (D.content (disk_of journal.old))) validator.tables) }
+    ensures same { OnOk result (told (node_of S.own_key S.signature_of config.now) (D.content (disk_of journal.new)) ≡ told (node_of S.own_key S.signature_of config.now) (D.content (disk_of journal.old))) }
+    ensures alive { OnOk result (IsAlive D.content D.outcome journal.new) }
+    ensures err { IfErr result (λ error. error ≢ JournalError.Device → Tells error (told (node_of S.own_key S.signature_of config.now) (D.content (disk_of journal.old)))) }
+    ensures device { IfErr result (λ error. error ≡ JournalError.Device → D.faults (disk_of journal.old) < D.faults (disk_of journal.new)) }
+    ensures never_full { IfErr result (λ error. error ≢ JournalError.Full) }
+    ensures unchanged { IfErr result (λ error. error ≢ JournalError.Device → D.content (disk_of journal.new) ≡ D.content (disk_of journal.old)) }
+    ensures any_moment { AtEachMoment D.clock D.outcome_since (disk_of journal.old) (disk_of journal.new) (λ left. told (node_of S.own_key S.signature_of config.now) left ≡ told (node_of S.own_key S.signature_of config.now) (D.content (disk_of journal.old))) }
+{
+    let validator = validator_after(alloc, config, records)?;
+    if records.is_empty() {
+        write_configuration(alloc, config, journal)?;
+    }
+    Ok(validator)
+}
+
+// The validator after the events of a journal's records, of which the first has to be its configuration.
+fn validator_after<'a, S: Sign>(
+    alloc: Global,
+    config: &'a Config<S>,
+    records: &[Record],
+) -> Result<Validator<'a, S>, JournalError>
+    ensures setting { IfOk result (λ validator. validator.setting ≡ config.now) }
+    ensures stands { IfOk result (λ validator. StandsAt (node_of S.own_key S.signature_of config.now) (read_journal (node_of S.own_key S.signature_of config.now) records.now) validator.tables) }
+    ensures err { IfErr result (λ error. Tells error (read_journal (node_of S.own_key S.signature_of config.now) records.now)) }
+    ensures never { IfErr result (λ error. (error ≢ JournalError.Device) × (error ≢ JournalError.Full)) }
+{
+    match records.split_first() {
+        Some((first, events)) => validator_behind(alloc, config, first, events),
+        None => fresh_validator(alloc, config),
+    }
+}
+
+// The validator of a journal without records.
+fn fresh_validator<'a, S: Sign>(
+    alloc: Global,
+    config: &'a Config<S>,
+) -> Result<Validator<'a, S>, JournalError>
+    ensures setting { IfOk result (λ validator. validator.setting ≡ config.now) }
+    ensures stands { IfOk result (λ validator. StandsAt (node_of S.own_key S.signature_of config.now) (read_journal (node_of S.own_key S.signature_of config.now) []) validator.tables) }
+    ensures err { IfErr result (λ error. Tells error (read_journal (node_of S.own_key S.signature_of config.now) [])) }
+    ensures never { IfErr result (λ error. (error ≢ JournalError.Device) × (error ≢ JournalError.Full)) }
+{
+    if !has_ones(config.committee()) {
+        return Err(JournalError::ConfigMismatch);
+    }
+    replay(alloc, config, &[])
+}
+
+// The validator after the events of the records behind the first.
+fn validator_behind<'a, S: Sign>(
+    alloc: Global,
+    config: &'a Config<S>,
+    first: &Record,
+    events: &[Record],
+) -> Result<Validator<'a, S>, JournalError>
+    ensures setting { IfOk result (λ validator. validator.setting ≡ config.now) }
+    ensures stands { IfOk result (λ validator. StandsAt (node_of S.own_key S.signature_of config.now) (read_journal (node_of S.own_key S.signature_of config.now) (first.now ∷ events.now)) validator.tables) }
+    ensures err { IfErr result (λ error. Tells error (read_journal (node_of S.own_key S.signature_of config.now) (first.now ∷ events.now))) }
+    ensures never { IfErr result (λ error. (error ≢ JournalError.Device) × (error ≢ JournalError.Full)) }
+{
+    if !has_shape(first, events) {
+        return Err(JournalError::Damaged(first.gate));
+    }
+    if !has_ones(config.committee()) {
+        return Err(JournalError::ConfigMismatch);
+    }
+    if !is_own(alloc, config, first.bytes.as_slice())? {
+        return Err(JournalError::ConfigMismatch);
+    }
+    replay(alloc, config, events)
+}
+
+// Whether the first record has the shape of a configuration, and is alone in its group.
+fn has_shape(first: &Record, events: &[Record]) -> bool
+    ensures { result ≡ (told_configuration first.now.bytes && told_alone events.now) }
+{
+    is_configuration(first.bytes.as_slice()) && is_alone(events)
+}
+
+// Whether none of these records stands in the first group.
+fn is_alone(events: &[Record]) -> bool
+    ensures { result ≡ told_alone events.now }
+{
+    events.iter().all(|event| event.gate > 0)
+}
+
+// Whether these bytes are this configuration's.
+fn is_own<S: Sign>(alloc: Global, config: &Config<S>, bytes: &[u8]) -> Result<bool, AllocError>
+    ensures { IfOk result (λ own. own ≡ bytes_eq bytes.now (configuration_of config.now.charter config.now.own)) }
+{
+    let own = configuration(alloc, config.committee(), config.own())?;
+    Ok(bytes == own.as_slice())
+}
+
+// Writes the group of the configuration alone.
+fn write_configuration<S: Sign, D: Disk>(
+    alloc: Global,
+    config: &Config<S>,
+    journal: &mut Journal<D>,
+) -> Result<(), JournalError>
+    requires alive { IsAlive D.content D.outcome journal.old }
+    requires empty { stands (D.content (disk_of journal.old)) ≡ Ok [] }
+    requires ones { told_ones config.now.charter ≡ true }
+
+    ensures alive { OnOk result (IsAlive D.content D.outcome journal.new) }
+    ensures same { OnOk result (told (node_of S.own_key S.signature_of config.now) (D.content (disk_of journal.new)) ≡ told (node_of S.own_key S.signature_of config.now) (D.content (disk_of journal.old))) }
+    ensures errors { IfErr result (λ error. (error ≡ JournalError.Device) ⊎ (error ≡ JournalError.Memory)) }
+    ensures device { IfErr result (λ error. error ≡ JournalError.Device → D.faults (disk_of journal.old) < D.faults (disk_of journal.new)) }
+    ensures unchanged { IfErr result (λ error. error ≡ JournalError.Memory → journal.new ≡ journal.old) }
+    ensures any_moment { AtEachMoment D.clock D.outcome_since (disk_of journal.old) (disk_of journal.new) (λ left. told (node_of S.own_key S.signature_of config.now) left ≡ told (node_of S.own_key S.signature_of config.now) (D.content (disk_of journal.old))) }
+{
+    let group = configuration_group(alloc, config.committee(), config.own())?;
+    let _ = journal.append(group)?.records();
+    Ok(())
+}
