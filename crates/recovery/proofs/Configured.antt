@@ -1,11 +1,11 @@
 -- What holds of the record of a configuration.
-use Rattle.std.proofs.Common.{◌≡◌, ◌≢◌, ℕ, zero, suc, ◌+◌, ◌*◌, ◌<◌, ◌≤◌, ◌^◌, Bool, true, false, List, [], ◌∷◌, ◌++◌, length, take, Option, Some, None, refl, sym, ap, ◌∙◌, cond, eqb, inl, inr, arith, append_assoc, length-append}
-use Rattle.std.specs.Prelude.{◌&&◌, ◌==◌, All, sum, slice_get}
-use Rattle.std.specs.Int.{w16, w32, to_be_bytes, from_be_bytes}
+use Rattle.std.proofs.Common.{◌≡◌, ℕ, zero, suc, ◌+◌, ◌*◌, ◌<◌, ◌≤◌, ◌^◌, Bool, true, false, List, [], ◌∷◌, ◌++◌, length, take, Some, refl, sym, ap, ◌∙◌, subst, eqb, inl, inr, arith, append_assoc}
+use Rattle.std.specs.Prelude.{◌==◌, All, sum, slice_get}
+use Rattle.std.specs.Int.{w16, to_be_bytes, from_be_bytes}
 use Rattle.std.specs.List.{list_all, flat_map}
-use Rattle.std.proofs.lemmas.Bool.{cases_eq, cases_Bool, eq-eqb, ne_eqb, eqb-true, and_parts, and_from, and_right}
+use Rattle.std.proofs.lemmas.Bool.{cases_eq, eq-eqb, ne_eqb, eqb-true, and_parts, and_from, and_right}
 use Rattle.std.proofs.lemmas.List.{append-nil}
-use Rattle.std.proofs.lemmas.List.Elements.{All-head, All-tail}
+use Rattle.std.proofs.lemmas.List.Elements.{All-nil, All-cons, All-head, All-tail}
 use Rattle.std.proofs.lemmas.List.Sums.{sum_by-cons}
 use Rattle.std.proofs.lemmas.Nat.{from_be_bytes-to_be_bytes_2}
 use Rattle.std.proofs.lemmas.Option.{same_Some}
@@ -85,3 +85,13 @@ unfolding is_configuration
 shape_is charter own small long =
     let members : from_be_bytes w16 (to_be_bytes w16 (length charter.keys)) ≡ length charter.keys = from_be_bytes-to_be_bytes_2 (length charter.keys) small in
     eq-eqb (length (configuration_of charter own)) (14 + from_be_bytes w16 (to_be_bytes w16 (length charter.keys)) * 32) (long ∙ ap (λ (n : ℕ). 14 + n * 32) (sym members))
+
+-- what holds of each key so far, and of one more
+more_hold : (P : Key → Type 0) (keys : List Key) (m : ℕ) (key : Key) → slice_get keys m ≡ Some key → P key → All P (take m keys) → All P (take (suc m) keys)
+more_hold P [] m key is holds all = absurd (cc)
+more_hold P (first ∷ keys) zero key is holds all = All-cons P first [] (subst P (sym (same_Some first key is)) holds) (All-nil P)
+more_hold P (first ∷ keys) (suc m) key is holds all =
+    All-cons P first (take (suc m) keys) (All-head P first (take m keys) all) (more_hold P keys m key is holds (All-tail P first (take m keys) all))
+
+pub one_more : (P : Key → Type 0) (keys : List Key) (m : ℕ) (key : Key) → slice_get keys m ≡ Some key → P key → All P (take m keys) → All P (take (m + 1) keys)
+one_more P keys m key is holds all = let same : suc m ≡ m + 1 = omega arith in subst (λ (n : ℕ). All P (take n keys)) same (more_hold P keys m key is holds all)

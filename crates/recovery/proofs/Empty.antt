@@ -1,12 +1,12 @@
 -- That a journal without records ends at its first byte, so that the configuration's group fits behind it.
-use Rattle.std.proofs.Common.{◌≡◌, ◌≢◌, ℕ, zero, suc, ◌+◌, ◌-◌, ◌*◌, ◌<◌, ◌≤◌, inl, inr, Bool, true, false, cond, eqb, ltb, List, [], ◌∷◌, ◌++◌, length, Option, Some, None, Result, Ok, Err, refl, sym, ap, ◌∙◌, arith, length-append}
+use Rattle.std.proofs.Common.{◌≡◌, ◌≢◌, ℕ, ◌+◌, ◌-◌, ◌<◌, ◌≤◌, inl, inr, Bool, true, false, cond, eqb, ltb, List, [], ◌∷◌, ◌++◌, length, Option, Some, None, Result, Ok, Err, refl, sym, ap, ◌∙◌, arith, length-append}
 use Rattle.std.specs.Option.{option_map, option_and_then, option_map_or}
 use Rattle.std.proofs.lemmas.Bool.{cases_eq, ne_eqb, cond-false}
 use Rattle.journal.specs.Format.{group_bytes, split_record, records_behind, records_of, group_of, body_at, kept_at, kept, with_front, walk, stands}
 use Rattle.journal.specs.Journal.{EndsClosed}
 use Rattle.journal.specs.declared.layout.TheConstants.{MAX_GROUP_RECORDS, MAX_JOURNAL_BYTES}
 use Rattle.journal.specs.declared.record.Record.{Record}
-use Rattle.journal.proofs.Walks.{walk_closed, Stands, body_stands}
+use Rattle.journal.proofs.Walks.{walk_closed, body_stands}
 
 abbrev Found : Type 0
 Found = List Record × ℕ

@@ -2,3 +2,15 @@ pub mod Configured
 pub mod Telling
 pub mod Moments
 pub mod Empty
+pub mod Appending
+pub mod Scripts
+pub mod Longer
+pub mod Desks
+pub mod Dues
+pub mod DeskOpening
+pub mod Carrying
+pub mod EventRecords
+pub mod GroupTexts
+pub mod Histories
+pub mod Laws
+pub mod Opened

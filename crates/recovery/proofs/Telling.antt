@@ -1,14 +1,12 @@
 -- What readings of records, and of a journal, come to.
-use Rattle.std.proofs.Common.{drop-cons, ◌≡◌, ◌≢◌, ℕ, suc, rules, ◌-◌, ◌+◌, ◌<◌, ◌⊎◌, inl, inr, Bool, true, false, cond, eqb, ltb, ◌≤◌, List, [], ◌∷◌, ◌++◌, length, drop, Option, Some, None, Result, Ok, Err, refl, sym, ap, ◌∙◌, subst, arith}
+use Rattle.std.proofs.Common.{drop-cons, ◌≡◌, ◌≢◌, ℕ, suc, ◌-◌, ◌+◌, ◌<◌, inl, inr, Bool, true, false, cond, eqb, ltb, ◌≤◌, List, [], ◌∷◌, ◌++◌, length, drop, Option, Some, None, Result, Ok, Err, refl, sym, ap, ◌∙◌, subst, arith}
 use Rattle.std.specs.Prelude.{get_or, not, ◌&&◌, slice_index, IfOk, IfErr}
 use Rattle.std.specs.Option.{option_map_or}
 use Rattle.std.specs.Str.{bytes_eq}
 use Rattle.std.proofs.lemmas.Bool.{cases_Bool, and_from, cond-true, cond-false, lt-ltb, le-ltb, eq-eqb, ne_eqb}
-use Rattle.std.proofs.lemmas.List.{drop_all}
 use Rattle.std.proofs.lemmas.Slice.Eq.{bytes_eq-Decides}
 use Rattle.std.proofs.lemmas.List.Elements.{All-nil}
 use Rattle.committee.specs.Charter.{Charter}
-use Rattle.header.specs.Checks.{fault_of, accepts_all}
 use Rattle.journal.specs.Format.{kept_at, stands, FailsAs}
 use Rattle.journal.specs.Journal.{with_group, IsBeforeOrAfter, StandsAsOneOf}
 use Rattle.journal.specs.declared.error.JournalError.{JournalError}
@@ -18,9 +16,8 @@ use Rattle.model.specs.Admitting.{admit, is_new, IsTaken, IsLegal}
 use Rattle.model.specs.Giving.{kept}
 use Rattle.model.specs.Histories.{History}
 use Rattle.model.specs.Nodes.{Node, IsNode}
-use Rattle.model.specs.Words.{Author, Event, Message, Output}
+use Rattle.model.specs.Words.{Author, Event, Message}
 use Rattle.model.specs.declared.admission.Admission.{Admission}
-use Rattle.model.specs.declared.admission.Admission.TheVariants as admission
 use Rattle.model.specs.declared.refusal.Refusal.{Refusal}
 use Rattle.admission.specs.Answers.{IsAnswer, is_new_step}
 use Rattle.admission.specs.declared.step.Step.{Step}
@@ -32,7 +29,7 @@ use Rattle.validator.specs.Standing.{AreAtSound}
 use Rattle.wire.specs.Reading.{Faults, message_of}
 use Rattle.wire.specs.declared.error.WireError.{WireError}
 use Rattle.wire.specs.declared.error.WireError.TheVariants as wire
-use Rattle.recovery.specs.Told.{checked_in, if_passed, sender_in, event_in, with_new, read_event, go_on, read_events, or_damaged, unless, is_configuration, is_alone, has_ones, stakes_fault, first_fault, read_journal, told_by, told, Tells, StandsAt, IsOld, IsToldAsOneOf}
+use Rattle.recovery.specs.Told.{checked_in, sender_in, event_in, with_new, read_event, go_on, read_events, or_damaged, unless, is_configuration, is_alone, has_ones, stakes_fault, first_fault, read_journal, told_by, told, Tells, StandsAt, IsOld, IsToldAsOneOf}
 
 -- an error of which more is known
 pub err_weaker : {A E : Type 0} (r : Result A E) (P Q : E → Type 0) → ((e : E) → P e → Q e) → IfErr r P → IfErr r Q
@@ -196,7 +193,7 @@ fails_there node records count one tables error is fails reached =
 -- ---- a journal
 
 -- the fault of a first record, by what its tests give
-abbrev by_tests : Bool → Bool → Bool → ℕ → Option JournalError
+abbrev pub by_tests : Bool → Bool → Bool → ℕ → Option JournalError
 by_tests shape ones own place = cond (not shape) (Some (Damaged place)) (cond (not ones) (Some ConfigMismatch) (cond (not own) (Some ConfigMismatch) None))
 
 abbrev is_own_configuration : Node → Record → Bool
@@ -326,7 +323,7 @@ ones_told false history is = absurd (cc)
 same_bytes : (bytes : List ℕ) → bytes_eq bytes bytes ≡ false → ⊥
 same_bytes bytes off = grind (arith, bytes_eq-Decides bytes bytes)
 
-bytes_same : (bytes : List ℕ) → bytes_eq bytes bytes ≡ true
+pub bytes_same : (bytes : List ℕ) → bytes_eq bytes bytes ≡ true
 bytes_same bytes = elim (cases_Bool (bytes_eq bytes bytes)) [ inl so ↦ so | inr off ↦ absurd (same_bytes bytes off) ]
 
 -- ---- the configuration written

@@ -1,5 +1,5 @@
 -- What the bytes of a node's journal are told as: the events that they have, or why they are none of this node's.
-use Rattle.std.specs.Prelude.{◌≡◌, ◌≢◌, ℕ, ◌+◌, ◌*◌, ◌==◌, ◌&&◌, not, nat_lt, Bool, true, false, List, [], ◌∷◌, ◌++◌, length, drop, Option, Some, None, is_none, Result, Ok, Err, slice_index, if◌then◌else◌}
+use Rattle.std.specs.Prelude.{◌≡◌, ◌≢◌, ℕ, ◌+◌, ◌*◌, ◌==◌, ◌&&◌, not, nat_lt, Bool, List, [], ◌∷◌, ◌++◌, length, drop, Option, Some, None, is_none, Result, Ok, Err, slice_index, if◌then◌else◌}
 use Rattle.std.specs.Int.{w16, from_be_bytes}
 use Rattle.std.specs.List.{list_all}
 use Rattle.std.specs.Option.{option_map_or}
@@ -7,6 +7,7 @@ use Rattle.std.specs.Str.{bytes_eq}
 use Rattle.admission.specs.declared.step.Step.{Step}
 use Rattle.admission.specs.declared.step.Step.TheVariants.{New, Known}
 use Rattle.committee.specs.Charter.{Charter}
+use Rattle.diskmodel.specs.Outcomes.{AreBytes}
 use Rattle.header.specs.Checks.{fault_of, accepts_all}
 use Rattle.journal.specs.Format.{stands}
 use Rattle.journal.specs.declared.error.JournalError.{JournalError}
@@ -28,6 +29,10 @@ use Rattle.wire.specs.Reading.{message_of}
 use Rattle.wire.specs.declared.error.WireError.{WireError}
 
 -- ---- events
+
+-- a record has bytes
+abbrev pub IsText : Record → Type 0
+IsText one = AreBytes one.bytes
 
 -- a message with its sender, if it passes the checks of a committee, whatever its signatures
 abbrev pub if_passed : Charter → Event → Option Event

@@ -1,16 +1,17 @@
 //! The record of a node's configuration.
 
-ghost use Rattle.std.specs.Prelude.{◌≡◌, ◌+◌, ◌*◌, ◌≤◌, ◌++◌, [], ◌∷◌, length, flat_map, true, IfOk, OnOk};
+ghost use Rattle.std.specs.Prelude.{◌≡◌, ◌+◌, ◌*◌, ◌≤◌, ◌++◌, [], ◌∷◌, length, flat_map, true, All, IfOk, OnOk};
 ghost use Rattle.committee.specs.declared.members.TheConstants.{MAX_MEMBERS};
 ghost use Rattle.journal.specs.Format.{FitsGroup};
 ghost use Rattle.records.specs.Records.{configuration_of};
 ghost use Rattle.recovery.specs.Told.{has_ones as told_ones, has_front, is_configuration as told_configuration};
+ghost use Rattle.wire.specs.Fields.{AreBytes, EachIsByte};
 
 use committee::Committee;
 use journal::Group;
 use std::alloc::{AllocError, Global};
-use wire::Author;
 use wire::numbers::two_bytes;
+use wire::{Author, Key};
 
 /// What a configuration begins with: its kind, and the version of the journal.
 const FRONT: [u8; 2] = [0, 1];
@@ -94,6 +95,32 @@ fn has_front(bytes: &[u8]) -> bool
     ensures { result ≡ has_front bytes.now }
 {
     bytes[0] == FRONT[0] && bytes[1] == FRONT[1]
+}
+
+/// What holds of the keys of a committee: each has 32 bytes. It looks at each key, and does nothing.
+pub fn keys_hold(committee: &Committee)
+    ensures { All (λ key. AreBytes 32 key.0) committee.now.keys }
+{
+    for member in 0..committee.size() {
+        match committee.key(Author(member)) {
+            Some(key) => is_key(key),
+            None => unreachable!(),
+        }
+    }
+}
+
+// What holds of a key: it has 32 bytes. The call does nothing.
+fn is_key(key: &Key)
+    ensures { AreBytes 32 key.now.0 }
+{
+    are_bytes(&key.0);
+}
+
+/// What holds of bytes. The call does nothing.
+pub fn are_bytes(bytes: &[u8])
+    ensures { EachIsByte bytes.now }
+{
+    let _ = bytes;
 }
 
 /// Whether each stake is 1.

@@ -1,6 +1,6 @@
 //! The events of a journal's records.
 
-ghost use Rattle.std.specs.Prelude.{◌≡◌, ◌≢◌, [], true, None, IfOk, IfErr, IfSome, OnOk};
+ghost use Rattle.std.specs.Prelude.{◌≡◌, ◌≢◌, [], true, None, All, IfOk, IfErr, IfSome, OnOk};
 ghost use Rattle.header.specs.Checks.{fault_of, accepts_all};
 ghost use Rattle.journal.specs.Format.{FailsAs};
 ghost use Rattle.model.specs.Admitting.{IsLegal};
@@ -9,8 +9,9 @@ ghost use Rattle.model.specs.Histories.{History};
 ghost use Rattle.admission.specs.Answers.{is_new_step};
 ghost use Rattle.validator.specs.Setting.{node_of};
 ghost use Rattle.validator.specs.Standing.{AreAtSound};
-ghost use Rattle.recovery.specs.Told.{event_in, if_passed, read_event, read_events, StandsAt, IsOld};
+ghost use Rattle.recovery.specs.Told.{IsText, event_in, if_passed, read_event, read_events, StandsAt, IsOld};
 
+use crate::configuration::are_bytes;
 use committee::Committee;
 use header::{Checked, recheck};
 use journal::{JournalError, Record};
@@ -101,6 +102,13 @@ fn only_new(step: Result<Step, Refusal>, gate: u64) -> Result<(), JournalError>
     }
 }
 
+// What holds of a record: it has bytes. The call does nothing.
+fn is_text(kept: &Record)
+    ensures { IsText kept.now }
+{
+    are_bytes(kept.bytes.as_slice());
+}
+
 /// The validator after the events of these records, of which each has to be new.
 pub fn replay<'a, S: Sign>(
     alloc: Global,
@@ -110,11 +118,13 @@ pub fn replay<'a, S: Sign>(
     ensures setting { IfOk result (λ validator. validator.setting ≡ config.now) }
     ensures ok { IfOk result (λ validator. StandsAt (node_of S.own_key S.signature_of config.now) (read_events (node_of S.own_key S.signature_of config.now) [] records.now) validator.tables) }
     ensures err { IfErr result (λ error. FailsAs error (read_events (node_of S.own_key S.signature_of config.now) [] records.now)) }
+    ensures texts { OnOk result (All IsText records.now) }
 {
     machine::starts_fresh();
     config.limits_hold();
     let mut validator = Validator::new(alloc, config)?;
     for one in records {
+        is_text(one);
         take_event(alloc, &mut validator, one)?;
     }
     Ok(validator)

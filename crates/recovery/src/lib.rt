@@ -2,7 +2,13 @@
 #![tactic(auto)]
 
 mod configuration;
+mod desk;
+mod driving;
 mod events;
+mod frames;
 mod reopening;
+mod standing;
 
+pub use driving::{Command, DriveError, drive};
 pub use reopening::reopen;
+pub use standing::{told_stands_for, what_stands_is_told, worlds_are_told};

@@ -1,16 +1,20 @@
 //! Opening a node on a disk.
 
-ghost use Rattle.std.specs.Prelude.{◌≡◌, ◌≢◌, ◌⊎◌, ◌<◌, [], ◌∷◌, true, Ok, ◌&&◌, IfOk, IfErr, OnOk};
+ghost use Rattle.std.specs.Prelude.{◌≡◌, ◌≢◌, ◌⊎◌, ◌<◌, ◌≤◌, [], ◌∷◌, drop, true, Ok, ◌&&◌, All, IfOk, IfErr, OnOk};
 ghost use Rattle.std.specs.Str.{bytes_eq};
 ghost use Rattle.diskmodel.specs.Disk.{AtEachMoment};
 ghost use Rattle.journal.specs.Format.{stands};
 ghost use Rattle.journal.specs.Journal.{disk_of, IsAlive, IsClosedUp};
 ghost use Rattle.records.specs.Records.{configuration_of};
 ghost use Rattle.validator.specs.Setting.{node_of};
-ghost use Rattle.recovery.specs.Told.{is_configuration as told_configuration, is_alone as told_alone, has_ones as told_ones, read_journal, told, Tells, StandsAt, IsToldAsOneOf};
+ghost use Rattle.recovery.specs.Laws.{StandsForAt, IsLeft, AreLeftTold, IsNoRefusal};
+ghost use Rattle.recovery.specs.Told.{IsText, is_configuration as told_configuration, is_alone as told_alone, has_ones as told_ones, read_journal, told, Tells, StandsAt, IsToldAsOneOf};
 
-use crate::configuration::{configuration, configuration_group, has_ones, is_configuration};
+use crate::configuration::{
+    configuration, configuration_group, has_ones, is_configuration, keys_hold,
+};
 use crate::events::replay;
+use crate::standing::worlds_are_told;
 use diskmodel::Disk;
 use journal::{Failed, Journal, JournalError, Record};
 use sigface::Sign;
@@ -34,6 +38,11 @@ pub fn reopen<'a, S: Sign, D: Disk>(
     ensures stands { IfOk result (λ opened. StandsAt (node_of S.own_key S.signature_of config.now) (told (node_of S.own_key S.signature_of config.now) (D.content disk)) opened.0.tables) }
     ensures same { IfOk result (λ opened. told (node_of S.own_key S.signature_of config.now) (D.content (disk_of opened.1)) ≡ told (node_of S.own_key S.signature_of config.now) (D.content disk)) }
     ensures alive { IfOk result (λ opened. IsAlive D.content D.outcome opened.1) }
+    ensures configured { IfOk result (λ opened. stands (D.content (disk_of opened.1)) ≢ Ok []) }
+    ensures faults { IfOk result (λ opened. D.faults disk ≤ D.faults (disk_of opened.1)) }
+
+    // It stands at the history for which the bytes stand.
+    ensures stands_for { IfOk result (λ opened. StandsForAt (node_of S.own_key S.signature_of config.now) (D.content disk) opened.0.tables) }
 
     // Each refusal but those of memory and of the disk is what the bytes are told as.
     ensures err { IfErr result (λ failed. failed.error ≢ JournalError.Device → Tells failed.error (told (node_of S.own_key S.signature_of config.now) (D.content disk))) }
@@ -45,7 +54,11 @@ pub fn reopen<'a, S: Sign, D: Disk>(
     // A stop at any moment of the call leaves what is told as one outcome from before it is.
     ensures any_moment { IfOk result (λ opened. AtEachMoment D.clock D.outcome_since disk (disk_of opened.1) (IsToldAsOneOf (node_of S.own_key S.signature_of config.now) (D.outcome disk))) }
     ensures any_moment_err { IfErr result (λ failed. AtEachMoment D.clock D.outcome_since disk failed.disk (IsToldAsOneOf (node_of S.own_key S.signature_of config.now) (D.outcome disk))) }
+
+    // What a stop leaves in a world of this node is never refused.
+    ensures never_refused { IfErr result (λ failed. IsLeft (node_of S.own_key S.signature_of config.now) (D.content disk) → IsNoRefusal failed.error) }
 {
+    outcomes_are_told(config);
     let (mut journal, records) = Journal::open(alloc, disk)?;
     match validator_on(alloc, config, &mut journal, &records) {
         Ok(validator) => Ok((validator, journal)),
@@ -54,6 +67,15 @@ pub fn reopen<'a, S: Sign, D: Disk>(
             disk: journal.into_disk(),
         }),
     }
+}
+
+// Whatever a stop leaves in a world of this node is told as a history. It looks at the keys, and does nothing.
+fn outcomes_are_told<S: Sign>(config: &Config<S>)
+    ensures { AreLeftTold (node_of S.own_key S.signature_of config.now) }
+{
+    worlds_are_told();
+    config.limits_hold();
+    keys_hold(config.committee());
 }
 
 // The validator after the events of a journal's records. Where there are none, the journal gets the configuration.
@@ -70,11 +92,14 @@ fn validator_on<'a, S: Sign, D: Disk>(
     ensures stands { IfOk result (λ validator. StandsAt (node_of S.own_key S.signature_of config.now) (told (node_of S.own_key S.signature_of config.now) (D.content (disk_of journal.old))) validator.tables) }
     ensures same { OnOk result (told (node_of S.own_key S.signature_of config.now) (D.content (disk_of journal.new)) ≡ told (node_of S.own_key S.signature_of config.now) (D.content (disk_of journal.old))) }
     ensures alive { OnOk result (IsAlive D.content D.outcome journal.new) }
+    ensures configured { OnOk result (stands (D.content (disk_of journal.new)) ≢ Ok []) }
+    ensures faults { D.faults (disk_of journal.old) ≤ D.faults (disk_of journal.new) }
     ensures err { IfErr result (λ error. error ≢ JournalError.Device → Tells error (told (node_of S.own_key S.signature_of config.now) (D.content (disk_of journal.old)))) }
     ensures device { IfErr result (λ error. error ≡ JournalError.Device → D.faults (disk_of journal.old) < D.faults (disk_of journal.new)) }
     ensures never_full { IfErr result (λ error. error ≢ JournalError.Full) }
     ensures unchanged { IfErr result (λ error. error ≢ JournalError.Device → D.content (disk_of journal.new) ≡ D.content (disk_of journal.old)) }
     ensures any_moment { AtEachMoment D.clock D.outcome_since (disk_of journal.old) (disk_of journal.new) (λ left. told (node_of S.own_key S.signature_of config.now) left ≡ told (node_of S.own_key S.signature_of config.now) (D.content (disk_of journal.old))) }
+    ensures texts { OnOk result (All IsText (drop 1 records.now)) }
 {
     let validator = validator_after(alloc, config, records)?;
     if records.is_empty() {
@@ -93,6 +118,7 @@ fn validator_after<'a, S: Sign>(
     ensures stands { IfOk result (λ validator. StandsAt (node_of S.own_key S.signature_of config.now) (read_journal (node_of S.own_key S.signature_of config.now) records.now) validator.tables) }
     ensures err { IfErr result (λ error. Tells error (read_journal (node_of S.own_key S.signature_of config.now) records.now)) }
     ensures never { IfErr result (λ error. (error ≢ JournalError.Device) × (error ≢ JournalError.Full)) }
+    ensures texts { OnOk result (All IsText (drop 1 records.now)) }
 {
     match records.split_first() {
         Some((first, events)) => validator_behind(alloc, config, first, events),
@@ -127,6 +153,7 @@ fn validator_behind<'a, S: Sign>(
     ensures stands { IfOk result (λ validator. StandsAt (node_of S.own_key S.signature_of config.now) (read_journal (node_of S.own_key S.signature_of config.now) (first.now ∷ events.now)) validator.tables) }
     ensures err { IfErr result (λ error. Tells error (read_journal (node_of S.own_key S.signature_of config.now) (first.now ∷ events.now))) }
     ensures never { IfErr result (λ error. (error ≢ JournalError.Device) × (error ≢ JournalError.Full)) }
+    ensures texts { OnOk result (All IsText events.now) }
 {
     if !has_shape(first, events) {
         return Err(JournalError::Damaged(first.gate));
@@ -173,6 +200,8 @@ fn write_configuration<S: Sign, D: Disk>(
     requires ones { told_ones config.now.charter ≡ true }
 
     ensures alive { OnOk result (IsAlive D.content D.outcome journal.new) }
+    ensures configured { OnOk result (stands (D.content (disk_of journal.new)) ≢ Ok []) }
+    ensures faults { D.faults (disk_of journal.old) ≤ D.faults (disk_of journal.new) }
     ensures same { OnOk result (told (node_of S.own_key S.signature_of config.now) (D.content (disk_of journal.new)) ≡ told (node_of S.own_key S.signature_of config.now) (D.content (disk_of journal.old))) }
     ensures errors { IfErr result (λ error. (error ≡ JournalError.Device) ⊎ (error ≡ JournalError.Memory)) }
     ensures device { IfErr result (λ error. error ≡ JournalError.Device → D.faults (disk_of journal.old) < D.faults (disk_of journal.new)) }

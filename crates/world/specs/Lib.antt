@@ -2,3 +2,4 @@ pub mod World
 pub mod Steps
 pub mod Promise
 pub mod Runs
+pub mod Text

@@ -1,4 +1,4 @@
-use Rattle.std.proofs.Common.{◌≡◌, ◌++◌, ap, sym, ◌∙◌, append_assoc, rules, arith, take, List, ℕ}
+use Rattle.std.proofs.Common.{◌++◌, ap, sym, ◌∙◌, append_assoc, rules, take, List, ℕ}
 use Rattle.std.specs.List.{flat_map}
 use Rattle.recovery.proofs.Configured.{keys_more}
 use Rattle.recovery.proofs.configuration.put_keys.Goals as goal

@@ -1,4 +1,4 @@
-use Rattle.std.proofs.Common.{◌≡◌, drop, ap, sym, subst, ◌∙◌}
+use Rattle.std.proofs.Common.{drop, ap, sym, subst, ◌∙◌}
 use Rattle.std.proofs.lemmas.List.{take_rest}
 use Rattle.recovery.specs.Told.{checked_in, if_passed, sender_in}
 use Rattle.recovery.proofs.Telling.{ok_weaker, event_short, event_other, event_is, unread_none}

@@ -1,5 +1,7 @@
-use Rattle.std.proofs.Common.{◌≡◌, ◌∷◌, ◌+◌, [], drop, subst, ap, sym, ◌∙◌, arith}
-use Rattle.std.proofs.lemmas.List.{drop_all}
+use Rattle.std.proofs.Common.{subst, ◌∙◌, arith}
+use Rattle.std.specs.Prelude.{All}
+use Rattle.std.proofs.lemmas.List.{take_all, drop_all}
+use Rattle.std.proofs.lemmas.List.Elements.{All-nil, All-more}
 use Rattle.std.proofs.lemmas.Result.{err_from_is_err_and}
 use Rattle.journal.specs.Format.{FailsAs}
 use Rattle.model.specs.Admitting.{IsLegal}
@@ -7,7 +9,7 @@ use Rattle.model.specs.Giving.{kept}
 use Rattle.model.specs.Histories.{History}
 use Rattle.validator.specs.Setting.{node_of}
 use Rattle.validator.specs.Standing.{AreAtSound}
-use Rattle.recovery.specs.Told.{read_event, StandsAt}
+use Rattle.recovery.specs.Told.{IsText, read_event, StandsAt}
 use Rattle.recovery.proofs.Telling.{here, reached_first, reached_next, reached_end, fails_there}
 use Rattle.recovery.proofs.events.replay.Goals as goal
 
@@ -17,6 +19,7 @@ loop-one-init g c =
     record {
       setting = c.in_ok-validator.ensures.setting;
       reached = reached_first node c.args.records.now c.in_ok-validator.validator.tables c.limits_hold.ensures (c.starts_fresh.ensures node) c.in_ok-validator.ensures.at;
+      texts = All-nil IsText;
     }
 
 pub loop-one-preserved : goal.loop-one-preserved
@@ -32,6 +35,7 @@ loop-one-preserved g c =
           → StandsAt (node_of g.S.Sign.own_key g.S.Sign.signature_of s) (read_event (node_of g.S.Sign.own_key g.S.Sign.signature_of s) history one) c.take_event.new.validator.tables)
           c.loop-one.invariant.setting c.in_ok-take_event.ensures.ok)
           c.loop-one.invariant.reached;
+      texts = All-more IsText c.args.records.now c.loop-one.one-index one (omega arith) c.loop-one.invariant.texts (subst IsText c.one-item.is c.is_text.ensures);
     }
 
 pub returns-in_err-take_event-clause-err : goal.returns-in_err-take_event-clause-err
@@ -52,3 +56,6 @@ pub returns-clause-ok : goal.returns-clause-ok
 returns-clause-ok g c =
     let node = node_of g.S.Sign.own_key g.S.Sign.signature_of c.args.config.now in
     reached_end node c.args.records.now c.loop-one.one-index c.loop-one.validator.tables (drop_all c.loop-one.one-index c.args.records.now (omega arith)) c.loop-one.invariant.reached
+
+pub returns-clause-texts : goal.returns-clause-texts
+returns-clause-texts g c = subst (All IsText) (take_all c.loop-one.one-index c.args.records.now (omega arith)) c.loop-one.invariant.texts

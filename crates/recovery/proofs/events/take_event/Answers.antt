@@ -1,12 +1,7 @@
-use Rattle.std.proofs.Common.{◌≡◌, ◌≢◌, ◌++◌, ◌∷◌, [], Some, None, ap, sym, ◌∙◌, true}
+use Rattle.std.proofs.Common.{◌≡◌, ◌++◌, ◌∷◌, [], Some, sym, ◌∙◌}
 use Rattle.std.proofs.lemmas.Result.{on_ok_weaker}
-use Rattle.journal.specs.declared.error.JournalError.{JournalError}
-use Rattle.journal.specs.declared.error.JournalError.TheVariants.{Memory}
-use Rattle.model.specs.Admitting.{admit, IsLegal}
-use Rattle.model.specs.Giving.{kept}
-use Rattle.model.specs.Histories.{History}
+use Rattle.model.specs.Admitting.{admit}
 use Rattle.validator.specs.Setting.{node_of}
-use Rattle.validator.specs.Standing.{AreAtSound, GoesOn}
 use Rattle.recovery.specs.Told.{event_in, read_event}
 use Rattle.recovery.proofs.Telling.{read_none, read_new, read_old, new_answer, old_answer, fails_by, err_weaker}
 use Rattle.recovery.proofs.events.take_event.Goals as goal

@@ -1,9 +1,6 @@
-use Rattle.std.proofs.Common.{◌≡◌, Bool, true, false, None, ap, sym, ◌∙◌, rules}
-use Rattle.std.specs.Str.{bytes_eq}
-use Rattle.journal.specs.declared.error.JournalError.TheVariants.{Damaged, ConfigMismatch}
-use Rattle.records.specs.Records.{configuration_of}
+use Rattle.std.proofs.Common.{◌≡◌, true, false, ap, ◌∙◌, rules}
 use Rattle.validator.specs.Setting.{node_of}
-use Rattle.recovery.specs.Told.{has_ones, first_fault}
+use Rattle.recovery.specs.Told.{has_ones}
 use Rattle.recovery.proofs.Telling.{ok_weaker, err_weaker, fresh_fault, stands_fresh, fails_fresh}
 use Rattle.recovery.proofs.reopening.fresh_validator.Goals as goal
 

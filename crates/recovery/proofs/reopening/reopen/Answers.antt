@@ -1,13 +1,12 @@
-use Rattle.std.proofs.Common.{◌≡◌, ◌≢◌, ◌∷◌, [], ◌⊎◌, inl, inr, List, ℕ, ap, sym, ◌∙◌, subst, refl, arith, true}
-use Rattle.std.proofs.lemmas.Result.{err_from_is_err_and, on_ok_weaker}
-use Rattle.journal.specs.Format.{stands}
-use Rattle.journal.specs.Journal.{disk_of, IsBeforeOrAfter, StandsAsOneOf}
-use Rattle.records.specs.Records.{configuration_of}
+use Rattle.std.proofs.Common.{◌≡◌, List, ℕ, ◌∙◌, subst, drop}
+use Rattle.std.specs.Prelude.{All}
+use Rattle.std.proofs.lemmas.Result.{err_from_is_err_and}
+use Rattle.journal.specs.Journal.{disk_of, StandsAsOneOf}
 use Rattle.validator.specs.Setting.{node_of}
-use Rattle.recovery.specs.Told.{told, read_journal, StandsAt, IsToldAsOneOf, Tells}
-use Rattle.recovery.proofs.Moments.{started, weaker, joins}
-use Rattle.recovery.proofs.Empty.{never_full}
+use Rattle.recovery.specs.Told.{IsText, told, IsToldAsOneOf}
+use Rattle.recovery.proofs.Moments.{weaker, joins}
 use Rattle.recovery.proofs.Telling.{told_same, tells_same, stands_same, opening_fails, as_one_of}
+use Rattle.recovery.proofs.Opened.{stands_for_at, no_refusal}
 use Rattle.recovery.proofs.reopening.reopen.Goals as goal
 
 pub returns-in_err-journal-clause-err : goal.returns-in_err-journal-clause-err
@@ -32,6 +31,16 @@ returns-in-Ok-clause-stands g c =
     let file = g.D.Disk.content c.args.disk in
     let mid = g.D.Disk.content (disk_of c.in_ok-journal.journal) in
     stands_same node (told node mid) (told node file) c.in-Ok.validator.tables (told_same node mid file c.in_ok-journal.ensures.same) c.in-Ok.ensures.stands
+
+pub returns-in-Ok-clause-stands_for : goal.returns-in-Ok-clause-stands_for
+returns-in-Ok-clause-stands_for g c =
+    let node = node_of g.S.Sign.own_key g.S.Sign.signature_of c.args.config.now in
+    let file = g.D.Disk.content c.args.disk in
+    let mid = g.D.Disk.content (disk_of c.in_ok-journal.journal) in
+    let tables = c.in-Ok.validator.tables in
+    stands_for_at node file c.in_ok-journal.records.items tables c.in_ok-journal.ensures.records
+    (subst (λ records. All IsText (drop 1 records)) c.deref.ensures.value c.in-Ok.ensures.texts)
+    (stands_same node (told node mid) (told node file) tables (told_same node mid file c.in_ok-journal.ensures.same) c.in-Ok.ensures.stands)
 
 pub returns-in-Ok-clause-same : goal.returns-in-Ok-clause-same
 returns-in-Ok-clause-same g c =
@@ -71,3 +80,23 @@ returns-clause-any_moment_err g c =
     let whole = joins g.D.Disk.clock g.D.Disk.outcome_since c.args.disk middle (disk_of c.validator_on.new.journal) P (λ left. told node left ≡ told node mid) first c.validator_on.ensures.any_moment
     (λ left same. (file, g.met.D.Disk.content_is_outcome c.args.disk, same ∙ told_same node mid file c.in_ok-journal.ensures.same)) in
     rw c.into_disk.ensures whole
+
+pub returns-in_err-journal-clause-never_refused : goal.returns-in_err-journal-clause-never_refused
+returns-in_err-journal-clause-never_refused g c =
+    let node = node_of g.S.Sign.own_key g.S.Sign.signature_of c.args.config.now in
+    let file = g.D.Disk.content c.args.disk in
+    let error = c.in_err-journal.field-0.0.error in
+    let p = err_from_is_err_and c.from_residual.result c.from_residual.ensures.1 in
+    rw (p.1, p.2)
+    (λ is.
+    let found = c.outcomes_are_told.ensures file is in
+    no_refusal error found.0 (told node file) found.1 (λ other. opening_fails node file error c.in_err-journal.ensures.damaged c.in_err-journal.ensures.never_full c.in_err-journal.ensures.never_config other))
+
+pub returns-clause-never_refused : goal.returns-clause-never_refused
+returns-clause-never_refused g c = λ is.
+    let node = node_of g.S.Sign.own_key g.S.Sign.signature_of c.args.config.now in
+    let file = g.D.Disk.content c.args.disk in
+    let mid = g.D.Disk.content (disk_of c.in_ok-journal.journal) in
+    let error = c.in-Err.error in
+    let found = c.outcomes_are_told.ensures file is in
+    no_refusal error found.0 (told node file) found.1 (λ other. tells_same error (told node mid) (told node file) (told_same node mid file c.in_ok-journal.ensures.same) (c.in-Err.ensures.err other))

@@ -1,4 +1,4 @@
-use Rattle.std.proofs.Common.{◌≡◌, Bool, true, false, None, ap, sym, ◌∙◌, rules}
+use Rattle.std.proofs.Common.{◌≡◌, true, false, None, ap, ◌∙◌, rules}
 use Rattle.std.specs.Str.{bytes_eq}
 use Rattle.journal.specs.declared.error.JournalError.TheVariants.{Damaged, ConfigMismatch}
 use Rattle.records.specs.Records.{configuration_of}

@@ -1,14 +1,12 @@
-use Rattle.std.proofs.Common.{◌≡◌, ◌≢◌, ◌∷◌, [], ◌⊎◌, inl, inr, List, ℕ, ap, sym, ◌∙◌, subst, refl, true, length}
+use Rattle.std.proofs.Common.{◌≡◌, [], ap, sym, ◌∙◌, length}
 use Rattle.std.proofs.lemmas.Bool.{eqb-true}
 use Rattle.std.proofs.lemmas.List.{nil_from_length}
-use Rattle.std.proofs.lemmas.Result.{err_from_is_err_and, on_ok_weaker}
+use Rattle.std.proofs.lemmas.Result.{err_from_is_err_and}
 use Rattle.journal.specs.Format.{stands}
-use Rattle.journal.specs.Journal.{disk_of, IsBeforeOrAfter, StandsAsOneOf}
-use Rattle.records.specs.Records.{configuration_of}
+use Rattle.journal.specs.Journal.{disk_of}
 use Rattle.validator.specs.Setting.{node_of}
-use Rattle.recovery.specs.Told.{told, read_journal, StandsAt, IsToldAsOneOf, Tells}
-use Rattle.recovery.proofs.Moments.{started, weaker, joins}
-use Rattle.recovery.proofs.Empty.{never_full}
+use Rattle.recovery.specs.Told.{told, read_journal}
+use Rattle.recovery.proofs.Moments.{started}
 use Rattle.recovery.proofs.Telling.{told_same, told_records, tells_same, stands_same, ones_from}
 use Rattle.recovery.proofs.reopening.validator_on.Goals as goal
 use Rattle.recovery.proofs.reopening.validator_on.Goals.{then-is_empty+in_ok-write_configuration, else-is_empty}

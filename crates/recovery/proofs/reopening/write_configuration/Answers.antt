@@ -1,13 +1,13 @@
-use Rattle.std.proofs.Common.{◌≡◌, ◌≢◌, ◌∷◌, [], ◌⊎◌, inl, inr, List, ℕ, ap, sym, ◌∙◌, subst, refl, arith, true, Err}
-use Rattle.std.proofs.lemmas.Result.{err_from_is_err_and, on_ok_weaker}
+use Rattle.std.proofs.Common.{◌≡◌, ◌∷◌, [], inl, inr, List, ℕ, ap, sym, ◌∙◌, subst, arith, Err}
+use Rattle.std.proofs.lemmas.Result.{err_from_is_err_and}
 use Rattle.std.proofs.Common.{◌<◌, ◌+◌, length}
 use Rattle.journal.specs.Format.{group_bytes, stands}
 use Rattle.journal.specs.declared.layout.TheConstants.{MAX_JOURNAL_BYTES}
-use Rattle.journal.specs.Journal.{disk_of, IsBeforeOrAfter, StandsAsOneOf}
+use Rattle.journal.specs.Journal.{disk_of, IsBeforeOrAfter}
 use Rattle.records.specs.Records.{configuration_of}
 use Rattle.validator.specs.Setting.{node_of}
-use Rattle.recovery.specs.Told.{is_configuration, told, read_journal, StandsAt, IsToldAsOneOf, Tells}
-use Rattle.recovery.proofs.Moments.{started, weaker, joins}
+use Rattle.recovery.specs.Told.{is_configuration, told}
+use Rattle.recovery.proofs.Moments.{started, weaker}
 use Rattle.recovery.proofs.Empty.{never_full}
 use Rattle.recovery.proofs.Telling.{told_same, told_before_or_after}
 use Rattle.recovery.proofs.reopening.write_configuration.Goals as goal

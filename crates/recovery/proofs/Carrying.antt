@@ -1,0 +1,111 @@
+-- A script, command by command.
+use Rattle.std.proofs.Common.{◌≡◌, ℕ, zero, suc, ◌+◌, ◌<◌, append_assoc, drop-cons, List, [], ◌∷◌, ◌++◌, length, take, drop, map, get_or, Option, Ok, refl, sym, ap, ◌∙◌, subst, arith}
+use Rattle.std.specs.Prelude.{All}
+use Rattle.std.specs.Io.KnownBytes.{Appends}
+use Rattle.std.proofs.lemmas.List.{map-append, take-append-drop}
+use Rattle.std.proofs.lemmas.List.Elements.{All-head, All-tail}
+use Rattle.journal.specs.declared.journal.Journal.{Journal}
+use Rattle.model.specs.Histories.{History}
+use Rattle.model.specs.Nodes.{Node}
+use Rattle.world.specs.Text as script
+use Rattle.book.specs.Book.{Shown}
+use Rattle.committee.specs.Charter.{Charter}
+use Rattle.recovery.specs.Script.{said, script_of, Passes, IsOf, IsOpenedOf, HasRun, Breaks, IsCutShort}
+use Rattle.recovery.specs.Told.{told}
+use Rattle.recovery.specs.Writing.{AppendsPart}
+use Rattle.recovery.specs.declared.driving.Command.{Command}
+use Rattle.recovery.specs.declared.driving.DriveError.{DriveError}
+use Rattle.journal.specs.Journal.{disk_of}
+use Rattle.recovery.proofs.Appending.{appends_nil, appends_more}
+use Rattle.recovery.proofs.Scripts.{text_push, desk_push, text_nil, desk_nil}
+
+-- the first of the commands were carried out
+pub record IsCarriedOut {S D : Type 0} (node : Node) (content : D → List ℕ) (outcome : D → List ℕ → Type 0) (before : List ℕ) (done : List script.Command) (book : Shown S) (journal : Journal D) (old new : Option (List ℕ)) : Type 0 where
+  pub history : History
+  pub told_first : told node before ≡ Ok history
+  pub is_of : IsOf node content outcome (script.desk_behind node (script.desk_on history) done) book journal
+  pub writes : Appends old new (script.text node (script.desk_on history) done)
+
+module _ {S D : Type 0} (node : Node) (content : D → List ℕ) (outcome : D → List ℕ → Type 0) (before : List ℕ) where
+  -- none at first
+  pub first_carried : (book : Shown S) (journal : Journal D) (old : Option (List ℕ)) → IsOpenedOf node content outcome before book journal → IsCarriedOut node content outcome before [] book journal old old
+  first_carried book journal old opened = record {
+    history = opened.history;
+    told_first = opened.told_first;
+    is_of = subst (λ (d : script.Desk). IsOf node content outcome d book journal) (sym (desk_nil node (script.desk_on opened.history))) opened.is_of;
+    writes = subst (Appends old old) (sym (text_nil node (script.desk_on opened.history))) (appends_nil old);
+  }
+
+  module _ (done : List script.Command) (next : script.Command) (book : Shown S) (journal : Journal D) (old mid : Option (List ℕ)) (so_far : IsCarriedOut node content outcome before done book journal old mid) where
+    abbrev desk : script.Desk
+    desk = script.desk_behind node (script.desk_on so_far.history) done
+
+    -- one more
+    pub next_carried : (later : Shown S) (new_journal : Journal D) (new : Option (List ℕ)) → IsOf node content outcome (script.carried_out node desk next) later new_journal
+        → Appends mid new (script.frames (script.due (script.after node desk next))) → IsCarriedOut node content outcome before (done ++ next ∷ []) later new_journal old new
+    next_carried later new_journal new is appends = record {
+      history = so_far.history;
+      told_first = so_far.told_first;
+      is_of = subst (λ (d : script.Desk). IsOf node content outcome d later new_journal) (sym (desk_push node (script.desk_on so_far.history) done next)) is;
+      writes = subst (Appends old new) (sym (text_push node (script.desk_on so_far.history) done next))
+          (appends_more old mid new (script.text node (script.desk_on so_far.history) done) (script.frames (script.due (script.after node desk next))) so_far.writes appends);
+    }
+
+    -- the next one failed
+    pub cut_short : (commands rest : List script.Command) (error : DriveError) (later : List ℕ) (left : List ℕ → Type 0) (new : Option (List ℕ)) → commands ≡ done ++ next ∷ rest
+        → Breaks node desk next error later left → AppendsPart mid new (script.frames (script.due (script.after node desk next))) → IsCutShort node commands error before later left old new
+    cut_short commands rest error later left new parts breaks appends =
+        let text_done = script.text node (script.desk_on so_far.history) done in
+        record {
+          history = so_far.history;
+          told_first = so_far.told_first;
+          done = done;
+          next = next;
+          rest = rest;
+          parts = parts;
+          written = text_done ++ appends.part;
+          writes = appends_more old mid new text_done appends.part so_far.writes appends.appends;
+          no_less = record { rest = appends.part; parts = refl };
+          no_more = record {
+            rest = appends.begins.rest;
+            parts = text_push node (script.desk_on so_far.history) done next ∙ ap (λ (l : List ℕ). text_done ++ l) appends.begins.parts ∙ sym (append_assoc text_done appends.part appends.begins.rest);
+          };
+          breaks = breaks;
+        }
+
+  -- all of them
+  pub all_carried : (commands done : List script.Command) (book : Shown S) (journal : Journal D) (old new : Option (List ℕ)) → commands ≡ done → IsCarriedOut node content outcome before done book journal old new
+      → HasRun node commands before (content (disk_of journal)) (outcome (disk_of journal)) old new
+  all_carried commands done book journal old new same so_far = record {
+    history = so_far.history;
+    told_first = so_far.told_first;
+    writes = subst (λ (l : List script.Command). Appends old new (script.text node (script.desk_on so_far.history) l)) (sym same) so_far.writes;
+    told_later = so_far.is_of.told_as ∙ ap (λ (l : List script.Command). Ok (script.settled_in (script.desk_behind node (script.desk_on so_far.history) l))) (sym same);
+    firm = so_far.is_of.alive.firm;
+  }
+
+-- ---- the commands one by one
+
+drop_here : (commands : List Command) (count : ℕ) (next : Command) → count < length commands → next ≡ get_or commands count next → drop count commands ≡ next ∷ drop (count + 1) commands
+drop_here commands count next within is =
+    let more : suc count ≡ count + 1 = omega arith in
+    drop-cons commands count next within ∙ (λ i. sym is i ∷ drop (more i) commands)
+
+-- what comes behind those that were carried out
+pub script_parts : (commands done : List Command) (next : Command) → done ≡ take (length done) commands → length done < length commands → next ≡ get_or commands (length done) next
+    → script_of commands ≡ script_of done ++ said next ∷ script_of (drop (length done + 1) commands)
+script_parts commands done next front within is =
+    let at = length done in
+    let here : drop at commands ≡ next ∷ drop (at + 1) commands = drop_here commands at next within is in
+    ap script_of (sym (take-append-drop at commands)) ∙ map-append said (take at commands) (drop at commands)
+    ∙ (λ i. script_of (sym front i) ++ script_of (here i))
+
+-- each command passes
+pub passes_at : (charter : Charter) (commands : List Command) (count : ℕ) (next : Command) → All (Passes charter) commands → count < length commands → next ≡ get_or commands count next → Passes charter next
+passes_at charter [] count next all within is = absurd (omega (arith, within))
+passes_at charter (command ∷ commands) zero next all within is = subst (Passes charter) (sym is) (All-head (Passes charter) command commands all)
+passes_at charter (command ∷ commands) (suc count) next all within is =
+    passes_at charter commands count next (All-tail (Passes charter) command commands all) (omega (arith, within)) is
+
+pub script_push : (done : List Command) (next : Command) → script_of (done ++ next ∷ []) ≡ script_of done ++ said next ∷ []
+script_push done next = map-append said done (next ∷ [])

@@ -1,0 +1,283 @@
+-- A book and a journal behind each command.
+use Rattle.std.proofs.Common.{◌≡◌, ◌≢◌, ℕ, zero, suc, ◌+◌, ◌<◌, ◌≤◌, Bool, true, false, cond, ◌⊎◌, inl, inr, List, [], ◌∷◌, ◌++◌, length, take, drop, map, Option, Some, None, Result, Ok, Err, refl, sym, ap, ◌∙◌, subst, arith, append_assoc, append-nil, length-append}
+use Rattle.std.specs.Prelude.{IsErrOf, IfOk, IfErr, OnErr}
+use Rattle.std.proofs.lemmas.Bool.{cases_Bool, true≢false}
+use Rattle.std.proofs.lemmas.List.{take-take, take_at, take-append-drop, take-map}
+use Rattle.diskmodel.specs.Disk.{AtEachMoment}
+use Rattle.journal.specs.Format.{group_bytes, stands}
+use Rattle.journal.specs.Journal.{disk_of, IsAlive, IsBeforeOrAfter, stands_with}
+use Rattle.journal.specs.declared.error.JournalError.{JournalError}
+use Rattle.journal.specs.declared.error.JournalError.TheVariants as errors
+use Rattle.journal.specs.declared.journal.Journal.{Journal}
+use Rattle.journal.specs.declared.layout.TheConstants.{MAX_JOURNAL_BYTES}
+use Rattle.laws.specs.Laws.{Begins}
+use Rattle.laws.proofs.Legal.{legal-begins}
+use Rattle.model.specs.Admitting.{admit, IsLegal}
+use Rattle.model.specs.Histories.{History}
+use Rattle.model.specs.Nodes.{Node}
+use Rattle.model.specs.Words.{Event}
+use Rattle.model.specs.declared.admission.Admission.{Admission}
+use Rattle.model.specs.declared.admission.Admission.TheVariants.{New, Known, Refused}
+use Rattle.model.specs.declared.refusal.Refusal.{Refusal}
+use Rattle.model.specs.declared.refusal.Refusal.TheVariants.{Memory, Down, StoreFull}
+use Rattle.records.specs.Records.{record_of}
+use Rattle.world.specs.Steps.{ticketed}
+use Rattle.world.specs.Text.{Command, take_in, flush, Desk, settled_in, with_answer, group_of, flushed, after}
+use Rattle.book.specs.declared.book.TheConstants.{MAX_ACCEPTED}
+use Rattle.book.specs.declared.book.Receipt.{Receipt}
+use Rattle.book.specs.Pending.{IsLongestBeginning}
+use Rattle.book.specs.Book.{Shown, Run, Stands, with_taken, with_settled, TakesNew, TakesKnown, MayRefuse, SettlesNext}
+use Rattle.recovery.specs.Faults.{ended_by}
+use Rattle.recovery.specs.Script.{run_of, IsOf, HasNoRoom, Breaks}
+use Rattle.recovery.specs.Told.{told}
+use Rattle.recovery.specs.declared.driving.DriveError.{DriveError}
+use Rattle.recovery.specs.declared.driving.DriveError.TheVariants as ends
+use Rattle.recovery.proofs.Longer.{told_more, some_more}
+use Rattle.recovery.proofs.DeskOpening.{only_full}
+use Rattle.recovery.proofs.Scripts.{group_is, group_none}
+use Rattle.recovery.proofs.Telling.{told_same}
+
+after_take_in : (node : Node) (desk : Desk) (event : Event) → after node desk (take_in event) ≡ with_answer desk event (admit node (desk.began ++ desk.accepted) event)
+unfolding after
+after_take_in node desk event = refl
+
+after_flush : (node : Node) (desk : Desk) → after node desk flush ≡ flushed desk
+unfolding after
+after_flush node desk = refl
+
+module _ {S D : Type 0} (node : Node) (content : D → List ℕ) (outcome : D → List ℕ → Type 0) (desk : Desk) (before later : Shown S) (journal : Journal D) (is : IsOf node content outcome desk before journal) where
+  abbrev Later : Desk → Type 0
+  Later next = IsOf node content outcome next later journal
+
+  -- ---- events
+
+  answered_as : (event : Event) (answer : Admission) → admit node (desk.began ++ desk.accepted) event ≡ answer → Later (with_answer desk event answer) → Later (after node desk (take_in event))
+  answered_as event answer same at = subst Later (sym (after_take_in node desk event ∙ ap (with_answer desk event) same)) at
+
+  -- behind a new event
+  pub with_new_event : (event : Event) → TakesNew node before later event → Later (after node desk (take_in event))
+  with_new_event event takes =
+      answered_as event (New takes.outputs) (takes.answer (run_of desk) is.stands_at) (record {
+        stands_at = takes.stands (run_of desk) is.stands_at;
+        waits = takes.queue ∙ (λ i. is.waits i ++ ticketed (is.stands_at.accepted i + 1) takes.outputs);
+        up = takes.down ∙ is.up;
+        alive = is.alive;
+        configured = is.configured;
+        told_as = is.told_as;
+      })
+
+  -- behind a known one
+  pub with_known_event : (event : Event) → TakesKnown node before later event → Later (after node desk (take_in event))
+  with_known_event event takes =
+      answered_as event (Known takes.outputs) (takes.answer (run_of desk) is.stands_at) (record {
+        stands_at = takes.stands (run_of desk) is.stands_at;
+        waits = ap (λ (b : Shown S). b.queue) takes.is ∙ (λ i. is.waits i ++ ticketed (is.stands_at.accepted i) takes.outputs);
+        up = ap (λ (b : Shown S). b.down) takes.is ∙ is.up;
+        alive = is.alive;
+        configured = is.configured;
+        told_as = is.told_as;
+      })
+
+  -- why it is refused, where neither memory nor room is wanting
+  refused_as : (event : Event) (refusal : Refusal) → refusal ≢ Memory → before.accepted < MAX_ACCEPTED → MayRefuse node (run_of desk) before event refusal
+      → admit node (desk.began ++ desk.accepted) event ≡ Refused refusal
+  refused_as event Memory other room may = absurd (other refl)
+  refused_as event Down other room may = absurd (true≢false (sym may ∙ is.up))
+  refused_as event StoreFull other room (inl refused) = refused
+  refused_as event StoreFull other room (inr full) = absurd (omega (arith, full.1, room))
+  refused_as event refusal other room may = may
+
+  -- behind one that is refused
+  pub with_refused_event : (event : Event) (refusal : Refusal) → refusal ≢ Memory → before.accepted < MAX_ACCEPTED → MayRefuse node (run_of desk) before event refusal → later ≡ before
+      → Later (after node desk (take_in event))
+  with_refused_event event refusal other room may same =
+      answered_as event (Refused refusal) (refused_as event refusal other room may) (subst (λ (b : Shown S). IsOf node content outcome desk b journal) (sym same) is)
+
+-- ---- a flush
+
+-- what is settled and more of what was accepted
+settled_more : {X : Type 0} (settled accepted : List X) (count : ℕ) → Begins settled accepted → take (length settled + count) accepted ≡ settled ++ take count (drop (length settled) accepted)
+settled_more {X} [] accepted count begins = let same : 0 + count ≡ count = omega arith in ap (λ (n : ℕ). take n accepted) same
+settled_more {X} (x ∷ settled) [] count begins = absurd (omega (arith, ap length begins.parts))
+settled_more {X} (x ∷ settled) (y ∷ accepted) count begins =
+    let first : y ≡ x = head_is y x accepted (settled ++ begins.rest) begins.parts in
+    let others : accepted ≡ settled ++ begins.rest = ap (λ (l : List X). drop 1 l) begins.parts in
+    let more : length (x ∷ settled) + count ≡ suc (length settled + count) = omega arith in
+    ap (λ (n : ℕ). take n (y ∷ accepted)) more ∙ (λ i. first i ∷ settled_more settled accepted count (record { rest = begins.rest; parts = others }) i)
+  where
+    head_is : (a b : X) (p q : List X) → a ∷ p ≡ b ∷ q → a ≡ b
+    head_is a b p q same = cc
+
+module _ {S D : Type 0} (node : Node) (content : D → List ℕ) (outcome : D → List ℕ → Type 0) (desk : Desk) (before : Shown S) (old : Journal D) (is : IsOf node content outcome desk before old) where
+  abbrev pending : History
+  pending = drop (length desk.settled) desk.accepted
+
+  abbrev events : History
+  events = group_of pending
+
+  -- the records that the book took are those of the group
+  module _ (taken : Shown S) (group : List (List ℕ)) (longest : IsLongestBeginning before.pending group taken.pending) where
+    longest_pending : IsLongestBeginning (map record_of pending) group taken.pending
+    longest_pending = subst (λ (l : List (List ℕ)). IsLongestBeginning l group taken.pending) is.stands_at.pending longest
+
+    events_are : events ≡ take (length group) pending
+    events_are = group_is pending group taken.pending longest_pending
+
+    pub group_are : group ≡ map record_of events
+    group_are =
+        sym (take_at group taken.pending (length group) refl) ∙ ap (take (length group)) (sym longest_pending.parts)
+        ∙ take-map record_of (length group) pending ∙ ap (map record_of) (sym events_are)
+
+    settled_are : take (length desk.settled + length group) desk.accepted ≡ desk.settled ++ events
+    settled_are = settled_more desk.settled desk.accepted (length group) is.stands_at.taken_begins ∙ ap (λ (l : History). desk.settled ++ l) (sym events_are)
+
+    whole : (desk.began ++ desk.settled) ++ events ≡ desk.began ++ (desk.settled ++ events)
+    whole = append_assoc desk.began desk.settled events
+
+    legal : IsLegal node ((desk.began ++ desk.settled) ++ events)
+    legal =
+        let count = length desk.settled + length group in
+        let parts : desk.began ++ desk.accepted ≡ (desk.began ++ take count desk.accepted) ++ drop count desk.accepted =
+        ap (λ (l : History). desk.began ++ l) (sym (take-append-drop count desk.accepted)) ∙ sym (append_assoc desk.began (take count desk.accepted) (drop count desk.accepted)) in
+        subst (IsLegal node) (ap (λ (l : History). desk.began ++ l) settled_are ∙ sym whole)
+        (legal-begins node (desk.began ++ take count desk.accepted) (drop count desk.accepted) (subst (IsLegal node) parts is.stands_at.legal))
+
+    -- what bytes with the group more are told as
+    pub told_flushed : (bytes : List ℕ) → stands bytes ≡ stands_with (content (disk_of old)) group → told node bytes ≡ Ok (settled_in (flushed desk))
+    told_flushed bytes with_it =
+        told_more node (content (disk_of old)) bytes (desk.began ++ desk.settled) is.configured is.told_as events
+        (with_it ∙ ap (stands_with (content (disk_of old))) group_are) legal
+        ∙ ap Ok whole
+
+    -- whatever a stop leaves while the group is written
+    pub left_flushing : (bytes : List ℕ) → IsBeforeOrAfter (content (disk_of old)) group bytes
+        → (told node bytes ≡ Ok (settled_in desk)) ⊎ (told node bytes ≡ Ok (settled_in (after node desk flush)))
+    left_flushing bytes (inl same) = inl (told_same node bytes (content (disk_of old)) same ∙ is.told_as)
+    left_flushing bytes (inr with_it) = inr (told_flushed bytes with_it ∙ ap (λ (d : Desk). Ok (settled_in d)) (sym (after_flush node desk)))
+
+    -- behind the flush
+    pub flushed_is : (later : Shown S) (new : Journal D) → Stands node (with_settled (with_taken (run_of desk) (length group)) (length group)) later
+        → later.queue ≡ before.queue → later.down ≡ before.down → IsAlive content outcome new → stands (content (disk_of new)) ≡ stands_with (content (disk_of old)) group
+        → IsOf node content outcome (after node desk flush) later new
+    flushed_is later new stands queue down alive with_it =
+        let count = length desk.settled + length group in
+        let twice : take count (take count desk.accepted) ≡ desk.settled ++ events = take-take count count desk.accepted (omega arith) ∙ settled_are in
+        let runs : with_settled (with_taken (run_of desk) (length group)) (length group) ≡ run_of (flushed desk) =
+        (λ i. record { began = desk.began; accepted = desk.accepted; taken = settled_are i; settled = twice i }) in
+        subst (λ (d : Desk). IsOf node content outcome d later new) (sym (after_flush node desk)) (record {
+          stands_at = subst (λ (r : Run). Stands node r later) runs stands;
+          waits = queue ∙ is.waits;
+          up = down ∙ is.up;
+          alive = alive;
+          configured = some_more node (content (disk_of old)) (content (disk_of new)) (desk.began ++ desk.settled) is.configured is.told_as group with_it;
+          told_as = told_flushed (content (disk_of new)) with_it;
+        })
+
+  -- a flush with nothing pending changes nothing
+  pub nothing_flushed : before.pending ≡ [] → IsOf node content outcome (after node desk flush) before old
+  nothing_flushed none =
+      let empty : events ≡ [] = group_none pending (sym is.stands_at.pending ∙ none) in
+      let same : flushed desk ≡ desk = (λ i. record { began = desk.began; accepted = desk.accepted; settled = (ap (λ (l : History). desk.settled ++ l) empty ∙ append-nil desk.settled) i; waiting = desk.waiting }) in
+      subst (λ (d : Desk). IsOf node content outcome d before old) (sym (after_flush node desk ∙ same)) is
+
+  -- a firm disk is told as what is settled
+  pub left_firm : (bytes : List ℕ) → outcome (disk_of old) bytes → told node bytes ≡ Ok (settled_in desk)
+  left_firm bytes left = ap (told node) (is.alive.firm bytes left) ∙ is.told_as
+
+-- ---- what comes of an event
+
+module _ {S D : Type 0} (node : Node) (content : D → List ℕ) (outcome : D → List ℕ → Type 0) (desk : Desk) (before later : Shown S) (journal : Journal D) (is : IsOf node content outcome desk before journal) (event : Event) where
+  -- unless memory was refused, a book that took an event is that of the desk behind it
+  pub accepted_is : (answer : Result Receipt Refusal) → before.accepted < MAX_ACCEPTED
+      → IfOk answer (λ receipt. receipt.new ≡ true → TakesNew node before later event) → IfOk answer (λ receipt. receipt.new ≡ false → TakesKnown node before later event)
+      → IfErr answer (λ refusal. (run : Run) → Stands node run before → MayRefuse node run before event refusal) → OnErr answer (later ≡ before) → (IsErrOf answer Memory → ⊥)
+      → IsOf node content outcome (after node desk (take_in event)) later journal
+  accepted_is (Ok receipt) room new known refused same memory =
+      elim (cases_Bool receipt.new) [
+        | inl so ↦ with_new_event node content outcome desk before later journal is event (new so)
+        | inr off ↦ with_known_event node content outcome desk before later journal is event (known off)
+      ]
+  accepted_is (Err refusal) room new known refused same memory =
+      with_refused_event node content outcome desk before later journal is event refusal (λ other. memory (ap (λ (r : Refusal). Err r) other)) room (refused (run_of desk) is.stands_at) same
+
+-- it accepted one event at most
+pub count_is : {S : Type 0} (node : Node) (before later : Shown S) (event : Event) (answer : Result Receipt Refusal)
+    → IfOk answer (λ receipt. receipt.new ≡ true → TakesNew node before later event) → IfOk answer (λ receipt. receipt.new ≡ false → TakesKnown node before later event)
+    → OnErr answer (later ≡ before) → later.accepted ≤ before.accepted + 1
+count_is {S} node before later event (Ok receipt) new known same =
+    elim (cases_Bool receipt.new) [
+      | inl so ↦ let takes = new so in omega (arith, takes.accepted)
+      | inr off ↦ let takes = known off in omega (arith, ap (λ (b : Shown S). b.accepted) takes.is)
+    ]
+count_is {S} node before later event (Err refusal) new known same = omega (arith, ap (λ (b : Shown S). b.accepted) same)
+
+-- ---- settling
+
+-- what a book settles, said of an equal node
+pub settled_at : {S : Type 0} (node other : Node) (run : Run) (taken later : Shown S) (synced group : List (List ℕ)) → other ≡ node → synced ≡ group → Stands node run taken
+    → group ≡ map record_of (drop (length run.settled) run.taken)
+    → ((r : Run) → Stands other r taken → Begins synced (map record_of (drop (length r.settled) r.taken)) → Stands other (with_settled r (length synced)) later)
+    → Stands node (with_settled run (length group)) later
+settled_at {S} node other run taken later synced group same is stands records settles =
+    let there = settles run (subst (λ (n : Node). Stands n run taken) (sym same) stands) (record { rest = []; parts = sym (append-nil synced ∙ is ∙ records) }) in
+    subst (λ (n : Node). Stands n (with_settled run (length group)) later) same (subst (λ (l : List (List ℕ)). Stands other (with_settled run (length l)) later) is there)
+
+pub settles_at : {S : Type 0} (node other : Node) (run : Run) (taken : Shown S) (synced group : List (List ℕ)) → other ≡ node → synced ≡ group → Stands node run taken
+    → group ≡ map record_of (drop (length run.settled) run.taken) → SettlesNext other taken synced
+settles_at {S} node other run taken synced group same is stands records =
+    (run, subst (λ (n : Node). Stands n run taken) (sym same) stands, record { rest = []; parts = sym (append-nil synced ∙ is ∙ records) })
+
+-- ---- what a stop leaves behind an error
+
+-- what may be left at the end of a call may be left at some moment of it
+pub left_by : {D : Type 0} (clock : D → ℕ) (since : D → ℕ → List ℕ → Type 0) (old new : D) (P : List ℕ → Type 0) (bytes : List ℕ) (may : D → List ℕ → Type 0)
+    → AtEachMoment clock since old new P → ((disk : D) (t : ℕ) (c : List ℕ) → t ≤ clock disk → may disk c → since disk t c) → may new bytes → P bytes
+left_by {D} clock since old new P bytes may at counts left = at.each bytes (counts new (clock old) bytes at.later left)
+
+module _ {S D : Type 0} (node : Node) (content : D → List ℕ) (outcome : D → List ℕ → Type 0) (desk : Desk) (book : Shown S) (old : Journal D) (is : IsOf node content outcome desk book old) where
+  -- behind an error that changed nothing on the disk
+  pub same_breaks : (command : Command) (error : DriveError) → (error ≡ ends.Full → ⊥) → Breaks node desk command error (content (disk_of old)) (outcome (disk_of old))
+  same_breaks command error never = record {
+    left = λ bytes left. inl (left_firm node content outcome desk book old is bytes left);
+    full = λ full. absurd (never full);
+  }
+
+  -- behind a group that was taken and not added
+  pub flush_breaks : (taken : Shown S) (group : List (List ℕ)) (longest : IsLongestBeginning book.pending group taken.pending) (cause : JournalError) (new : Journal D)
+      → ((bytes : List ℕ) → outcome (disk_of new) bytes → IsBeforeOrAfter (content (disk_of old)) group bytes)
+      → (cause ≡ errors.Full → (MAX_JOURNAL_BYTES < length (content (disk_of old)) + length (group_bytes group)) × (new ≡ old))
+      → Breaks node desk flush (ended_by cause) (content (disk_of new)) (outcome (disk_of new))
+  flush_breaks taken group longest cause new left full = record {
+    left = λ bytes may. left_flushing node content outcome desk book old is taken group longest bytes (left bytes may);
+    full = λ same.
+        let found = full (only_full cause same) in
+        record {
+          flushes = refl;
+          too_long = subst (λ (l : List (List ℕ)). MAX_JOURNAL_BYTES < length (content (disk_of new)) + length (group_bytes l)) (group_are node content outcome desk book old is taken group longest)
+              (subst (λ (j : Journal D). MAX_JOURNAL_BYTES < length (content (disk_of j)) + length (group_bytes group)) (sym found.1) found.0);
+        };
+  }
+
+-- behind an error in writing what a command made due
+pub behind_breaks : {S D : Type 0} (node : Node) (content : D → List ℕ) (outcome : D → List ℕ → Type 0) (desk : Desk) (command : Command) (book : Shown S) (new : Journal D)
+    → IsOf node content outcome (after node desk command) book new → (error : DriveError) → (error ≡ ends.Full → ⊥) → Breaks node desk command error (content (disk_of new)) (outcome (disk_of new))
+behind_breaks {S} {D} node content outcome desk command book new is error never = record {
+  left = λ bytes left. inr (left_firm node content outcome (after node desk command) book new is bytes left);
+  full = λ full. absurd (never full);
+}
+
+-- of an error and a disk that are these
+pub breaks_at : {D : Type 0} (node : Node) (content : D → List ℕ) (outcome : D → List ℕ → Type 0) (desk : Desk) (command : Command) (error is : DriveError) (disk end : D) → error ≡ is → disk ≡ end
+    → Breaks node desk command is (content end) (outcome end) → Breaks node desk command error (content disk) (outcome disk)
+breaks_at {D} node content outcome desk command error is disk end same ends_at breaks =
+    subst (λ (e : DriveError). Breaks node desk command e (content disk) (outcome disk)) (sym same)
+    (subst (λ (d : D). Breaks node desk command is (content d) (outcome d)) (sym ends_at) breaks)
+
+-- an error of writing isn't that of a full journal, or of the disk
+pub not_full : (error : DriveError) → (error ≡ ends.Memory) ⊎ (error ≡ ends.Output) → error ≡ ends.Full → ⊥
+not_full error (inl memory) full = cc
+not_full error (inr output) full = cc
+
+pub not_device : (error : DriveError) → (error ≡ ends.Memory) ⊎ (error ≡ ends.Output) → error ≡ ends.Device → ⊥
+not_device error (inl memory) device = cc
+not_device error (inr output) device = cc

@@ -1,0 +1,15 @@
+use Rattle.std.proofs.Common.{◌≡◌, ◌<◌, sym, ◌∙◌, subst}
+use Rattle.validator.specs.Setting.{node_of}
+use Rattle.journal.specs.Journal.{disk_of}
+use Rattle.world.specs.Text.{flush}
+use Rattle.recovery.proofs.Desks.{breaks_at}
+use Rattle.recovery.proofs.desk.Desk.flushed.Goals as goal
+
+pub returns-in-Err-clause-err : goal.returns-in-Err-clause-err
+returns-in-Err-clause-err g c = λ desk is.
+    let node = node_of g.S.Sign.own_key g.S.Sign.signature_of c.args.self.book.validator.setting in
+    breaks_at node g.D.Disk.content g.D.Disk.outcome desk flush c.fail.result.error c.in-Err.error c.fail.result.disk (disk_of c.flush.new.self.journal) c.fail.ensures.error c.fail.ensures.disk (c.in-Err.ensures.err desk is)
+
+pub returns-in-Err-clause-device : goal.returns-in-Err-clause-device
+returns-in-Err-clause-device g c = λ device.
+    subst (λ (d : g.row.D.Denot). g.D.Disk.faults (disk_of c.args.self.journal) < g.D.Disk.faults d) (sym c.fail.ensures.disk) (c.in-Err.ensures.device (sym c.fail.ensures.error ∙ device))

@@ -1,0 +1,108 @@
+use Rattle.std.proofs.Common.{◌≡◌, ℕ, ◌+◌, ◌<◌, ◌≤◌, List, [], ◌∷◌, ◌++◌, length, drop, take, inl, inr, refl, sym, ap, ◌∙◌, subst, arith, rules, map-id}
+use Rattle.std.proofs.lemmas.Iterator.Consumers.{YieldsList-so_far, YieldsList-turn, YieldsList-end}
+use Rattle.std.proofs.lemmas.Iterator.Adapters.{YieldsList-from_vec}
+use Rattle.std.proofs.lemmas.List.{length_push}
+use Rattle.std.proofs.lemmas.Result.{err_from_is_err_and}
+use Rattle.journal.specs.Journal.{disk_of}
+use Rattle.validator.specs.Setting.{node_of}
+use Rattle.world.specs.Text as script
+use Rattle.recovery.specs.Script.{said, script_of, HasRun}
+use Rattle.recovery.proofs.Appending.{keeps_itself}
+use Rattle.recovery.proofs.Carrying.{IsCarriedOut, first_carried, next_carried, cut_short, all_carried, script_parts, script_push, passes_at}
+use Rattle.recovery.proofs.driving.drive.Goals as goal
+
+pub returns-in_err-desk-clause-err : goal.returns-in_err-desk-clause-err
+returns-in_err-desk-clause-err g c =
+    let p = err_from_is_err_and c.from_residual.result c.from_residual.ensures.1 in
+    rw (p.1, p.2) (inl (c.in_err-desk.ensures.err, keeps_itself (g.W.Write.contents c.args.writer.now)))
+
+pub loop-command-init : goal.loop-command-init
+loop-command-init g c =
+    let node = node_of g.S.Sign.own_key g.S.Sign.signature_of c.args.config.now in
+    let before = g.D.Disk.content c.args.disk in
+    record {
+      so_far = first_carried node g.D.Disk.content g.D.Disk.outcome before c.in_ok-desk.desk.book c.in_ok-desk.desk.journal (g.W.Write.contents c.args.writer.now) c.in_ok-desk.ensures.ok;
+      setting = c.in_ok-desk.ensures.setting;
+      count = omega (arith, c.in_ok-desk.ensures.none);
+      faults = c.in_ok-desk.ensures.faults;
+    }
+
+pub carry_out-requires-clause-setting : goal.carry_out-requires-clause-setting
+carry_out-requires-clause-setting g c = c.loop-command.invariant.setting
+
+pub carry_out-requires-clause-stands : goal.carry_out-requires-clause-stands
+carry_out-requires-clause-stands g c = let so_far = c.loop-command.invariant.so_far in (_, so_far.is_of)
+
+pub carry_out-requires-clause-passed : goal.carry_out-requires-clause-passed
+carry_out-requires-clause-passed g c =
+    let commands = c.args.commands.items in
+    let done = c.loop-command.yielded in
+    let next = c.in-Some.command in
+    let chain = YieldsList-from_vec {s = c.into_iter-command-iterator.result} commands (search rules) (search rules) in
+    let turn = YieldsList-turn chain done c.loop-command.command-iterator c.loop-command.yielded_by c.next.result c.next.new.self next c.in-Some.is c.next.ensures.steps in
+    passes_at c.args.config.now.charter commands (length done) next c.requires.passed turn.0 turn.1
+
+pub carry_out-requires-clause-room : goal.carry_out-requires-clause-room
+carry_out-requires-clause-room g c =
+    let commands = c.args.commands.items in
+    let done = c.loop-command.yielded in
+    let next = c.in-Some.command in
+    let chain = YieldsList-from_vec {s = c.into_iter-command-iterator.result} commands (search rules) (search rules) in
+    let turn = YieldsList-turn chain done c.loop-command.command-iterator c.loop-command.yielded_by c.next.result c.next.new.self next c.in-Some.is c.next.ensures.steps in
+    omega (arith, c.loop-command.invariant.count, turn.0, c.requires.few, c.args.commands.ok.0)
+
+pub returns-in_err-desk-2-clause-err : goal.returns-in_err-desk-2-clause-err
+returns-in_err-desk-2-clause-err g c =
+    let node = node_of g.S.Sign.own_key g.S.Sign.signature_of c.args.config.now in
+    let before = g.D.Disk.content c.args.disk in
+    let commands = c.args.commands.items in
+    let done = c.loop-command.yielded in
+    let next = c.in-Some.command in
+    let chain = YieldsList-from_vec {s = c.into_iter-command-iterator.result} commands (search rules) (search rules) in
+    let turn = YieldsList-turn chain done c.loop-command.command-iterator c.loop-command.yielded_by c.next.result c.next.new.self next c.in-Some.is c.next.ensures.steps in
+    let front = sym (map-id done) ∙ YieldsList-so_far chain done c.loop-command.command-iterator c.loop-command.yielded_by in
+    let so_far = c.loop-command.invariant.so_far in
+    let desk = script.desk_behind node (script.desk_on so_far.history) (script_of done) in
+    let p = err_from_is_err_and c.from_residual-in_err-desk-2.result c.from_residual-in_err-desk-2.ensures.1 in
+    rw (p.1, p.2)
+    (inr (cut_short node g.D.Disk.content g.D.Disk.outcome before (script_of done) (said next) c.loop-command.desk.book c.loop-command.desk.journal (g.W.Write.contents c.args.writer.now) (g.W.Write.contents c.loop-command.writer) so_far
+    (script_of commands) (script_of (drop (length done + 1) commands)) c.in_err-desk-2.field-0.0.error (g.D.Disk.content c.in_err-desk-2.field-0.0.disk) (g.D.Disk.outcome c.in_err-desk-2.field-0.0.disk) (g.W.Write.contents c.carry_out.new.writer)
+    (script_parts commands done next front turn.0 turn.1) (c.in_err-desk-2.ensures.err desk so_far.is_of) (c.in_err-desk-2.ensures.writes_part desk so_far.is_of)))
+
+pub returns-in_err-desk-2-clause-device : goal.returns-in_err-desk-2-clause-device
+returns-in_err-desk-2-clause-device g c =
+    let p = err_from_is_err_and c.from_residual-in_err-desk-2.result c.from_residual-in_err-desk-2.ensures.1 in
+    rw (p.1, p.2)
+    (λ device. let rises = c.in_err-desk-2.ensures.device device in let faults = c.loop-command.invariant.faults in omega (arith, rises, faults))
+
+pub loop-command-preserved : goal.loop-command-preserved
+loop-command-preserved g c =
+    let node = node_of g.S.Sign.own_key g.S.Sign.signature_of c.args.config.now in
+    let before = g.D.Disk.content c.args.disk in
+    let done = c.loop-command.yielded in
+    let next = c.in-Some.command in
+    let so_far = c.loop-command.invariant.so_far in
+    let desk = script.desk_behind node (script.desk_on so_far.history) (script_of done) in
+    let old = g.W.Write.contents c.args.writer.now in
+    let later = c.in_ok-desk-2.desk in
+    let carried = next_carried node g.D.Disk.content g.D.Disk.outcome before (script_of done) (said next) c.loop-command.desk.book c.loop-command.desk.journal old (g.W.Write.contents c.loop-command.writer) so_far
+    later.book later.journal (g.W.Write.contents c.carry_out.new.writer) (c.in_ok-desk-2.ensures.ok desk so_far.is_of) (c.in_ok-desk-2.ensures.writes desk so_far.is_of) in
+    record {
+      so_far = subst (λ (l : List script.Command). IsCarriedOut node g.D.Disk.content g.D.Disk.outcome before l later.book later.journal old (g.W.Write.contents c.carry_out.new.writer)) (sym (script_push done next)) carried;
+      setting = c.in_ok-desk-2.ensures.setting;
+      count = let more = c.in_ok-desk-2.ensures.count in let count = c.loop-command.invariant.count in omega (arith, more, count, length_push done next);
+      faults = let more = c.in_ok-desk-2.ensures.faults in let faults = c.loop-command.invariant.faults in omega (arith, more, faults);
+    }
+
+pub returns-clause-ok : goal.returns-clause-ok
+returns-clause-ok g c =
+    let node = node_of g.S.Sign.own_key g.S.Sign.signature_of c.args.config.now in
+    let before = g.D.Disk.content c.args.disk in
+    let commands = c.args.commands.items in
+    let done = c.loop-command.yielded in
+    let end = YieldsList-end (YieldsList-from_vec {s = c.into_iter-command-iterator.result} commands (search rules) (search rules)) done c.loop-command.command-iterator c.loop-command.yielded_by c.next.result c.next.new.self c.in-None.is c.next.ensures.steps in
+    let whole : script_of commands ≡ script_of done = ap script_of (sym end.0 ∙ map-id done) in
+    let old = g.W.Write.contents c.args.writer.now in
+    let new = g.W.Write.contents c.loop-command.writer in
+    let run = all_carried node g.D.Disk.content g.D.Disk.outcome before (script_of commands) (script_of done) c.loop-command.desk.book c.loop-command.desk.journal old new whole c.loop-command.invariant.so_far in
+    subst (λ (d : g.row.D.Denot). HasRun node (script_of commands) before (g.D.Disk.content d) (g.D.Disk.outcome d) old new) (sym c.into_disk.ensures) run

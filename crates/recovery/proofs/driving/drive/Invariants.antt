@@ -1,0 +1,15 @@
+use Rattle.std.proofs.Common.{◌≡◌, ◌≤◌, length}
+use Rattle.journal.specs.Journal.{disk_of}
+use Rattle.validator.specs.Setting.{node_of}
+use Rattle.recovery.specs.Script.{script_of}
+use Rattle.recovery.proofs.Carrying.{IsCarriedOut}
+use Rattle.recovery.proofs.driving.drive.Given as goal
+
+-- the commands so far were carried out
+abbrev pub invariant-loop-command : goal.invariant-loop-command
+invariant-loop-command g l = record {
+  so_far : IsCarriedOut (node_of g.S.Sign.own_key g.S.Sign.signature_of l.config) g.D.Disk.content g.D.Disk.outcome (g.D.Disk.content l.fn.disk) (script_of l.yielded) l.desk.book l.desk.journal (g.W.Write.contents l.initial.writer) (g.W.Write.contents l.writer);
+  setting : l.desk.book.validator.setting ≡ l.config;
+  count : l.desk.book.accepted ≤ length l.yielded;
+  faults : g.D.Disk.faults l.fn.disk ≤ g.D.Disk.faults (disk_of l.desk.journal);
+}

@@ -1,0 +1,112 @@
+-- What a node with one owner does with a script of commands.
+use Rattle.std.specs.Prelude.{◌≡◌, ◌≢◌, ◌⊎◌, ⊤, ℕ, ◌+◌, ◌<◌, false, List, [], ◌∷◌, ◌++◌, length, map, drop, Option, None, Ok}
+use Rattle.std.specs.Io.KnownBytes.{Keeps, Appends}
+use Rattle.book.specs.Book.{Shown, Run, Stands}
+use Rattle.committee.specs.Charter.{Charter}
+use Rattle.diskmodel.specs.Disk.{LeavesOnly}
+use Rattle.header.specs.Checks.{fault_of, accepts_all}
+use Rattle.journal.specs.Format.{group_bytes, stands}
+use Rattle.journal.specs.Journal.{disk_of, IsAlive}
+use Rattle.journal.specs.declared.error.JournalError.{JournalError}
+use Rattle.journal.specs.declared.error.JournalError.TheVariants as journal
+use Rattle.journal.specs.declared.journal.Journal.{Journal}
+use Rattle.journal.specs.declared.layout.TheConstants.{MAX_JOURNAL_BYTES}
+use Rattle.laws.specs.Laws.{Begins}
+use Rattle.model.specs.Histories.{History}
+use Rattle.model.specs.Nodes.{Node}
+use Rattle.records.specs.Records.{record_of}
+use Rattle.world.specs.Text as script
+use Rattle.recovery.specs.Faults.{ended_by}
+use Rattle.recovery.specs.Told.{told, Tells, IsToldAsOneOf}
+use Rattle.recovery.specs.declared.driving.Command.{Command}
+use Rattle.recovery.specs.declared.driving.Command.TheVariants.{Event, Flush, Stop}
+use Rattle.recovery.specs.declared.driving.DriveError.{DriveError}
+use Rattle.recovery.specs.declared.driving.DriveError.TheVariants.{Full}
+
+-- ---- commands
+
+-- a command as one of a script, and all of them
+abbrev pub said : Command → script.Command
+said (Event event) = script.take_in event
+said Flush = script.flush
+said Stop = script.stop
+
+abbrev pub script_of : List Command → List script.Command
+script_of commands = map said commands
+
+-- an event passed the checks of a committee, whatever its signatures
+abbrev pub Passes : Charter → Command → Type 0
+Passes charter (Event event) = fault_of charter accepts_all event ≡ None
+Passes charter other = ⊤
+
+-- ---- what stands between two commands
+
+-- the run of a book whose owner settles all that it takes
+abbrev pub run_of : script.Desk → Run
+run_of desk = record { began = desk.began; accepted = desk.accepted; taken = desk.settled; settled = desk.settled }
+
+-- A book and a journal are those of a script's desk: the book stands at its run and queues the outputs that wait there, the journal can be
+-- added to, and its disk has the configuration and is told as what is settled.
+pub record IsOf {S D : Type 0} (node : Node) (content : D → List ℕ) (outcome : D → List ℕ → Type 0) (desk : script.Desk) (book : Shown S) (journal : Journal D) : Type 0 where
+  pub stands_at : Stands node (run_of desk) book
+  pub waits : book.queue ≡ desk.waiting
+  pub up : book.down ≡ false
+  pub alive : IsAlive content outcome journal
+  pub configured : stands (content (disk_of journal)) ≢ Ok []
+  pub told_as : told node (content (disk_of journal)) ≡ Ok (script.settled_in desk)
+
+-- they are those of a run that began with what the disk was told as
+pub record IsOpenedOf {S D : Type 0} (node : Node) (content : D → List ℕ) (outcome : D → List ℕ → Type 0) (before : List ℕ) (book : Shown S) (journal : Journal D) : Type 0 where
+  pub history : History
+  pub told_first : told node before ≡ Ok history
+  pub is_of : IsOf node content outcome (script.desk_on history) book journal
+
+-- ---- how a script ends
+
+-- It was carried out: what is written is its text, behind what the disk was told as. The disk is told as what is settled then, and no stop
+-- changes that.
+pub record HasRun (node : Node) (commands : List script.Command) (before later : List ℕ) (outcome : List ℕ → Type 0) (old new : Option (List ℕ)) : Type 0 where
+  pub history : History
+  pub told_first : told node before ≡ Ok history
+  pub writes : Appends old new (script.text node (script.desk_on history) commands)
+  pub told_later : told node later ≡ Ok (script.settled_in (script.desk_behind node (script.desk_on history) commands))
+  pub firm : LeavesOnly later outcome
+
+-- The node was not opened: the error is what the bytes are told as, unless memory or the disk failed; and what a stop leaves is told as
+-- one outcome from before.
+pub record IsNotOpened (node : Node) (error : DriveError) (before : List ℕ) (possible outcome : List ℕ → Type 0) : Type 0 where
+  pub cause : JournalError
+  pub is : error ≡ ended_by cause
+  pub tells : cause ≢ journal.Device → Tells cause (told node before)
+  pub never_full : cause ≢ journal.Full
+  pub left : (bytes : List ℕ) → outcome bytes → IsToldAsOneOf node possible bytes
+
+-- and nothing was written
+abbrev pub IsUnopened : Node → DriveError → List ℕ → (List ℕ → Type 0) → (List ℕ → Type 0) → Option (List ℕ) → Option (List ℕ) → Type 0
+IsUnopened node error before possible outcome old new = IsNotOpened node error before possible outcome × Keeps old new
+
+-- the journal has no room for the group of a flush
+pub record HasNoRoom (desk : script.Desk) (command : script.Command) (content : List ℕ) : Type 0 where
+  pub flushes : command ≡ script.flush
+  pub too_long : MAX_JOURNAL_BYTES < length content + length (group_bytes (map record_of (script.group_of (drop (length desk.settled) desk.accepted))))
+
+-- A command failed at a desk: what a stop leaves is told as what is settled there, or behind the command.
+pub record Breaks (node : Node) (desk : script.Desk) (command : script.Command) (error : DriveError) (content : List ℕ) (outcome : List ℕ → Type 0) : Type 0 where
+  pub left : (bytes : List ℕ) → outcome bytes
+      → (told node bytes ≡ Ok (script.settled_in desk)) ⊎ (told node bytes ≡ Ok (script.settled_in (script.after node desk command)))
+  pub full : error ≡ Full → HasNoRoom desk command content
+
+-- Some of the commands were carried out, and the next one failed: what is written is the text of these, and a beginning of what the next
+-- one writes.
+pub record IsCutShort (node : Node) (commands : List script.Command) (error : DriveError) (before later : List ℕ) (outcome : List ℕ → Type 0) (old new : Option (List ℕ)) : Type 0 where
+  pub history : History
+  pub told_first : told node before ≡ Ok history
+  pub done : List script.Command
+  pub next : script.Command
+  pub rest : List script.Command
+  pub parts : commands ≡ done ++ next ∷ rest
+  pub written : List ℕ
+  pub writes : Appends old new written
+  pub no_less : Begins (script.text node (script.desk_on history) done) written
+  pub no_more : Begins written (script.text node (script.desk_on history) (done ++ next ∷ []))
+  pub breaks : Breaks node (script.desk_behind node (script.desk_on history) done) next error later outcome
