@@ -1,1 +1,2 @@
+mod Legal
 mod Torn

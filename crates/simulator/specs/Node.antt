@@ -1,12 +1,12 @@
 -- What a caller sees of the node.
+use Rattle.committee.specs.Charter.{Charter}
 use Rattle.diskmodel.specs.declared.memory.MemDisk.{MemDisk}
-use Rattle.headerbook.specs.Book.{Standing, standing}
 use Rattle.simulator.specs.declared.node.Node.{Node}
 use Rattle.simulator.specs.Store.{disk_of_store}
 
--- its book
-abbrev pub book_of : Node → Standing
-book_of node = standing node.book
+-- its committee
+abbrev pub charter_of : Node → Charter
+charter_of node = node.book.validator.setting.charter
 
 -- the disk that its journal is on
 abbrev pub disk_of : Node → MemDisk

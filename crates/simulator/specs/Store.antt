@@ -1,7 +1,7 @@
 -- Where the node's records are kept.
 use Rattle.diskmodel.specs.declared.memory.MemDisk.{MemDisk}
-use Rattle.simulator.specs.declared.node.Store.{Store}
-use Rattle.simulator.specs.declared.node.Store.TheVariants.{Live, Failed}
+use Rattle.simulator.specs.declared.store.Store.{Store}
+use Rattle.simulator.specs.declared.store.Store.TheVariants.{Live, Failed}
 
 -- the disk
 abbrev pub disk_of_store : Store → MemDisk

@@ -2,7 +2,9 @@
 
 use crate::answer::Answer;
 use crate::ending::Ending;
+use crate::shown::add_line;
 use journal::JournalError;
+use script::Labels;
 use std::alloc::Global;
 use std::io::{self, Write};
 
@@ -23,11 +25,8 @@ impl Gathered {
     }
 
     /// Adds the line of an answer, if it has one.
-    pub fn add(&mut self, answer: Answer<'_>) -> Result<(), Ending> {
-        match answer {
-            Answer::Nothing => Ok(()),
-            answer => Ok(writeln!(self.lines, "{answer}")?),
-        }
+    pub fn add(&mut self, labels: &Labels, answer: &Answer) -> Result<(), Ending> {
+        Ok(add_line(&mut self.lines, labels, answer)?)
     }
 
     /// Adds the line of a fault of the journal.

@@ -5,10 +5,14 @@ mod answer;
 mod ending;
 mod gathered;
 mod live;
+mod messages;
 mod node;
 mod opening;
 mod playing;
+mod script_lines;
 mod settings;
+mod shown;
+mod stops;
+mod store;
 
-pub use node::Node;
-pub use playing::{node_after, run};
+pub use playing::{disk_after, output_after, run};

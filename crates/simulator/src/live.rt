@@ -1,10 +1,12 @@
 //! A journal that can be added to.
 
-ghost use Rattle.std.specs.Prelude.{◌≡◌, length};
-ghost use Rattle.simulator.specs.Live.{IsOfGroup};
+ghost use Rattle.std.specs.Prelude.{◌≡◌};
+ghost use Rattle.journal.specs.Journal.{IsAlive};
 
 use diskmodel::Disk;
-use journal::{Failed, Group, Journal, JournalError, Record, Synced};
+use journal::{Failed, Journal, JournalError, Record};
+use ownbook::{FlushError, OwnBook};
+use sigface::HashSign;
 use std::alloc::Global;
 use std::marker::Model;
 
@@ -26,12 +28,11 @@ impl<D: Disk> Model for LiveJournal<D> {
     ghost invariant = { λ live. IsAlive D.content D.outcome live.journal };
 }
 
-/// What adding a group came to.
-pub enum Appended<D: Disk> {
-    /// The group is on the disk.
-    Done(LiveJournal<D>, Synced),
-    /// The journal is full, and as before.
-    Full(LiveJournal<D>),
+/// What a round leaves.
+#[derive(Drop)]
+pub enum Round<D: Disk> {
+    /// The journal is alive, and the round came to this.
+    Alive(LiveJournal<D>, Result<u64, FlushError>),
     /// A device call failed.
     Failed(D),
 }
@@ -46,16 +47,27 @@ impl<D: Disk> LiveJournal<D> {
         Ok((LiveJournal { journal }, records))
     }
 
-    /// Adds a group.
-    pub fn append(self, group: Group) -> Appended<D>
-        ensures { IsOfGroup result (length group) }
+    /// A journal that was opened.
+    pub fn of(journal: Journal<D>) -> LiveJournal<D>
+        requires { IsAlive D.content D.outcome journal }
+    {
+        LiveJournal { journal }
+    }
+
+    /// One round of a book's records.
+    pub fn flush(self, book: &mut OwnBook<'_, HashSign>) -> Round<D>
+        ensures { book.new.validator.setting ≡ book.old.validator.setting }
     {
         let LiveJournal { mut journal } = self;
-        match journal.append(group) {
-            Ok(synced) => Appended::Done(LiveJournal { journal }, synced),
-            Err(JournalError::Full) => Appended::Full(LiveJournal { journal }),
-            Err(JournalError::Device) => Appended::Failed(journal.into_disk()),
-            Err(_) => unreachable!(),
+        match book.flush(&mut journal) {
+            Ok(count) => Round::Alive(LiveJournal { journal }, Ok(count)),
+            Err(FlushError::Device) => Round::Failed(journal.into_disk()),
+            Err(FlushError::Memory) => Round::Alive(
+                LiveJournal { journal },
+                Err(FlushError::Memory),
+            ),
+            Err(FlushError::Full) => Round::Alive(LiveJournal { journal }, Err(FlushError::Full)),
+            Err(FlushError::Down) => Round::Alive(LiveJournal { journal }, Err(FlushError::Down)),
         }
     }
 

@@ -1,109 +1,61 @@
 //! The simulated node: its journal and its book.
 
-ghost use Rattle.std.specs.Prelude.{◌≡◌, ℕ, List, None, IsTrue, IfOk};
-ghost use Rattle.std.specs.List.{list_all};
+ghost use Rattle.std.specs.Prelude.{◌≡◌, None, IfOk};
 ghost use Rattle.header.specs.Checks.{fault_of, accepts_all};
-ghost use Rattle.headerbook.specs.Admission.{IsKnownKind};
-ghost use Rattle.headerbook.specs.Book.{standing};
-ghost use Rattle.simulator.specs.declared.settings.TheConstants.{OWN};
-ghost use Rattle.diskmodel.specs.Memory.{state_of};
-ghost use Rattle.simulator.specs.Queue.{is_vote};
-ghost use Rattle.simulator.specs.Stops.{WillLeave, IsTornBy};
 
-use crate::answer::{Answer, FlushError};
+use crate::answer::Answer;
 use crate::ending::Ending;
-use crate::live::{Appended, LiveJournal};
-use crate::opening::{Opened, open};
-use crate::settings::{OWN, read_committee};
+use crate::live::LiveJournal;
+use crate::opening::open_book;
+use crate::stops::stopping_disk;
+use crate::store::Store;
 use committee::Committee;
-use diskmodel::{CallKind, MemDisk, StopDisk};
+use diskmodel::{MemDisk, StopDisk};
 use header::Checked;
-use headerbook::Book;
-use journal::JournalError;
+use ownbook::{FlushError, OwnBook};
 use script::Stopping;
 use sigface::HashSign;
-use std::alloc::{AllocError, Global};
-use wire::{Output, Vote};
-
-/// What the bytes of a group hold that a stop came upon before their sync.
-const TORN_BYTE: u8 = 0xee;
-
-/// The syncs of a journal that is opened and gets a group: of the opening, of the group's body, of its gate.
-const BODY_SYNC: u64 = 2;
-
-const GATE_SYNC: u64 = 3;
-
-/// Where the node's records are kept.
-#[derive(Drop)]
-enum Store {
-    Live(LiveJournal<MemDisk>),
-    /// After a fault.
-    Failed(MemDisk),
-}
-
-impl Store {
-    ghost use Rattle.simulator.specs.Store.{disk_of_store};
-
-    fn into_disk(self) -> MemDisk
-        ensures { result ≡ disk_of_store self }
-    {
-        match self {
-            Store::Live(journal) => journal.into_disk(),
-            Store::Failed(disk) => disk,
-        }
-    }
-}
+use std::alloc::Global;
+use validator::{Config, Refusal};
+use wire::Output;
 
 /// The node.
 #[derive(Drop)]
-pub struct Node {
+pub struct Node<'a> {
+    config: &'a Config<HashSign>,
     store: Store,
-    book: Book<HashSign>,
-    ghost own: { (standing book).validator.own ≡ OWN },
-    // So far only votes are put out.
-    ghost votes: { IsTrue (list_all is_vote (standing book).queue) },
+    book: OwnBook<'a, HashSign>,
 }
 
-impl Node {
-    ghost use Rattle.std.specs.Prelude.{Some, MatchOption};
-    ghost use Rattle.headerbook.specs.Book.{releasable};
-    ghost use Rattle.simulator.specs.Node.{book_of, disk_of};
+impl<'a> Node<'a> {
+    ghost use Rattle.simulator.specs.Node.{charter_of, disk_of};
 
-    /// The node of a committee after what is on a disk, and how many events that is.
-    pub(crate) fn open(
+    /// The node of a configuration after what is on a disk.
+    pub fn open(
         alloc: Global,
-        committee: Committee,
+        config: &'a Config<HashSign>,
         disk: MemDisk,
-    ) -> Result<(Node, u64), Ending>
-        ensures { IfOk result (λ opened. (book_of opened.0).charter ≡ committee) }
-    {
-        match open(alloc, committee, disk) {
-            Ok(
-                Opened {
-                    journal,
-                    validator,
-                    events,
-                },
-            ) => {
-                let store = Store::Live(journal);
-                let book = Book::new(alloc, validator);
-                Ok((Node { store, book }, events))
-            }
+    ) -> Result<Node<'a>, Ending> {
+        match open_book(alloc, config, disk) {
+            Ok((book, journal)) => Ok(Node {
+                config,
+                store: Store::Live(journal),
+                book,
+            }),
             Err(failed) => Err(Ending::from(failed.error)),
         }
     }
 
     /// Its committee.
-    pub(crate) fn committee(&self) -> &Committee
-        ensures { result.now ≡ (book_of self.now).charter }
+    pub fn committee(&self) -> &Committee
+        ensures { result.now ≡ charter_of self.now }
     {
         self.book.committee()
     }
 
-    /// Submits a header of another member, which passed the checks under the node's committee.
-    pub(crate) fn submit(&mut self, event: Checked) -> Answer<'static>
-        requires kind { IsKnownKind OWN event }
-        requires passed { fault_of (book_of self.old).charter accepts_all event ≡ None }
+    /// Submits an event that passed the checks under the node's committee.
+    pub fn submit(&mut self, event: Checked) -> Answer
+        requires { fault_of (charter_of self.old) accepts_all event ≡ None }
     {
         match self.book.accept(event) {
             Ok(receipt) if receipt.new => Answer::New(receipt.ticket),
@@ -112,149 +64,61 @@ impl Node {
         }
     }
 
-    /// The next output that may go out: a vote, as all that is put out so far.
-    pub fn collect(&mut self) -> Option<Vote>
-        ensures { MatchOption result (releasable (book_of self.old) ≡ None) (λ vote. releasable (book_of self.old) ≡ Some (Output.Vote vote)) }
-    {
-        match self.book.release()? {
-            Output::Vote(vote) => Some(vote),
-            _ => unreachable!(),
+    /// The next output that may go out.
+    pub fn collect(&mut self) -> Option<Output> {
+        self.book.release()
+    }
+
+    /// The order behind the settled records.
+    pub fn order(&self) -> Result<Answer, Ending> {
+        match self.book.order(0) {
+            Ok(digests) => Ok(Answer::Order(digests)),
+            Err(Refusal::Memory) => Err(Ending::Memory),
+            Err(refusal) => Ok(Answer::Refused(refusal)),
         }
     }
 
+    /// The round behind the accepted records.
+    pub fn round(&self) -> u64 {
+        self.book.round_now()
+    }
+
     /// One round: takes a group, writes it and settles it. After a fault the node is down.
-    pub(crate) fn flush(self) -> (Node, Result<u64, FlushError>) {
-        let Node { store, mut book } = self;
-        let journal = match store {
-            Store::Live(journal) => journal,
-            Store::Failed(disk) => {
-                let store = Store::Failed(disk);
-                return (Node { store, book }, Err(FlushError::Down));
-            }
+    pub fn flush(self) -> (Node<'a>, Result<u64, FlushError>) {
+        let Node {
+            config,
+            store,
+            mut book,
+        } = self;
+        let (store, flushed) = store.flush(&mut book);
+        let node = Node {
+            config,
+            store,
+            book,
         };
-        if book.is_down() {
-            let store = Store::Live(journal);
-            return (Node { store, book }, Err(FlushError::Down));
-        }
-        let group = match book.take() {
-            Ok(Some(group)) => group,
-            Ok(None) => {
-                let store = Store::Live(journal);
-                return (Node { store, book }, Ok(0));
-            }
-            Err(_) => {
-                let store = Store::Live(journal);
-                return (Node { store, book }, Err(FlushError::Memory));
-            }
-        };
-        let count = group.records_count();
-        match journal.append(group) {
-            Appended::Done(journal, synced) => {
-                book.settle(synced);
-                let store = Store::Live(journal);
-                (Node { store, book }, Ok(count))
-            }
-            Appended::Full(journal) => {
-                book.fail();
-                let store = Store::Live(journal);
-                (Node { store, book }, Err(FlushError::Full))
-            }
-            Appended::Failed(disk) => {
-                book.fail();
-                let store = Store::Failed(disk);
-                (Node { store, book }, Err(FlushError::Device))
-            }
-        }
+        (node, flushed)
     }
 
     /// Gives the journal's disk back.
     pub fn into_disk(self) -> MemDisk
-        ensures { result ≡ disk_of self }
+        ensures { result ≡ disk_of self.entry }
     {
-        let Node { store, book: _ } = self;
+        let Node { store, .. } = self;
         store.into_disk()
     }
 
-    /// Stops the machine and opens the node again, whose committee is read anew; answers how many events were
-    /// found.
-    pub(crate) fn stop(self, alloc: Global, stopping: Stopping) -> Result<(Node, u64), Ending> {
-        let Node { store, book } = self;
-        let mut disk = match stopping {
-            Stopping::Lose => losing(alloc, store.into_disk())?,
-            Stopping::Keep => store.into_disk(),
-            Stopping::Body => interrupted(alloc, store, book, BODY_SYNC, TORN_BYTE)?,
-            Stopping::Gate(byte) => interrupted(alloc, store, book, GATE_SYNC, byte)?,
-        };
+    /// Stops the machine and opens the node again; answers how many records of events were found.
+    pub fn stop(self, alloc: Global, stopping: Stopping) -> Result<(Node<'a>, u64), Ending> {
+        let Node {
+            config,
+            store,
+            book,
+        } = self;
+        let mut disk = stopping_disk(alloc, store, book, stopping)?;
         disk.stop();
-        Node::open(alloc, read_committee(alloc)?, disk)
+        let (journal, records) = LiveJournal::open(alloc, disk).map_err(|failed| failed.error)?;
+        let node = Node::open(alloc, config, journal.into_disk())?;
+        // The first record is the configuration.
+        Ok((node, (records.len() as u64).saturating_sub(1)))
     }
-}
-
-// The disk, of which the next stop leaves the bytes of the last sync.
-fn losing(alloc: Global, mut disk: MemDisk) -> Result<MemDisk, AllocError>
-    ensures { IfOk result (λ left. WillLeave left (state_of disk).firm) }
-{
-    let firm = disk.firm().to_vec(alloc)?;
-    disk.choose(firm);
-    Ok(disk)
-}
-
-// The disk in the midst of writing a group, at this sync. The next stop leaves this
-// byte wherever one was written since the sync before. With nothing to write the disk is as it was.
-fn interrupted(
-    alloc: Global,
-    store: Store,
-    mut book: Book<HashSign>,
-    sync: u64,
-    byte: u8,
-) -> Result<MemDisk, Ending> {
-    let journal = match store {
-        Store::Live(journal) => journal,
-        Store::Failed(disk) => return Ok(disk),
-    };
-    let mut disk = journal.into_disk();
-    if book.is_down() || !book.has_pending() {
-        return Ok(disk);
-    }
-    disk.fail(CallKind::Sync, sync)?;
-    let (journal, _) = LiveJournal::open(alloc, disk).map_err(|failed| failed.error)?;
-    let Some(group) = book.take()? else {
-        unreachable!()
-    };
-    let disk = match journal.append(group) {
-        Appended::Failed(disk) => disk,
-        // The disk would go on to fail a later sync.
-        Appended::Full(_) => return Err(Ending::Fault(JournalError::Full)),
-        Appended::Done(_, synced) => {
-            let _ = synced.records();
-            return Err(Ending::Unstopped);
-        }
-    };
-    Ok(tearing(alloc, disk, byte)?)
-}
-
-// What a read of the disk gives, with this byte wherever one was written since the last sync.
-fn torn(alloc: Global, disk: &MemDisk, byte: u8) -> Result<Vec<u8>, AllocError>
-    ensures { IfOk result (λ torn. IsTornBy byte disk.now torn.items) }
-{
-    let bytes = disk.bytes();
-    let mut torn = Vec::new(alloc);
-    for place in 0..bytes.len() {
-        let found = if disk.is_written(place as u64) {
-            byte
-        } else {
-            bytes[place]
-        };
-        torn.push(found)?;
-    }
-    Ok(torn)
-}
-
-// The disk, of which the next stop leaves this byte wherever one was written since the last sync.
-fn tearing(alloc: Global, mut disk: MemDisk, byte: u8) -> Result<MemDisk, AllocError>
-    ensures { IfOk result (λ left. (found : List ℕ) × IsTornBy byte disk found × WillLeave left found) }
-{
-    let found = torn(alloc, &disk, byte)?;
-    disk.choose(found);
-    Ok(disk)
 }

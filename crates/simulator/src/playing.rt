@@ -1,21 +1,19 @@
 //! A script, line by line.
 
-ghost use Rattle.std.specs.Prelude.{◌≡◌, IfSome};
-ghost use Rattle.simulator.specs.declared.settings.TheConstants.{OWN};
-ghost use Rattle.simulator.specs.Node.{book_of};
-
 use crate::answer::Answer;
 use crate::ending::Ending;
 use crate::gathered::Gathered;
+use crate::messages::message_of;
 use crate::node::Node;
-use crate::settings::{OWN, read_committee};
+use crate::script_lines::Script;
+use crate::settings::Settings;
 use diskmodel::MemDisk;
 use header::check;
-use script::{Command, Form, FormError, Labels, define_header, parse};
+use script::{Command, FormError, Labels, define_batch, define_header};
 use sigface::HashVerify;
 use std::alloc::Global;
-use std::io::{self, BufRead, BufReader, Read, Write};
-use wire::{Header, Message, Vote, WireError};
+use std::io::{self, Read, Write};
+use wire::{Author, Message, Output, WireError};
 
 /// Runs the script that is read, and writes a line for each command. Where several lines of the script are there, their
 /// answers may be written together, but always before more input is waited for. Answers the exit status: 0, or 2 after
@@ -28,9 +26,12 @@ pub fn run<R: Read + Drop, W: Write, E: Write>(
     writer: &mut W,
     errors: &mut E,
 ) -> u8 {
+    let mut script = match Script::new(alloc, reader) {
+        Ok(script) => script,
+        Err(error) => return status_of(&Ending::from(error)),
+    };
     let mut gathered = Gathered::new(alloc);
-    let mut number = 0;
-    let ending = match play(alloc, reader, writer, &mut gathered, &mut number) {
+    let ending = match play(alloc, &mut script, writer, &mut gathered) {
         Ok(_) => None,
         Err(ending) => Some(told(&mut gathered, ending)),
     };
@@ -39,25 +40,41 @@ pub fn run<R: Read + Drop, W: Write, E: Write>(
     }
     match ending {
         None => 0,
-        Some(Ending::BadCommand) => {
-            tell_bad_line(alloc, errors, number);
-            2
+        Some(ending) => {
+            if let Ending::BadCommand = &ending {
+                tell_bad_line(alloc, errors, script.number());
+            }
+            status_of(&ending)
         }
-        Some(Ending::Memory) => 3,
-        Some(Ending::Fault(_)) => 4,
-        Some(Ending::InputOutput) => 5,
-        Some(Ending::TooLong) => 6,
-        Some(Ending::Unstopped) => 7,
     }
 }
 
-/// The node after a script, or nothing where the script isn't run to its end.
-pub fn node_after(alloc: Global, script: &[u8]) -> Option<Node>
-    ensures { IfSome result (λ node. (book_of node).validator.own ≡ OWN) }
-{
+/// The journal's disk after a script, or nothing where the script isn't run to its end.
+pub fn disk_after(alloc: Global, script: &[u8]) -> Option<MemDisk> {
+    Some(left_by(alloc, script)?.disk)
+}
+
+/// The output that may go out next after a script, if there is one.
+pub fn output_after(alloc: Global, script: &[u8]) -> Option<Output> {
+    left_by(alloc, script)?.output
+}
+
+fn left_by(alloc: Global, script: &[u8]) -> Option<Left> {
+    let mut script = Script::new(alloc, script).ok()?;
     let mut gathered = Gathered::new(alloc);
-    let mut number = 0;
-    play(alloc, script, &mut io::sink(), &mut gathered, &mut number).ok()
+    play(alloc, &mut script, &mut io::sink(), &mut gathered).ok()
+}
+
+// The exit status behind an ending before the script's end.
+fn status_of(ending: &Ending) -> u8 {
+    match ending {
+        Ending::BadCommand => 2,
+        Ending::Memory => 3,
+        Ending::Fault(_) => 4,
+        Ending::InputOutput => 5,
+        Ending::TooLong => 6,
+        Ending::Unstopped => 7,
+    }
 }
 
 // Adds the line of the ending, if it has one.
@@ -77,72 +94,93 @@ fn tell_bad_line<E: Write>(alloc: Global, errors: &mut E, number: u64) {
     }
 }
 
-// Plays the lines, and gives the node at their end. The number is that of the last line that was read.
+/// What a script leaves: the journal's disk, and the output that may go out next.
+#[derive(Drop)]
+struct Left {
+    disk: MemDisk,
+    output: Option<Output>,
+}
+
+// Plays the lines. The node is opened at the first one that sets nothing.
 fn play<R: Read + Drop, W: Write>(
     alloc: Global,
-    reader: R,
+    script: &mut Script<R>,
     writer: &mut W,
     gathered: &mut Gathered,
-    number: &mut u64,
-) -> Result<Node, Ending> {
+) -> Result<Left, Ending> {
     let disk = MemDisk::new(alloc, Vec::new(alloc))?;
-    let (mut node, _) = Node::open(alloc, read_committee(alloc)?, disk)?;
-    let mut labels = Labels::new(alloc);
-    let mut reader = BufReader::new(alloc, reader)?;
-    let mut line = Vec::new(alloc);
-    for count in 1..u64::MAX {
-        if !next_line(&mut reader, writer, gathered, &mut line)? {
-            return Ok(node);
+    let Some(settings) = read_settings(script, writer, gathered)? else {
+        return Ok(Left { disk, output: None });
+    };
+    let Some(config) = settings.config(alloc)? else {
+        return Err(Ending::BadCommand);
+    };
+    let node = Node::open(alloc, &config, disk)?;
+    obey_all(alloc, node, script, writer, gathered)
+}
+
+// Reads what is set, up to a line that sets nothing; there may be none.
+fn read_settings<R: Read + Drop, W: Write>(
+    script: &mut Script<R>,
+    writer: &mut W,
+    gathered: &mut Gathered,
+) -> Result<Option<Settings>, Ending> {
+    let mut settings = Settings::new();
+    for _ in 0..u64::MAX {
+        if !script.next(writer, gathered)? {
+            return Ok(None);
         }
-        *number = count;
-        let Some(command) = parse(&line) else {
-            return Err(Ending::BadCommand);
-        };
-        let (next, answer) = obey(alloc, node, &mut labels, command)?;
-        node = next;
-        gathered.add(answer)?;
+        match script.command() {
+            Some(Command::Set(setting)) => {
+                if !settings.set(setting) {
+                    return Err(Ending::BadCommand);
+                }
+            }
+            _ => return Ok(Some(settings)),
+        }
     }
     Err(Ending::TooLong)
 }
 
-// Reads a line without its newline; there is none at the end. Writes the lines first where reading may wait, or where
-// they are many.
-fn next_line<R: Read + Drop, W: Write>(
-    reader: &mut BufReader<R>,
+// Carries out the line that was read last, and those behind it.
+fn obey_all<R: Read + Drop, W: Write>(
+    alloc: Global,
+    mut node: Node<'_>,
+    script: &mut Script<R>,
     writer: &mut W,
     gathered: &mut Gathered,
-    line: &mut Vec<u8>,
-) -> Result<bool, Ending> {
-    if gathered.is_enough() || !reader.buffer().contains(&b'\n') {
-        gathered.write_to(writer)?;
+) -> Result<Left, Ending> {
+    let mut labels = Labels::new(alloc);
+    for _ in 0..u64::MAX {
+        let Some(command) = script.command() else {
+            return Err(Ending::BadCommand);
+        };
+        let (next, answer) = obey(alloc, node, &mut labels, command)?;
+        node = next;
+        gathered.add(&labels, &answer)?;
+        if !script.next(writer, gathered)? {
+            let output = node.collect();
+            let disk = node.into_disk();
+            return Ok(Left { disk, output });
+        }
     }
-    line.clear();
-    if reader.read_until(b'\n', line)? == 0 {
-        return Ok(false);
-    }
-    if line.last() == Some(&b'\n') {
-        line.pop();
-    }
-    Ok(true)
+    Err(Ending::TooLong)
 }
 
 // Carries out a command. Those that a node doesn't take yet are bad ones.
 fn obey<'a>(
     alloc: Global,
-    mut node: Node,
-    labels: &'a mut Labels,
+    mut node: Node<'a>,
+    labels: &mut Labels,
     command: Command<'_>,
-) -> Result<(Node, Answer<'a>), Ending> {
+) -> Result<(Node<'a>, Answer), Ending> {
     match command {
-        Command::Form(form) => {
-            let answer = define(alloc, labels, &form)?;
+        Command::Pack(pack) => {
+            let answer = answer_to(define_batch(alloc, labels, &pack))?;
             Ok((node, answer))
         }
-        Command::Header(label) => {
-            let answer = match header_of(labels, label)? {
-                Ok(header) => submit(&mut node, header)?,
-                Err(error) => Answer::Unread(error),
-            };
+        Command::Form(form) => {
+            let answer = answer_to(define_header(alloc, labels, &form))?;
             Ok((node, answer))
         }
         Command::Flush => {
@@ -154,21 +192,33 @@ fn obey<'a>(
         }
         Command::Collect => {
             let answer = match node.collect() {
-                Some(vote) => shown(labels, &vote),
+                Some(output) => Answer::Out(output),
                 None => Answer::OutNone,
             };
+            Ok((node, answer))
+        }
+        Command::Order => {
+            let answer = node.order()?;
+            Ok((node, answer))
+        }
+        Command::Round => {
+            let answer = Answer::Round(node.round());
             Ok((node, answer))
         }
         Command::Stop(stopping) => {
             let (node, events) = node.stop(alloc, stopping)?;
             Ok((node, Answer::Reopened(events)))
         }
-        _ => Err(Ending::BadCommand),
+        other => {
+            let answer = submit(alloc, &mut node, labels, other)?;
+            Ok((node, answer))
+        }
     }
 }
 
-fn define(alloc: Global, labels: &mut Labels, form: &Form<'_>) -> Result<Answer<'static>, Ending> {
-    match define_header(alloc, labels, form) {
+// What defining a label answers.
+fn answer_to(defined: Result<(), FormError>) -> Result<Answer, Ending> {
+    match defined {
         Ok(()) => Ok(Answer::Nothing),
         Err(FormError::Unread(error)) => Ok(Answer::Unread(error)),
         Err(FormError::BadCommand) => Err(Ending::BadCommand),
@@ -176,38 +226,24 @@ fn define(alloc: Global, labels: &mut Labels, form: &Form<'_>) -> Result<Answer<
     }
 }
 
-// The header of a label.
-fn header_of(labels: &Labels, label: &str) -> Result<Result<Header, WireError>, Ending> {
-    let Some(proposed) = labels.header(label) else {
-        return Err(Ending::BadCommand);
-    };
-    match proposed.header.try_clone() {
-        Ok(header) => Ok(Ok(header)),
-        Err(_) => Ok(Err(WireError::Memory)),
+// Submits the message of a command. Memory that is refused to it is a refusal of the event.
+fn submit(
+    alloc: Global,
+    node: &mut Node<'_>,
+    labels: &Labels,
+    command: Command<'_>,
+) -> Result<Answer, Ending> {
+    match message_of(alloc, labels, command) {
+        Ok((sender, message)) => Ok(take(node, sender, message)),
+        Err(FormError::Unread(error)) => Ok(Answer::Unread(error)),
+        Err(FormError::Memory) => Ok(Answer::Unread(WireError::Memory)),
+        Err(FormError::BadCommand) => Err(Ending::BadCommand),
     }
 }
 
-// Submits a header as from its author. There are no own headers yet.
-fn submit(node: &mut Node, header: Header) -> Result<Answer<'static>, Ending> {
-    let author = header.body.author;
-    if author == OWN {
-        return Err(Ending::BadCommand);
-    }
-    match check(
-        node.committee(),
-        &HashVerify,
-        author,
-        Message::Header(header),
-    ) {
-        Ok(event) => Ok(node.submit(event)),
-        Err(error) => Ok(Answer::Unchecked(error)),
-    }
-}
-
-// A vote by the label of its header. Each header that was submitted has one.
-fn shown<'a>(labels: &'a Labels, vote: &Vote) -> Answer<'a> {
-    match labels.header_name(&vote.header) {
-        Some(name) => Answer::OutVote(name),
-        None => Answer::OutUnnamed,
+fn take(node: &mut Node<'_>, sender: Author, message: Message) -> Answer {
+    match check(node.committee(), &HashVerify, sender, message) {
+        Ok(event) => node.submit(event),
+        Err(error) => Answer::Unchecked(error),
     }
 }

@@ -47,16 +47,16 @@ impl Read for Input<'_> {
 
 /// Takes so many bytes, and counts the calls and the lines.
 #[derive(Drop)]
-pub struct Output<'a> {
+pub struct Taker<'a> {
     pub bytes: Vec<u8>,
     pub room: usize,
     pub calls: u64,
     pub lines: &'a Cell<u64>,
 }
 
-impl<'a> Output<'a> {
-    pub fn new(alloc: Global, room: usize, lines: &'a Cell<u64>) -> Output<'a> {
-        Output {
+impl<'a> Taker<'a> {
+    pub fn new(alloc: Global, room: usize, lines: &'a Cell<u64>) -> Taker<'a> {
+        Taker {
             bytes: Vec::new(alloc),
             room,
             calls: 0,
@@ -65,7 +65,7 @@ impl<'a> Output<'a> {
     }
 }
 
-impl Write for Output<'_> {
+impl Write for Taker<'_> {
     fn write(&mut self, bytes: &[u8]) -> io::Result<usize> {
         self.calls = self.calls.saturating_add(1);
         let taken = bytes.get(..self.room).unwrap_or(bytes);

@@ -1,16 +1,16 @@
 //! What the commands of the case file are put to.
 
-use crate::ends::{Input, Output};
+use crate::ends::{Input, Taker};
 use crate::given::Script;
 use cases::Subject;
 use committee::Committee;
 use header::check;
 use sigface::HashVerify;
-use simulator::{node_after, run};
+use simulator::{disk_after, output_after, run};
 use std::alloc::{AllocError, Global};
 use std::cell::Cell;
 use std::str;
-use wire::{Author, Message, Vote};
+use wire::{Author, Message, Output};
 
 /// The committee of the simulator.
 const COMMITTEE: &str = "members = [
@@ -108,7 +108,7 @@ fn outcome_of(alloc: Global, script: &Script) -> Outcome {
         lines: &lines,
         notes: String::new(alloc),
     };
-    let mut output = Output::new(alloc, script.room, &lines);
+    let mut output = Taker::new(alloc, script.room, &lines);
     let mut errors = Vec::new(alloc);
     let status = run(alloc, &mut input, &mut output, &mut errors);
     Outcome {
@@ -152,28 +152,33 @@ fn count(alloc: Global, script: &Script, answer: &mut String) -> Told {
 
 // How many bytes the journal has after the script.
 fn journal(alloc: Global, script: &Script, answer: &mut String) -> Told {
-    match node_after(alloc, &script.bytes) {
-        Some(node) => {
-            let len = node.into_disk().bytes().len();
+    match disk_after(alloc, &script.bytes) {
+        Some(disk) => {
+            let len = disk.bytes().len();
             writeln!(answer, "{len} bytes")
         }
-        None => answer.push_str("no node\n"),
+        None => answer.push_str("not played to its end\n"),
     }
 }
 
 // Whether what may go out after the script is a vote that passes the checks.
 fn vote(alloc: Global, script: &Script, answer: &mut String) -> Told {
-    let vote = node_after(alloc, &script.bytes).and_then(|mut node| node.collect());
-    match vote {
-        Some(vote) if passes(alloc, vote) => answer.push_str("passes\n"),
-        Some(_) => answer.push_str("fails\n"),
-        None => answer.push_str("no vote\n"),
-    }
+    let Some(output) = output_after(alloc, &script.bytes) else {
+        return answer.push_str("nothing goes out\n");
+    };
+    answer.push_str(if passes(alloc, &output) {
+        "passes\n"
+    } else {
+        "fails\n"
+    })
 }
 
-fn passes(alloc: Global, vote: Vote) -> bool {
+fn passes(alloc: Global, output: &Output) -> bool {
+    let Output::Vote(vote) = output else {
+        return false;
+    };
     match Committee::read(alloc, COMMITTEE) {
-        Ok(committee) => check(&committee, &HashVerify, Author(0), Message::Vote(vote)).is_ok(),
+        Ok(committee) => check(&committee, &HashVerify, Author(0), Message::Vote(*vote)).is_ok(),
         Err(_) => false,
     }
 }

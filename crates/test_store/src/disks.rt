@@ -4,7 +4,7 @@ use crate::Store;
 use crate::words::{Told, Word, bad, put, put_bytes, put_number};
 use diskmodel::{Call, Disk, DiskFault, MemDisk, StopDisk};
 
-impl Store {
+impl Store<'_> {
     pub fn obey_disk(&mut self, name: &str, words: &[Word], answer: &mut String) -> Told {
         let len = self.disk.bytes().len() as u64;
         match (name, words) {

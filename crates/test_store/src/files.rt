@@ -7,7 +7,7 @@ use diskmodel::MemDisk;
 use journal::Record;
 use std::alloc::{AllocError, Global};
 
-impl Store {
+impl Store<'_> {
     pub fn obey_files(&mut self, name: &str, words: &[Word], answer: &mut String) -> Told {
         match (name, words) {
             ("beginnings", [Word::Number(from), Word::Number(to)]) => {

@@ -5,11 +5,13 @@ ghost use Rattle.header.specs.Checks.{fault_of, accepts_all};
 
 use committee::Committee;
 use header::{CheckError, Checked, check, recheck};
-use sigface::HashVerify;
+use sigface::{HashSign, HashVerify};
 use std::alloc::{AllocError, Global};
+use validator::Config;
 use wire::{
-    Author, BatchReference, BatchReferences, Digest, Header, HeaderBody, Message, Output,
-    ParentReference, ParentReferences, Round, Signature, Vote, genesis_digest,
+    Author, Batch, BatchReference, BatchReferences, Digest, Header, HeaderBody, Key,
+    MAX_TRANSACTION_BYTES, Message, OpenBatch, Output, ParentReference, ParentReferences, Round,
+    Signature, Vote, genesis_digest,
 };
 
 /// Four members. The key of each is its number plus 1, 32 times.
@@ -23,9 +25,17 @@ const FOUR: &str = "members = [
 /// The digest of what nobody holds.
 const FOREIGN: Digest = Digest([7; 32]);
 
-/// The committee of the cases. Its file is sound, so only memory can be wanting.
-pub fn committee(alloc: Global) -> Result<Committee, AllocError> {
-    Committee::read(alloc, FOUR).map_err(|_| AllocError)
+/// The member whose book it is.
+const OWN: Author = Author(0);
+
+/// The bytes of a batch's record around its one transaction: the kind, the sender, the tag, and the body's eight bytes
+/// and the transaction's length.
+const AROUND: usize = 16;
+
+/// What member 0 is set up with. Its committee's file is sound, so only memory can be wanting.
+pub fn config(alloc: Global) -> Result<Option<Config<HashSign>>, AllocError> {
+    let committee = Committee::read(alloc, FOUR).map_err(|_| AllocError)?;
+    Ok(Config::new(committee, OWN, HashSign::new(Key([1; 32]))))
 }
 
 /// A header over these members' certificates, with a signature of zeros. They are the genesis ones, but for a
@@ -78,6 +88,27 @@ pub fn vote(author: Author, round: Round) -> Message {
     })
 }
 
+/// The batch of a member with one transaction, which begins with this number, and with a record of this length. None
+/// where the record is too short or too long for that.
+pub fn batch(
+    alloc: Global,
+    author: Author,
+    number: u64,
+    len: usize,
+) -> Result<Option<Batch>, AllocError> {
+    if len < AROUND + 8 || len > MAX_TRANSACTION_BYTES {
+        return Ok(None);
+    }
+    let mut transaction = vec![in alloc; 0; len - AROUND]?;
+    transaction[..8].copy_from_slice(&number.to_be_bytes());
+    let mut batch = OpenBatch::new(alloc, author, 0)?;
+    if !batch.has_room(transaction.len()) {
+        return Ok(None);
+    }
+    batch.push(&transaction)?;
+    Ok(Some(batch.close()?))
+}
+
 /// The message as an event from its sender, if it passes the checks, its signature not tested.
 pub fn event(committee: &Committee, sender: Author, message: Message) -> Option<Checked>
     ensures { IfSome result (λ event. fault_of committee.now accepts_all event ≡ None) }
@@ -85,22 +116,35 @@ pub fn event(committee: &Committee, sender: Author, message: Message) -> Option<
     recheck(committee, sender, message).ok()
 }
 
-/// Tells what is put out: a vote of member 0, whether it passes the checks, and whether it does with another
-/// signature.
+/// Tells what is put out: an acknowledgement, an own header, or a vote of member 0, whether it passes the checks, and
+/// whether it does with another signature.
 pub fn tell_output(committee: &Committee, answer: &mut String, output: &Output) {
-    if let Output::Vote(vote) = output {
-        let (round, author) = (vote.round.number(), vote.author.0);
-        let mut changed = *vote;
-        changed.signature.0[63] ^= 1;
-        let (own, other) = (refusal(committee, *vote), refusal(committee, changed));
-        let _ = writeln!(
-            answer,
-            "vote for {author} in {round}: {own:?}, changed {other:?}"
-        );
+    match output {
+        Output::Vote(vote) => tell_vote(committee, answer, vote),
+        Output::Ack { to, .. } => {
+            let _ = writeln!(answer, "acknowledgement for {}", to.0);
+        }
+        Output::Header(header) => {
+            let _ = writeln!(answer, "header of round {}", header.body.round.number());
+        }
+        _ => {
+            let _ = writeln!(answer, "another output");
+        }
     }
+}
+
+fn tell_vote(committee: &Committee, answer: &mut String, vote: &Vote) {
+    let (round, author) = (vote.round.number(), vote.author.0);
+    let mut changed = *vote;
+    changed.signature.0[63] ^= 1;
+    let (own, other) = (refusal(committee, *vote), refusal(committee, changed));
+    let _ = writeln!(
+        answer,
+        "vote for {author} in {round}: {own:?}, changed {other:?}"
+    );
 }
 
 /// Why a vote of member 0 is refused, if it is.
 fn refusal(committee: &Committee, vote: Vote) -> Option<CheckError> {
-    check(committee, &HashVerify, Author(0), Message::Vote(vote)).err()
+    check(committee, &HashVerify, OWN, Message::Vote(vote)).err()
 }

@@ -3,6 +3,7 @@
 ghost use Rattle.journal.specs.Journal.{IsAlive};
 
 use crate::Store;
+use crate::spelling::group_in;
 use crate::words::{Told, Word, put, put_bytes, put_number};
 use diskmodel::{Disk, MemDisk};
 use journal::JournalError::{ConfigMismatch, Damaged, Device, Full, Memory};
@@ -10,7 +11,7 @@ use journal::{Group, Journal, JournalError, Record, stands};
 use std::alloc::{AllocError, Global};
 use std::mem;
 
-impl Store {
+impl Store<'_> {
     pub fn obey_journal(&mut self, name: &str, words: &[Word], answer: &mut String) -> Told {
         match (name, words) {
             ("open", []) => self.attempt(None, answer),
@@ -21,6 +22,9 @@ impl Store {
             ("group", [Word::Number(count), Word::Number(len)]) => {
                 let records = alike(self.alloc, *count, *len as usize)?;
                 self.attempt(Some(records), answer)
+            }
+            ("written", [Word::Number(count), Word::Bytes(bytes)]) => {
+                self.append_written(*count, bytes.as_slice(), answer)
             }
             ("stands", []) => {
                 tell_stands(self.alloc, self.disk.bytes(), answer);
@@ -41,6 +45,13 @@ impl Store {
     pub fn taken(&mut self) -> Result<MemDisk, AllocError> {
         let empty = MemDisk::new(self.alloc, Vec::new(self.alloc))?;
         Ok(mem::replace(&mut self.disk, empty))
+    }
+
+    fn append_written(&mut self, count: u64, bytes: &[u8], answer: &mut String) -> Told {
+        let disk = self.taken()?;
+        self.disk = append_written(self.alloc, disk, count, bytes, answer)?;
+        put(answer, "\n");
+        Ok(())
     }
 
     fn attempt(&mut self, records: Option<Vec<Vec<u8>>>, answer: &mut String) -> Told {
@@ -96,6 +107,29 @@ pub fn attempt(
     }
 }
 
+/// Opens the journal on a disk, and puts the group that these bytes are, of so many records, behind those that stand
+/// there. Gives the disk back.
+fn append_written(
+    alloc: Global,
+    disk: MemDisk,
+    count: u64,
+    bytes: &[u8],
+    text: &mut String,
+) -> Result<MemDisk, AllocError> {
+    match Journal::open(alloc, disk) {
+        Ok((mut journal, _)) => {
+            put(text, "opened");
+            let group = group_in(alloc, bytes, count)?;
+            append_group(&mut journal, group, text);
+            Ok(journal.into_disk())
+        }
+        Err(failed) => {
+            put_error(text, failed.error);
+            Ok(failed.disk)
+        }
+    }
+}
+
 fn append(
     alloc: Global,
     journal: &mut Journal<MemDisk>,
@@ -104,24 +138,29 @@ fn append(
 ) -> Told
     requires { IsAlive ⟦<MemDisk as Disk>⟧.content ⟦<MemDisk as Disk>⟧.outcome journal.old }
 {
-    match Group::new(alloc, records)? {
-        None => put(text, ", no group"),
-        Some(group) => {
-            put(text, ", a group of");
-            put_number(text, group.records_count());
-            match journal.append(group) {
-                Ok(synced) => {
-                    put(text, " synced");
-                    put_number(text, synced.records());
-                }
-                Err(error) => {
-                    put(text, ", ");
-                    put_error(text, error);
-                }
-            }
+    let group = Group::new(alloc, records)?;
+    append_group(journal, group, text);
+    Ok(())
+}
+
+fn append_group(journal: &mut Journal<MemDisk>, group: Option<Group>, text: &mut String)
+    requires { IsAlive ⟦<MemDisk as Disk>⟧.content ⟦<MemDisk as Disk>⟧.outcome journal.old }
+{
+    let Some(group) = group else {
+        return put(text, ", no group");
+    };
+    put(text, ", a group of");
+    put_number(text, group.records_count());
+    match journal.append(group) {
+        Ok(synced) => {
+            put(text, " synced");
+            put_number(text, synced.records());
+        }
+        Err(error) => {
+            put(text, ", ");
+            put_error(text, error);
         }
     }
-    Ok(())
 }
 
 /// Puts how many records there are, and in full each of them behind the place of its gate.

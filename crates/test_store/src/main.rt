@@ -6,37 +6,49 @@ mod disks;
 mod files;
 mod headers;
 mod journals;
+mod rounds;
+mod spelling;
 mod stops;
 mod words;
 
-use books::OwnBook;
+use books::own_book;
 use cases::{Ending, Subject, play};
 use diskmodel::MemDisk;
+use headers::config;
+use ownbook::OwnBook;
+use sigface::HashSign;
 use std::alloc::{AllocError, Global};
 use std::io::{self, BufReader};
 use std::process::ExitCode;
+use validator::Config;
 use words::{Told, words_of};
 
 /// A disk and a book, which are new in each case.
 #[derive(Drop)]
-struct Store {
+struct Store<'a> {
     alloc: Global,
+    config: &'a Config<HashSign>,
     disk: MemDisk,
-    book: OwnBook,
+    book: OwnBook<'a, HashSign>,
 }
 
-impl Store {
-    fn new(alloc: Global) -> Result<Store, AllocError> {
+impl<'a> Store<'a> {
+    fn new(alloc: Global, config: &'a Config<HashSign>) -> Result<Store<'a>, AllocError> {
         let disk = MemDisk::new(alloc, Vec::new(alloc))?;
-        let book = OwnBook::new(alloc)?;
-        Ok(Store { alloc, disk, book })
+        let book = own_book(alloc, config)?;
+        Ok(Store {
+            alloc,
+            config,
+            disk,
+            book,
+        })
     }
 }
 
-impl Subject for Store {
+impl Subject for Store<'_> {
     fn begin(&mut self, _title: &str) -> Told {
         self.disk = MemDisk::new(self.alloc, Vec::new(self.alloc))?;
-        self.book = OwnBook::new(self.alloc)?;
+        self.book = own_book(self.alloc, self.config)?;
         Ok(())
     }
 
@@ -49,7 +61,10 @@ impl Subject for Store {
 
 fn run(rt: &HostRuntime) -> Result<bool, Ending> {
     journal::written_groups_stand();
-    let mut store = Store::new(rt.alloc())?;
+    let Some(config) = config(rt.alloc())? else {
+        return Ok(false);
+    };
+    let mut store = Store::new(rt.alloc(), &config)?;
     let mut reader = BufReader::new(rt.alloc(), rt.reader())?;
     play(rt.alloc(), &mut reader, &mut io::writer(rt), &mut store)
 }

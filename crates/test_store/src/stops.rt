@@ -19,7 +19,7 @@ struct Trial<'a> {
     count: u64,
 }
 
-impl Store {
+impl Store<'_> {
     pub fn obey_stops(&mut self, name: &str, words: &[Word], answer: &mut String) -> Told {
         match (name, words) {
             ("stops", [Word::Call(kind), Word::Number(count), records @ ..]) => {

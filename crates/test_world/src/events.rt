@@ -1,16 +1,16 @@
 //! The events of the lists, each with a number, and the committee whose members send them.
 
-ghost use Rattle.std.specs.Prelude.{◌≡◌, ◌≢◌, None, IfSome, IsTrue};
+ghost use Rattle.std.specs.Prelude.{◌≡◌, None, IfSome};
 ghost use Rattle.header.specs.Checks.{fault_of, accepts_all};
-ghost use Rattle.headerbook.specs.Admission.{IsKnownKind};
-ghost use Rattle.test_world.specs.declared.events.TheConstants.{OWN};
 
 use committee::Committee;
 use header::{Checked, recheck};
+use sigface::HashSign;
 use std::alloc::{AllocError, Global};
+use validator::Config;
 use wire::{
-    Author, BatchReference, BatchReferences, Digest, Header, HeaderBody, Message, ParentReference,
-    ParentReferences, Round, Signature, Vote, genesis_digest,
+    Author, BatchReference, BatchReferences, Digest, Header, HeaderBody, Key, Message,
+    ParentReference, ParentReferences, Round, Signature, Vote, genesis_digest,
 };
 
 /// The node's own number.
@@ -56,6 +56,12 @@ pub enum Kind {
 /// The committee. Its file is sound, so only memory can be wanting.
 pub fn committee(alloc: Global) -> Result<Committee, AllocError> {
     Committee::read(alloc, SEVEN).map_err(|_| AllocError)
+}
+
+/// What the node is set up with.
+pub fn config(alloc: Global) -> Result<Option<Config<HashSign>>, AllocError> {
+    let signer = HashSign::new(Key([1; 32]));
+    Ok(Config::new(committee(alloc)?, OWN, signer))
 }
 
 /// Who sends the event of this number.
@@ -123,26 +129,9 @@ pub fn body_of(alloc: Global, author: Author, kind: Kind) -> Result<HeaderBody, 
     })
 }
 
-/// A message as an event from its sender, if it passes the checks, its signature not tested, and is a header of another
-/// member or a vote.
+/// A message as an event from its sender, if it passes the checks, its signature not tested.
 pub fn event_of(committee: &Committee, sender: Author, message: Message) -> Option<Checked>
-    ensures passed { IfSome result (λ event. fault_of committee.now accepts_all event ≡ None) }
-    ensures kind { IfSome result (λ event. IsKnownKind OWN event) }
+    ensures { IfSome result (λ event. fault_of committee.now accepts_all event ≡ None) }
 {
-    let event = recheck(committee, sender, message).ok()?;
-    if is_known_kind(&event) {
-        Some(event)
-    } else {
-        None
-    }
-}
-
-fn is_known_kind(event: &Checked) -> bool
-    ensures { IsTrue result → IsKnownKind OWN event.now }
-{
-    match event.message() {
-        Message::Header(header) => header.body.author != OWN,
-        Message::Vote(_) => true,
-        _ => false,
-    }
+    recheck(committee, sender, message).ok()
 }

@@ -1,21 +1,22 @@
 //! Lists of random steps, made by the running code and by the plain world side by side.
 
-ghost use Rattle.std.specs.Prelude.{◌≡◌, ℕ, ◌<◌, IfOk, IsNone};
-ghost use Rattle.headerbook.specs.Book.{standing};
+ghost use Rattle.std.specs.Prelude.{◌≡◌, ◌<◌, IfOk, IsNone};
 ghost use Rattle.journal.specs.Journal.{IsAlive};
-ghost use Rattle.test_world.specs.Room.{HasRoom};
+ghost use Rattle.test_world.specs.Way.{KeepsOnTheWay};
 
 use crate::draws::Draws;
 use crate::events::{KINDS, OWN, SENDERS, body_of, committee, kind_of, sender_of};
 use crate::plain::Plain;
-use crate::running::{OwnBook, are_of, put_configuration};
+use crate::running::{accept, are_of, open_book};
 use crate::tally::{Leaves, Moment, Tally, count};
 use diskmodel::{CallKind, Disk, MemDisk, StopDisk};
 use header::check;
 use journal::Journal;
-use sigface::HashVerify;
+use ownbook::OwnBook;
+use sigface::{HashSign, HashVerify, Sign};
 use std::alloc::{AllocError, Global};
 use std::mem;
+use validator::Config;
 use wire::{Message, Output, Vote, header_digest};
 
 /// That a step was made, unless memory was refused.
@@ -23,24 +24,32 @@ pub type Told = Result<(), AllocError>;
 
 /// The running code and the plain world.
 #[derive(Drop)]
-pub struct Lists {
+pub struct Lists<'a> {
     alloc: Global,
+    config: &'a Config<HashSign>,
     draws: Draws,
     disk: MemDisk,
-    book: OwnBook,
+    book: OwnBook<'a, HashSign>,
     plain: Plain,
     tally: Tally,
     /// How many answers weren't those of the plain world.
     wrong: u64,
 }
 
-impl Lists {
-    pub fn new(alloc: Global, start: u64) -> Result<Lists, AllocError> {
+impl<'a> Lists<'a> {
+    pub fn new(
+        alloc: Global,
+        config: &'a Config<HashSign>,
+        start: u64,
+    ) -> Result<Lists<'a>, AllocError> {
+        let disk = MemDisk::new(alloc, Vec::new(alloc))?;
+        let (book, journal) = open_book(alloc, config, disk).map_err(|_| AllocError)?;
         Ok(Lists {
             alloc,
+            config,
             draws: Draws::from(start),
-            disk: MemDisk::new(alloc, Vec::new(alloc))?,
-            book: OwnBook::after(alloc, &[])?.0,
+            disk: journal.into_disk(),
+            book,
             plain: Plain::new(alloc),
             tally: Tally::new(),
             wrong: 0,
@@ -74,7 +83,7 @@ impl Lists {
     }
 
     fn has_pending(&self) -> bool {
-        self.book.book.has_pending()
+        self.book.has_pending()
     }
 
     fn keeps_what_it_gave(&self) -> bool {
@@ -97,11 +106,11 @@ impl Lists {
 
     /// An event comes in.
     fn accept(&mut self) -> Told
-        ensures room { (count : ℕ) → HasRoom count (standing self.old.book.book) → HasRoom count (standing self.new.book.book) }
+        ensures { KeepsOnTheWay ⟦<HashSign as Sign>⟧.own_key ⟦<HashSign as Sign>⟧.signature_of self.old.book self.new.book }
     {
         let number = self.draws.below(SENDERS * KINDS);
         let expected = self.plain.accept(number)?;
-        let answer = self.book.accept(self.alloc, number)?;
+        let answer = accept(&mut self.book, self.alloc, number)?;
         self.expect(answer == Some(expected));
         self.tally.add_answer(expected);
         Ok(())
@@ -109,7 +118,7 @@ impl Lists {
 
     /// An output goes out, if one may.
     fn release(&mut self) -> Told
-        ensures room { (count : ℕ) → HasRoom count (standing self.old.book.book) → HasRoom count (standing self.new.book.book) }
+        ensures { KeepsOnTheWay ⟦<HashSign as Sign>⟧.own_key ⟦<HashSign as Sign>⟧.signature_of self.old.book self.new.book }
     {
         let expected = self.plain.release()?;
         let output = self.book.release();
@@ -125,7 +134,7 @@ impl Lists {
 
     /// What comes in and goes out beside a group's way to the disk.
     fn beside(&mut self) -> Told
-        ensures room { (count : ℕ) → HasRoom count (standing self.old.book.book) → HasRoom count (standing self.new.book.book) }
+        ensures { KeepsOnTheWay ⟦<HashSign as Sign>⟧.own_key ⟦<HashSign as Sign>⟧.signature_of self.old.book self.new.book }
     {
         self.accept()?;
         self.release()
@@ -169,9 +178,13 @@ impl Lists {
         failing: Option<Moment>,
     ) -> Result<Option<Moment>, AllocError>
         requires { IsAlive ⟦<MemDisk as Disk>⟧.content ⟦<MemDisk as Disk>⟧.outcome journal.old }
-        ensures alive { IfOk result (λ moment. IsNone moment → IsAlive ⟦<MemDisk as Disk>⟧.content ⟦<MemDisk as Disk>⟧.outcome journal.new) }
+        ensures { IfOk result (λ moment. IsNone moment → IsAlive ⟦<MemDisk as Disk>⟧.content ⟦<MemDisk as Disk>⟧.outcome journal.new) }
     {
-        let Some(group) = self.book.book.take()? else {
+        if !self.book.is_settled() {
+            self.differs();
+            return Ok(Some(Moment::Idle));
+        }
+        let Some(group) = self.book.take()? else {
             self.differs();
             return Ok(Some(Moment::Idle));
         };
@@ -190,7 +203,7 @@ impl Lists {
                     after?;
                     return Ok(Some(Moment::Firm));
                 }
-                self.book.book.settle(synced);
+                self.book.settle(synced);
                 self.plain.settle();
                 count(&mut self.tally.settled);
                 before?;
@@ -198,7 +211,7 @@ impl Lists {
                 Ok(None)
             }
             Err(_) => {
-                self.book.book.fail();
+                self.book.fail();
                 self.plain.fail();
                 count(&mut self.tally.failed);
                 before?;
@@ -264,8 +277,8 @@ impl Lists {
         };
         let mut disk = self.taken_disk()?;
         disk.fail(kind, count)?;
-        match Journal::open(self.alloc, disk) {
-            Ok((journal, _)) => {
+        match open_book(self.alloc, self.config, disk) {
+            Ok((_, journal)) => {
                 self.disk = journal.into_disk();
                 spend(&mut self.disk, kind);
                 Ok(false)
@@ -278,30 +291,39 @@ impl Lists {
         }
     }
 
-    /// Opens the journal, whose records are those of the plain history, and a book after them.
+    /// Opens the node, whose journal then has the records of the plain history.
     fn open(&mut self) -> Told {
         let disk = self.taken_disk()?;
-        let (mut journal, records) = match Journal::open(self.alloc, disk) {
-            Ok(opened) => opened,
+        match open_book(self.alloc, self.config, disk) {
+            Ok((book, journal)) => {
+                self.book = book;
+                self.disk = journal.into_disk();
+            }
             Err(failed) => {
                 self.disk = failed.disk;
                 self.differs();
                 return Ok(());
             }
-        };
-        let right = if records.is_empty() {
-            put_configuration(self.alloc, &mut journal)? && self.plain.history.is_empty()
-        } else {
-            are_of(self.alloc, &records, &self.plain.history)?
-        };
-        self.disk = journal.into_disk();
-        let keeps = self.keeps_what_it_gave();
+        }
+        let (right, keeps) = (self.has_plain_records()?, self.keeps_what_it_gave());
         self.expect(right && keeps);
-        let (book, replayed) = OwnBook::after(self.alloc, &records)?;
-        self.book = book;
-        self.expect(replayed);
         count(&mut self.tally.opened);
         Ok(())
+    }
+
+    /// Whether the journal has the records of the plain history.
+    fn has_plain_records(&mut self) -> Result<bool, AllocError> {
+        let disk = self.taken_disk()?;
+        match Journal::open(self.alloc, disk) {
+            Ok((journal, records)) => {
+                self.disk = journal.into_disk();
+                are_of(self.alloc, &records, &self.plain.history)
+            }
+            Err(failed) => {
+                self.disk = failed.disk;
+                Ok(false)
+            }
+        }
     }
 }
 

@@ -9,6 +9,7 @@ mod running;
 mod tally;
 
 use cases::{Ending, Subject, play};
+use events::config;
 use lists::Lists;
 use std::alloc::{AllocError, Global};
 use std::io::{self, BufReader, Write};
@@ -64,7 +65,10 @@ impl Subject for Worlds {
             *place = word.parse().unwrap_or(0);
         }
         let [count, steps, start] = numbers;
-        let mut lists = Lists::new(self.alloc, start)?;
+        let Some(config) = config(self.alloc)? else {
+            return Ok(());
+        };
+        let mut lists = Lists::new(self.alloc, &config, start)?;
         for _ in 0..count {
             lists.play(steps)?;
         }

@@ -1,10 +1,8 @@
 //! The world of a node as plain lists.
 
 use crate::events::{Kind, SENDERS, kind_of};
-use headerbook::Receipt;
-use headerbook::Refusal::{
-    self, Down, Equivocation, MissingBatch, MissingParents, NotOurs, TooOld,
-};
+use book::Receipt;
+use book::Refusal::{self, Down, Equivocation, MissingBatch, MissingParents, NotOurs, TooOld};
 use std::alloc::{AllocError, Global};
 use std::collections::VecDeque;
 

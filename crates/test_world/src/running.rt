@@ -1,84 +1,41 @@
 //! The code that runs: a book, and a journal on a disk in memory.
 
-ghost use Rattle.std.specs.Prelude.{◌≡◌, ◌+◌, ◌≤◌, ℕ, length, IfOk};
-ghost use Rattle.headerbook.specs.Book.{standing};
-ghost use Rattle.journal.specs.Journal.{IsAlive};
-ghost use Rattle.test_world.specs.Room.{HasRoom};
-ghost use Rattle.test_world.specs.declared.events.TheConstants.{OWN};
+ghost use Rattle.std.specs.Prelude.{◌≡◌};
+ghost use Rattle.test_world.specs.Way.{KeepsOnTheWay};
 
-use crate::events::{OWN, committee, event_of, message_of, sender_of};
-use committee::Committee;
-use diskmodel::{Disk, MemDisk};
-use headerbook::{Book, EVENT_RECORD, Receipt, Refusal, Step, Validator};
-use journal::{Group, Journal, Record};
-use sigface::HashSign;
+use crate::events::{event_of, message_of, sender_of};
+use book::{EVENT_RECORD, Receipt, Refusal};
+use diskmodel::MemDisk;
+use journal::{Failed, Journal, JournalError, Record};
+use ownbook::OwnBook;
+use recovery::reopen;
+use sigface::{HashSign, Sign};
 use std::alloc::{AllocError, Global};
-use wire::{Author, Key, Output, encode};
-use wire_read::decode;
+use validator::Config;
+use wire::encode;
 
-/// A book of the node.
-#[derive(Drop)]
-pub struct OwnBook {
-    pub book: Book<HashSign>,
-    ghost own: { (standing book).validator.own ≡ OWN },
-}
-
-impl OwnBook {
-    /// A book whose run begins with the events of these records, the configuration before them; and whether each was
-    /// read, passed and was new.
-    pub fn after(alloc: Global, records: &[Record]) -> Result<(OwnBook, bool), AllocError> {
-        let signer = HashSign::new(Key([1; 32]));
-        let mut validator = Validator::new(alloc, OWN, committee(alloc)?, signer);
-        let mut right = true;
-        for record in records.iter().skip(1) {
-            right = right && replay(alloc, &mut validator, record.bytes.as_slice())?;
-        }
-        let book = Book::new(alloc, validator);
-        Ok((OwnBook { book }, right))
-    }
-
-    /// The event of this number comes in; `None` where it doesn't pass the checks.
-    pub fn accept(
-        &mut self,
-        alloc: Global,
-        number: u64,
-    ) -> Result<Option<Result<Receipt, Refusal>>, AllocError>
-        ensures room { (count : ℕ) → HasRoom count (standing self.old.book) → HasRoom count (standing self.new.book) }
-    {
-        let message = message_of(alloc, number)?;
-        match event_of(self.book.committee(), sender_of(number), message) {
-            Some(event) => Ok(Some(self.book.accept(event))),
-            None => Ok(None),
-        }
-    }
-
-    /// The next output goes out.
-    pub fn release(&mut self) -> Option<Output>
-        ensures room { (count : ℕ) → HasRoom count (standing self.old.book) → HasRoom count (standing self.new.book) }
-    {
-        self.book.release()
-    }
-}
-
-// Takes the event of a record; says whether it was read, passed and is new.
-fn replay(
+/// Opens the node on a disk: a book whose run begins with the events there, and the journal.
+pub fn open_book<'a>(
     alloc: Global,
-    validator: &mut Validator<HashSign>,
-    record: &[u8],
-) -> Result<bool, AllocError>
-    requires { validator.old.tables.own ≡ OWN }
-    ensures { validator.new.tables.own ≡ OWN }
+    config: &'a Config<HashSign>,
+    disk: MemDisk,
+) -> Result<(OwnBook<'a, HashSign>, Journal<MemDisk>), Failed<JournalError, MemDisk>> {
+    let (validator, journal) = reopen(alloc, config, disk)?;
+    Ok((OwnBook::new(alloc, validator), journal))
+}
+
+/// The event of this number comes in; `None` where it doesn't pass the checks.
+pub fn accept(
+    own: &mut OwnBook<'_, HashSign>,
+    alloc: Global,
+    number: u64,
+) -> Result<Option<Result<Receipt, Refusal>>, AllocError>
+    ensures { KeepsOnTheWay ⟦<HashSign as Sign>⟧.own_key ⟦<HashSign as Sign>⟧.signature_of own.old own.new }
 {
-    let [EVENT_RECORD, high, low, message @ ..] = record else {
-        return Ok(false);
-    };
-    let sender = Author(u16::from_be_bytes([*high, *low]));
-    let Ok(message) = decode(alloc, message) else {
-        return Ok(false);
-    };
-    match event_of(validator.committee(), sender, message) {
-        Some(event) => Ok(matches!(validator.step(event), Ok(Step::New(_)))),
-        None => Ok(false),
+    let message = message_of(alloc, number)?;
+    match event_of(own.committee(), sender_of(number), message) {
+        Some(event) => Ok(Some(own.accept(event))),
+        None => Ok(None),
     }
 }
 
@@ -111,17 +68,4 @@ pub fn are_of(alloc: Global, records: &[Record], history: &[u64]) -> Result<bool
         same = same && record.bytes.as_slice() == bytes.as_slice();
     }
     Ok(same)
-}
-
-/// Adds the configuration to a journal.
-pub fn put_configuration(alloc: Global, journal: &mut Journal<MemDisk>) -> Result<bool, AllocError>
-    requires { IsAlive ⟦<MemDisk as Disk>⟧.content ⟦<MemDisk as Disk>⟧.outcome journal.old }
-{
-    let Some(group) = Group::new(alloc, records_of(alloc, &[])?)? else {
-        return Ok(false);
-    };
-    match journal.append(group) {
-        Ok(synced) => Ok(synced.records() == 1),
-        Err(_) => Ok(false),
-    }
 }

@@ -1,9 +1,7 @@
 //! How many steps and stops of each kind there were.
 
-use headerbook::Receipt;
-use headerbook::Refusal::{
-    self, Down, Equivocation, MissingBatch, MissingParents, NotOurs, TooOld,
-};
+use book::Receipt;
+use book::Refusal::{self, Down, Equivocation, MissingBatch, MissingParents, NotOurs, TooOld};
 use std::alloc::AllocError;
 
 /// The moment of a stop.

@@ -1,3 +1,0 @@
-pub mod Longest
-pub mod Each
-pub mod Only

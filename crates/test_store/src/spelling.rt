@@ -1,0 +1,73 @@
+//! Groups that are given as bytes.
+
+ghost use Rattle.std.specs.Prelude.{◌≡◌, ◌≤◌, ◌+◌, ◌++◌, length, map, List, ℕ, IfOk, IfSome, OnOk};
+ghost use Rattle.std.specs.Option.{SomeIff};
+ghost use Rattle.journal.specs.Format.{IsGroup, body_len, body_bytes};
+ghost use Rattle.journal.specs.declared.layout.TheConstants.{MAX_GROUP_BYTES};
+
+use journal::{
+    CLOSED, Group, LENGTH_BYTES, MAX_GROUP_BYTES, MAX_GROUP_RECORDS, OPEN, Record, stands,
+};
+use std::alloc::{AllocError, Global};
+
+/// The group that these bytes are, of so many records: what stands behind an open gate there, spelled again, gives the
+/// same bytes. None where they are no such group.
+pub fn group_in(alloc: Global, bytes: &[u8], count: u64) -> Result<Option<Group>, AllocError> {
+    let mut file = vec![in alloc; OPEN]?;
+    file.extend_from_slice(bytes)?;
+    let Ok(records) = stands(alloc, &file) else {
+        return Ok(None);
+    };
+    match spelled(alloc, &records)? {
+        Some(spelled) if spelled.as_slice() == bytes && records.len() as u64 == count => {
+            Ok(Some(Group::of_bytes(spelled, count)))
+        }
+        _ => Ok(None),
+    }
+}
+
+/// The bytes of a group of these records behind its gate: the length of the body, the records, each with its length before
+/// it, and the next gate, which is closed. None outside a group's limits.
+fn spelled(alloc: Global, records: &[Record]) -> Result<Option<Vec<u8>>, AllocError>
+    ensures { IfOk result (λ found. IfSome found (λ bytes. IsGroup bytes.items (length records.now))) }
+{
+    if records.is_empty() || records.len() > MAX_GROUP_RECORDS {
+        return Ok(None);
+    }
+    let Some(len) = body_len_within(records) else {
+        return Ok(None);
+    };
+    let mut bytes = (len as u32).to_be_bytes().to_vec(alloc)?;
+    put_body(&mut bytes, records)?;
+    bytes.push(CLOSED)?;
+    Ok(Some(bytes))
+}
+
+// The length of the records' body, or `None` above a group's limit.
+fn body_len_within(records: &[Record]) -> Option<usize>
+    ensures { IfSome result (λ len. (len ≡ body_len (map (λ record_in. record_in.bytes) records.now)) × (len ≤ MAX_GROUP_BYTES)) }
+{
+    let mut total = 0;
+    for record in records {
+        let room = MAX_GROUP_BYTES - total;
+        let len = record.bytes.as_slice().len();
+        if room < LENGTH_BYTES || len > room - LENGTH_BYTES {
+            return None;
+        }
+        total += LENGTH_BYTES + len;
+    }
+    Some(total)
+}
+
+// Puts the records behind the bytes, each with its length before it.
+fn put_body(bytes: &mut Vec<u8>, records: &[Record]) -> Result<(), AllocError>
+    requires { body_len (map (λ record_in. record_in.bytes) records.now) ≤ MAX_GROUP_BYTES }
+    ensures { OnOk result (bytes.new.items ≡ bytes.old.items ++ body_bytes (map (λ record_in. record_in.bytes) records.now)) }
+{
+    for record in records {
+        let record = record.bytes.as_slice();
+        bytes.extend_from_slice(&(record.len() as u32).to_be_bytes())?;
+        bytes.extend_from_slice(record)?;
+    }
+    Ok(())
+}
