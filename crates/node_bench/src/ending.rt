@@ -1,0 +1,117 @@
+//! What ends a run before its work is done.
+
+use committee::CommitteeError;
+use header::CheckError;
+use journal::{Failed, JournalError};
+use ownbook::FlushError;
+use std::alloc::{AllocError, AllocFailed};
+use std::io;
+use validator::Refusal;
+use wire::WireError;
+
+/// Why a run ends before its work is done.
+#[derive(Clone, Copy)]
+pub enum Ending {
+    /// The words name no work, or a number is out of its range.
+    Usage,
+    /// Memory was refused.
+    Memory,
+    /// A line couldn't be written.
+    Output,
+    /// A piece of work was refused. None is where all is well.
+    Refused,
+}
+
+impl Ending {
+    /// The program's exit status.
+    pub fn status(self) -> u8 {
+        match self {
+            Ending::Output => 1,
+            Ending::Usage => 2,
+            Ending::Memory => 3,
+            Ending::Refused => 4,
+        }
+    }
+}
+
+impl From<AllocError> for Ending {
+    fn from(_: AllocError) -> Ending {
+        Ending::Memory
+    }
+}
+
+impl<T: Drop> From<AllocFailed<T>> for Ending {
+    fn from(_: AllocFailed<T>) -> Ending {
+        Ending::Memory
+    }
+}
+
+impl From<io::Error> for Ending {
+    fn from(error: io::Error) -> Ending {
+        match error.kind() {
+            io::ErrorKind::OutOfMemory => Ending::Memory,
+            // A word that is no text.
+            io::ErrorKind::InvalidData => Ending::Usage,
+            _ => Ending::Output,
+        }
+    }
+}
+
+impl From<CommitteeError> for Ending {
+    fn from(error: CommitteeError) -> Ending {
+        match error {
+            CommitteeError::Memory => Ending::Memory,
+            // The number of members was asked for.
+            CommitteeError::BadSize => Ending::Usage,
+            _ => Ending::Refused,
+        }
+    }
+}
+
+impl From<WireError> for Ending {
+    fn from(error: WireError) -> Ending {
+        match error {
+            WireError::Memory => Ending::Memory,
+            _ => Ending::Refused,
+        }
+    }
+}
+
+impl From<CheckError> for Ending {
+    fn from(_: CheckError) -> Ending {
+        Ending::Refused
+    }
+}
+
+impl From<Refusal> for Ending {
+    fn from(refusal: Refusal) -> Ending {
+        match refusal {
+            Refusal::Memory => Ending::Memory,
+            _ => Ending::Refused,
+        }
+    }
+}
+
+impl From<JournalError> for Ending {
+    fn from(error: JournalError) -> Ending {
+        match error {
+            JournalError::Memory => Ending::Memory,
+            _ => Ending::Refused,
+        }
+    }
+}
+
+impl<D: Drop> From<Failed<JournalError, D>> for Ending {
+    fn from(failed: Failed<JournalError, D>) -> Ending {
+        Ending::from(failed.error)
+    }
+}
+
+impl From<FlushError> for Ending {
+    fn from(error: FlushError) -> Ending {
+        match error {
+            FlushError::Memory => Ending::Memory,
+            _ => Ending::Refused,
+        }
+    }
+}

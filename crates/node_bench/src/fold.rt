@@ -1,0 +1,105 @@
+//! What the results of a run come to.
+
+use header::Checked;
+use sha2::{Digest as _, Sha256};
+use validator::Step;
+use wire::{Digest, HeaderBody, Message, Output};
+
+/// A sum over results that costs little beside the work: FNV-1a over numbers of 64 bits.
+#[derive(Clone, Copy)]
+pub struct Fold {
+    value: u64,
+}
+
+impl Fold {
+    /// Over nothing.
+    pub fn new() -> Fold {
+        Fold {
+            value: 14_695_981_039_346_656_037,
+        }
+    }
+
+    /// Adds a number.
+    pub fn add(&mut self, number: u64) {
+        self.value = (self.value ^ number).wrapping_mul(1_099_511_628_211);
+    }
+
+    /// Adds the length of bytes, and the first eight of them where there are so many.
+    pub fn add_bytes(&mut self, bytes: &[u8]) {
+        self.add(bytes.len() as u64);
+        if let Some(front) = bytes.first_chunk::<8>() {
+            self.add(u64::from_be_bytes(*front));
+        }
+    }
+
+    /// Adds a digest.
+    pub fn add_digest(&mut self, digest: &Digest) {
+        self.add_bytes(&digest.0);
+    }
+
+    fn add_body(&mut self, body: &HeaderBody) {
+        self.add(u64::from(body.author.0));
+        self.add(body.round.number());
+        self.add(body.parents.len() as u64);
+    }
+
+    /// Adds what tells a message from others.
+    pub fn add_message(&mut self, message: &Message) {
+        match message {
+            Message::Batch(batch) => self.add_bytes(batch.body()),
+            Message::BatchAck(ack) => self.add_digest(&ack.batch),
+            Message::Header(header) => {
+                self.add_body(&header.body);
+                self.add_bytes(&header.signature.0);
+            }
+            Message::Vote(vote) => self.add_bytes(&vote.signature.0),
+            Message::Certificate(certificate) => {
+                self.add_body(&certificate.header);
+                self.add(certificate.votes.len() as u64);
+            }
+            Message::Coin(coin) => self.add(coin.value),
+        }
+    }
+
+    /// Adds the digest that a test computed last, if there is one.
+    pub fn add_event(&mut self, event: &Checked) {
+        let digest = match event.message() {
+            Message::Batch(_) => event.batch_digest(),
+            Message::Header(_) => event.header_digest(),
+            _ => event.certificate_digest(),
+        };
+        if let Some(digest) = digest {
+            self.add_digest(digest);
+        }
+    }
+
+    /// Adds what a step puts out.
+    pub fn add_step(&mut self, step: &Step) {
+        let (Step::New(outputs) | Step::Known(outputs)) = step;
+        for output in outputs {
+            self.add_output(output);
+        }
+    }
+
+    /// Adds an output.
+    pub fn add_output(&mut self, output: &Output) {
+        match output {
+            Output::Batch(batch) => self.add_bytes(batch.body()),
+            Output::Ack { ack, .. } => self.add_digest(&ack.batch),
+            Output::Header(header) => self.add_body(&header.body),
+            Output::Vote(vote) => self.add_bytes(&vote.signature.0),
+            Output::Certificate(certificate) => self.add_body(&certificate.header),
+            Output::Order { start, digests } => {
+                self.add(*start);
+                for digest in digests.as_slice() {
+                    self.add_digest(digest);
+                }
+            }
+        }
+    }
+
+    /// The digest of the sum.
+    pub fn digest(self) -> [u8; 32] {
+        Sha256::digest(self.value.to_be_bytes())
+    }
+}

@@ -1,0 +1,107 @@
+//! `narwhal-bench`: does a known amount of one layer's work, to be timed from outside, and prints a digest over its
+//! results.
+#![tactic(auto)]
+
+mod ending;
+mod events;
+mod fold;
+mod messages;
+mod rounds;
+mod settings;
+mod stepping;
+mod storing;
+mod task;
+mod working;
+
+use ending::Ending;
+use std::env;
+use std::process::ExitCode;
+use task::{Kind, Task, sized, task_of};
+
+/// What is told where the words ask for nothing.
+const USAGE: &str = "usage: narwhal-bench [prepare-]WORK COUNT [SIZE]
+WORK is hash, decode-FORM, encode-FORM, check-FORM, recheck-FORM, frames, step-header, step-vote,
+step-certificate, step-batch, order, append, book or reopen; FORM is header, certificate or batch";
+
+/// What is done where no words are given: a little of each kind.
+const LITTLE: [(&str, u64); 22] = [
+    ("hash", 1_000),
+    ("decode-header", 20),
+    ("decode-certificate", 20),
+    ("decode-batch", 3),
+    ("encode-header", 20),
+    ("encode-certificate", 20),
+    ("encode-batch", 3),
+    ("check-header", 20),
+    ("check-certificate", 20),
+    ("check-batch", 3),
+    ("recheck-header", 20),
+    ("recheck-certificate", 20),
+    ("recheck-batch", 3),
+    ("frames", 100),
+    ("step-header", 60),
+    ("step-vote", 40),
+    ("step-certificate", 80),
+    ("step-batch", 3),
+    ("order", 70),
+    ("append", 2),
+    ("book", 1_500),
+    ("reopen", 1_500),
+];
+
+fn main(rt: HostRuntime) -> ExitCode {
+    match run(&rt) {
+        Ok(()) => ExitCode::SUCCESS,
+        Err(ending) => {
+            if matches!(ending, Ending::Usage) {
+                let _ = rt.eprintln(USAGE);
+            }
+            ExitCode::from(ending.status())
+        }
+    }
+}
+
+fn run(rt: &HostRuntime) -> Result<(), Ending> {
+    let words: Vec<String> = env::args(rt)?.collect(rt.alloc())?;
+    match words.as_slice() {
+        [_, word, ..] => {
+            let task = task_of(rt.alloc(), &words[1..]).ok_or(Ending::Usage)?;
+            tell(rt, word.as_str(), task)
+        }
+        _ => run_little(rt),
+    }
+}
+
+fn run_little(rt: &HostRuntime) -> Result<(), Ending> {
+    for (word, count) in LITTLE {
+        let task = sized(rt.alloc(), word, count, None).ok_or(Ending::Usage)?;
+        tell(rt, word, task)?;
+    }
+    Ok(())
+}
+
+// Does a task, and prints what it comes to.
+fn tell(rt: &HostRuntime, word: &str, task: Task) -> Result<(), Ending> {
+    let digest = digest_of(task)?;
+    let count = task.count;
+    let mut line = format!(in rt.alloc(); "{word} {count} ")?;
+    for byte in digest {
+        write!(line, "{byte:02x}")?;
+    }
+    rt.println(line.as_str())?;
+    Ok(())
+}
+
+// The digest over the results of a task.
+fn digest_of(task: Task) -> Result<[u8; 32], Ending> {
+    let fold = match task.kind {
+        Kind::Hash => return Ok(working::hash(task)),
+        Kind::Message(act, form) => working::work_on(task, act, form)?,
+        Kind::Frames => working::cut_frames(task)?,
+        Kind::Steps(step) => stepping::stepped(task, step)?,
+        Kind::Append => storing::append_groups(task)?,
+        Kind::Book => storing::keep_book(task)?,
+        Kind::Reopen => storing::reopen_journal(task)?,
+    };
+    Ok(fold.digest())
+}

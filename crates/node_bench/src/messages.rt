@@ -1,0 +1,113 @@
+//! Messages that are made once, to be read and tested over and over.
+
+use crate::ending::Ending;
+use crate::rounds::{Rounds, place};
+use crate::settings::config_of;
+use crate::task::{Form, Task};
+use sigface::HashSign;
+use std::alloc::{AllocError, Global};
+use validator::Config;
+use wire::{Author, Batch, MAX_TRANSACTIONS, Message, OpenBatch, encode};
+
+/// How many are made.
+pub const RING: u64 = 16;
+
+/// The author of batches.
+pub const PEER: Author = Author(1);
+
+/// Bytes of a transaction, which has 512 with its length.
+const TRANSACTION_BYTES: usize = 508;
+
+/// Bytes of a batch's body before its transactions.
+const HEAD_BYTES: u64 = 8;
+
+/// Bytes of a transaction's length.
+const LENGTH_BYTES: u64 = 4;
+
+/// What stands in a transaction.
+const FILLING: u8 = 0xab;
+
+/// A batch whose body has so many bytes, or up to four less, with a number in its transactions that makes it another one
+/// than those of other numbers.
+pub fn batch(alloc: Global, number: u64, size: u64) -> Result<Batch, Ending> {
+    let mut transaction = [FILLING; TRANSACTION_BYTES];
+    transaction[..8].copy_from_slice(&number.to_be_bytes());
+    let mut open = OpenBatch::new(alloc, PEER, 0)?;
+    let mut left = size.saturating_sub(HEAD_BYTES);
+    for _ in 0..MAX_TRANSACTIONS {
+        if left <= LENGTH_BYTES {
+            break;
+        }
+        let len = (left - LENGTH_BYTES).min(TRANSACTION_BYTES as u64);
+        if !open.has_room(len as usize) {
+            return Err(Ending::Refused);
+        }
+        open.push(&transaction[..len as usize])?;
+        left -= LENGTH_BYTES + len;
+    }
+    Ok(open.close()?)
+}
+
+/// Messages of one form, each another one, with their senders and their bytes, and who tests them.
+#[derive(Drop)]
+pub struct Ring {
+    /// Of the committee.
+    pub config: Config<HashSign>,
+    /// With their senders. Those that have signatures are signed.
+    pub messages: Vec<(Author, Message)>,
+    /// The bytes of each.
+    pub bytes: Vec<Vec<u8>>,
+}
+
+impl Ring {
+    /// The messages of a form.
+    pub fn new(task: Task, form: Form) -> Result<Ring, Ending> {
+        let mut ring = Ring {
+            config: config_of(task)?,
+            messages: Vec::new(task.alloc),
+            bytes: Vec::new(task.alloc),
+        };
+        ring.fill(task, form)?;
+        Ok(ring)
+    }
+
+    fn fill(&mut self, task: Task, form: Form) -> Result<(), Ending> {
+        let mut rounds = Rounds::new(task.alloc, self.config.committee())?;
+        for number in 0..RING {
+            let (sender, message) = message_of(task, form, &rounds, number)?;
+            self.bytes.push(encode(task.alloc, &message)?)?;
+            self.messages.push((sender, message))?;
+            rounds.raise();
+        }
+        Ok(())
+    }
+}
+
+fn message_of(
+    task: Task,
+    form: Form,
+    rounds: &Rounds,
+    number: u64,
+) -> Result<(Author, Message), Ending> {
+    let author = Author(place(number, rounds.members()));
+    match form {
+        Form::Header => Ok((author, Message::Header(rounds.signed_header(author)?))),
+        Form::Certificate => {
+            let certificate = rounds.signed_certificate(author)?;
+            Ok((author, Message::Certificate(certificate)))
+        }
+        Form::Batch => Ok((PEER, Message::Batch(batch(task.alloc, number, task.size)?))),
+    }
+}
+
+/// A message once more.
+pub fn again(message: &Message) -> Result<Message, AllocError> {
+    Ok(match message {
+        Message::Batch(batch) => Message::Batch(batch.share()?),
+        Message::BatchAck(ack) => Message::BatchAck(*ack),
+        Message::Header(header) => Message::Header(header.try_clone()?),
+        Message::Vote(vote) => Message::Vote(*vote),
+        Message::Certificate(certificate) => Message::Certificate(certificate.try_clone()?),
+        Message::Coin(coin) => Message::Coin(*coin),
+    })
+}

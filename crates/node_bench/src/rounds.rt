@@ -1,0 +1,173 @@
+//! Rounds of a committee's headers and certificates, one upon the other.
+
+use crate::ending::Ending;
+use committee::Committee;
+use script::signer;
+use sigface::Sign;
+use std::alloc::{AllocError, Global};
+use std::mem;
+use wire::{
+    Author, BatchReferences, Certificate, Coin, Digest, Header, HeaderBody, MAX_PARENTS, MAX_VOTES,
+    ParentReference, ParentReferences, Round, Signature, VoteEntries, VoteEntry, Wave, WireError,
+    certificate_digest, genesis_digest, header_digest,
+};
+
+/// A signature that is no good: what is tested without signatures has it.
+pub const UNSIGNED: Signature = Signature([0; 64]);
+
+/// The round that is being made, over all that was made of the round before it.
+#[derive(Drop)]
+pub struct Rounds {
+    alloc: Global,
+    members: u16,
+    // Who votes on each header.
+    voters: u16,
+    round: u64,
+    parents: Vec<ParentReference>,
+    made: Vec<ParentReference>,
+}
+
+/// The place of a piece in turns of so many.
+pub fn place(piece: u64, turn: u16) -> u16 {
+    (piece % u64::from(turn.max(1))) as u16
+}
+
+impl Rounds {
+    /// The first round, over the genesis.
+    pub fn new(alloc: Global, committee: &Committee) -> Result<Rounds, AllocError> {
+        let members = committee.size();
+        let mut parents = Vec::new(alloc);
+        for member in 0..members {
+            let author = Author(member);
+            let certificate = genesis_digest(author);
+            parents.push(ParentReference {
+                author,
+                certificate,
+            })?;
+        }
+        Ok(Rounds {
+            alloc,
+            members,
+            voters: committee.quorum().min(u64::from(members)) as u16,
+            round: 1,
+            parents,
+            made: Vec::new(alloc),
+        })
+    }
+
+    /// How many members there are.
+    pub fn members(&self) -> u16 {
+        self.members
+    }
+
+    /// How many vote on each header.
+    pub fn voters(&self) -> u16 {
+        self.voters
+    }
+
+    /// The number of the round that is being made.
+    pub fn number(&self) -> u64 {
+        self.round
+    }
+
+    /// The coin of the wave that ends with the round before, if one does. Its value is its number.
+    pub fn coin(&self) -> Result<Option<Coin>, WireError> {
+        if self.round < 4 || self.round % 2 == 1 {
+            return Ok(None);
+        }
+        let wave = Wave::new(self.round / 2 - 1)?;
+        let value = wave.number();
+        Ok(Some(Coin { wave, value }))
+    }
+
+    /// The round that is being made.
+    pub fn round(&self) -> Result<Round, Ending> {
+        Ok(Round::new(self.round)?)
+    }
+
+    // What an author proposes.
+    fn body(&self, author: Author) -> Result<HeaderBody, Ending> {
+        let mut parents = ParentReferences::new(self.alloc);
+        for parent in &self.parents {
+            if parents.len() == MAX_PARENTS || !parents.may_follow(parent.author) {
+                return Err(Ending::Refused);
+            }
+            parents.push(*parent)?;
+        }
+        Ok(HeaderBody {
+            author,
+            round: self.round()?,
+            batches: BatchReferences::new(self.alloc),
+            parents,
+        })
+    }
+
+    /// The header of an author, unsigned.
+    pub fn header(&self, author: Author) -> Result<Header, Ending> {
+        Ok(Header {
+            body: self.body(author)?,
+            signature: UNSIGNED,
+        })
+    }
+
+    /// The header of an author.
+    pub fn signed_header(&self, author: Author) -> Result<Header, Ending> {
+        let body = self.body(author)?;
+        let signature = signer(author).sign(&header_digest(&body));
+        Ok(Header { body, signature })
+    }
+
+    // The votes of a quorum: on the certificate of this digest, or unsigned.
+    fn votes(&self, certificate: Option<Digest>) -> Result<VoteEntries, Ending> {
+        let mut votes = VoteEntries::new(self.alloc);
+        for member in 0..self.voters {
+            let voter = Author(member);
+            if votes.len() == MAX_VOTES || !votes.may_follow(voter) {
+                return Err(Ending::Refused);
+            }
+            let signature = match &certificate {
+                Some(digest) => signer(voter).sign(digest),
+                None => UNSIGNED,
+            };
+            votes.push(VoteEntry { voter, signature })?;
+        }
+        Ok(votes)
+    }
+
+    /// The certificate of an author, its votes unsigned.
+    pub fn certificate(&self, author: Author) -> Result<Certificate, Ending> {
+        Ok(Certificate {
+            header: self.body(author)?,
+            votes: self.votes(None)?,
+        })
+    }
+
+    /// The certificate of an author.
+    pub fn signed_certificate(&self, author: Author) -> Result<Certificate, Ending> {
+        let header = self.body(author)?;
+        let digest = certificate_digest(&header_digest(&header), header.round, author);
+        let votes = self.votes(Some(digest))?;
+        Ok(Certificate { header, votes })
+    }
+
+    /// Says that an author's certificate was made: the next round is over it.
+    pub fn note(&mut self, author: Author, certificate: Digest) -> Result<(), AllocError> {
+        self.made.push(ParentReference {
+            author,
+            certificate,
+        })?;
+        Ok(())
+    }
+
+    /// Goes on to the next round, over what was noted.
+    pub fn end(&mut self) {
+        mem::swap(&mut self.parents, &mut self.made);
+        self.made.clear();
+        self.raise();
+    }
+
+    /// Goes on to the next round, over the same certificates as this one.
+    pub fn raise(&mut self) {
+        self.round = self.round.saturating_add(1);
+    }
+}

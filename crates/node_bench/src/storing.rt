@@ -1,0 +1,260 @@
+//! Work on journals, in a book and at an opening.
+
+ghost use Rattle.journal.specs.Journal.{IsAlive};
+
+use crate::ending::Ending;
+use crate::events::Events;
+use crate::fold::Fold;
+use crate::settings::config_of;
+use crate::task::Task;
+use committee::Committee;
+use diskmodel::{Disk, MemDisk};
+use header::Checked;
+use journal::{CLOSED, Group, Journal, MAX_GROUP_RECORDS, OPEN};
+use ownbook::OwnBook;
+use recovery::reopen;
+use sigface::{HashSign, Sign};
+use std::alloc::{AllocError, Global};
+use validator::{Config, Validator};
+use wire::{encode, header_digest};
+
+/// Bytes of a record that is added, as many as a certificate's among four.
+const RECORD_BYTES: usize = 354;
+
+/// The kind of a record that has an event.
+const EVENT: u8 = 1;
+
+fn empty_disk(alloc: Global) -> Result<MemDisk, AllocError> {
+    MemDisk::new(alloc, Vec::new(alloc))
+}
+
+/// Groups of records, each added to a journal of its own: at each sync the disk in memory copies all that it has, and a
+/// long journal would show that alone.
+pub fn append_groups(task: Task) -> Result<Fold, Ending> {
+    let mut fold = Fold::new();
+    for piece in 0..task.count {
+        append_group(task, piece, &mut fold)?;
+    }
+    Ok(fold)
+}
+
+fn append_group(task: Task, piece: u64, fold: &mut Fold) -> Result<(), Ending> {
+    let records = records_of(task, piece)?;
+    let (journal, _) = Journal::open(task.alloc, empty_disk(task.alloc)?)?;
+    if !task.is_work {
+        fold.add(records.len() as u64);
+        return Ok(());
+    }
+    append_records(task.alloc, journal, records, fold)
+}
+
+fn append_records(
+    alloc: Global,
+    mut journal: Journal<MemDisk>,
+    records: Vec<Vec<u8>>,
+    fold: &mut Fold,
+) -> Result<(), Ending>
+    requires { IsAlive ⟦<MemDisk as Disk>⟧.content ⟦<MemDisk as Disk>⟧.outcome journal }
+{
+    let Some(group) = Group::new(alloc, records)? else {
+        return Err(Ending::Refused);
+    };
+    let synced = journal.append(group)?;
+    fold.add(synced.records());
+    fold.add_bytes(journal.into_disk().bytes());
+    Ok(())
+}
+
+fn records_of(task: Task, piece: u64) -> Result<Vec<Vec<u8>>, AllocError> {
+    let mut records = Vec::new(task.alloc);
+    for _ in 0..task.size {
+        let mut record = vec![in task.alloc; 0; RECORD_BYTES]?;
+        record[..8].copy_from_slice(&piece.to_be_bytes());
+        records.push(record)?;
+    }
+    Ok(records)
+}
+
+/// Events through a book, whose records are flushed as often as so many were accepted. Without that work, the same events
+/// through a validator.
+pub fn keep_book(task: Task) -> Result<Fold, Ending> {
+    let config = config_of(task)?;
+    let events = Events::all(task.alloc, config.committee())?;
+    if task.is_work {
+        accept_all(task, empty_book(task.alloc, &config)?, events)
+    } else {
+        step_all(task, Validator::new(task.alloc, &config)?, events)
+    }
+}
+
+fn empty_book<'a, S: Sign>(alloc: Global, config: &'a Config<S>) -> Result<OwnBook<'a, S>, Ending> {
+    match reopen(alloc, config, empty_disk(alloc)?) {
+        Ok((validator, _)) => Ok(OwnBook::new(alloc, validator)),
+        Err(failed) => Err(Ending::from(failed)),
+    }
+}
+
+fn step_all(
+    task: Task,
+    mut validator: Validator<'_, HashSign>,
+    mut events: Events,
+) -> Result<Fold, Ending> {
+    let mut fold = Fold::new();
+    for _ in 0..task.count {
+        step_next(&mut validator, &mut events, &mut fold)?;
+    }
+    Ok(fold)
+}
+
+fn step_next(
+    validator: &mut Validator<'_, HashSign>,
+    events: &mut Events,
+    fold: &mut Fold,
+) -> Result<(), Ending> {
+    let event = events.next(validator.committee())?;
+    fold.add_step(&validator.step(event)?);
+    Ok(())
+}
+
+fn accept_all(
+    task: Task,
+    mut book: OwnBook<'_, HashSign>,
+    mut events: Events,
+) -> Result<Fold, Ending> {
+    let mut fold = Fold::new();
+    for piece in 0..task.count {
+        if piece % task.size.max(1) == 0 {
+            flush(task.alloc, &mut book, &mut fold)?;
+        }
+        accept_next(&mut book, &mut events, &mut fold)?;
+    }
+    flush(task.alloc, &mut book, &mut fold)?;
+    Ok(fold)
+}
+
+fn accept_next(
+    book: &mut OwnBook<'_, HashSign>,
+    events: &mut Events,
+    fold: &mut Fold,
+) -> Result<(), Ending> {
+    let event = events.next(book.committee())?;
+    let receipt = book.accept(event)?;
+    fold.add(receipt.ticket);
+    Ok(())
+}
+
+// Flushes all pending records, each group to a journal of its own, and releases what may go out.
+fn flush(alloc: Global, book: &mut OwnBook<'_, HashSign>, fold: &mut Fold) -> Result<(), Ending> {
+    for _ in 0..u64::MAX {
+        flush_group(alloc, book, fold)?;
+        if !book.has_pending() {
+            break;
+        }
+    }
+    Ok(())
+}
+
+fn flush_group(
+    alloc: Global,
+    book: &mut OwnBook<'_, HashSign>,
+    fold: &mut Fold,
+) -> Result<(), Ending> {
+    let (mut journal, _) = Journal::open(alloc, empty_disk(alloc)?)?;
+    fold.add(book.flush(&mut journal)?);
+    release_all(book, fold);
+    Ok(())
+}
+
+fn release_all(book: &mut OwnBook<'_, HashSign>, fold: &mut Fold) {
+    for _ in 0..u64::MAX {
+        let Some(output) = book.release() else {
+            break;
+        };
+        fold.add_output(&output);
+    }
+}
+
+/// Opens a journal of so many certificates and coins.
+pub fn reopen_journal(task: Task) -> Result<Fold, Ending> {
+    let config = config_of(task)?;
+    let disk = MemDisk::new(task.alloc, journal_of(task, &config)?)?;
+    let mut fold = Fold::new();
+    fold.add_bytes(disk.bytes());
+    if task.is_work {
+        let (validator, _) = reopen(task.alloc, &config, disk)?;
+        look_at(&validator, &mut fold)?;
+    }
+    Ok(fold)
+}
+
+fn look_at(validator: &Validator<'_, HashSign>, fold: &mut Fold) -> Result<(), Ending> {
+    fold.add(validator.round());
+    if let Some(header) = validator.propose()? {
+        fold.add_digest(&header_digest(&header.body));
+    }
+    Ok(())
+}
+
+// The bytes of a journal of so many certificates and coins, in groups as large as they may be.
+fn journal_of(task: Task, config: &Config<HashSign>) -> Result<Vec<u8>, Ending> {
+    let mut bytes = first_group(task.alloc, config)?;
+    let mut events = Events::certificates(task.alloc, config.committee())?;
+    put_groups(task, config.committee(), &mut events, &mut bytes)?;
+    bytes.push(CLOSED)?;
+    Ok(bytes)
+}
+
+fn put_groups(
+    task: Task,
+    committee: &Committee,
+    events: &mut Events,
+    bytes: &mut Vec<u8>,
+) -> Result<(), Ending> {
+    let mut body = Vec::new(task.alloc);
+    for piece in 0..task.count {
+        if piece % MAX_GROUP_RECORDS as u64 == 0 {
+            put_group(bytes, &mut body)?;
+        }
+        let event = events.next(committee)?;
+        put_record(task.alloc, &mut body, &event)?;
+    }
+    put_group(bytes, &mut body)
+}
+
+// The group of the configuration, without the gate behind it.
+fn first_group(alloc: Global, config: &Config<HashSign>) -> Result<Vec<u8>, Ending> {
+    let (_, journal) = reopen(alloc, config, empty_disk(alloc)?)?;
+    let mut bytes = journal.into_disk().bytes().to_vec(alloc)?;
+    bytes.pop();
+    Ok(bytes)
+}
+
+// Puts a group of this body behind its open gate, if it has a record.
+fn put_group(bytes: &mut Vec<u8>, body: &mut Vec<u8>) -> Result<(), Ending> {
+    if body.is_empty() {
+        return Ok(());
+    }
+    bytes.push(OPEN)?;
+    put_length(bytes, body.len())?;
+    bytes.extend_from_slice(body)?;
+    body.clear();
+    Ok(())
+}
+
+fn put_length(bytes: &mut Vec<u8>, len: usize) -> Result<(), Ending> {
+    let Ok(len) = u32::try_from(len) else {
+        return Err(Ending::Refused);
+    };
+    bytes.extend_from_slice(&len.to_be_bytes())?;
+    Ok(())
+}
+
+// Puts an event's record behind its length.
+fn put_record(alloc: Global, body: &mut Vec<u8>, event: &Checked) -> Result<(), Ending> {
+    let message = encode(alloc, event.message())?;
+    put_length(body, message.len().saturating_add(3))?;
+    body.push(EVENT)?;
+    body.extend_from_slice(&event.sender().0.to_be_bytes())?;
+    body.extend_from_slice(&message)?;
+    Ok(())
+}
