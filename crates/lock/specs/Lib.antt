@@ -1,0 +1,2 @@
+pub mod Home
+pub mod Doors

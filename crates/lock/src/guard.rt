@@ -1,0 +1,130 @@
+//! The lock.
+
+ghost use Rattle.std.specs.Prelude.{◌≡◌, [], IfOk};
+ghost use Rattle.lock.specs.Home.{Holds, Takes};
+
+use crate::rule::{Enter, Fits, Give, Home, Take, Told};
+use crate::turn::Turn;
+use atomic_table::{Refused, Seat, Table};
+use std::alloc::{AllocError, Global};
+use std::marker::{Brand, Model};
+use std::sync::Wait;
+
+// The lock's one word, and its one slot.
+const WORD: usize = 0;
+
+const SLOT: usize = 0;
+
+const FREE: u64 = 0;
+
+const TAKEN: u64 = 1;
+
+// Somebody has the value, and somebody else may sleep until it is back.
+const WANTED: u64 = 2;
+
+/// A lock round a value. Contracts see which lock it is, and its key.
+#[derive(Drop)]
+pub struct Lock<T, K, F: Fits<T, K>> {
+    table: Table<Option<T>, (), K, Home<F>, Global>,
+}
+
+impl<T, K, F: Fits<T, K>> Model for Lock<T, K, F> {
+    ghost use Rattle.std.specs.Prelude.{◌≡◌};
+    ghost use Rattle.lock.specs.Doors.{Door, coded_door};
+
+    ghost Value = { Door K };
+
+    ghost coded = { coded_door K.code };
+
+    ghost view = { λ l. record { id = l.table.shared.table_id; key = l.table.shared.key } };
+
+    ghost invariant = { λ l. (l.table.shared.table_id.words ≡ 1) × (l.table.shared.table_id.slots ≡ 1) };
+}
+
+impl<T: Drop, K, F: Fits<T, K>> Lock<T, K, F> {
+    /// A lock round a value. `AllocError` where a growth was refused: the value is given up with it.
+    pub fn new(alloc: Global, value: T, about: &K) -> Result<Lock<T, K, F>, AllocError>
+        requires { F.fits about.now value }
+        ensures { IfOk result (λ lock. lock.key ≡ about.now) }
+    {
+        let mut slots = Vec::with_capacity(alloc, 1)?;
+        slots.push_reserved(Some(value));
+        match Table::new(alloc, &[FREE], slots, about) {
+            Ok((table, _)) => Ok(Lock { table }),
+            Err(Refused { slots: _ }) => Err(AllocError),
+        }
+    }
+}
+
+impl<T, K, F: Fits<T, K>> Lock<T, K, F> {
+    /// Waits until nobody else has the value, and takes it.
+    pub fn acquire<R: Wait>(&self, rt: &R) -> (Turn<T>, T)
+        ensures of { result.0 ≡ self.now.id }
+        ensures fits { F.fits self.now.key result.1 }
+    {
+        let (_, mut seat) = self.table.shared.load_new_seat::<Enter>(WORD);
+        if self.take_free::<Brand>(&mut seat) == FREE {
+            return self.open(seat);
+        }
+        for _ in rt.forever() {
+            // The word stays `WANTED` with the value, as others may sleep still.
+            if self.take_wanted::<Brand>(&mut seat) == FREE {
+                return self.open(seat);
+            }
+            self.table.shared.park(rt, WORD, WANTED as u32);
+        }
+        unreachable!()
+    }
+
+    /// Gives the value back.
+    pub fn release(&self, turn: Turn<T>, value: T)
+        requires of { turn ≡ self.now.id }
+        requires fits { F.fits self.now.key value }
+    {
+        let Turn { mut seat } = turn;
+        let shared = &self.table.shared;
+        // The value is home before the word says so.
+        let emptied = shared.exchange(&mut seat, SLOT, Some(value));
+        let None = emptied else { unreachable!() };
+        let found = shared.swap::<Give>(&mut seat, WORD, FREE);
+        if found == WANTED {
+            shared.wake_one(WORD);
+        }
+    }
+
+    // Each answers the word as it was.
+    fn take_free<W: Told<T>>(&self, seat: &mut Seat<Option<T>, ()>) -> u64
+        requires of { seat.old.table_id ≡ self.now.id }
+        requires empty { seat.old.me.1 ≡ [] }
+        requires told { (value : T) → F.fits self.now.key value → W.told value }
+        ensures of { seat.new.table_id ≡ self.now.id }
+        ensures takes { Takes W.told result seat.old.me seat.new.me }
+    {
+        self.table
+            .shared
+            .compare_exchange::<Take<W>>(seat, WORD, FREE, TAKEN)
+    }
+
+    fn take_wanted<W: Told<T>>(&self, seat: &mut Seat<Option<T>, ()>) -> u64
+        requires of { seat.old.table_id ≡ self.now.id }
+        requires empty { seat.old.me.1 ≡ [] }
+        requires told { (value : T) → F.fits self.now.key value → W.told value }
+        ensures of { seat.new.table_id ≡ self.now.id }
+        ensures takes { Takes W.told result seat.old.me seat.new.me }
+    {
+        self.table.shared.swap::<Take<W>>(seat, WORD, WANTED)
+    }
+
+    // Moves the value out of the slot that the seat has taken.
+    fn open(&self, mut seat: Seat<Option<T>, ()>) -> (Turn<T>, T)
+        requires of { seat.table_id ≡ self.now.id }
+        requires held { Holds (F.fits self.now.key) seat.me }
+        ensures of { result.0 ≡ self.now.id }
+        ensures fits { F.fits self.now.key result.1 }
+    {
+        let Some(value) = self.table.shared.exchange(&mut seat, SLOT, None) else {
+            unreachable!()
+        };
+        (Turn { seat }, value)
+    }
+}

@@ -1,0 +1,22 @@
+//! What a thread has while it has the value.
+
+use atomic_table::Seat;
+use std::marker::Model;
+
+/// The duty to give a value back to its lock. It has no bytes, and no `Drop`. Contracts see which lock it is.
+pub struct Turn<T> {
+    pub(crate) seat: Seat<Option<T>, ()>,
+}
+
+impl<T> Model for Turn<T> {
+    ghost use Rattle.std.specs.Prelude.{◌≡◌, [], ◌∷◌, None};
+    ghost use Rattle.atomic_table.specs.Seated.{TableId, table_id_coded};
+
+    ghost Value = { TableId };
+
+    ghost coded = { table_id_coded };
+
+    ghost view = { λ t. t.seat.table_id };
+
+    ghost invariant = { λ t. t.seat.me.1 ≡ (0, None) ∷ [] };
+}

@@ -1,0 +1,4 @@
+pub mod Beginnings
+pub mod Marks
+pub mod Keeping
+pub mod Moves

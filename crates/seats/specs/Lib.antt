@@ -1,0 +1,4 @@
+pub mod Sights
+pub mod Views
+pub mod Rule
+pub mod Plays

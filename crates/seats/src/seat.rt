@@ -1,0 +1,21 @@
+//! The seat.
+
+use crate::view::View;
+use std::marker::Model;
+
+/// What a thread steps with: which words are meant, its number there, and what it knows. It has no bytes.
+#[derive(Drop)]
+pub struct Seat {
+    pub(crate) place: atomic_table::Seat<(), View>,
+}
+
+impl Model for Seat {
+    ghost use Rattle.std.specs.Prelude.{◌≡◌, []};
+    ghost use Rattle.seats.specs.Sights.{Sight};
+
+    ghost Value = { Sight };
+
+    ghost view = { λ s. record { table = s.place.table_id; id = s.place.id; view = s.place.me.0 } };
+
+    ghost invariant = { λ s. s.place.me.1 ≡ [] };
+}

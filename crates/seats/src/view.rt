@@ -1,0 +1,29 @@
+//! What a seat knows.
+
+use header::Checked;
+use std::collections::LinkedList;
+
+/// An event that was accepted, with the number of the seat that brought it. No value of it is made.
+pub struct Marked {
+    pub by: u64,
+    pub event: Checked,
+}
+
+/// What a seat knows: at which history its node began, what it has seen of what was accepted since, what of that it knows as
+/// settled, and its own events. No value of it is made.
+pub struct View {
+    /// False of a seat that another took in.
+    pub live: bool,
+    /// True before the history is named at which the node begins.
+    pub fresh: bool,
+    /// Whether it knows its number.
+    pub numbered: bool,
+    pub number: u64,
+    pub start: LinkedList<Checked>,
+    pub seen: LinkedList<Marked>,
+    pub firm: LinkedList<Marked>,
+    pub mine: LinkedList<Checked>,
+    /// What it was told by another seat, of what was accepted and of what is settled.
+    pub told: LinkedList<Marked>,
+    pub told_firm: LinkedList<Marked>,
+}
