@@ -1,5 +1,6 @@
 pub mod Countdowns
 pub mod Disk
+pub mod Gated
 pub mod Kept
 pub mod Memory
 pub mod Outcomes

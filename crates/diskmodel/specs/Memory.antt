@@ -6,6 +6,7 @@ use Rattle.diskmodel.specs.declared.disk.DiskFault.{DiskFault}
 use Rattle.diskmodel.specs.declared.call.Call.{Call}
 use Rattle.diskmodel.specs.declared.call.CallKind.{CallKind}
 use Rattle.diskmodel.specs.declared.memory.MemDisk.{MemDisk}
+use Rattle.diskmodel.specs.declared.switch.Words.{Words}
 use Rattle.diskmodel.specs.Countdowns.{Counts, counts_of, counts_for, counting}
 use Rattle.diskmodel.specs.Outcomes.{State, state, IsOutcome, IsOutcomeSince}
 use Rattle.diskmodel.specs.Recorded.{IsAsBefore}
@@ -38,14 +39,19 @@ choice_of disk = disk.choice
 abbrev pub told_of : MemDisk → Counts
 told_of disk = counts_of disk.countdowns
 
+-- the words of its switch, if it was made with one
+abbrev pub switch_of : MemDisk → Option Words
+switch_of disk = disk.switch
+
 -- the same disk, with another choice
 abbrev pub choosing : MemDisk → List ℕ → MemDisk
 choosing disk outcome = record disk { choice = Some outcome }
 
--- the same record, choice and bytes
+-- the same record, choice, bytes and switch
 pub record IsUndisturbed (old new : MemDisk) : Type 0 where
   pub history : new.history ≡ old.history
   pub choice : new.choice ≡ old.choice
+  pub switch : new.switch ≡ old.switch
 
 -- its clock goes on
 abbrev pub TimeGoesOn : MemDisk → MemDisk → Type 0
@@ -60,3 +66,4 @@ pub record Heeds {T : Type 0} (call : CallKind) (old new : MemDisk) (result : Re
   pub no_effect : OnErr result (IsAsBefore old.history new.history)
   pub no_fault : OnOk result (new.faults.count ≡ old.faults.count)
   pub choice : choice_of new ≡ choice_of old
+  pub switch : switch_of new ≡ switch_of old

@@ -4,11 +4,15 @@
 mod call;
 mod countdowns;
 mod disk;
+mod gated;
 mod history;
 mod memory;
 mod refusals;
+mod switch;
 mod tally;
 
 pub use call::{Bytes, Call, CallKind};
 pub use disk::{Disk, DiskFault, StopDisk};
+pub use gated::{Gate, GatedDisk};
 pub use memory::MemDisk;
+pub use switch::{MAX_SWITCHED, Switch, Told, TooManyTold};

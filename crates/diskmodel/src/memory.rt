@@ -1,5 +1,5 @@
 //! A disk in memory, which can be told to fail and on which a stop of the machine can be played.
-ghost use Rattle.std.specs.Prelude.{◌≡◌, ◌⊎◌, ℕ, ◌+◌, ◌-◌, ◌<◌, ◌≤◌, ◌↔◌, List, [], None, Some, length, take, drop, IsTrue, IsErr, Ok, IfOk, OnOk, OnErr, is_ok};
+ghost use Rattle.std.specs.Prelude.{◌≡◌, ◌⊎◌, ℕ, ◌+◌, ◌-◌, ◌<◌, ◌≤◌, ◌↔◌, List, [], None, Some, length, take, drop, IsTrue, IsFalse, IsErr, Ok, IfOk, OnOk, OnErr, is_ok};
 ghost use Rattle.std.specs.List.{Contains};
 ghost use Rattle.diskmodel.specs.Disk.{HasCause, NoneNew, GoesOn};
 ghost use Rattle.diskmodel.specs.Outcomes.{is_written};
@@ -9,6 +9,7 @@ use crate::countdowns::Countdowns;
 use crate::disk::{Disk, DiskFault, StopDisk};
 use crate::history::History;
 use crate::refusals::Refusals;
+use crate::switch::Switch;
 use crate::tally::Tally;
 use std::alloc::{AllocError, Global};
 
@@ -18,13 +19,14 @@ pub struct MemDisk {
     history: History,
     countdowns: Countdowns,
     choice: Option<Bytes>,
+    switch: Option<Switch>,
     faults: Tally,
     refusals: Refusals,
 }
 
 impl MemDisk {
     ghost use Rattle.diskmodel.specs.Countdowns.{no_counts, counts_for, telling, counting};
-    ghost use Rattle.diskmodel.specs.Memory.{first_of, calls_of, state_of, content_of, CanStopAt, choice_of, told_of, choosing, IsUndisturbed};
+    ghost use Rattle.diskmodel.specs.Memory.{first_of, calls_of, state_of, content_of, CanStopAt, choice_of, told_of, switch_of, choosing, IsUndisturbed};
 
     /// A disk with these bytes, all of them synced.
     ///
@@ -36,14 +38,37 @@ impl MemDisk {
         ensures content { IfOk result (λ disk. content_of disk ≡ bytes.items) }
         ensures choice { IfOk result (λ disk. choice_of disk ≡ None) }
         ensures told { IfOk result (λ disk. told_of disk ≡ no_counts) }
+        ensures switch { IfOk result (λ disk. switch_of disk ≡ None) }
     {
         Ok(MemDisk {
             history: History::new(alloc, bytes)?,
             countdowns: Countdowns::none(alloc),
             choice: None,
+            switch: None,
             faults: Tally::none(),
             refusals: Refusals::none(),
         })
+    }
+
+    /// The same with a switch, by which its calls can also be told to fail while another has the disk.
+    ///
+    /// # Errors
+    /// Where memory is refused.
+    pub fn with_switch(
+        alloc: Global,
+        bytes: Vec<u8>,
+        switch: &Switch,
+    ) -> Result<MemDisk, AllocError>
+        ensures first { IfOk result (λ disk. first_of disk ≡ bytes.items) }
+        ensures calls { IfOk result (λ disk. calls_of disk ≡ []) }
+        ensures content { IfOk result (λ disk. content_of disk ≡ bytes.items) }
+        ensures choice { IfOk result (λ disk. choice_of disk ≡ None) }
+        ensures told { IfOk result (λ disk. told_of disk ≡ no_counts) }
+        ensures switch { IfOk result (λ disk. switch_of disk ≡ Some switch.now) }
+    {
+        let mut disk = MemDisk::new(alloc, bytes)?;
+        disk.switch = Some(switch.try_clone()?);
+        Ok(disk)
     }
 
     /// What a read gives.
@@ -117,16 +142,29 @@ impl MemDisk {
         DiskFault
     }
 
+    /// Counts a call with the switch, and says whether it is one that fails.
+    fn is_switched(&self, call: CallKind) -> bool
+        ensures { switch_of self.now ≡ None → IsFalse result }
+    {
+        match &self.switch {
+            Some(switch) => switch.count(call),
+            None => false,
+        }
+    }
+
     /// Counts a call, and fails where it has been told to.
     fn fail_if_told(&mut self, call: CallKind) -> Result<(), DiskFault>
         ensures undisturbed { IsUndisturbed self.old self.new }
         ensures cause { HasCause self.old.faults.count self.new.faults.count result }
         ensures no_fault { OnOk result (self.new.faults.count ≡ self.old.faults.count) }
-        ensures told { IsErr result ↔ Contains (counts_for (told_of self.old) call) 1 }
+        ensures told { Contains (counts_for (told_of self.old) call) 1 → IsErr result }
+        ensures succeeds { switch_of self.old ≡ None → OnErr result (Contains (counts_for (told_of self.old) call) 1) }
         ensures counted { told_of self.new ≡ counting (told_of self.old) call }
         ensures refusals { self.new.refusals ≡ self.old.refusals }
     {
-        if self.countdowns.count(call) {
+        let is_told = self.countdowns.count(call);
+        let is_switched = self.is_switched(call);
+        if is_told || is_switched {
             return Err(self.fault());
         }
         Ok(())
@@ -153,7 +191,7 @@ impl Disk for MemDisk {
     ghost use Rattle.diskmodel.specs.Disk.{written, IsTorn, IsCut, ComesBy, LeavesOnly};
     ghost use Rattle.diskmodel.specs.Recorded.{Adds};
     ghost use Rattle.diskmodel.specs.Countdowns.{counts_for};
-    ghost use Rattle.diskmodel.specs.Memory.{content_of, CanStopAt, told_of, TimeGoesOn, IsUndisturbed, Heeds};
+    ghost use Rattle.diskmodel.specs.Memory.{content_of, CanStopAt, told_of, switch_of, TimeGoesOn, IsUndisturbed, Heeds};
     ghost use Rattle.diskmodel.specs.Refusals.{IsRefused, room_for};
 
     ghost content = { λ disk. disk.history.content.items };
@@ -193,10 +231,10 @@ impl Disk for MemDisk {
         ensures time { TimeGoesOn self.old self.new }
         ensures cause { HasCause self.old.faults.count self.new.faults.count result }
 
-        // It fails only where it has been told to, and isn't in the record.
+        // Without a switch it fails only where it has been told to. It isn't in the record.
         ensures heeds { Heeds CallKind.Read self.old self.new result }
         ensures undisturbed { IsUndisturbed self.old self.new }
-        ensures succeeds { OnErr result (Contains (counts_for (told_of self.old) CallKind.Read) 1) }
+        ensures succeeds { switch_of self.old ≡ None → OnErr result (Contains (counts_for (told_of self.old) CallKind.Read) 1) }
     {
         self.fail_if_told(CallKind::Read)?;
         let at = at as usize;
@@ -213,8 +251,8 @@ impl Disk for MemDisk {
         ensures recorded { OnOk result (Adds (Call.Wrote at bytes.now) self.old.history self.new.history) }
         ensures heeds { Heeds CallKind.Write self.old self.new result }
 
-        // It fails only where it has been told to, or a list without room was refused it.
-        ensures succeeds { OnErr result (Contains (counts_for (told_of self.old) CallKind.Write) 1 ⊎ IsRefused (room_for (length bytes.now)) self.old.refusals self.new.refusals) }
+        // Without a switch it fails only where it has been told to, or a list without room was refused it.
+        ensures succeeds { switch_of self.old ≡ None → OnErr result (Contains (counts_for (told_of self.old) CallKind.Write) 1 ⊎ IsRefused (room_for (length bytes.now)) self.old.refusals self.new.refusals) }
     {
         self.fail_if_told(CallKind::Write)?;
         let outcome = self.history.write(at as usize, bytes, &mut self.refusals);
@@ -229,7 +267,7 @@ impl Disk for MemDisk {
         ensures cause { HasCause self.old.faults.count self.new.faults.count result }
         ensures recorded { OnOk result (Adds (Call.Cut len) self.old.history self.new.history) }
         ensures heeds { Heeds CallKind.Cut self.old self.new result }
-        ensures succeeds { OnErr result (Contains (counts_for (told_of self.old) CallKind.Cut) 1 ⊎ IsRefused (room_for 0) self.old.refusals self.new.refusals) }
+        ensures succeeds { switch_of self.old ≡ None → OnErr result (Contains (counts_for (told_of self.old) CallKind.Cut) 1 ⊎ IsRefused (room_for 0) self.old.refusals self.new.refusals) }
     {
         self.fail_if_told(CallKind::Cut)?;
         let outcome = self.history.cut(len as usize, &mut self.refusals);
@@ -244,7 +282,7 @@ impl Disk for MemDisk {
         ensures cause { HasCause self.old.faults.count self.new.faults.count result }
         ensures recorded { OnOk result (Adds Call.Synced self.old.history self.new.history) }
         ensures heeds { Heeds CallKind.Sync self.old self.new result }
-        ensures succeeds { OnErr result (Contains (counts_for (told_of self.old) CallKind.Sync) 1 ⊎ IsRefused (room_for (length (content_of self.old))) self.old.refusals self.new.refusals) }
+        ensures succeeds { switch_of self.old ≡ None → OnErr result (Contains (counts_for (told_of self.old) CallKind.Sync) 1 ⊎ IsRefused (room_for (length (content_of self.old))) self.old.refusals self.new.refusals) }
     {
         self.fail_if_told(CallKind::Sync)?;
         let outcome = self.history.sync(&mut self.refusals);
@@ -253,7 +291,7 @@ impl Disk for MemDisk {
 }
 
 impl StopDisk for MemDisk {
-    ghost use Rattle.diskmodel.specs.Memory.{content_of, CanStopAt, choice_of, told_of, TimeGoesOn};
+    ghost use Rattle.diskmodel.specs.Memory.{content_of, CanStopAt, choice_of, told_of, switch_of, TimeGoesOn};
 
     /// It takes no memory, and no choice is left behind it.
     fn stop(&mut self)
@@ -268,6 +306,7 @@ impl StopDisk for MemDisk {
         ensures otherwise { ((found : List ℕ) → choice_of self.old ≡ Some found → ¬ CanStopAt self.old found) → content_of self.new ≡ content_of self.old }
         ensures spent { choice_of self.new ≡ None }
         ensures told { told_of self.new ≡ told_of self.old }
+        ensures switch { switch_of self.new ≡ switch_of self.old }
     {
         let Some(found) = self.choice.take() else {
             return;

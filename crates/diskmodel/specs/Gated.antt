@@ -1,0 +1,10 @@
+-- The parts of a disk behind a gate.
+use Rattle.diskmodel.specs.declared.gated.GatedDisk.{GatedDisk}
+
+-- the disk
+abbrev pub disk_of : {D G : Type 0} → GatedDisk D G → D
+disk_of gated = gated.disk
+
+-- its gate
+abbrev pub gate_of : {D G : Type 0} → GatedDisk D G → G
+gate_of gated = gated.gate

@@ -1,0 +1,132 @@
+//! A disk whose syncs pass a gate, so that a test can hold a thread right before one.
+ghost use Rattle.std.specs.Prelude.{◌≡◌, ◌+◌, ◌≤◌, length, take, drop, IfOk, OnOk};
+ghost use Rattle.diskmodel.specs.Disk.{written, IsTorn, IsCut, ComesBy, NoneNew, GoesOn, HasCause};
+ghost use Rattle.diskmodel.specs.Gated.{disk_of, gate_of};
+
+use crate::disk::{Disk, DiskFault, StopDisk};
+
+/// What a sync passes first.
+pub trait Gate {
+    /// Returns once the sync may go on.
+    fn pass(&mut self);
+}
+
+/// It lets each sync go on at once.
+impl Gate for () {
+    fn pass(&mut self) {}
+}
+
+/// A disk behind a gate. Its calls are those of the disk, and a sync, no other call, passes the gate before.
+#[derive(Drop)]
+pub struct GatedDisk<D, G> {
+    disk: D,
+    gate: G,
+}
+
+impl<D, G> GatedDisk<D, G> {
+    /// This disk behind this gate.
+    pub fn new(disk: D, gate: G) -> GatedDisk<D, G>
+        ensures disk { disk_of result ≡ disk }
+        ensures gate { gate_of result ≡ gate }
+    {
+        GatedDisk { disk, gate }
+    }
+
+    /// The disk.
+    pub fn disk(&self) -> &D
+        ensures { result.now ≡ disk_of self.now }
+    {
+        &self.disk
+    }
+
+    /// The disk and the gate, apart again.
+    pub fn into_parts(self) -> (D, G)
+        ensures disk { result.0 ≡ disk_of self }
+        ensures gate { result.1 ≡ gate_of self }
+    {
+        (self.disk, self.gate)
+    }
+}
+
+impl<D: Disk, G: Gate> Disk for GatedDisk<D, G> {
+    ghost content = { λ gated. D.content gated.disk };
+
+    ghost outcome = { λ gated. D.outcome gated.disk };
+
+    ghost clock = { λ gated. D.clock gated.disk };
+
+    ghost outcome_since = { λ gated. D.outcome_since gated.disk };
+
+    ghost faults = { λ gated. D.faults gated.disk };
+
+    ghost content_is_outcome = { λ gated. D.content_is_outcome gated.disk };
+
+    ghost counts_now = { λ gated. D.counts_now gated.disk };
+
+    ghost only_now = { λ gated. D.only_now gated.disk };
+
+    fn len(&mut self) -> Result<u64, DiskFault>
+        ensures value { IfOk result (λ len. len ≡ length (D.content self.old.disk)) }
+        ensures content { D.content self.new.disk ≡ D.content self.old.disk }
+        ensures outcomes { NoneNew (D.outcome self.old.disk) (D.outcome self.new.disk) }
+        ensures time { GoesOn (D.clock self.old.disk) (D.clock self.new.disk) (D.outcome_since self.old.disk) (D.outcome_since self.new.disk) (D.outcome self.new.disk) }
+        ensures cause { HasCause (D.faults self.old.disk) (D.faults self.new.disk) result }
+
+        // Only a sync passes the gate.
+        ensures gate { self.new.gate ≡ self.old.gate }
+    {
+        self.disk.len()
+    }
+
+    fn read_at(&mut self, at: u64, buffer: &mut [u8]) -> Result<(), DiskFault>
+        requires { at + length buffer.old ≤ length (D.content self.old.disk) }
+        ensures bytes { OnOk result (buffer.new ≡ take (length buffer.old) (drop at (D.content self.old.disk))) }
+        ensures content { D.content self.new.disk ≡ D.content self.old.disk }
+        ensures outcomes { NoneNew (D.outcome self.old.disk) (D.outcome self.new.disk) }
+        ensures time { GoesOn (D.clock self.old.disk) (D.clock self.new.disk) (D.outcome_since self.old.disk) (D.outcome_since self.new.disk) (D.outcome self.new.disk) }
+        ensures cause { HasCause (D.faults self.old.disk) (D.faults self.new.disk) result }
+        ensures gate { self.new.gate ≡ self.old.gate }
+    {
+        self.disk.read_at(at, buffer)
+    }
+
+    fn write_at(&mut self, at: u64, bytes: &[u8]) -> Result<(), DiskFault>
+        requires { at ≤ length (D.content self.old.disk) }
+        ensures content { OnOk result (D.content self.new.disk ≡ written (D.content self.old.disk) at bytes.now) }
+        ensures outcomes { ComesBy (IsTorn at (length bytes.now)) (D.outcome self.old.disk) (D.outcome self.new.disk) }
+        ensures time { GoesOn (D.clock self.old.disk) (D.clock self.new.disk) (D.outcome_since self.old.disk) (D.outcome_since self.new.disk) (D.outcome self.new.disk) }
+        ensures cause { HasCause (D.faults self.old.disk) (D.faults self.new.disk) result }
+        ensures gate { self.new.gate ≡ self.old.gate }
+    {
+        self.disk.write_at(at, bytes)
+    }
+
+    fn cut(&mut self, len: u64) -> Result<(), DiskFault>
+        requires { len ≤ length (D.content self.old.disk) }
+        ensures content { OnOk result (D.content self.new.disk ≡ take len (D.content self.old.disk)) }
+        ensures outcomes { ComesBy (IsCut len) (D.outcome self.old.disk) (D.outcome self.new.disk) }
+        ensures time { GoesOn (D.clock self.old.disk) (D.clock self.new.disk) (D.outcome_since self.old.disk) (D.outcome_since self.new.disk) (D.outcome self.new.disk) }
+        ensures cause { HasCause (D.faults self.old.disk) (D.faults self.new.disk) result }
+        ensures gate { self.new.gate ≡ self.old.gate }
+    {
+        self.disk.cut(len)
+    }
+
+    fn sync(&mut self) -> Result<(), DiskFault> {
+        self.gate.pass();
+        self.disk.sync()
+    }
+}
+
+impl<D: StopDisk, G: Gate> StopDisk for GatedDisk<D, G> {
+    fn stop(&mut self)
+        ensures content { D.outcome self.old.disk (D.content self.new.disk) }
+        ensures outcomes { NoneNew (D.outcome self.old.disk) (D.outcome self.new.disk) }
+        ensures others { NoneNew (D.outcome self.new.disk) (D.outcome self.old.disk) }
+        ensures time { GoesOn (D.clock self.old.disk) (D.clock self.new.disk) (D.outcome_since self.old.disk) (D.outcome_since self.new.disk) (D.outcome self.new.disk) }
+        ensures faults { D.faults self.new.disk ≡ D.faults self.old.disk }
+        ensures gate { self.new.gate ≡ self.old.gate }
+    {
+        self.disk.stop();
+    }
+}
