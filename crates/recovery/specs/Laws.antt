@@ -13,7 +13,7 @@ use Rattle.validator.specs.Standing.{AreAtSound}
 use Rattle.world.specs.Promise.{IsRecovered}
 use Rattle.world.specs.Runs.{AreKeys}
 use Rattle.world.specs.Steps.{Move, IsRun}
-use Rattle.world.specs.World.{World, StandsFor, MayStop}
+use Rattle.world.specs.World.{World, Holds, StandsFor, MayStop}
 
 -- ---- the laws
 
@@ -45,6 +45,14 @@ WorldsAreTold = (node : Node) (moves : List Move) (world : World) (bytes : List 
 pub record StandsForAt (node : Node) (bytes : List ℕ) (tables : Tables) : Type 0 where
   pub history : History
   pub stands_for : StandsFor node bytes history
+  pub legal : IsLegal node history
+  pub at : AreAtSound node tables (kept node history)
+
+-- bytes are a journal of the node with a legal history, which they are told as, and tables stand at what is kept of it
+pub record HoldsAt (node : Node) (bytes : List ℕ) (tables : Tables) : Type 0 where
+  pub history : History
+  pub told_as : told node bytes ≡ Ok history
+  pub holds : Holds node bytes history
   pub legal : IsLegal node history
   pub at : AreAtSound node tables (kept node history)
 

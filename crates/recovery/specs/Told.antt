@@ -1,5 +1,5 @@
 -- What the bytes of a node's journal are told as: the events that they have, or why they are none of this node's.
-use Rattle.std.specs.Prelude.{◌≡◌, ◌≢◌, ℕ, ◌+◌, ◌*◌, ◌==◌, ◌&&◌, not, nat_lt, Bool, List, [], ◌∷◌, ◌++◌, length, drop, Option, Some, None, is_none, Result, Ok, Err, slice_index, if◌then◌else◌}
+use Rattle.std.specs.Prelude.{◌≡◌, ◌≢◌, All, ℕ, ◌+◌, ◌*◌, ◌==◌, ◌&&◌, not, nat_lt, Bool, List, [], ◌∷◌, ◌++◌, length, drop, Option, Some, None, is_none, Result, Ok, Err, slice_index, if◌then◌else◌}
 use Rattle.std.specs.Int.{w16, from_be_bytes}
 use Rattle.std.specs.List.{list_all}
 use Rattle.std.specs.Option.{option_map_or}
@@ -152,6 +152,10 @@ abbrev pub IsOld : Result Step Refusal → Type 0
 IsOld (Ok (New outputs)) = ⊥
 IsOld (Ok (Known outputs)) = Unit {0}
 IsOld (Err refusal) = refusal ≢ refusals.Memory
+
+-- the records for which bytes stand have bytes, whatever the first one is
+abbrev pub HasTexts : List ℕ → Type 0
+HasTexts file = (records : List Record) → stands file ≡ Ok records → All IsText (drop 1 records)
 
 -- what a stop leaves is told as one of these outcomes is
 abbrev pub IsToldAsOneOf : Node → (List ℕ → Type 0) → List ℕ → Type 0

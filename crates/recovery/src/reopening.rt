@@ -7,8 +7,8 @@ ghost use Rattle.journal.specs.Format.{stands};
 ghost use Rattle.journal.specs.Journal.{disk_of, IsAlive, IsClosedUp};
 ghost use Rattle.records.specs.Records.{configuration_of};
 ghost use Rattle.validator.specs.Setting.{node_of};
-ghost use Rattle.recovery.specs.Laws.{StandsForAt, IsLeft, AreLeftTold, IsNoRefusal};
-ghost use Rattle.recovery.specs.Told.{IsText, is_configuration as told_configuration, is_alone as told_alone, has_ones as told_ones, read_journal, told, Tells, StandsAt, IsToldAsOneOf};
+ghost use Rattle.recovery.specs.Laws.{StandsForAt, HoldsAt, IsLeft, AreLeftTold, IsNoRefusal};
+ghost use Rattle.recovery.specs.Told.{IsText, HasTexts, is_configuration as told_configuration, is_alone as told_alone, has_ones as told_ones, read_journal, told, Tells, StandsAt, IsToldAsOneOf};
 
 use crate::configuration::{
     configuration, configuration_group, has_ones, is_configuration, keys_hold,
@@ -43,6 +43,8 @@ pub fn reopen<'a, S: Sign, D: Disk>(
 
     // It stands at the history for which the bytes stand.
     ensures stands_for { IfOk result (λ opened. StandsForAt (node_of S.own_key S.signature_of config.now) (D.content disk) opened.0.tables) }
+    // The disk has the node's journal of it then.
+    ensures holds { IfOk result (λ opened. HoldsAt (node_of S.own_key S.signature_of config.now) (D.content (disk_of opened.1)) opened.0.tables) }
 
     // Each refusal but those of memory and of the disk is what the bytes are told as.
     ensures err { IfErr result (λ failed. failed.error ≢ JournalError.Device → Tells failed.error (told (node_of S.own_key S.signature_of config.now) (D.content disk))) }
@@ -100,6 +102,7 @@ fn validator_on<'a, S: Sign, D: Disk>(
     ensures unchanged { IfErr result (λ error. error ≢ JournalError.Device → D.content (disk_of journal.new) ≡ D.content (disk_of journal.old)) }
     ensures any_moment { AtEachMoment D.clock D.outcome_since (disk_of journal.old) (disk_of journal.new) (λ left. told (node_of S.own_key S.signature_of config.now) left ≡ told (node_of S.own_key S.signature_of config.now) (D.content (disk_of journal.old))) }
     ensures texts { OnOk result (All IsText (drop 1 records.now)) }
+    ensures texts_left { OnOk result (HasTexts (D.content (disk_of journal.new))) }
 {
     let validator = validator_after(alloc, config, records)?;
     if records.is_empty() {
@@ -201,6 +204,7 @@ fn write_configuration<S: Sign, D: Disk>(
 
     ensures alive { OnOk result (IsAlive D.content D.outcome journal.new) }
     ensures configured { OnOk result (stands (D.content (disk_of journal.new)) ≢ Ok []) }
+    ensures texts { OnOk result (HasTexts (D.content (disk_of journal.new))) }
     ensures faults { D.faults (disk_of journal.old) ≤ D.faults (disk_of journal.new) }
     ensures same { OnOk result (told (node_of S.own_key S.signature_of config.now) (D.content (disk_of journal.new)) ≡ told (node_of S.own_key S.signature_of config.now) (D.content (disk_of journal.old))) }
     ensures errors { IfErr result (λ error. (error ≡ JournalError.Device) ⊎ (error ≡ JournalError.Memory)) }

@@ -7,5 +7,5 @@ mod GoingOn
 mod Law
 mod Moving
 mod Orders
-mod Recovering
+pub mod Recovering
 mod Standing

@@ -1,4 +1,4 @@
-use Rattle.std.proofs.Common.{◌≡◌, List, ℕ, ◌∙◌, subst, drop}
+use Rattle.std.proofs.Common.{◌≡◌, List, ℕ, sym, ◌∙◌, subst, drop}
 use Rattle.std.specs.Prelude.{All}
 use Rattle.std.proofs.lemmas.Result.{err_from_is_err_and}
 use Rattle.journal.specs.Journal.{disk_of, StandsAsOneOf}
@@ -6,7 +6,7 @@ use Rattle.validator.specs.Setting.{node_of}
 use Rattle.recovery.specs.Told.{IsText, told, IsToldAsOneOf}
 use Rattle.recovery.proofs.Moments.{weaker, joins}
 use Rattle.recovery.proofs.Telling.{told_same, tells_same, stands_same, opening_fails, as_one_of}
-use Rattle.recovery.proofs.Opened.{stands_for_at, no_refusal}
+use Rattle.recovery.proofs.Opened.{stands_for_at, holds_at, no_refusal}
 use Rattle.recovery.proofs.reopening.reopen.Goals as goal
 
 pub returns-in_err-journal-clause-err : goal.returns-in_err-journal-clause-err
@@ -41,6 +41,14 @@ returns-in-Ok-clause-stands_for g c =
     stands_for_at node file c.in_ok-journal.records.items tables c.in_ok-journal.ensures.records
     (subst (λ records. All IsText (drop 1 records)) c.deref.ensures.value c.in-Ok.ensures.texts)
     (stands_same node (told node mid) (told node file) tables (told_same node mid file c.in_ok-journal.ensures.same) c.in-Ok.ensures.stands)
+
+pub returns-in-Ok-clause-holds : goal.returns-in-Ok-clause-holds
+returns-in-Ok-clause-holds g c =
+    let node = node_of g.S.Sign.own_key g.S.Sign.signature_of c.args.config.now in
+    let mid = g.D.Disk.content (disk_of c.in_ok-journal.journal) in
+    let later = g.D.Disk.content (disk_of c.validator_on.new.journal) in
+    let tables = c.in-Ok.validator.tables in
+    holds_at node later tables (stands_same node (told node mid) (told node later) tables (sym c.in-Ok.ensures.same) c.in-Ok.ensures.stands) c.in-Ok.ensures.texts_left c.in-Ok.ensures.configured
 
 pub returns-in-Ok-clause-same : goal.returns-in-Ok-clause-same
 returns-in-Ok-clause-same g c =

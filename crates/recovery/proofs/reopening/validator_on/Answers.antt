@@ -5,7 +5,8 @@ use Rattle.std.proofs.lemmas.Result.{err_from_is_err_and}
 use Rattle.journal.specs.Format.{stands}
 use Rattle.journal.specs.Journal.{disk_of}
 use Rattle.validator.specs.Setting.{node_of}
-use Rattle.recovery.specs.Told.{told, read_journal}
+use Rattle.recovery.specs.Told.{told, read_journal, HasTexts}
+use Rattle.recovery.proofs.Opened.{same_texts}
 use Rattle.recovery.proofs.Moments.{started}
 use Rattle.recovery.proofs.Telling.{told_same, told_records, tells_same, stands_same, ones_from}
 use Rattle.recovery.proofs.reopening.validator_on.Goals as goal
@@ -50,4 +51,12 @@ returns-clause-any_moment g c =
           rw w.journal-is
           (started g.D.Disk.clock g.D.Disk.outcome_since old (λ left. told node left ≡ told node file)
           (λ left now. told_same node left file (ap stands (c.requires.alive.firm left (g.met.D.Disk.only_now old left now)))))
+    ]
+
+pub returns-clause-texts_left : goal.returns-clause-texts_left
+returns-clause-texts_left g c =
+    let file = g.D.Disk.content (disk_of c.args.journal.now) in
+    elim c.if-is_empty.branch [
+      | then-is_empty+in_ok-write_configuration w ↦ rw w.journal-is w.in_ok-write_configuration.ensures.texts
+      | else-is_empty w ↦ rw w.journal-is (same_texts file c.args.records.now c.requires.records c.in_ok-validator.ensures.texts)
     ]

@@ -3,12 +3,13 @@ use Rattle.std.proofs.lemmas.Result.{err_from_is_err_and}
 use Rattle.std.proofs.Common.{◌<◌, ◌+◌, length}
 use Rattle.journal.specs.Format.{group_bytes, stands}
 use Rattle.journal.specs.declared.layout.TheConstants.{MAX_JOURNAL_BYTES}
-use Rattle.journal.specs.Journal.{disk_of, IsBeforeOrAfter}
+use Rattle.journal.specs.Journal.{disk_of, IsBeforeOrAfter, stands_with}
 use Rattle.records.specs.Records.{configuration_of}
 use Rattle.validator.specs.Setting.{node_of}
 use Rattle.recovery.specs.Told.{is_configuration, told}
 use Rattle.recovery.proofs.Moments.{started, weaker}
 use Rattle.recovery.proofs.Empty.{never_full}
+use Rattle.recovery.proofs.Opened.{one_text}
 use Rattle.recovery.proofs.Telling.{told_same, told_before_or_after}
 use Rattle.recovery.proofs.reopening.write_configuration.Goals as goal
 
@@ -57,3 +58,10 @@ returns-clause-same g c =
     let later = g.D.Disk.content (disk_of c.append.new.self) in
     told_before_or_after node file later c.requires.ones ((λ i. is_configuration (configuration_of (sym c.committee.ensures i) (sym c.own.ensures i))) ∙ c.in_ok-group.ensures.shape) c.requires.empty
     (subst (λ group. IsBeforeOrAfter file group later) (c.in_ok-group.ensures.group ∙ (λ i. configuration_of (c.committee.ensures i) (c.own.ensures i) ∷ [])) (inr c.in_ok-append.ensures.records))
+
+pub returns-clause-texts : goal.returns-clause-texts
+returns-clause-texts g c =
+    let file = g.D.Disk.content (disk_of c.args.journal.now) in
+    let later = g.D.Disk.content (disk_of c.append.new.self) in
+    one_text file later (configuration_of c.args.config.now.charter c.args.config.now.own) c.requires.empty
+    (subst (λ group. stands later ≡ stands_with file group) (c.in_ok-group.ensures.group ∙ (λ i. configuration_of (c.committee.ensures i) (c.own.ensures i) ∷ [])) c.in_ok-append.ensures.records)
