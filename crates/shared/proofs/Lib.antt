@@ -1,3 +1,4 @@
 pub mod Standing
+pub mod Groups
 pub mod Submitted
 pub mod Readings

@@ -6,4 +6,7 @@ use seats::Seat;
 #[derive(Drop)]
 pub struct FlushSeat {
     pub(crate) seat: Seat,
+    // How many of the events that it has seen are settled, and how many are taken.
+    pub(crate) settled: u64,
+    pub(crate) taken: u64,
 }

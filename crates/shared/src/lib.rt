@@ -3,6 +3,7 @@
 #![tactic(auto)]
 
 mod flush_seat;
+mod flushing;
 mod home;
 mod node;
 mod reading;

@@ -6,7 +6,7 @@ ghost use Rattle.model.specs.Giving.{kept};
 ghost use Rattle.validator.specs.Setting.{node_of};
 ghost use Rattle.validator.specs.Standing.{AreAtSound};
 ghost use Rattle.seats.specs.Views.{newcomer};
-ghost use Rattle.shared.specs.Home.{IsOf};
+ghost use Rattle.shared.specs.Home.{IsOf, IsFlushOf};
 
 use crate::flush_seat::FlushSeat;
 use crate::home::{AtHome, Counts, Key, Locked};
@@ -49,8 +49,8 @@ impl<'a, S: Sign> Node<'a, S> {
         ensures start { IfOk result (λ made. made.0.start ≡ H.history) }
         ensures seat { IfOk result (λ made. IsOf made.0 made.1) }
         ensures nothing { IfOk result (λ made. (made.1.view.seen ≡ []) × (made.1.view.firm ≡ []) × (made.1.view.mine ≡ [])) }
-        ensures flush_seat { IfOk result (λ made. IsOf made.0 made.2.seat) }
-        ensures flush_nothing { IfOk result (λ made. (made.2.seat.view.seen ≡ []) × (made.2.seat.view.firm ≡ [])) }
+        ensures flush_seat { IfOk result (λ made. IsFlushOf made.0 made.2) }
+        ensures flush_nothing { IfOk result (λ made. (made.2.seat.view.seen ≡ []) × (made.2.seat.view.firm ≡ []) × (made.2.taken ≡ 0)) }
     {
         let (words, mut first) = Words::new::<H>(alloc, &validator)?;
         let mut own = words.split(&mut first);
@@ -60,7 +60,12 @@ impl<'a, S: Sign> Node<'a, S> {
         let key = Key { words, seat: first };
         let lock = Lock::new(alloc, Locked { book, seat: own }, &key)?;
         let Key { words, seat: _ } = key;
-        Ok((Node { words, lock }, seat, FlushSeat { seat: flush }))
+        let flush_seat = FlushSeat {
+            seat: flush,
+            settled: 0,
+            taken: 0,
+        };
+        Ok((Node { words, lock }, seat, flush_seat))
     }
 
     /// A seat more, which has seen what this one has and has made no call. It takes no memory.

@@ -69,7 +69,7 @@ impl<'a, S: Sign> Node<'a, S> {
     }
 
     // The seat has then seen exactly what was accepted.
-    fn see_all<R: Wait>(&self, rt: &R, locked: &mut Locked<'a, S>, seat: &mut Seat)
+    pub(crate) fn see_all<R: Wait>(&self, rt: &R, locked: &mut Locked<'a, S>, seat: &mut Seat)
         requires home { IsAtHome (node_of S.own_key S.signature_of) self.now locked.old.seat locked.old.book }
         requires of { IsOf self.now seat.old }
         ensures locked { locked.new ≡ locked.old }
@@ -84,7 +84,7 @@ impl<'a, S: Sign> Node<'a, S> {
     }
 
     // The seat then knows as settled exactly what is.
-    fn know_all<R: Wait>(&self, rt: &R, locked: &mut Locked<'a, S>, seat: &mut Seat)
+    pub(crate) fn know_all<R: Wait>(&self, rt: &R, locked: &mut Locked<'a, S>, seat: &mut Seat)
         requires home { IsAtHome (node_of S.own_key S.signature_of) self.now locked.old.seat locked.old.book }
         requires of { IsOf self.now seat.old }
         ensures locked { locked.new ≡ locked.old }

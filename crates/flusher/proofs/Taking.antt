@@ -1,0 +1,101 @@
+-- What a flush seat has taken, and what that comes to on a disk.
+use Rattle.std.proofs.Common.{◌≡◌, ◌⊎◌, inl, inr, ℕ, ◌+◌, ◌<◌, ◌≤◌, List, ◌++◌, length, map, take, drop, refl, sym, ap, ◌∙◌, subst, arith}
+use Rattle.std.specs.Prelude.{All, Option, Some, None, IfSome, IsNone}
+use Rattle.std.proofs.lemmas.List.{take_at, take-map, drop_at, length-map, length-take-le}
+use Rattle.std.proofs.lemmas.List.Elements.{All-drop, All-take}
+use Rattle.journal.specs.Format.{group_bytes}
+use Rattle.journal.specs.declared.layout.TheConstants.{MAX_JOURNAL_BYTES}
+use Rattle.book.specs.Pending.{IsLongestBeginning}
+use Rattle.laws.specs.Laws.{Begins}
+use Rattle.model.specs.Admitting.{IsTaken, IsLegal}
+use Rattle.model.specs.Histories.{History}
+use Rattle.model.specs.Nodes.{Node}
+use Rattle.records.specs.Records.{record_of}
+use Rattle.seats.specs.Views.{events}
+use Rattle.seats.specs.declared.view.Marked.{Marked}
+use Rattle.seats.proofs.Beginnings.{begins_take, take_begins}
+use Rattle.shared.specs.Home.{Shared, IsFlushOf, TakesNext, taken_by, group_of, seen_by}
+use Rattle.shared.specs.declared.flush_seat.FlushSeat.{FlushSeat}
+use Rattle.flusher.specs.Rounds.{records_behind, IsGroupOf, TakesLongest, HasNoRoom}
+
+module _ {S : Type 0} (node : Shared S) (flush : FlushSeat) (of : IsFlushOf node flush) where
+  -- where no more is taken than is settled
+  pub rests_at : flush.taken ≡ flush.settled → taken_by flush ≡ flush.seat.view.firm
+  rests_at rests =
+      ap (take flush.taken) of.begins.parts ∙ take_at flush.seat.view.firm of.begins.rest flush.taken (sym of.settled ∙ sym rests)
+
+  taken_size : length (taken_by flush) ≡ flush.taken
+  taken_size = length-take-le flush.taken flush.seat.view.seen of.seen
+
+  pub settled_begins : Begins flush.seat.view.firm (taken_by flush)
+  settled_begins = begins_take flush.seat.view.firm flush.seat.view.seen flush.taken of.begins (omega (arith, of.settled, of.rising))
+
+  -- the group is of what is behind
+  pub group_behind : group_of flush ≡ records_behind flush.seat.view.firm (taken_by flush)
+  group_behind = ap (λ (n : ℕ). map record_of (drop n (events (taken_by flush)))) of.settled
+
+  -- the events that are taken passed the checks
+  pub taken_events : (of_node : Node) → IsLegal of_node (seen_by flush.seat) → All (IsTaken of_node) (events (taken_by flush))
+  taken_events of_node legal =
+      let seen : All (IsTaken of_node) (events flush.seat.view.seen) =
+      subst (All (IsTaken of_node)) (drop_at flush.seat.view.start (events flush.seat.view.seen) (length flush.seat.view.start) refl)
+      (All-drop (IsTaken of_node) (length flush.seat.view.start) (seen_by flush.seat) legal.taken) in
+      subst (All (IsTaken of_node)) (take-map (λ (one : Marked). one.event) flush.taken flush.seat.view.seen) (All-take (IsTaken of_node) flush.taken (events flush.seat.view.seen) seen)
+
+  -- what a round takes
+  pub takes_none : (seen : List Marked) → Begins seen flush.seat.view.seen → flush.taken ≡ flush.settled → flush.seat.view.firm ≡ flush.seat.view.seen → TakesLongest seen flush.seat.view.firm (taken_by flush)
+  takes_none seen had rests whole = record {
+    all = flush.seat.view.seen;
+    had_seen = had;
+    begins = settled_begins;
+    within = take_begins flush.taken flush.seat.view.seen;
+    takes = inl (sym whole, rests_at rests);
+  }
+
+  pub takes_some : (seen : List Marked) → Begins seen flush.seat.view.seen → (group : List (List ℕ)) → TakesNext flush group → TakesLongest seen flush.seat.view.firm (taken_by flush)
+  takes_some seen had group next = record {
+    all = flush.seat.view.seen;
+    had_seen = had;
+    begins = settled_begins;
+    within = take_begins flush.taken flush.seat.view.seen;
+    takes = inr (record {
+      group = group;
+      rest = next.rest;
+      longest = subst (λ (n : ℕ). IsLongestBeginning (map record_of (drop n (events flush.seat.view.seen))) group next.rest) of.settled next.longest;
+      is = next.is ∙ group_behind;
+      size = taken_size ∙ next.counts ∙ ap (λ (n : ℕ). n + length group) of.settled;
+    });
+  }
+
+  pub size_some : (group : List (List ℕ)) → TakesNext flush group → length (taken_by flush) ≡ length flush.seat.view.firm + length group
+  size_some group next = taken_size ∙ next.counts ∙ ap (λ (n : ℕ). n + length group) of.settled
+
+  -- a group has a record
+  pub some_taken : (group : List (List ℕ)) → TakesNext flush group → length flush.seat.view.firm < length (taken_by flush)
+  some_taken group next = omega (arith, next.longest.fits.some, taken_size, next.counts, of.settled)
+
+  pub full_for : (content : List ℕ) (group : List (List ℕ)) → TakesNext flush group → MAX_JOURNAL_BYTES < length content + length (group_bytes group) → HasNoRoom content flush.seat.view.firm (taken_by flush)
+  full_for content group next long = record {
+    some = some_taken group next;
+    too_long = subst (λ (g : List (List ℕ)). MAX_JOURNAL_BYTES < length content + length (group_bytes g)) (next.is ∙ group_behind) long;
+  }
+
+  pub long_for : (content : List ℕ) (group : List (List ℕ)) → TakesNext flush group → HasNoRoom content flush.seat.view.firm (taken_by flush) → MAX_JOURNAL_BYTES < length content + length (group_bytes group)
+  long_for content group next full =
+      subst (λ (g : List (List ℕ)). MAX_JOURNAL_BYTES < length content + length (group_bytes g)) (sym (next.is ∙ group_behind)) full.too_long
+
+-- there is always room for nothing
+pub has_room : (content : List ℕ) (settled taken : List Marked) → taken ≡ settled → HasNoRoom content settled taken → ⊥
+has_room content settled taken same full = omega (arith, full.some, ap length same)
+
+-- the same of lists that are the same
+pub takes_as : (seen settled other taken later : List Marked) → settled ≡ other → taken ≡ later → TakesLongest seen settled taken → TakesLongest seen other later
+takes_as seen settled other taken later same also takes =
+    subst (λ (l : List Marked). TakesLongest seen other l) also (subst (λ (l : List Marked). TakesLongest seen l taken) same takes)
+
+-- what is told of an option that is some, and of one that is none
+pub of_some : {X : Type 0} (P : X → Type 0) (o : Option X) (x : X) → o ≡ Some x → IfSome o P → P x
+of_some {X = X} P o x is has = subst (λ (p : Option X). IfSome p P) is has
+
+pub is_none : {X : Type 0} (o : Option X) → o ≡ None → IsNone o
+is_none {X = X} o is = subst (λ (p : Option X). IsNone p) (sym is) refl

@@ -1,0 +1,58 @@
+use Rattle.std.proofs.Common.{rules, ◌≡◌, inr, ℕ, ◌+◌, List, length, sym, ap, ◌∙◌}
+use Rattle.seats.proofs.Beginnings.{begins_trans}
+use Rattle.shared.specs.Home.{taken_by}
+use Rattle.flusher.proofs.Taking.{rests_at, takes_none, takes_some, size_some, takes_as, of_some, is_none}
+use Rattle.flusher.proofs.flusher.Flusher.round.Goals as goal
+use Rattle.flusher.proofs.flusher.Flusher.round.Goals.{in-Some+in_ok-count-in-Some, in-None}
+
+pub returns-in_err-count-in-Some-clause-takes : goal.returns-in_err-count-in-Some-clause-takes
+returns-in_err-count-in-Some-clause-takes g c =
+    let flush = c.take.new.flush in
+    let of = c.in-Ok.ensures.flush in
+    inr (inr (takes_as _ _ _ _ _ c.in-Ok.ensures.flush_firm.0 (sym c.in_err-count-in-Some.ensures.taken)
+    (takes_some c.args.node.now flush of c.args.seat.now.view.seen (begins_trans _ _ _ c.in-Ok.ensures.more c.in-Ok.ensures.seen) c.in-Some.group
+    (of_some _ _ _ c.in-Some.is c.in-Ok.ensures.group))))
+
+pub returns-clause-takes : goal.returns-clause-takes
+returns-clause-takes g c =
+    let flush = c.take.new.flush in
+    let of = c.in-Ok.ensures.flush in
+    let had = begins_trans _ _ _ c.in-Ok.ensures.more c.in-Ok.ensures.seen in
+    inr (inr (elim c.match-found.branch [
+      | in-Some+in_ok-count-in-Some w ↦
+          takes_as _ _ _ _ _ c.in-Ok.ensures.flush_firm.0
+          (sym w.in_ok-count-in-Some.ensures.taken ∙ ap (λ f. taken_by f.seat) (sym w.self-is) ∙ ap taken_by (sym c.tell_settled.ensures.flush))
+          (takes_some c.args.node.now flush of c.args.seat.now.view.seen had w.in-Some.group (of_some _ _ _ w.in-Some.is c.in-Ok.ensures.group))
+      | in-None w ↦
+          let none = c.in-Ok.ensures.none (is_none _ w.in-None.is) in
+          let rests = none.0 ∙ c.requires.flusher.rests (search rules) ∙ sym c.in-Ok.ensures.flush_firm.1 in
+          takes_as _ _ _ _ _ c.in-Ok.ensures.flush_firm.0 (ap (λ f. taken_by f.seat) (sym w.self-is) ∙ ap taken_by (sym c.tell_settled.ensures.flush))
+          (takes_none c.args.node.now flush of c.args.seat.now.view.seen had rests none.1)
+    ]))
+
+pub returns-clause-settles : goal.returns-clause-settles
+returns-clause-settles g c =
+    let flush = c.take.new.flush in
+    let of = c.in-Ok.ensures.flush in
+    let told = c.tell_settled.ensures in
+    elim c.match-found.branch [
+      | in-Some+in_ok-count-in-Some w ↦
+          let self_is = ap (λ f. f.seat) w.self-is in
+          let taken = ap taken_by told.flush ∙ ap taken_by self_is ∙ w.in_ok-count-in-Some.ensures.taken in
+          let firm = ap (λ (f : _). f.seat.view.firm) self_is ∙ w.in_ok-count-in-Some.ensures.ok.1 in (
+            ap length taken ∙ size_some c.args.node.now flush of w.in-Some.group (of_some _ _ _ w.in-Some.is c.in-Ok.ensures.group)
+                ∙ (λ i. length (c.in-Ok.ensures.flush_firm.0 i) + (sym w.in_ok-count-in-Some.ensures.ok.0 ∙ sym w.count-is) i),
+            ap (λ (f : _). f.seat.view.firm) told.flush ∙ firm ∙ sym taken,
+            told.firm ∙ firm ∙ sym taken,
+          )
+      | in-None w ↦
+          let self_is = ap (λ f. f.seat) w.self-is in
+          let none = c.in-Ok.ensures.none (is_none _ w.in-None.is) in
+          let rests = none.0 ∙ c.requires.flusher.rests (search rules) ∙ sym c.in-Ok.ensures.flush_firm.1 in
+          let taken = ap taken_by told.flush ∙ ap taken_by self_is ∙ rests_at c.args.node.now flush of rests in
+          let firm = ap (λ (f : _). f.seat.view.firm) self_is in (
+            ap length (taken ∙ c.in-Ok.ensures.flush_firm.0) ∙ (search rules) ∙ ap (λ n. length c.args.self.now.seat.seat.view.firm + n) (sym w.count-is),
+            ap (λ (f : _). f.seat.view.firm) told.flush ∙ firm ∙ sym taken,
+            told.firm ∙ firm ∙ sym taken,
+          )
+    ]

@@ -1,0 +1,84 @@
+-- A flusher, and what its rounds do.
+use Rattle.std.specs.Prelude.{◌≡◌, ◌⊎◌, ℕ, ◌+◌, ◌<◌, false, Bool, List, length, map, drop, ◌++◌}
+use Rattle.diskmodel.specs.Disk.{AtEachMoment}
+use Rattle.journal.specs.Format.{group_bytes}
+use Rattle.journal.specs.Journal.{disk_of, IsAlive}
+use Rattle.journal.specs.declared.journal.Journal.{Journal}
+use Rattle.journal.specs.declared.layout.TheConstants.{MAX_JOURNAL_BYTES}
+use Rattle.laws.specs.Laws.{Begins}
+use Rattle.model.specs.Histories.{History}
+use Rattle.model.specs.Nodes.{Node}
+use Rattle.records.specs.Records.{record_of}
+use Rattle.world.specs.World.{Holds}
+use Rattle.book.specs.Pending.{IsLongestBeginning}
+use Rattle.validator.specs.Setting.{Setting}
+use Rattle.seats.specs.Views.{events}
+use Rattle.seats.specs.declared.view.Marked.{Marked}
+use Rattle.shared.specs.Home.{Shared, IsFlushOf, taken_by}
+use Rattle.shared.specs.declared.flush_seat.FlushSeat.{FlushSeat}
+use Rattle.flusher.specs.declared.flusher.Flusher.{Flusher}
+
+-- ---- what a flusher has
+
+abbrev pub journal_of : {D : Type 0} → Flusher D → Journal D
+journal_of flusher = flusher.journal
+
+abbrev pub seat_of : {D : Type 0} → Flusher D → FlushSeat
+seat_of flusher = flusher.seat
+
+-- whether a round of it took the node down
+abbrev pub is_down : {D : Type 0} → Flusher D → Bool
+is_down flusher = flusher.down
+
+-- what is settled, and what is taken
+abbrev pub settled_in : {D : Type 0} → Flusher D → List Marked
+settled_in flusher = (seat_of flusher).seat.view.firm
+
+abbrev pub taken_in : {D : Type 0} → Flusher D → List Marked
+taken_in flusher = taken_by (seat_of flusher)
+
+-- a history from where a node began
+abbrev pub from_start : {S : Type 0} → Shared S → List Marked → History
+from_start node marked = node.start ++ events marked
+
+-- A flusher is a node's: its seat is, and unless it took the node down it has taken no more than is settled, and its journal can be
+-- added to and has exactly that.
+pub record IsFlusherOf {S D : Type 0} (node_of : Setting S → Node) (content : D → List ℕ) (outcome : D → List ℕ → Type 0) (node : Shared S) (flusher : Flusher D) : Type 0 where
+  pub seat : IsFlushOf node (seat_of flusher)
+  pub rests : is_down flusher ≡ false → (seat_of flusher).taken ≡ (seat_of flusher).settled
+  pub alive : is_down flusher ≡ false → IsAlive content outcome (journal_of flusher)
+  pub holds : is_down flusher ≡ false → Holds (node_of node.setting) (content (disk_of (journal_of flusher))) (from_start node (settled_in flusher))
+
+-- ---- what a round takes
+
+-- the records of what is behind so much of a list
+abbrev pub records_behind : List Marked → List Marked → List (List ℕ)
+records_behind settled all = map record_of (drop (length settled) (events all))
+
+-- the rest of what was accepted has a longest beginning that fits a group, and that is taken
+pub record IsGroupOf (settled all taken : List Marked) : Type 0 where
+  pub group : List (List ℕ)
+  pub rest : List (List ℕ)
+  pub longest : IsLongestBeginning (records_behind settled all) group rest
+  pub is : group ≡ records_behind settled taken
+  pub size : length taken ≡ length settled + length group
+
+-- Of what was accepted, with all of this that a seat had seen, a round takes what is settled and the longest beginning of the rest that
+-- fits a group, or just what is settled, where that is all.
+pub record TakesLongest (seen settled taken : List Marked) : Type 0 where
+  pub all : List Marked
+  pub had_seen : Begins seen all
+  pub begins : Begins settled taken
+  pub within : Begins taken all
+  pub takes : ((all ≡ settled) × (taken ≡ settled)) ⊎ IsGroupOf settled all taken
+
+-- ---- what it leaves
+
+-- the bytes of a disk are the node's journal with what was settled before the round, or with what the round took
+abbrev pub HoldsEither : {S : Type 0} → (Setting S → Node) → Shared S → List Marked → List Marked → List ℕ → Type 0
+HoldsEither node_of node settled taken left = Holds (node_of node.setting) left (from_start node settled) ⊎ Holds (node_of node.setting) left (from_start node taken)
+
+-- the group has no place behind a journal of these bytes
+pub record HasNoRoom (content : List ℕ) (settled taken : List Marked) : Type 0 where
+  pub some : length settled < length taken
+  pub too_long : MAX_JOURNAL_BYTES < length content + length (group_bytes (records_behind settled taken))

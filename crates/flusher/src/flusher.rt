@@ -1,0 +1,152 @@
+//! The flusher.
+
+ghost use Rattle.std.specs.Prelude.{◌≡◌, ◌⊎◌, ◌↔◌, ◌+◌, ◌<◌, ◌≤◌, true, false, length, IfOk, IfErr, IsErrOf, IsTrue, OnErr};
+ghost use Rattle.diskmodel.specs.Disk.{AtEachMoment};
+ghost use Rattle.journal.specs.Format.{group_bytes};
+ghost use Rattle.journal.specs.Journal.{disk_of, IsAlive};
+ghost use Rattle.journal.specs.declared.layout.TheConstants.{MAX_JOURNAL_BYTES};
+ghost use Rattle.laws.specs.Laws.{Begins};
+ghost use Rattle.model.specs.Admitting.{IsLegal};
+ghost use Rattle.world.specs.World.{Holds};
+ghost use Rattle.validator.specs.Setting.{node_of};
+ghost use Rattle.seats.specs.Views.{IsSame};
+ghost use Rattle.shared.specs.Home.{IsOf, IsFlushOf, group_of, seen_by};
+ghost use Rattle.flusher.specs.Rounds.{journal_of, seat_of, is_down, settled_in, taken_in, from_start, IsFlusherOf, TakesLongest, HoldsEither, HasNoRoom};
+
+use crate::error::FlushError;
+use diskmodel::Disk;
+use journal::{Group, Journal, JournalError};
+use shared::{FlushSeat, Node, Seat};
+use sigface::Sign;
+use std::sync::Wait;
+
+/// The journal of a node's disk, and the seat with which groups are taken for it and settled.
+#[derive(Drop)]
+pub struct Flusher<D: Disk> {
+    journal: Journal<D>,
+    seat: FlushSeat,
+    // Whether a round took the node down.
+    down: bool,
+}
+
+impl<D: Disk> Flusher<D> {
+    /// A flusher over a live journal, of the records at which the node began, and the node's flush seat.
+    pub fn new(journal: Journal<D>, seat: FlushSeat) -> Flusher<D>
+        ensures journal { journal_of result ≡ journal }
+        ensures seat { seat_of result ≡ seat }
+        ensures up { is_down result ≡ false }
+    {
+        Flusher {
+            journal,
+            seat,
+            down: false,
+        }
+    }
+
+    /// Gives the journal back.
+    pub fn into_journal(self) -> Journal<D>
+        ensures { result ≡ journal_of self }
+    {
+        let Flusher {
+            journal,
+            seat: _,
+            down: _,
+        } = self;
+        journal
+    }
+
+    /// Takes a group of what the node accepted, adds it to the journal and settles it. The lock is held for the take and for the
+    /// settle, not while the disk is written. What the seat had seen is there to be taken; behind the round the seat knows what is
+    /// settled. The answer is how many records the group has; 0 where all was settled.
+    ///
+    /// # Errors
+    /// Each of them, as told there.
+    pub fn round<'a, S: Sign, R: Wait>(
+        &mut self,
+        rt: &R,
+        node: &Node<'a, S>,
+        seat: &mut Seat,
+    ) -> Result<u64, FlushError>
+        requires flusher { IsFlusherOf (node_of S.own_key S.signature_of) D.content D.outcome node.now self.old }
+        requires of { IsOf node.now seat.old }
+        ensures flusher { IsFlusherOf (node_of S.own_key S.signature_of) D.content D.outcome node.now self.new }
+        ensures of { IsOf node.now seat.new }
+        ensures same { IsSame seat.old seat.new }
+        ensures more { Begins seat.old.view.seen seat.new.view.seen }
+        ensures more_firm { Begins seat.old.view.firm seat.new.view.firm }
+
+        // It answers Down exactly where an earlier round took the node down, and changes nothing then.
+        ensures down { IsErrOf result FlushError.Down ↔ IsTrue (is_down self.old) }
+        ensures no_change { IsErrOf result FlushError.Down → (self.new ≡ self.old) × (seat.new ≡ seat.old) }
+        ensures goes_down { IsTrue (is_down self.new) → (IsErrOf result FlushError.Device) ⊎ (IsErrOf result FlushError.Full) ⊎ (IsErrOf result FlushError.Down) }
+
+        // What it takes; for want of memory that is nothing.
+        ensures takes { (IsErrOf result FlushError.Down) ⊎ (IsErrOf result FlushError.Memory) ⊎ TakesLongest seat.old.view.seen (settled_in self.old) (taken_in self.new) }
+        ensures memory { IsErrOf result FlushError.Memory → (journal_of self.new ≡ journal_of self.old) × (taken_in self.new ≡ settled_in self.old) }
+
+        // At each moment a stop leaves what was settled, or that with the group; and once it is settled that is so for good.
+        ensures any_moment { IsErrOf result FlushError.Down ⊎ AtEachMoment D.clock D.outcome_since (disk_of (journal_of self.old)) (disk_of (journal_of self.new)) (HoldsEither (node_of S.own_key S.signature_of) node.now (settled_in self.old) (taken_in self.new)) }
+        ensures settles { IfOk result (λ count. (length (taken_in self.new) ≡ length (settled_in self.old) + count) × (settled_in self.new ≡ taken_in self.new) × (seat.new.view.firm ≡ taken_in self.new)) }
+        ensures not_settled { OnErr result (settled_in self.new ≡ settled_in self.old) }
+
+        ensures full { is_down self.old ≡ false → IsErrOf result FlushError.Full ↔ HasNoRoom (D.content (disk_of (journal_of self.old))) (settled_in self.old) (taken_in self.new) }
+        ensures full_same { IsErrOf result FlushError.Full → journal_of self.new ≡ journal_of self.old }
+        ensures device { IsErrOf result FlushError.Device → D.faults (disk_of (journal_of self.old)) < D.faults (disk_of (journal_of self.new)) }
+        ensures faults { D.faults (disk_of (journal_of self.old)) ≤ D.faults (disk_of (journal_of self.new)) }
+    {
+        if self.down {
+            return Err(FlushError::Down);
+        }
+        let found = match node.take(rt, &mut self.seat, seat) {
+            Ok(found) => found,
+            Err(_) => return Err(FlushError::Memory),
+        };
+        let count = match found {
+            Some(group) => self.add(rt, node, group)?,
+            None => 0,
+        };
+        node.tell_settled(rt, &mut self.seat, seat);
+        Ok(count)
+    }
+
+    // Adds the group that was taken to the journal, and settles it.
+    fn add<'a, S: Sign, R: Wait>(
+        &mut self,
+        rt: &R,
+        node: &Node<'a, S>,
+        group: Group,
+    ) -> Result<u64, FlushError>
+        requires seat { IsFlushOf node.now (seat_of self.old) }
+        requires up { is_down self.old ≡ false }
+        requires alive { IsAlive D.content D.outcome (journal_of self.old) }
+        requires holds { Holds (node_of S.own_key S.signature_of node.now.setting) (D.content (disk_of (journal_of self.old))) (from_start node.now (settled_in self.old)) }
+        requires legal { IsLegal (node_of S.own_key S.signature_of node.now.setting) (seen_by (seat_of self.old).seat) }
+        requires group { group ≡ group_of (seat_of self.old) }
+        ensures flusher { IsFlusherOf (node_of S.own_key S.signature_of) D.content D.outcome node.now self.new }
+        ensures taken { taken_in self.new ≡ taken_in self.old }
+        ensures any_moment { AtEachMoment D.clock D.outcome_since (disk_of (journal_of self.old)) (disk_of (journal_of self.new)) (HoldsEither (node_of S.own_key S.signature_of) node.now (settled_in self.old) (taken_in self.old)) }
+        ensures ok { IfOk result (λ count. (count ≡ length group) × (settled_in self.new ≡ taken_in self.old) × (is_down self.new ≡ false)) }
+        ensures err { OnErr result ((settled_in self.new ≡ settled_in self.old) × (is_down self.new ≡ true)) }
+        ensures errors { IfErr result (λ error. (error ≡ FlushError.Device) ⊎ (error ≡ FlushError.Full)) }
+        ensures full { IsErrOf result FlushError.Full ↔ (MAX_JOURNAL_BYTES < length (D.content (disk_of (journal_of self.old))) + length (group_bytes group)) }
+        ensures full_same { IsErrOf result FlushError.Full → journal_of self.new ≡ journal_of self.old }
+        ensures device { IsErrOf result FlushError.Device → D.faults (disk_of (journal_of self.old)) < D.faults (disk_of (journal_of self.new)) }
+        ensures faults { D.faults (disk_of (journal_of self.old)) ≤ D.faults (disk_of (journal_of self.new)) }
+    {
+        let count = group.records_count();
+        match self.journal.append(group) {
+            Ok(synced) => {
+                node.settle(rt, &mut self.seat, synced);
+                Ok(count)
+            }
+            Err(error) => {
+                node.fail(rt);
+                self.down = true;
+                match error {
+                    JournalError::Full => Err(FlushError::Full),
+                    _ => Err(FlushError::Device),
+                }
+            }
+        }
+    }
+}

@@ -1,0 +1,8 @@
+//! Who brings what a node accepted to its disk, beside the threads that use it.
+#![tactic(auto)]
+
+mod error;
+mod flusher;
+
+pub use error::FlushError;
+pub use flusher::Flusher;
