@@ -2,24 +2,57 @@
 
 use cases::write_hex;
 use committee::{Committee, CommitteeError};
+use model::Node;
 use sigface::HashSign;
 use std::alloc::{AllocError, Global};
 use validator::Config;
 use wire::{Author, Key};
 
+/// How a node is set up, twice.
+#[derive(Drop)]
+pub struct Setting {
+    /// What it is driven with.
+    pub config: Config<HashSign>,
+    /// The same for the plain program.
+    pub node: Node<HashSign>,
+}
+
 /// The member of this number among as many as there are stakes, if there is such a one.
-pub fn config(
+pub fn setting_of(
     alloc: Global,
     own: u8,
     depth: u64,
     stakes: &[u64],
-) -> Result<Option<Config<HashSign>>, AllocError> {
+) -> Result<Option<Setting>, AllocError> {
+    let Some(committee) = committee_of(alloc, depth, stakes)? else {
+        return Ok(None);
+    };
+    let Some(config) = Config::new(committee, Author(u16::from(own)), signer(own)) else {
+        return Ok(None);
+    };
+    let Some(committee) = committee_of(alloc, depth, stakes)? else {
+        return Ok(None);
+    };
+    let node = Node {
+        own: Author(u16::from(own)),
+        committee,
+        signer: signer(own),
+    };
+    Ok(Some(Setting { config, node }))
+}
+
+fn signer(member: u8) -> HashSign {
+    HashSign::new(Key([member.wrapping_add(1); 32]))
+}
+
+fn committee_of(
+    alloc: Global,
+    depth: u64,
+    stakes: &[u64],
+) -> Result<Option<Committee>, AllocError> {
     let file = file_of(alloc, depth, stakes)?;
     match Committee::read(alloc, file.as_str()) {
-        Ok(committee) => {
-            let signer = HashSign::new(Key([own.wrapping_add(1); 32]));
-            Ok(Config::new(committee, Author(u16::from(own)), signer))
-        }
+        Ok(committee) => Ok(Some(committee)),
         Err(CommitteeError::Memory) => Err(AllocError),
         Err(_) => Ok(None),
     }

@@ -8,16 +8,15 @@ mod files;
 mod openings;
 mod scripts;
 mod takers;
+mod texts;
 mod words;
 
 use cases::{Ending, Subject, play};
-use committees::config;
+use committees::{Setting, setting_of};
 use scripts::{Line, Script};
-use sigface::HashSign;
 use std::alloc::Global;
 use std::io::{self, BufReader};
 use std::process::ExitCode;
-use validator::Config;
 use wire::Author;
 use words::{Told, Word, bad, lines_of, numbers, words_of};
 
@@ -25,14 +24,14 @@ use words::{Told, Word, bad, lines_of, numbers, words_of};
 #[derive(Drop)]
 struct Node {
     alloc: Global,
-    config: Option<Config<HashSign>>,
+    setting: Option<Setting>,
     file: Vec<u8>,
     lines: Vec<Line>,
 }
 
 impl Subject for Node {
     fn begin(&mut self, _title: &str) -> Told {
-        self.config = config(self.alloc, 0, 50, &[1; 4])?;
+        self.setting = setting_of(self.alloc, 0, 50, &[1; 4])?;
         self.file.clear();
         self.lines.clear();
         Ok(())
@@ -67,7 +66,7 @@ impl Subject for Node {
                 self.lines.push(Line::Stop)?;
                 Ok(())
             }
-            ("drive", words) => self.drive(words, answer),
+            ("drive" | "plain", words) => self.script(name, words, answer),
             (name, words) => self.open(name, words, answer),
         }
     }
@@ -76,32 +75,33 @@ impl Subject for Node {
 impl Node {
     fn set_up(&mut self, own: u8, depth: u64, stakes: &[Word]) -> Told {
         let stakes = numbers(self.alloc, stakes)?;
-        self.config = config(self.alloc, own, depth, &stakes)?;
+        self.setting = setting_of(self.alloc, own, depth, &stakes)?;
         Ok(())
     }
 
-    fn drive(&self, words: &[Word], answer: &mut String) -> Told {
-        let Some(config) = &self.config else {
+    fn script(&self, name: &str, words: &[Word], answer: &mut String) -> Told {
+        let Some(setting) = &self.setting else {
             bad(answer);
             return Ok(());
         };
         let behind = lines_of(self.alloc, words)?;
         let script = Script {
             alloc: self.alloc,
-            config,
+            config: &setting.config,
             file: &self.file,
             lines: &self.lines,
             behind: &behind,
         };
-        match words {
-            [Word::Call(kind)] => script.tell_failing(*kind, answer),
-            [Word::Bytes(text)] => script.tell_rooms(text, answer),
+        match (name, words) {
+            ("plain", _) => texts::tell(&script, &setting.node, answer),
+            (_, [Word::Call(kind)]) => script.tell_failing(*kind, answer),
+            (_, [Word::Bytes(text)]) => script.tell_rooms(text, answer),
             _ => script.tell(answer),
         }
     }
 
     fn open(&self, name: &str, words: &[Word], answer: &mut String) -> Told {
-        let Some(config) = &self.config else {
+        let Some(Setting { config, .. }) = &self.setting else {
             bad(answer);
             return Ok(());
         };
@@ -138,7 +138,7 @@ fn run(rt: &HostRuntime) -> Result<bool, Ending> {
     recovery::worlds_are_told();
     let mut node = Node {
         alloc: rt.alloc(),
-        config: None,
+        setting: None,
         file: Vec::new(rt.alloc()),
         lines: Vec::new(rt.alloc()),
     };

@@ -118,17 +118,30 @@ impl Script<'_> {
         }
     }
 
-    fn disk(&self) -> Result<MemDisk, AllocError> {
+    /// A disk with the file.
+    pub fn disk(&self) -> Result<MemDisk, AllocError> {
         MemDisk::new(self.alloc, self.file.to_vec(self.alloc)?)
     }
 
+    /// Each line, and what is done behind it.
+    pub fn spaced_lines(&self) -> Result<Vec<&Line>, AllocError> {
+        let mut spaced = Vec::new(self.alloc);
+        for line in self.lines {
+            spaced.push(line)?;
+            for other in self.behind {
+                spaced.push(other)?;
+            }
+        }
+        Ok(spaced)
+    }
+
     /// The disk behind all commands, or why they ended early; nothing where a message can't come in.
-    fn run<W: Write>(
+    pub fn run<W: Write>(
         &self,
         disk: MemDisk,
         writer: &mut W,
     ) -> Result<Option<Result<MemDisk, DriveError>>, AllocError> {
-        let lines = spaced(self.alloc, self.lines, self.behind)?;
+        let lines = self.spaced_lines()?;
         let Some(commands) = commands_of(self.alloc, self.config, &lines)? else {
             return Ok(None);
         };
@@ -142,22 +155,6 @@ impl Script<'_> {
             },
         ))
     }
-}
-
-/// Each line, and behind it the others.
-fn spaced<'a>(
-    alloc: Global,
-    lines: &'a [Line],
-    behind: &'a [Line],
-) -> Result<Vec<&'a Line>, AllocError> {
-    let mut spaced = Vec::new(alloc);
-    for line in lines {
-        spaced.push(line)?;
-        for other in behind {
-            spaced.push(other)?;
-        }
-    }
-    Ok(spaced)
 }
 
 /// The commands of these lines, if each message can come in.
@@ -219,7 +216,8 @@ fn tell_error(error: DriveError, answer: &mut String) {
     }
 }
 
-fn tell_text(text: &[u8], answer: &mut String) {
+/// Tells how long a text is, and what it is, or its SHA-256.
+pub fn tell_text(text: &[u8], answer: &mut String) {
     let _ = write!(answer, ", {} bytes", text.len());
     if text.len() > SHOWN {
         put(answer, " sha256 ");

@@ -1,0 +1,2 @@
+pub mod Stories
+pub mod Files

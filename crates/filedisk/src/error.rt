@@ -1,0 +1,34 @@
+//! Why a file can't be opened.
+
+use std::alloc::AllocError;
+use std::io;
+use thiserror::Error;
+
+/// Why a file can't be opened as a disk.
+#[derive(Debug, Drop, Error)]
+pub enum OpenError {
+    /// Memory was refused.
+    #[error("out of memory")]
+    Memory,
+    /// There is something at the path that is no regular file.
+    #[error("no regular file")]
+    NotAFile,
+    /// Another process has the file, or another disk of this one.
+    #[error("the file is in use")]
+    InUse,
+    /// Any other fault of the system.
+    #[error("the file can't be opened")]
+    Device,
+}
+
+impl From<AllocError> for OpenError {
+    fn from(_error: AllocError) -> OpenError {
+        OpenError::Memory
+    }
+}
+
+impl From<io::Error> for OpenError {
+    fn from(_error: io::Error) -> OpenError {
+        OpenError::Device
+    }
+}

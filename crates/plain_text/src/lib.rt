@@ -1,0 +1,13 @@
+//! A plain, slow program of the text of a script: what a node with one owner writes for commands. It takes no part in the
+//! node: the running code is compared with it.
+#![tactic(auto)]
+
+mod command;
+mod desk;
+mod frames;
+mod groups;
+mod stepping;
+mod writing;
+
+pub use command::Command;
+pub use writing::text;
