@@ -436,12 +436,20 @@ class Cases:
             self.put(command if isinstance(command, str) else 'event %d x%s' % (command[2], command[3:].hex()))
         self.script += commands
 
+    def tell_batches(self, count, length):
+        """Batches of member 2, each with one transaction of this length, which is its number and then zeros."""
+        self.put('batches %d %d' % (count, length))
+        batches = [Batch('b%d' % number, 2, u32(number) + bytes(length - 4)) for number in range(count)]
+        self.script += [record(2, batch_message(batch)) for batch in batches]
+
     def run(self, *behind):
         return Run(self.setting, self.file, [one for command in self.script for one in (command, *behind)])
 
     def drive(self, *behind):
         run = self.run(*behind)
         self.put(' '.join(('drive', *behind)), run.told())
+        if run.error is None:
+            self.put(' '.join(('plain', *behind)), 'the same text' + shown(run.written))
         return run
 
     def drive_failing(self, call):
@@ -658,6 +666,15 @@ def longer_scripts(cases):
                   record(2, header_message(NAMING)), 'flush')
 
 
+def full_groups(cases):
+    for title, count, length, first in [('a group has 1,024 records at most', 1025, 4, 1024), ('a group has 4 MiB at most', 70, 60000, 69)]:
+        cases.case(title, b'')
+        cases.tell_batches(count, length)
+        for frames in (first, count):
+            cases.tell('flush')
+            assert len(cases.drive().written) == 41 * frames
+
+
 def faults(cases):
     for title, file in [('a damaged file', EMPTY[:-1] + b'\1'), ('damage of an event', behind(EVENT, EVENT)),
                         ('another configuration', journal([configuration(own=1)]))]:
@@ -677,6 +694,7 @@ def main():
     failures(cases)
     scripts(cases)
     longer_scripts(cases)
+    full_groups(cases)
     faults(cases)
     cases.case('cut to each length', FIRST_VOTE)
     cases.lengths(0, 345)

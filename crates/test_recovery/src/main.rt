@@ -2,6 +2,7 @@
 //! bytes, and that carry out commands.
 #![tactic(auto)]
 
+mod batches;
 mod committees;
 mod failures;
 mod files;
@@ -52,20 +53,7 @@ impl Subject for Node {
                 self.file = bytes.to_vec(self.alloc)?;
                 Ok(())
             }
-            ("event", [Word::Number(sender), Word::Bytes(message)]) => {
-                let message = message.to_vec(self.alloc)?;
-                let sender = Author(u16::try_from(*sender).unwrap_or(u16::MAX));
-                self.lines.push(Line::Event { sender, message })?;
-                Ok(())
-            }
-            ("flush", []) => {
-                self.lines.push(Line::Flush)?;
-                Ok(())
-            }
-            ("stop", []) => {
-                self.lines.push(Line::Stop)?;
-                Ok(())
-            }
+            ("event" | "batches" | "flush" | "stop", words) => self.tell(name, words, answer),
             ("drive" | "plain", words) => self.script(name, words, answer),
             (name, words) => self.open(name, words, answer),
         }
@@ -79,6 +67,30 @@ impl Node {
         Ok(())
     }
 
+    /// Adds what the node is told.
+    fn tell(&mut self, name: &str, words: &[Word], answer: &mut String) -> Told {
+        match (name, words) {
+            ("event", [Word::Number(sender), Word::Bytes(message)]) => {
+                let message = message.to_vec(self.alloc)?;
+                let sender = Author(u16::try_from(*sender).unwrap_or(u16::MAX));
+                self.lines.push(Line::Event { sender, message })?;
+            }
+            ("batches", [Word::Number(count), Word::Number(len)]) => {
+                match (u32::try_from(*count), u32::try_from(*len)) {
+                    (Ok(count), Ok(len)) => {
+                        batches::come_in(self.alloc, &mut self.lines, count, len)?
+                    }
+                    _ => bad(answer),
+                }
+            }
+            ("flush", []) => self.lines.push(Line::Flush)?,
+            ("stop", []) => self.lines.push(Line::Stop)?,
+            _ => bad(answer),
+        }
+        Ok(())
+    }
+
+    /// Carries out what the node is told.
     fn script(&self, name: &str, words: &[Word], answer: &mut String) -> Told {
         let Some(setting) = &self.setting else {
             bad(answer);
