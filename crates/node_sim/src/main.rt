@@ -9,5 +9,5 @@ use std::process::ExitCode;
 fn main(rt: HostRuntime) -> ExitCode {
     let mut writer = io::writer(&rt);
     let mut errors = rt.stderr();
-    ExitCode::from(run(rt.alloc(), rt.stdin(), &mut writer, &mut errors))
+    ExitCode::from(run(&rt, rt.alloc(), rt.stdin(), &mut writer, &mut errors))
 }

@@ -1,3 +1,1 @@
-pub mod Node
-pub mod Stops
-pub mod Store
+pub mod Running

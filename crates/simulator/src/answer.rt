@@ -1,8 +1,8 @@
 //! What the commands answer.
 
+use flusher::FlushError;
 use header::CheckError;
-use ownbook::FlushError;
-use validator::Refusal;
+use shared::Refusal;
 use wire::{Digest, Output, WireError};
 
 /// What a command answers.
@@ -32,6 +32,10 @@ pub enum Answer {
     Order(Vec<Digest>),
     /// The round behind the accepted records.
     Round(u64),
+    /// The header that has the vote of an author and round.
+    Voted(Option<Digest>),
+    /// A number of records.
+    Count(u64),
     /// The node was opened again, with so many records of events.
     Reopened(u64),
 }

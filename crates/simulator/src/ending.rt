@@ -1,5 +1,6 @@
 //! What ends a run.
 
+use diskmodel::TooManyTold;
 use journal::JournalError;
 use std::alloc::{AllocError, AllocFailed};
 use std::io;
@@ -9,7 +10,7 @@ use std::io;
 pub enum Ending {
     /// The line is no command.
     BadCommand,
-    /// Memory was refused outside an event.
+    /// Memory was refused outside an event, or more calls were told to fail than can stand at once.
     Memory,
     /// The journal couldn't be opened.
     Fault(JournalError),
@@ -29,6 +30,12 @@ impl From<AllocError> for Ending {
 
 impl<T: Drop> From<AllocFailed<T>> for Ending {
     fn from(_: AllocFailed<T>) -> Ending {
+        Ending::Memory
+    }
+}
+
+impl From<TooManyTold> for Ending {
+    fn from(_: TooManyTold) -> Ending {
         Ending::Memory
     }
 }

@@ -4,15 +4,12 @@
 mod answer;
 mod ending;
 mod gathered;
-mod live;
 mod messages;
-mod node;
-mod opening;
+mod obeying;
 mod playing;
+mod running;
 mod script_lines;
 mod settings;
 mod shown;
-mod stops;
-mod store;
 
 pub use playing::{disk_after, output_after, run};

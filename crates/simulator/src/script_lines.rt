@@ -8,15 +8,15 @@ use std::io::{self, BufRead, BufReader, Read, Write};
 
 /// A script, and the line of it that was read last.
 #[derive(Drop)]
-pub struct Script<R: Read + Drop> {
-    reader: BufReader<R>,
+pub struct Script<I: Read + Drop> {
+    reader: BufReader<I>,
     line: Vec<u8>,
     number: u64,
 }
 
-impl<R: Read + Drop> Script<R> {
+impl<I: Read + Drop> Script<I> {
     /// A script of which no line was read.
-    pub fn new(alloc: Global, reader: R) -> io::Result<Script<R>> {
+    pub fn new(alloc: Global, reader: I) -> io::Result<Script<I>> {
         Ok(Script {
             reader: BufReader::new(alloc, reader)?,
             line: Vec::new(alloc),

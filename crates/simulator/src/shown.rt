@@ -21,6 +21,12 @@ pub fn add_line(lines: &mut String, labels: &Labels, answer: &Answer) -> Result<
         Answer::Out(output) => add_output(lines, labels, output),
         Answer::Order(digests) => add_order(lines, labels, digests),
         Answer::Round(round) => writeln!(lines, "round {round}"),
+        Answer::Voted(Some(digest)) => {
+            let label = header_label(labels, digest);
+            writeln!(lines, "voted {label}")
+        }
+        Answer::Voted(None) => lines.push_str("voted none\n"),
+        Answer::Count(count) => writeln!(lines, "{count}"),
         Answer::Reopened(count) => writeln!(lines, "reopened {count}"),
     }
 }

@@ -5,21 +5,19 @@ mod ends;
 mod given;
 mod trial;
 
-use cases::{Ending, play};
+use cases::play;
 use std::io::{self, BufReader};
 use std::process::ExitCode;
 use trial::Trial;
 
 fn main(rt: HostRuntime) -> ExitCode {
-    match played(&rt) {
+    let Ok(mut reader) = BufReader::new(rt.alloc(), rt.reader()) else {
+        return ExitCode::FAILURE;
+    };
+    let mut writer = io::writer(&rt);
+    let mut trial = Trial::new(&rt, rt.alloc());
+    match play(rt.alloc(), &mut reader, &mut writer, &mut trial) {
         Ok(true) => ExitCode::SUCCESS,
         _ => ExitCode::FAILURE,
     }
-}
-
-fn played(rt: &HostRuntime) -> Result<bool, Ending> {
-    let mut reader = BufReader::new(rt.alloc(), rt.reader())?;
-    let mut writer = io::writer(rt);
-    let mut trial = Trial::new(rt.alloc());
-    play(rt.alloc(), &mut reader, &mut writer, &mut trial)
 }

@@ -10,6 +10,7 @@ use simulator::{disk_after, output_after, run};
 use std::alloc::{AllocError, Global};
 use std::cell::Cell;
 use std::str;
+use std::sync::Wait;
 use wire::{Author, Message, Output};
 
 /// The committee of the simulator.
@@ -26,22 +27,24 @@ type Told = Result<(), AllocError>;
 
 /// The script of a case.
 #[derive(Drop)]
-pub struct Trial {
+pub struct Trial<'a, R: Wait> {
+    rt: &'a R,
     alloc: Global,
     script: Script,
 }
 
-impl Trial {
+impl<'a, R: Wait> Trial<'a, R> {
     /// No script.
-    pub fn new(alloc: Global) -> Trial {
+    pub fn new(rt: &'a R, alloc: Global) -> Trial<'a, R> {
         Trial {
+            rt,
             alloc,
             script: Script::new(alloc),
         }
     }
 }
 
-impl Subject for Trial {
+impl<R: Wait> Subject for Trial<'_, R> {
     fn begin(&mut self, _title: &str) -> Told {
         self.script = Script::new(self.alloc);
         Ok(())
@@ -55,11 +58,11 @@ impl Subject for Trial {
         }
         let (word, rest) = command.split_once(' ').unwrap_or((command, ""));
         match word {
-            "play" => play(self.alloc, &self.script, answer),
-            "watch" => watch(self.alloc, &self.script, answer),
-            "count" => count(self.alloc, &self.script, answer),
-            "journal" => journal(self.alloc, &self.script, answer),
-            "vote" => vote(self.alloc, &self.script, answer),
+            "play" => play(self.rt, self.alloc, &self.script, answer),
+            "watch" => watch(self.rt, self.alloc, &self.script, answer),
+            "count" => count(self.rt, self.alloc, &self.script, answer),
+            "journal" => journal(self.rt, self.alloc, &self.script, answer),
+            "vote" => vote(self.rt, self.alloc, &self.script, answer),
             _ => change(&mut self.script, word, rest, answer),
         }
     }
@@ -99,7 +102,7 @@ struct Outcome {
     status: u8,
 }
 
-fn outcome_of(alloc: Global, script: &Script) -> Outcome {
+fn outcome_of<R: Wait>(rt: &R, alloc: Global, script: &Script) -> Outcome {
     let lines = Cell::new(0);
     let mut input = Input {
         rest: &script.bytes,
@@ -110,7 +113,7 @@ fn outcome_of(alloc: Global, script: &Script) -> Outcome {
     };
     let mut output = Taker::new(alloc, script.room, &lines);
     let mut errors = Vec::new(alloc);
-    let status = run(alloc, &mut input, &mut output, &mut errors);
+    let status = run(rt, alloc, &mut input, &mut output, &mut errors);
     Outcome {
         notes: input.notes,
         printed: output.bytes,
@@ -122,8 +125,8 @@ fn outcome_of(alloc: Global, script: &Script) -> Outcome {
 }
 
 // What is printed, what is told as an error, and the status.
-fn play(alloc: Global, script: &Script, answer: &mut String) -> Told {
-    let outcome = outcome_of(alloc, script);
+fn play<R: Wait>(rt: &R, alloc: Global, script: &Script, answer: &mut String) -> Told {
+    let outcome = outcome_of(rt, alloc, script);
     add_text(&outcome.printed, answer)?;
     if !outcome.errors.is_empty() {
         answer.push_str("error: ")?;
@@ -138,21 +141,21 @@ fn add_text(bytes: &[u8], answer: &mut String) -> Told {
 }
 
 // How many lines were written before each read.
-fn watch(alloc: Global, script: &Script, answer: &mut String) -> Told {
-    let outcome = outcome_of(alloc, script);
+fn watch<R: Wait>(rt: &R, alloc: Global, script: &Script, answer: &mut String) -> Told {
+    let outcome = outcome_of(rt, alloc, script);
     answer.push_str(&outcome.notes)
 }
 
 // How many lines are written, and whether by at most as many calls.
-fn count(alloc: Global, script: &Script, answer: &mut String) -> Told {
-    let outcome = outcome_of(alloc, script);
+fn count<R: Wait>(rt: &R, alloc: Global, script: &Script, answer: &mut String) -> Told {
+    let outcome = outcome_of(rt, alloc, script);
     let (lines, few) = (outcome.lines, outcome.calls <= outcome.lines);
     writeln!(answer, "{lines} lines, at most as many calls: {few}")
 }
 
 // How many bytes the journal has after the script.
-fn journal(alloc: Global, script: &Script, answer: &mut String) -> Told {
-    match disk_after(alloc, &script.bytes) {
+fn journal<R: Wait>(rt: &R, alloc: Global, script: &Script, answer: &mut String) -> Told {
+    match disk_after(rt, alloc, &script.bytes) {
         Some(disk) => {
             let len = disk.bytes().len();
             writeln!(answer, "{len} bytes")
@@ -162,8 +165,8 @@ fn journal(alloc: Global, script: &Script, answer: &mut String) -> Told {
 }
 
 // Whether what may go out after the script is a vote that passes the checks.
-fn vote(alloc: Global, script: &Script, answer: &mut String) -> Told {
-    let Some(output) = output_after(alloc, &script.bytes) else {
+fn vote<R: Wait>(rt: &R, alloc: Global, script: &Script, answer: &mut String) -> Told {
+    let Some(output) = output_after(rt, alloc, &script.bytes) else {
         return answer.push_str("nothing goes out\n");
     };
     answer.push_str(if passes(alloc, &output) {

@@ -1,9 +1,9 @@
 use Rattle.std.proofs.Common.{ap, sym, subst, arith}
 use Rattle.diskmodel.specs.declared.memory.MemDisk.{MemDisk}
 use Rattle.diskmodel.specs.Memory.{choice_of, CanStopAt}
-use Rattle.simulator.specs.Stops.{IsTornBy}
-use Rattle.simulator.proofs.Torn.{torn_possible}
-use Rattle.simulator.proofs.stops.tearing.Goals as goal
+use Rattle.stopping.specs.Stops.{IsTornBy}
+use Rattle.stopping.proofs.Possible.{torn_possible}
+use Rattle.stopping.proofs.tearing.Goals as goal
 
 pub returns : goal.returns
 returns c =

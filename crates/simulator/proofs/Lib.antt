@@ -1,2 +1,0 @@
-mod Legal
-mod Torn

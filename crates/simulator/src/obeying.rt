@@ -1,0 +1,116 @@
+//! A command of a script, carried out.
+
+use crate::answer::Answer;
+use crate::ending::Ending;
+use crate::messages::message_of;
+use crate::running::Running;
+use diskmodel::CallKind;
+use header::check;
+use script::{Call, Command, FormError, Labels, define_batch, define_header};
+use shared::Refusal;
+use sigface::HashVerify;
+use std::alloc::Global;
+use std::sync::Wait;
+use wire::{Author, Digest, Message, Round, WireError};
+
+/// Carries out a command. A stop opens the node again.
+pub fn step<'a, R: Wait>(
+    rt: &R,
+    alloc: Global,
+    mut running: Running<'a>,
+    labels: &mut Labels,
+    command: Command<'_>,
+) -> Result<(Running<'a>, Answer), Ending> {
+    if let Command::Stop(stopping) = command {
+        let (opened, events) = running.stop(rt, alloc, stopping)?;
+        return Ok((opened, Answer::Reopened(events)));
+    }
+    let answer = obey(rt, alloc, &mut running, labels, command)?;
+    Ok((running, answer))
+}
+
+// Carries out a command that stops nothing. Those that no node takes are bad ones.
+fn obey<R: Wait>(
+    rt: &R,
+    alloc: Global,
+    running: &mut Running<'_>,
+    labels: &mut Labels,
+    command: Command<'_>,
+) -> Result<Answer, Ending> {
+    match command {
+        Command::Pack(pack) => answer_to(define_batch(alloc, labels, &pack)),
+        Command::Form(form) => answer_to(define_header(alloc, labels, &form)),
+        Command::Flush => match running.flush(rt) {
+            Ok(count) => Ok(Answer::Settled(count)),
+            Err(error) => Ok(Answer::Fault(error)),
+        },
+        Command::Collect => match running.collect(rt) {
+            Some(output) => Ok(Answer::Out(output)),
+            None => Ok(Answer::OutNone),
+        },
+        Command::Order => match running.order(rt) {
+            Ok(digests) => Ok(Answer::Order(digests)),
+            Err(Refusal::Memory) => Err(Ending::Memory),
+            Err(refusal) => Ok(Answer::Refused(refusal)),
+        },
+        Command::Round => Ok(Answer::Round(running.round(rt))),
+        Command::Peek { author, round } => Ok(Answer::Voted(peek(rt, running, author, round))),
+        Command::Accepted => Ok(Answer::Count(running.accepted())),
+        Command::Synced => Ok(Answer::Count(running.synced())),
+        Command::Fail { call, count } => {
+            running.fail(kind_of(call), count)?;
+            Ok(Answer::Nothing)
+        }
+        other => submit(rt, alloc, running, labels, other),
+    }
+}
+
+// No header of a round above the limit has a vote.
+fn peek<R: Wait>(rt: &R, running: &mut Running<'_>, author: Author, round: u64) -> Option<Digest> {
+    match Round::new(round) {
+        Ok(round) => running.voted(rt, author, round),
+        Err(_) => None,
+    }
+}
+
+fn kind_of(call: Call) -> CallKind {
+    match call {
+        Call::Read => CallKind::Read,
+        Call::Write => CallKind::Write,
+        Call::Cut => CallKind::Cut,
+        Call::Sync => CallKind::Sync,
+    }
+}
+
+// What defining a label answers.
+fn answer_to(defined: Result<(), FormError>) -> Result<Answer, Ending> {
+    match defined {
+        Ok(()) => Ok(Answer::Nothing),
+        Err(FormError::Unread(error)) => Ok(Answer::Unread(error)),
+        Err(FormError::BadCommand) => Err(Ending::BadCommand),
+        Err(FormError::Memory) => Err(Ending::Memory),
+    }
+}
+
+// Submits the message of a command. Memory that is refused to it is a refusal of the event.
+fn submit<R: Wait>(
+    rt: &R,
+    alloc: Global,
+    running: &mut Running<'_>,
+    labels: &Labels,
+    command: Command<'_>,
+) -> Result<Answer, Ending> {
+    match message_of(alloc, labels, command) {
+        Ok((sender, message)) => Ok(take(rt, running, sender, message)),
+        Err(FormError::Unread(error)) => Ok(Answer::Unread(error)),
+        Err(FormError::Memory) => Ok(Answer::Unread(WireError::Memory)),
+        Err(FormError::BadCommand) => Err(Ending::BadCommand),
+    }
+}
+
+fn take<R: Wait>(rt: &R, running: &mut Running<'_>, sender: Author, message: Message) -> Answer {
+    match check(running.committee(), &HashVerify, sender, message) {
+        Ok(event) => running.submit(rt, event),
+        Err(error) => Answer::Unchecked(error),
+    }
+}
