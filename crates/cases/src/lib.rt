@@ -6,4 +6,4 @@ mod hex;
 mod playing;
 
 pub use hex::{bytes_of, write_hex};
-pub use playing::{Ending, Subject, play};
+pub use playing::{Ending, Player, Subject, play};

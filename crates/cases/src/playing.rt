@@ -129,3 +129,93 @@ fn close<W: Write>(writer: &mut W, score: &mut Score) -> Result<(), Ending> {
     score.expected.clear();
     Ok(())
 }
+
+/// A case file that its caller plays, as where a command starts threads: a `Subject` can't.
+#[derive(Drop)]
+pub struct Player<R: BufRead + Drop, W: Write + Drop> {
+    reader: R,
+    writer: W,
+    line: String,
+    number: u64,
+    score: Score,
+}
+
+impl<R: BufRead + Drop, W: Write + Drop> Player<R, W> {
+    /// Before the first line.
+    pub fn new(alloc: Global, reader: R, writer: W) -> Player<R, W> {
+        Player {
+            reader,
+            writer,
+            line: String::new(alloc),
+            number: 0,
+            score: Score {
+                answer: String::new(alloc),
+                expected: String::new(alloc),
+                last: 0,
+                commands: 0,
+                wrong: 0,
+            },
+        }
+    }
+
+    /// Goes on to the next title or command, if there is one, and compares the answer of the command before it.
+    pub fn advance(&mut self) -> Result<bool, Ending> {
+        for _ in 1..u64::MAX {
+            self.line.clear();
+            if self.reader.read_line(&mut self.line)? == 0 {
+                break;
+            }
+            self.number = self.number.saturating_add(1);
+            if self.has_turn()? {
+                return Ok(true);
+            }
+        }
+        close(&mut self.writer, &mut self.score)?;
+        Ok(false)
+    }
+
+    // Whether the line is a title or a command. An expected line is kept.
+    fn has_turn(&mut self) -> Result<bool, Ending> {
+        let line = self.line.trim_end_matches('\n');
+        if line.is_empty() || line.starts_with('#') {
+            return Ok(false);
+        }
+        if let Some(expected) = line.strip_prefix("> ") {
+            self.score.expected.push_str(expected)?;
+            self.score.expected.push_str("\n")?;
+            return Ok(false);
+        }
+        close(&mut self.writer, &mut self.score)?;
+        if line.strip_prefix("== ").is_none() {
+            self.score.commands = self.score.commands.saturating_add(1);
+            self.score.last = self.number;
+        }
+        Ok(true)
+    }
+
+    /// Whether a case begins, and not a command.
+    pub fn is_title(&self) -> bool {
+        self.line.starts_with("== ")
+    }
+
+    /// The command.
+    pub fn command(&self) -> &str {
+        self.line.trim_end_matches('\n')
+    }
+
+    /// Takes the lines that the command answers.
+    pub fn answered(&mut self, answer: &str) -> Result<(), Ending> {
+        self.score.answer.push_str(answer)?;
+        Ok(())
+    }
+
+    /// Prints how many commands there were; says whether all was as expected.
+    pub fn end(mut self) -> Result<bool, Ending> {
+        let (commands, wrong) = (self.score.commands, self.score.wrong);
+        writeln!(
+            self.writer,
+            "{commands} commands, {wrong} answers were not as expected"
+        )?;
+        Ok(wrong == 0)
+    }
+}

@@ -1,0 +1,33 @@
+//! `narwhal-node`: runs a member of a committee over a journal file, with frames on standard input and output.
+#![tactic(auto)]
+
+use runner::Ending;
+pub use runner::run;
+use std::process::ExitCode;
+use std::{env, io};
+
+fn main(rt: HostRuntime) -> ExitCode {
+    let mut errors = rt.stderr();
+    let args = match arguments(&rt) {
+        Ok(args) => args,
+        Err(ending) => {
+            ending.write_to(&mut errors);
+            return ExitCode::from(ending.status());
+        }
+    };
+    let status = run(&rt, rt.alloc(), &args, rt.stdin(), rt.stdout(), &mut errors);
+    ExitCode::from(status)
+}
+
+// The arguments behind the program's name.
+fn arguments(rt: &HostRuntime) -> Result<Vec<String>, Ending> {
+    let args = match env::args(rt) {
+        Ok(args) => args,
+        Err(error) if error.kind() == io::ErrorKind::OutOfMemory => return Err(Ending::Memory),
+        Err(_) => return Err(Ending::Usage),
+    };
+    match args.skip(1).collect(rt.alloc()) {
+        Ok(args) => Ok(args),
+        Err(_) => Err(Ending::Memory),
+    }
+}

@@ -1,0 +1,5 @@
+pub mod Numbers
+pub mod Requests
+pub mod Endings
+pub mod Makers
+pub mod Cutting

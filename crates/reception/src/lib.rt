@@ -1,0 +1,20 @@
+//! What a running node is given, and how its run ends: its arguments, its frames and what these ask, and what goes wrong.
+#![tactic(auto)]
+
+mod arguments;
+mod ending;
+mod faults;
+mod input;
+mod makers;
+mod passing;
+mod request;
+mod told;
+
+pub use arguments::own_of;
+pub use ending::Ending;
+pub use faults::Faults;
+pub use input::{End, Input};
+pub use makers::Makers;
+pub use passing::passes;
+pub use request::{Request, SEALS, TRANSACTIONS, request_of};
+pub use told::Told;

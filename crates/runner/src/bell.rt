@@ -1,0 +1,71 @@
+//! How a thread is told that there is work for it.
+
+use std::sync::{Condvar, Mutex, Wait};
+
+/// What a bell was told.
+#[derive(Clone, Copy)]
+struct Told {
+    rung: bool,
+    closed: bool,
+}
+
+/// A bell that one thread waits for. Rings that come before it has waited are one.
+#[derive(Drop)]
+pub(crate) struct Bell {
+    told: Mutex<Told>,
+    changed: Condvar,
+}
+
+impl Bell {
+    /// A bell that was not rung.
+    pub(crate) fn new() -> Bell {
+        Bell {
+            told: Mutex::new(Told {
+                rung: false,
+                closed: false,
+            }),
+            changed: Condvar::new(),
+        }
+    }
+
+    /// There is work.
+    pub(crate) fn ring<R: Wait>(&self, rt: &R) {
+        self.told.lock(rt).rung = true;
+        self.changed.notify_one();
+    }
+
+    /// There is no more to come.
+    pub(crate) fn close<R: Wait>(&self, rt: &R) {
+        self.told.lock(rt).closed = true;
+        self.changed.notify_one();
+    }
+
+    /// Sleeps until there is work, or no more to come. Says whether more may come behind what there is.
+    pub(crate) fn wait<R: Wait>(&self, rt: &R) -> bool {
+        let told = self.told.lock(rt);
+        let mut told = self
+            .changed
+            .wait_while(rt, told, |told| !told.rung && !told.closed);
+        told.rung = false;
+        !told.closed
+    }
+}
+
+/// The bells of a node's threads.
+#[derive(Drop)]
+pub(crate) struct Bells {
+    /// For who flushes: something was accepted, or has to go out again.
+    pub(crate) pending: Bell,
+    /// For who writes: a round was made.
+    pub(crate) settled: Bell,
+}
+
+impl Bells {
+    /// Bells that were not rung.
+    pub(crate) fn new() -> Bells {
+        Bells {
+            pending: Bell::new(),
+            settled: Bell::new(),
+        }
+    }
+}

@@ -1,0 +1,153 @@
+//! What is done with the frames.
+
+use crate::bell::Bell;
+use crate::caller::{Caller, Taken};
+use header::Checked;
+use reception::{Makers, Request, Told, request_of};
+use sigface::Sign;
+use std::alloc::{AllocError, Global};
+use std::io::Write;
+use std::sync::Wait;
+use validator::Refusal;
+use waiter::{MAX_WAITING, WaitRefusal, Waiter};
+use wire::{Author, Batch, Message};
+
+/// Who takes what frames bring.
+#[derive(Drop)]
+pub(crate) struct Intake<'n, 'a, S: Sign> {
+    alloc: Global,
+    caller: Caller<'n, 'a, S>,
+    waiter: Waiter,
+    makers: Makers,
+    pending: &'n Bell,
+    was_refused_memory: bool,
+}
+
+impl<'n, 'a, S: Sign> Intake<'n, 'a, S> {
+    /// The bell is rung where there is something to flush or to give out. `AllocError` where a growth was refused.
+    pub(crate) fn new(
+        alloc: Global,
+        caller: Caller<'n, 'a, S>,
+        pending: &'n Bell,
+    ) -> Result<Intake<'n, 'a, S>, AllocError> {
+        let config = caller.config();
+        let makers = Makers::new(alloc, config.committee(), config.own())?;
+        Ok(Intake {
+            alloc,
+            caller,
+            waiter: Waiter::new(alloc),
+            makers,
+            pending,
+            was_refused_memory: false,
+        })
+    }
+
+    /// Whether memory was refused outside an event.
+    pub(crate) fn was_refused_memory(&self) -> bool {
+        self.was_refused_memory
+    }
+
+    /// Takes what a frame of this body brings, and writes a line for each refusal.
+    pub(crate) fn take<R: Wait, E: Write>(&mut self, rt: &R, body: &[u8], errors: &mut E) {
+        match self.answer(rt, body) {
+            Ok(true) => self.follow(rt, errors),
+            Ok(false) => (),
+            Err(told) => write_line(errors, told),
+        }
+    }
+
+    /// Takes what follows from a new record: first what the validator proposes, then the certificate that is ready, as long as there
+    /// is one.
+    pub(crate) fn follow<R: Wait, E: Write>(&mut self, rt: &R, errors: &mut E) {
+        for _ in 0..=MAX_WAITING {
+            self.propose(rt);
+            let Some(event) = self.next_ready(rt) else {
+                return;
+            };
+            match self.caller.take_waiting(rt, event) {
+                Ok(_) => self.pending.ring(rt),
+                Err(told) => write_line(errors, told),
+            }
+        }
+    }
+
+    // Whether what a frame of this body brings is a new record.
+    fn answer<R: Wait>(&mut self, rt: &R, body: &[u8]) -> Result<bool, Told> {
+        match request_of(self.alloc, body)? {
+            Request::Message { sender, message } => self.submit(rt, sender, message),
+            Request::Transaction { worker, bytes } => {
+                let maker = self.makers.of(worker)?;
+                if self.caller.is_down(rt) {
+                    return Err(Told::Refused(Refusal::Down));
+                }
+                let batch = maker.push(bytes)?;
+                self.submit_batch(rt, batch)
+            }
+            Request::Seal { worker } => {
+                let maker = self.makers.of(worker)?;
+                if self.caller.is_down(rt) {
+                    return Err(Told::Refused(Refusal::Down));
+                }
+                let batch = maker.seal()?;
+                self.submit_batch(rt, batch)
+            }
+        }
+    }
+
+    fn submit_batch<R: Wait>(&mut self, rt: &R, batch: Option<Batch>) -> Result<bool, Told> {
+        match batch {
+            Some(batch) => {
+                let own = self.caller.config().own();
+                self.submit(rt, own, Message::Batch(batch))
+            }
+            None => Ok(false),
+        }
+    }
+
+    fn submit<R: Wait>(&mut self, rt: &R, sender: Author, message: Message) -> Result<bool, Told> {
+        match self.caller.take(rt, sender, message)? {
+            Taken::New => {
+                self.pending.ring(rt);
+                Ok(true)
+            }
+            Taken::Known => {
+                self.pending.ring(rt);
+                Ok(false)
+            }
+            Taken::Waits(event) => {
+                self.offer(rt, event)?;
+                Ok(false)
+            }
+        }
+    }
+
+    // Lets a certificate wait.
+    fn offer<R: Wait>(&mut self, rt: &R, event: Checked) -> Result<(), Told> {
+        if self.caller.is_down(rt) {
+            return Err(Told::Refused(Refusal::Down));
+        }
+        match self.waiter.offer(event) {
+            Ok(()) => Ok(()),
+            Err(WaitRefusal::Memory) => Err(Told::Refused(Refusal::Memory)),
+            Err(_) => Err(Told::Refused(Refusal::MissingParents)),
+        }
+    }
+
+    fn propose<R: Wait>(&mut self, rt: &R) {
+        match self.caller.propose(rt) {
+            Ok(true) => self.pending.ring(rt),
+            Ok(false) => (),
+            Err(AllocError) => self.was_refused_memory = true,
+        }
+    }
+
+    fn next_ready<R: Wait>(&mut self, rt: &R) -> Option<Checked> {
+        let caller = &mut self.caller;
+        self.waiter.next_ready(|event| caller.is_ready(rt, event))
+    }
+}
+
+// Where a line can't be written nobody is told.
+fn write_line<E: Write>(errors: &mut E, told: Told) {
+    let _ = writeln!(errors, "{told}");
+}

@@ -1,0 +1,41 @@
+//! The thread that reads frames and takes what they bring.
+
+use crate::intake::Intake;
+use reception::{End, Faults, Input};
+use sigface::Sign;
+use std::io::{BufWriter, Read, Write};
+use std::sync::Wait;
+
+/// Takes what the frames bring, until they end. A line for each refusal is written before more is read.
+pub(crate) fn read_all<S: Sign, I: Read + Drop, E: Write + Drop, R: Wait>(
+    rt: &R,
+    mut input: Input<I>,
+    mut intake: Intake<'_, '_, S>,
+    errors: &mut BufWriter<E>,
+) -> Faults {
+    let mut faults = Faults::none();
+    intake.follow(rt, errors);
+    for _ in 0..u64::MAX {
+        let _ = errors.flush();
+        match input.next() {
+            Ok(bodies) => take_all(rt, &mut intake, &bodies, errors),
+            Err(end) => {
+                faults.input = end == End::Broken;
+                faults.memory = end == End::Memory || intake.was_refused_memory();
+                break;
+            }
+        }
+    }
+    faults
+}
+
+fn take_all<S: Sign, E: Write, R: Wait>(
+    rt: &R,
+    intake: &mut Intake<'_, '_, S>,
+    bodies: &[Vec<u8>],
+    errors: &mut E,
+) {
+    for body in bodies {
+        intake.take(rt, body, errors);
+    }
+}

@@ -1,0 +1,28 @@
+//! Runs over files.
+
+use crate::answers::tell_seen;
+use crate::words::Told;
+use runner::run;
+use std::alloc::Global;
+use std::fs::File;
+use std::io;
+use std::rt::Files;
+use std::sync::Wait;
+use std::thread::Threads;
+
+/// A run without input, with these arguments: files stand where the program runs.
+pub fn run_files<R: Files<File = File> + AllocGlobal + Threads + Wait + Sync>(
+    rt: &R,
+    alloc: Global,
+    words: &str,
+    answer: &mut String,
+) -> Told {
+    let mut args = Vec::new(alloc);
+    for word in words.split_whitespace() {
+        args.push(String::from_str(alloc, word)?)?;
+    }
+    let mut errors = Vec::new(alloc);
+    let status = run(rt, alloc, &args, io::empty(), io::sink(), &mut errors);
+    tell_seen(alloc, &[], &errors, answer)?;
+    writeln!(answer, "status {status}")
+}
