@@ -13,11 +13,20 @@ use wire::{Author, Digest, Header, Round, Vote};
 
 /// A validator's own headers, by round, each with the votes that count on it. Contracts see the committee, the validator's
 /// number, and of each round that has a header its assembly.
-#[derive(Drop)]
 pub struct Assemblies<'a> {
     committee: &'a Committee,
     own: Author,
     rounds: BTreeMap<u64, Assembly<'a>>,
+}
+
+impl<'a> Drop for Assemblies<'a> {
+    fn drop(self) {
+        let Assemblies {
+            committee: _,
+            own: _,
+            rounds: _,
+        } = self;
+    }
 }
 
 impl<'a> Model for Assemblies<'a> {

@@ -12,12 +12,23 @@ use std::mem;
 use wire::{Author, Batch, MAX_TRANSACTION_BYTES, OpenBatch};
 
 /// The open batch of an author's worker. Contracts see its author, its worker and its transactions in their order.
-#[derive(Debug, Drop)]
+#[derive(Debug)]
 pub struct BatchMaker {
     alloc: Global,
     author: Author,
     worker: u16,
     batch: OpenBatch,
+}
+
+impl Drop for BatchMaker {
+    fn drop(self) {
+        let BatchMaker {
+            alloc: _,
+            author: _,
+            worker: _,
+            batch: _,
+        } = self;
+    }
 }
 
 impl Model for BatchMaker {

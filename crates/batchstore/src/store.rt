@@ -23,7 +23,6 @@ use wire::{Author, Batch, BatchReference, Digest, MAX_BATCHES, batch_digest};
 
 /// The batches that one member of a committee holds. Contracts see the committee, the own member's number, and the
 /// batches in the order of acceptance, each with the other members who acknowledged it and whether an own header named it.
-#[derive(Drop)]
 pub struct BatchStore<'a> {
     committee: &'a Committee,
     own: Author,
@@ -31,6 +30,17 @@ pub struct BatchStore<'a> {
     held: IndexMap<Digest, Held>,
     // The workers of the batches that may be named, by the batch digest.
     nameable: BTreeMap<Digest, u16>,
+}
+
+impl<'a> Drop for BatchStore<'a> {
+    fn drop(self) {
+        let BatchStore {
+            committee: _,
+            own: _,
+            held: _,
+            nameable: _,
+        } = self;
+    }
 }
 
 impl<'a> Model for BatchStore<'a> {

@@ -40,7 +40,6 @@ pub struct Receipt {
 
 /// The value under the lock. Since the run's start so many records were accepted, so many of these taken, and so many
 /// settled; those that weren't taken are pending.
-#[derive(Drop)]
 pub struct Book<'a, S: Sign> {
     alloc: Global,
     validator: Validator<'a, S>,
@@ -53,6 +52,23 @@ pub struct Book<'a, S: Sign> {
     // How long the order is behind the settled records.
     ordered: u64,
     down: bool,
+}
+
+impl<'a, S: Sign> Drop for Book<'a, S> {
+    fn drop(self) {
+        let Book {
+            alloc: _,
+            validator: _,
+            pending: _,
+            queue: _,
+            reached: _,
+            accepted: _,
+            taken: _,
+            settled: _,
+            ordered: _,
+            down: _,
+        } = self;
+    }
 }
 
 impl<'a, S: Sign> Model for Book<'a, S> {

@@ -131,13 +131,24 @@ fn close<W: Write>(writer: &mut W, score: &mut Score) -> Result<(), Ending> {
 }
 
 /// A case file that its caller plays, as where a command starts threads: a `Subject` can't.
-#[derive(Drop)]
 pub struct Player<R: BufRead + Drop, W: Write + Drop> {
     reader: R,
     writer: W,
     line: String,
     number: u64,
     score: Score,
+}
+
+impl<R: BufRead + Drop, W: Write + Drop> Drop for Player<R, W> {
+    fn drop(self) {
+        let Player {
+            reader: _,
+            writer: _,
+            line: _,
+            number: _,
+            score: _,
+        } = self;
+    }
 }
 
 impl<R: BufRead + Drop, W: Write + Drop> Player<R, W> {

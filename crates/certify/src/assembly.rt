@@ -15,7 +15,6 @@ use wire::{Author, Digest, Header, HeaderBody, Signature, Vote};
 /// The votes on one header, the own one among them, until they weigh a quorum of the committee. Contracts see the
 /// committee, the header, of each member the signature of its vote if that is counted, and whether they make a
 /// certificate.
-#[derive(Drop)]
 pub struct Assembly<'a> {
     alloc: Global,
     committee: &'a Committee,
@@ -24,6 +23,20 @@ pub struct Assembly<'a> {
     places: Vec<Option<Signature>>,
     voters: MemberSet,
     complete: bool,
+}
+
+impl<'a> Drop for Assembly<'a> {
+    fn drop(self) {
+        let Assembly {
+            alloc: _,
+            committee: _,
+            header: _,
+            digest: _,
+            places: _,
+            voters: _,
+            complete: _,
+        } = self;
+    }
 }
 
 impl<'a> Model for Assembly<'a> {

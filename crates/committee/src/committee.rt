@@ -24,13 +24,25 @@ use wire::{Author, Key};
 
 /// A committee: 4 to 31 members, each with a key of its own and a stake, and the limits that all of them keep.
 /// No member's stake is a quorum. The members who aren't honest may hold less than a third of the total stake.
-#[derive(Debug, Drop)]
+#[derive(Debug)]
 pub struct Committee {
     keys: Vec<Key>,
     stakes: Vec<u64>,
     depth: u64,
     workers: u16,
     batches: u32,
+}
+
+impl Drop for Committee {
+    fn drop(self) {
+        let Committee {
+            keys: _,
+            stakes: _,
+            depth: _,
+            workers: _,
+            batches: _,
+        } = self;
+    }
 }
 
 impl Model for Committee {

@@ -32,7 +32,6 @@ use wire::{
 /// The certificates that a validator holds, by round and author, each with whom it reaches, back to the round of the last
 /// committed leader. Nothing below the floor is held. Contracts see the committee, the floor, that round, and what each
 /// slot holds, with its mark.
-#[derive(Drop)]
 pub struct Dag<'a> {
     alloc: Global,
     committee: &'a Committee,
@@ -40,6 +39,18 @@ pub struct Dag<'a> {
     base: Round,
     // From the floor on.
     rows: VecDeque<Row>,
+}
+
+impl<'a> Drop for Dag<'a> {
+    fn drop(self) {
+        let Dag {
+            alloc: _,
+            committee: _,
+            floor: _,
+            base: _,
+            rows: _,
+        } = self;
+    }
 }
 
 impl<'a> Model for Dag<'a> {

@@ -48,7 +48,6 @@ impl Lengths {
 }
 
 /// What a disk began with, its calls since, and what they come to.
-#[derive(Drop)]
 pub struct History {
     alloc: Global,
     pub first: Vec<u8>,
@@ -62,6 +61,20 @@ pub struct History {
     ghost room: { ends_in_stop calls.items ≡ false → vec_len calls < vec_capacity calls },
     // The content can be as long as it was since the last sync.
     ghost fits: { lengths.greatest ≤ vec_capacity content },
+}
+
+impl Drop for History {
+    fn drop(self) {
+        let History {
+            alloc: _,
+            first: _,
+            calls: _,
+            firm: _,
+            lengths: _,
+            spans: _,
+            content: _,
+        } = self;
+    }
 }
 
 /// A copy of these bytes.

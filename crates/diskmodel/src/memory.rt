@@ -14,7 +14,6 @@ use crate::tally::Tally;
 use std::alloc::{AllocError, Global};
 
 /// A disk in memory. It keeps its first bytes and the record of its calls.
-#[derive(Drop)]
 pub struct MemDisk {
     history: History,
     countdowns: Countdowns,
@@ -22,6 +21,19 @@ pub struct MemDisk {
     switch: Option<Switch>,
     faults: Tally,
     refusals: Refusals,
+}
+
+impl Drop for MemDisk {
+    fn drop(self) {
+        let MemDisk {
+            history: _,
+            countdowns: _,
+            choice: _,
+            switch: _,
+            faults: _,
+            refusals: _,
+        } = self;
+    }
 }
 
 impl MemDisk {

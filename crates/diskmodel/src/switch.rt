@@ -75,9 +75,14 @@ impl Words {
 }
 
 /// Tells calls to fail, of all disks that are made with it. It and its clones may go to other threads.
-#[derive(Drop)]
 pub struct Switch {
     words: Arc<Words, Global>,
+}
+
+impl Drop for Switch {
+    fn drop(self) {
+        let Switch { words: _ } = self;
+    }
 }
 
 // Which words it has: those of its clones are the same.

@@ -33,7 +33,6 @@ use std::rt::Files;
 ///   then before the file is opened again.
 /// - Nobody else writes the file. Its lock holds off other disks, and nothing else.
 /// - What the next opening reads, whatever ended this disk, is among what a stop may leave.
-#[derive(Drop)]
 pub struct FileDisk {
     file: File,
     tape: Tape,
@@ -43,6 +42,18 @@ pub struct FileDisk {
     ghost sound: { IsSound tape },
     ghost length_is: { len ≡ length (held tape) },
     ghost mirrors: { IfSome mirror (λ bytes. bytes.items ≡ held tape) } by { Prim.hlevel props },
+}
+
+impl Drop for FileDisk {
+    fn drop(self) {
+        let FileDisk {
+            file: _,
+            tape: _,
+            len: _,
+            mirror: _,
+            is_down: _,
+        } = self;
+    }
 }
 
 impl FileDisk {

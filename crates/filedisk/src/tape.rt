@@ -50,10 +50,15 @@ impl TableRule<(), Story, ()> for AnyStory {
 }
 
 /// The record. Contracts see it as a story.
-#[derive(Drop)]
 pub struct Tape {
     table: Table<(), Story, (), AnyStory, Global>,
     seat: Seat<(), Story>,
+}
+
+impl Drop for Tape {
+    fn drop(self) {
+        let Tape { table: _, seat: _ } = self;
+    }
 }
 
 impl Model for Tape {

@@ -18,7 +18,6 @@ use wire::{Author, Digest, Round};
 
 /// What a commit of several leaders will do to the order and the marks. All of the memory that it needs is taken. Contracts
 /// see what was made.
-#[derive(Drop)]
 pub struct Lengthening {
     digests: Vec<Digest>,
     last: (Round, Author),
@@ -27,6 +26,18 @@ pub struct Lengthening {
     unordered: Vec<MemberSet>,
     // How many references to parents were read.
     reads: u64,
+}
+
+impl Drop for Lengthening {
+    fn drop(self) {
+        let Lengthening {
+            digests: _,
+            last: _,
+            low: _,
+            unordered: _,
+            reads: _,
+        } = self;
+    }
 }
 
 impl Model for Lengthening {

@@ -21,12 +21,21 @@ use sigface::Sign;
 use std::sync::Wait;
 
 /// The journal of a node's disk, and the seat with which groups are taken for it and settled.
-#[derive(Drop)]
 pub struct Flusher<D: Disk> {
     journal: Journal<D>,
     seat: FlushSeat,
     // Whether a round took the node down.
     down: bool,
+}
+
+impl<D: Disk + Drop> Drop for Flusher<D> {
+    fn drop(self) {
+        let Flusher {
+            journal: _,
+            seat: _,
+            down: _,
+        } = self;
+    }
 }
 
 impl<D: Disk> Flusher<D> {

@@ -18,11 +18,21 @@ use wire::{Author, Digest, Key, Message, Signature};
 
 /// A message that passed `check` or `recheck`, with its sender, and with the digests that its tests computed.
 /// Nothing else makes one: its message passed the tests of a committee.
-#[derive(Debug, Drop)]
+#[derive(Debug)]
 pub struct Checked {
     sender: Author,
     message: Message,
     digested: Digested,
+}
+
+impl Drop for Checked {
+    fn drop(self) {
+        let Checked {
+            sender: _,
+            message: _,
+            digested: _,
+        } = self;
+    }
 }
 
 impl Model for Checked {
@@ -57,7 +67,12 @@ impl Checked {
     pub fn into_message(self) -> Message
         ensures { result ≡ self.message }
     {
-        self.message
+        let Checked {
+            sender: _,
+            message,
+            digested: _,
+        } = self;
+        message
     }
 
     /// The digest of a batch; None of another message.

@@ -18,10 +18,15 @@ use std::marker::Model;
 const DEAD: u64 = 0;
 
 /// Groups of records on a disk, each of them there as a whole or not at all.
-#[derive(Drop)]
 pub struct Journal<D: Disk> {
     disk: D,
     len: u64,
+}
+
+impl<D: Disk + Drop> Drop for Journal<D> {
+    fn drop(self) {
+        let Journal { disk: _, len: _ } = self;
+    }
 }
 
 /// Says that a group is on the disk. Contracts see its records. It must be spent.

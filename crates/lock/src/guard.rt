@@ -23,9 +23,14 @@ const TAKEN: u64 = 1;
 const WANTED: u64 = 2;
 
 /// A lock round a value. Contracts see which lock it is, and its key.
-#[derive(Drop)]
 pub struct Lock<T, K, F: Fits<T, K>> {
     table: Table<Option<T>, (), K, Home<F>, Global>,
+}
+
+impl<T: Drop, K: Drop, F: Fits<T, K>> Drop for Lock<T, K, F> {
+    fn drop(self) {
+        let Lock { table: _ } = self;
+    }
 }
 
 impl<T, K, F: Fits<T, K>> Model for Lock<T, K, F> {

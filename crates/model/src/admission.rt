@@ -40,9 +40,15 @@ fn order_digests(alloc: Global, digests: &[Digest]) -> Result<OrderDigests, Allo
 }
 
 /// What an event puts out, in its order.
-#[derive(Debug, Drop)]
+#[derive(Debug)]
 pub struct Outputs {
     list: Vec<Output>,
+}
+
+impl Drop for Outputs {
+    fn drop(self) {
+        let Outputs { list: _ } = self;
+    }
 }
 
 impl Model for Outputs {
@@ -110,7 +116,8 @@ impl Outputs {
     pub fn into_vec(self) -> Vec<Output>
         ensures { result.items ≡ self }
     {
-        self.list
+        let Outputs { list } = self;
+        list
     }
 
     /// The outputs, in their order.

@@ -13,9 +13,14 @@ use validator::Validator;
 use wire::{Digest, Output};
 
 /// A book that stands at what its run began with, accepted, took and settled, for an owner who needn't say what that is.
-#[derive(Drop)]
 pub struct OwnBook<'a, S: Sign> {
     book: Book<'a, S>,
+}
+
+impl<'a, S: Sign> Drop for OwnBook<'a, S> {
+    fn drop(self) {
+        let OwnBook { book: _ } = self;
+    }
 }
 
 impl<'a, S: Sign> Model for OwnBook<'a, S> {

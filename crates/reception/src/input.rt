@@ -25,7 +25,6 @@ pub enum End {
 }
 
 /// A stream of frames.
-#[derive(Drop)]
 pub struct Input<I: Read + Drop> {
     alloc: Global,
     reader: I,
@@ -33,6 +32,18 @@ pub struct Input<I: Read + Drop> {
     frames: FrameReader,
     /// What is answered next.
     end: Option<End>,
+}
+
+impl<I: Read + Drop> Drop for Input<I> {
+    fn drop(self) {
+        let Input {
+            alloc: _,
+            reader: _,
+            piece: _,
+            frames: _,
+            end: _,
+        } = self;
+    }
 }
 
 impl<I: Read + Drop> Input<I> {

@@ -12,9 +12,14 @@ use std::alloc::{AllocError, Global};
 use wire::{Author, Batch};
 
 /// A maker of batches for each worker of a committee.
-#[derive(Drop)]
 pub struct Makers {
     makers: Vec<BatchMaker>,
+}
+
+impl Drop for Makers {
+    fn drop(self) {
+        let Makers { makers: _ } = self;
+    }
 }
 
 impl Makers {

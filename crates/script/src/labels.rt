@@ -30,11 +30,20 @@ pub struct Packed {
 }
 
 /// The headers and the batches, each in the order of their definition.
-#[derive(Drop)]
 pub struct Labels {
     alloc: Global,
     headers: Vec<Proposed>,
     batches: Vec<Packed>,
+}
+
+impl Drop for Labels {
+    fn drop(self) {
+        let Labels {
+            alloc: _,
+            headers: _,
+            batches: _,
+        } = self;
+    }
 }
 
 impl Labels {

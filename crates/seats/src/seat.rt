@@ -4,9 +4,14 @@ use crate::view::View;
 use std::marker::Model;
 
 /// What a thread steps with: which words are meant, its number there, and what it knows. It has no bytes.
-#[derive(Drop)]
 pub struct Seat {
     pub(crate) place: atomic_table::Seat<(), View>,
+}
+
+impl Drop for Seat {
+    fn drop(self) {
+        let Seat { place: _ } = self;
+    }
 }
 
 impl Model for Seat {

@@ -21,9 +21,14 @@ const SYNCED: usize = 1;
 
 /// How many events were accepted, and how many of these are settled, since a node began. Each seat at them knows beginnings
 /// of the two lists, which no word of memory has.
-#[derive(Drop)]
 pub struct Words<K, L: Law<K>> {
     table: Table<(), View, K, Kept<L>, Global>,
+}
+
+impl<K: Drop, L: Law<K>> Drop for Words<K, L> {
+    fn drop(self) {
+        let Words { table: _ } = self;
+    }
 }
 
 impl<K, L: Law<K>> Model for Words<K, L> {

@@ -10,10 +10,15 @@ use std::alloc::{AllocError, Global};
 use wire::{Author, Digest, Round};
 
 /// What a certificate or a coin will add to the order, and mark. All of the memory that it needs is taken.
-#[derive(Drop)]
 pub struct Prepared {
     // None where no leader is committed.
     pub(crate) committed: Option<Lengthening>,
+}
+
+impl Drop for Prepared {
+    fn drop(self) {
+        let Prepared { committed: _ } = self;
+    }
 }
 
 impl Prepared {

@@ -26,12 +26,22 @@ use wire::{Author, Certificate, Digest, Round};
 
 /// The certificates, the coins and the order of one validator. Contracts see the DAG, the coins, the slot of the last
 /// committed leader, and the order.
-#[derive(Drop)]
 pub struct Sequencer<'a> {
     dag: Dag<'a>,
     coins: Coins,
     last: Option<(Round, Author)>,
     order: Vec<Digest>,
+}
+
+impl<'a> Drop for Sequencer<'a> {
+    fn drop(self) {
+        let Sequencer {
+            dag: _,
+            coins: _,
+            last: _,
+            order: _,
+        } = self;
+    }
 }
 
 impl<'a> Model for Sequencer<'a> {

@@ -3,10 +3,19 @@
 use seats::Seat;
 
 /// The seat with which groups are taken and settled. There is one of a node.
-#[derive(Drop)]
 pub struct FlushSeat {
     pub(crate) seat: Seat,
     // How many of the events that it has seen are settled, and how many are taken.
     pub(crate) settled: u64,
     pub(crate) taken: u64,
+}
+
+impl Drop for FlushSeat {
+    fn drop(self) {
+        let FlushSeat {
+            seat: _,
+            settled: _,
+            taken: _,
+        } = self;
+    }
 }

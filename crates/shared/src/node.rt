@@ -19,10 +19,15 @@ use std::marker::Model;
 use validator::Validator;
 
 /// A node that threads share: a book under a lock, and two words that count what it accepted and settled.
-#[derive(Drop)]
 pub struct Node<'a, S: Sign> {
     pub(crate) words: Counts<'a, S>,
     pub(crate) lock: Lock<Locked<'a, S>, Key<'a, S>, AtHome>,
+}
+
+impl<'a, S: Sign> Drop for Node<'a, S> {
+    fn drop(self) {
+        let Node { words: _, lock: _ } = self;
+    }
 }
 
 impl<'a, S: Sign> Model for Node<'a, S> {

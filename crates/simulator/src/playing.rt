@@ -1,5 +1,6 @@
 //! A script, line by line.
 
+use crate::answer::Answer;
 use crate::ending::Ending;
 use crate::gathered::Gathered;
 use crate::obeying::step;
@@ -155,17 +156,43 @@ fn obey_all<R: Wait, I: Read + Drop, W: Write>(
 ) -> Result<Left, Ending> {
     let mut labels = Labels::new(alloc);
     for _ in 0..u64::MAX {
-        let Some(command) = script.command() else {
-            return Err(Ending::BadCommand);
-        };
-        let (next, answer) = step(rt, alloc, running, &mut labels, command)?;
+        let (next, goes_on) = obey(rt, alloc, running, script, writer, gathered, &mut labels)?;
         running = next;
-        gathered.add(&labels, &answer)?;
-        if !script.next(writer, gathered)? {
+        if !goes_on {
             return Ok(left_of(rt, running));
         }
     }
     Err(Ending::TooLong)
+}
+
+// Carries out the line that was read last; says whether there is one behind it.
+fn obey<'a, R: Wait, I: Read + Drop, W: Write>(
+    rt: &R,
+    alloc: Global,
+    running: Running<'a>,
+    script: &mut Script<I>,
+    writer: &mut W,
+    gathered: &mut Gathered,
+    labels: &mut Labels,
+) -> Result<(Running<'a>, bool), Ending> {
+    let Some(command) = script.command() else {
+        return Err(Ending::BadCommand);
+    };
+    let (next, answer) = step(rt, alloc, running, labels, command)?;
+    let goes_on = tell(script, writer, gathered, labels, &answer)?;
+    Ok((next, goes_on))
+}
+
+// Tells the answer, and reads the next line; says whether there is one.
+fn tell<I: Read + Drop, W: Write>(
+    script: &mut Script<I>,
+    writer: &mut W,
+    gathered: &mut Gathered,
+    labels: &Labels,
+    answer: &Answer,
+) -> Result<bool, Ending> {
+    gathered.add(labels, answer)?;
+    script.next(writer, gathered)
 }
 
 // What the node leaves.

@@ -18,13 +18,24 @@ use wire::{Author, Digest, Round};
 
 /// What a validator keeps: the batches, the votes for the headers of others, the own headers with the votes on them, and
 /// the certificates with the coins and the order.
-#[derive(Drop)]
 pub struct Tables<'a> {
     pub(crate) own: Author,
     pub(crate) batches: BatchStore<'a>,
     pub(crate) votes: VoteBook,
     pub(crate) headers: Assemblies<'a>,
     pub(crate) sequencer: Sequencer<'a>,
+}
+
+impl<'a> Drop for Tables<'a> {
+    fn drop(self) {
+        let Tables {
+            own: _,
+            batches: _,
+            votes: _,
+            headers: _,
+            sequencer: _,
+        } = self;
+    }
 }
 
 impl<'a> Tables<'a> {

@@ -16,9 +16,15 @@ use std::marker::Model;
 use wire::{Author, Certificate, Round};
 
 /// The coins of the waves, from wave 1 on. Contracts see their values.
-#[derive(Debug, Drop)]
+#[derive(Debug)]
 pub struct Coins {
     values: Vec<u64>,
+}
+
+impl Drop for Coins {
+    fn drop(self) {
+        let Coins { values: _ } = self;
+    }
 }
 
 impl Model for Coins {

@@ -11,9 +11,14 @@ use std::marker::Model;
 use wire::Author;
 
 /// A member of a committee with its signer. Contracts see all three.
-#[derive(Drop)]
 pub struct Config<S: Sign> {
     node: Node<S>,
+}
+
+impl<S: Sign + Drop> Drop for Config<S> {
+    fn drop(self) {
+        let Config { node: _ } = self;
+    }
 }
 
 impl<S: Sign> Model for Config<S> {

@@ -30,11 +30,20 @@ use wire::{Author, Digest, Header, Round};
 
 /// A validator without a disk. It answers events, keeps what it has to, and orders. Contracts see its configuration and
 /// its tables, which are always those of a sound state.
-#[derive(Drop)]
 pub struct Validator<'a, S: Sign> {
     alloc: Global,
     config: &'a Config<S>,
     tables: Tables<'a>,
+}
+
+impl<'a, S: Sign> Drop for Validator<'a, S> {
+    fn drop(self) {
+        let Validator {
+            alloc: _,
+            config: _,
+            tables: _,
+        } = self;
+    }
 }
 
 impl<'a, S: Sign> Model for Validator<'a, S> {

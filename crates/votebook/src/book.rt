@@ -23,9 +23,14 @@ pub enum Voted {
 }
 
 /// The votes. Contracts see a finite map from slots to header digests.
-#[derive(Drop)]
 pub struct VoteBook {
     votes: BTreeMap<Slot, Digest>,
+}
+
+impl Drop for VoteBook {
+    fn drop(self) {
+        let VoteBook { votes: _ } = self;
+    }
 }
 
 impl Model for VoteBook {

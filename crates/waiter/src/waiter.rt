@@ -24,10 +24,15 @@ pub fn limits_in_numbers()
 {}
 
 /// Certificates that wait for their parents. Contracts see them with their senders, in the order of offering.
-#[derive(Drop)]
 pub struct Waiter {
     // By the certificate digest.
     waiting: IndexMap<Digest, Checked>,
+}
+
+impl Drop for Waiter {
+    fn drop(self) {
+        let Waiter { waiting: _ } = self;
+    }
 }
 
 impl Model for Waiter {

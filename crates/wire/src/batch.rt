@@ -22,12 +22,23 @@ const LENGTH_BYTES: usize = 4;
 
 /// Transactions that an author's worker gathered, in their order: at most `MAX_TRANSACTION_BYTES` each,
 /// and at most `MAX_BATCH_BYTES` in the body, which is what is sent, stored and digested.
-#[derive(Debug, Drop)]
+#[derive(Debug)]
 pub struct Batch {
     author: Author,
     worker: u16,
     count: u32,
     body: Bytes,
+}
+
+impl Drop for Batch {
+    fn drop(self) {
+        let Batch {
+            author: _,
+            worker: _,
+            count: _,
+            body: _,
+        } = self;
+    }
 }
 
 impl Model for Batch {

@@ -1,10 +1,11 @@
 //! The digests of batches, headers and certificates. They take no memory.
 
 ghost use Rattle.std.specs.Prelude.{◌≡◌, ◌++◌, ◌∷◌, [], List, ℕ, ◌≤◌, length};
+ghost use Rattle.std.specs.Int.{w16, w64, to_be_bytes};
 ghost use Rattle.sha2.specs.Sha256.{sha256};
 ghost use Rattle.sha2.specs.Hashers.{Holds256};
 ghost use Rattle.wire.specs.declared.limits.TheConstants.{MAX_BATCHES, MAX_PARENTS};
-ghost use Rattle.wire.specs.Spelling.{batches_bytes, parents_bytes, body_bytes};
+ghost use Rattle.wire.specs.Spelling.{parent_reference_bytes, batches_bytes, parents_bytes, body_bytes};
 ghost use Rattle.wire.specs.Digests.{batch_digest_of, header_digest_of, certificate_digest_of, genesis_digest_of};
 
 use crate::batch::Batch;
@@ -35,15 +36,33 @@ fn feed_batches(hasher: &mut Sha256, batches: &[BatchReference])
     }
 }
 
+// In one piece, since each call of the hasher costs as much as a few bytes.
+fn parent_bytes(parent: &ParentReference) -> [u8; 34]
+    ensures { result ≡ parent_reference_bytes parent.now }
+{
+    let mut bytes = [0; 34];
+    bytes[..2].copy_from_slice(&two_bytes(parent.author.0));
+    bytes[2..].copy_from_slice(&parent.certificate.0);
+    bytes
+}
+
 fn feed_parents(hasher: &mut Sha256, parents: &[ParentReference])
     requires { length parents.now ≤ MAX_PARENTS }
     ensures { (m : List ℕ) → Holds256 hasher.old m → Holds256 hasher.new (m ++ parents_bytes parents.now) }
 {
     hasher.update(two_bytes(parents.len() as u16));
     for parent in parents {
-        hasher.update(two_bytes(parent.author.0));
-        hasher.update(parent.certificate.0);
+        hasher.update(parent_bytes(parent));
     }
+}
+
+fn head_bytes(author: Author, round: Round) -> [u8; 11]
+    ensures { result ≡ 72 ∷ to_be_bytes w16 author.0 ++ to_be_bytes w64 round }
+{
+    let mut bytes = [HEADER_LETTER; 11];
+    bytes[1..3].copy_from_slice(&two_bytes(author.0));
+    bytes[3..].copy_from_slice(&eight_bytes(round.number()));
+    bytes
 }
 
 fn body_digest(
@@ -57,9 +76,7 @@ fn body_digest(
     ensures { result.0 ≡ sha256 (72 ∷ body_bytes author.0 round batches.now parents.now) }
 {
     let mut hasher = Sha256::new();
-    hasher.update([HEADER_LETTER]);
-    hasher.update(two_bytes(author.0));
-    hasher.update(eight_bytes(round.number()));
+    hasher.update(head_bytes(author, round));
     feed_batches(&mut hasher, batches);
     feed_parents(&mut hasher, parents);
     Digest(hasher.finalize())
@@ -87,16 +104,31 @@ pub fn header_digest(header: &HeaderBody) -> Digest
     )
 }
 
+fn place_bytes(round: Round, author: Author) -> [u8; 10]
+    ensures { result ≡ to_be_bytes w64 round ++ to_be_bytes w16 author.0 }
+{
+    let mut bytes = [0; 10];
+    bytes[..8].copy_from_slice(&eight_bytes(round.number()));
+    bytes[8..].copy_from_slice(&two_bytes(author.0));
+    bytes
+}
+
+fn lettered_bytes(header: &Digest) -> [u8; 33]
+    ensures { result ≡ 67 ∷ header.now.0 }
+{
+    let mut bytes = [CERTIFICATE_LETTER; 33];
+    bytes[1..].copy_from_slice(&header.0);
+    bytes
+}
+
 /// The digest of the certificate of the header of this digest, round and author. It doesn't depend on the
 /// votes.
 pub fn certificate_digest(header: &Digest, round: Round, author: Author) -> Digest
     ensures { result.0 ≡ certificate_digest_of header.now.0 round author.0 }
 {
     let mut hasher = Sha256::new();
-    hasher.update([CERTIFICATE_LETTER]);
-    hasher.update(header.0);
-    hasher.update(eight_bytes(round.number()));
-    hasher.update(two_bytes(author.0));
+    hasher.update(lettered_bytes(header));
+    hasher.update(place_bytes(round, author));
     Digest(hasher.finalize())
 }
 

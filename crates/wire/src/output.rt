@@ -28,9 +28,15 @@ pub enum Output {
 }
 
 /// Certificate digests in their order, at most `MAX_ORDER_DIGESTS`.
-#[derive(Debug, Drop)]
+#[derive(Debug)]
 pub struct OrderDigests {
     list: Vec<Digest>,
+}
+
+impl Drop for OrderDigests {
+    fn drop(self) {
+        let OrderDigests { list: _ } = self;
+    }
 }
 
 impl Model for OrderDigests {

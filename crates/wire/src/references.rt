@@ -48,9 +48,15 @@ impl ParentReference {
 }
 
 /// The batches of a header: at most `MAX_BATCHES`, their digests rising strictly.
-#[derive(Clone, Debug, Drop)]
+#[derive(Clone, Debug)]
 pub struct BatchReferences {
     list: Vec<BatchReference>,
+}
+
+impl Drop for BatchReferences {
+    fn drop(self) {
+        let BatchReferences { list: _ } = self;
+    }
 }
 
 impl Model for BatchReferences {
@@ -125,9 +131,15 @@ impl BatchReferences {
 }
 
 /// The parents of a header: at most `MAX_PARENTS`, their authors rising strictly.
-#[derive(Clone, Debug, Drop)]
+#[derive(Clone, Debug)]
 pub struct ParentReferences {
     list: Vec<ParentReference>,
+}
+
+impl Drop for ParentReferences {
+    fn drop(self) {
+        let ParentReferences { list: _ } = self;
+    }
 }
 
 impl Model for ParentReferences {

@@ -28,9 +28,15 @@ impl VoteEntry {
 }
 
 /// The votes of a certificate: at most `MAX_VOTES`, their voters rising strictly.
-#[derive(Clone, Debug, Drop)]
+#[derive(Clone, Debug)]
 pub struct VoteEntries {
     list: Vec<VoteEntry>,
+}
+
+impl Drop for VoteEntries {
+    fn drop(self) {
+        let VoteEntries { list: _ } = self;
+    }
 }
 
 impl Model for VoteEntries {
