@@ -102,14 +102,14 @@ def ring():
     return [Header(place % MEMBERS, place + 1, genesis(), True) for place in range(RING)]
 
 
-def batch(number, size=100000):
+def batch(number, size=100000, author=1):
     """The body of a batch."""
     filling = u64(number) + b'\xab' * 500
     transactions, left = [], size - 8
     while left > 4:
         transactions.append(filling[:min(left - 4, 508)])
         left -= 4 + len(transactions[-1])
-    return u16(1) + u16(0) + u32(len(transactions)) + b''.join(u32(len(t)) + t for t in transactions)
+    return u16(author) + u16(0) + u32(len(transactions)) + b''.join(u32(len(t)) + t for t in transactions)
 
 
 def pieces(count):
@@ -291,6 +291,17 @@ def tested(fold, digest):
     fold.add_bytes(digest)
 
 
+def node(count):
+    """Small batches of three members, each of which the node acknowledges, in an order that isn't told."""
+    fold, acknowledged = Fold(), 0
+    for sender in range(1, 4):
+        digests = [sha(b'B' + batch(number, 20, sender)) for number in range(count)]
+        fold.add(over(digests, tested).value)
+        acknowledged += sum(over([digest], tested).value for digest in digests)
+    fold.add(3 * count, acknowledged % 2 ** 64)
+    return fold
+
+
 LITTLE = [
     ('decode-header', 20, lambda n: over(pieces(n), lambda fold, one: one.add_header(fold))),
     ('decode-certificate', 20, lambda n: over(pieces(n), lambda fold, one: one.add_certificate(fold))),
@@ -313,6 +324,7 @@ LITTLE = [
     ('append', 2, lambda n: over(range(n), append)),
     ('book', 1500, book),
     ('reopen', 1500, reopen),
+    ('node', 500, node),
 ]
 
 print('hash', 1000, sha(BLOCK * 1000).hex())

@@ -1,6 +1,7 @@
 //! What ends a run before its work is done.
 
 use committee::CommitteeError;
+use flusher::FlushError as RoundError;
 use header::CheckError;
 use journal::{Failed, JournalError};
 use ownbook::FlushError;
@@ -111,6 +112,15 @@ impl From<FlushError> for Ending {
     fn from(error: FlushError) -> Ending {
         match error {
             FlushError::Memory => Ending::Memory,
+            _ => Ending::Refused,
+        }
+    }
+}
+
+impl From<RoundError> for Ending {
+    fn from(error: RoundError) -> Ending {
+        match error {
+            RoundError::Memory => Ending::Memory,
             _ => Ending::Refused,
         }
     }

@@ -98,8 +98,41 @@ impl Fold {
         }
     }
 
+    /// Adds another sum.
+    pub fn join(&mut self, other: Fold) {
+        self.add(other.value);
+    }
+
     /// The digest of the sum.
     pub fn digest(self) -> [u8; 32] {
         Sha256::digest(self.value.to_be_bytes())
+    }
+}
+
+/// How many outputs there were, and a sum over them that doesn't depend on their order.
+#[derive(Clone, Copy)]
+pub struct Sum {
+    count: u64,
+    value: u64,
+}
+
+impl Sum {
+    /// Of none.
+    pub fn new() -> Sum {
+        Sum { count: 0, value: 0 }
+    }
+
+    /// Adds an output.
+    pub fn add(&mut self, output: &Output) {
+        let mut fold = Fold::new();
+        fold.add_output(output);
+        self.count = self.count.saturating_add(1);
+        self.value = self.value.wrapping_add(fold.value);
+    }
+
+    /// Adds both numbers.
+    pub fn add_to(self, fold: &mut Fold) {
+        fold.add(self.count);
+        fold.add(self.value);
     }
 }

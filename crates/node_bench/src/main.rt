@@ -8,6 +8,8 @@ mod fold;
 mod messages;
 mod rounds;
 mod settings;
+mod sharer;
+mod sharing;
 mod stepping;
 mod storing;
 mod task;
@@ -16,15 +18,18 @@ mod working;
 use ending::Ending;
 use std::env;
 use std::process::ExitCode;
+use std::rt::Env;
+use std::sync::Wait;
+use std::thread::Threads;
 use task::{Kind, Task, sized, task_of};
 
 /// What is told where the words ask for nothing.
 const USAGE: &str = "usage: narwhal-bench [prepare-]WORK COUNT [SIZE]
 WORK is hash, decode-FORM, encode-FORM, check-FORM, recheck-FORM, frames, step-header, step-vote,
-step-certificate, step-batch, order, append, book or reopen; FORM is header, certificate or batch";
+step-certificate, step-batch, order, append, book, reopen or node; FORM is header, certificate or batch";
 
 /// What is done where no words are given: a little of each kind.
-const LITTLE: [(&str, u64); 22] = [
+const LITTLE: [(&str, u64); 23] = [
     ("hash", 1_000),
     ("decode-header", 20),
     ("decode-certificate", 20),
@@ -47,6 +52,7 @@ const LITTLE: [(&str, u64); 22] = [
     ("append", 2),
     ("book", 1_500),
     ("reopen", 1_500),
+    ("node", 500),
 ];
 
 fn main(rt: HostRuntime) -> ExitCode {
@@ -61,7 +67,7 @@ fn main(rt: HostRuntime) -> ExitCode {
     }
 }
 
-fn run(rt: &HostRuntime) -> Result<(), Ending> {
+fn run<R: Env + AllocGlobal + Print + Threads + Wait + Sync>(rt: &R) -> Result<(), Ending> {
     let words: Vec<String> = env::args(rt)?.collect(rt.alloc())?;
     match words.as_slice() {
         [_, word, ..] => {
@@ -72,7 +78,7 @@ fn run(rt: &HostRuntime) -> Result<(), Ending> {
     }
 }
 
-fn run_little(rt: &HostRuntime) -> Result<(), Ending> {
+fn run_little<R: AllocGlobal + Print + Threads + Wait + Sync>(rt: &R) -> Result<(), Ending> {
     for (word, count) in LITTLE {
         let task = sized(rt.alloc(), word, count, None).ok_or(Ending::Usage)?;
         tell(rt, word, task)?;
@@ -81,8 +87,11 @@ fn run_little(rt: &HostRuntime) -> Result<(), Ending> {
 }
 
 // Does a task, and prints what it comes to.
-fn tell(rt: &HostRuntime, word: &str, task: Task) -> Result<(), Ending> {
-    let digest = digest_of(task)?;
+fn tell<R>(rt: &R, word: &str, task: Task) -> Result<(), Ending>
+where
+    R: AllocGlobal + Print + Threads + Wait + Sync,
+{
+    let digest = digest_of(rt, task)?;
     let count = task.count;
     let mut line = format!(in rt.alloc(); "{word} {count} ")?;
     for byte in digest {
@@ -93,7 +102,7 @@ fn tell(rt: &HostRuntime, word: &str, task: Task) -> Result<(), Ending> {
 }
 
 // The digest over the results of a task.
-fn digest_of(task: Task) -> Result<[u8; 32], Ending> {
+fn digest_of<R: Threads + Wait + Sync>(rt: &R, task: Task) -> Result<[u8; 32], Ending> {
     let fold = match task.kind {
         Kind::Hash => return Ok(working::hash(task)),
         Kind::Message(act, form) => working::work_on(task, act, form)?,
@@ -102,6 +111,7 @@ fn digest_of(task: Task) -> Result<[u8; 32], Ending> {
         Kind::Append => storing::append_groups(task)?,
         Kind::Book => storing::keep_book(task)?,
         Kind::Reopen => storing::reopen_journal(task)?,
+        Kind::Node => sharing::share_node(rt, task)?,
     };
     Ok(fold.digest())
 }

@@ -24,15 +24,23 @@ const HEAD_BYTES: u64 = 8;
 /// Bytes of a transaction's length.
 const LENGTH_BYTES: u64 = 4;
 
+/// Bytes of the body of a batch that has one number.
+const SMALL_BYTES: u64 = 20;
+
 /// What stands in a transaction.
 const FILLING: u8 = 0xab;
 
+/// A batch of one transaction, which is the number.
+pub fn small_batch(alloc: Global, author: Author, number: u64) -> Result<Batch, Ending> {
+    batch(alloc, author, number, SMALL_BYTES)
+}
+
 /// A batch whose body has so many bytes, or up to four less, with a number in its transactions that makes it another one
 /// than those of other numbers.
-pub fn batch(alloc: Global, number: u64, size: u64) -> Result<Batch, Ending> {
+pub fn batch(alloc: Global, author: Author, number: u64, size: u64) -> Result<Batch, Ending> {
     let mut transaction = [FILLING; TRANSACTION_BYTES];
     transaction[..8].copy_from_slice(&number.to_be_bytes());
-    let mut open = OpenBatch::new(alloc, PEER, 0)?;
+    let mut open = OpenBatch::new(alloc, author, 0)?;
     let mut left = size.saturating_sub(HEAD_BYTES);
     for _ in 0..MAX_TRANSACTIONS {
         if left <= LENGTH_BYTES {
@@ -96,7 +104,10 @@ fn message_of(
             let certificate = rounds.signed_certificate(author)?;
             Ok((author, Message::Certificate(certificate)))
         }
-        Form::Batch => Ok((PEER, Message::Batch(batch(task.alloc, number, task.size)?))),
+        Form::Batch => Ok((
+            PEER,
+            Message::Batch(batch(task.alloc, PEER, number, task.size)?),
+        )),
     }
 }
 

@@ -209,7 +209,7 @@ impl<'a> Walk<'a> {
     }
 
     fn take_batch(&mut self, task: Task, piece: u64) -> Result<(), Ending> {
-        let batch = batch(self.alloc, piece, task.size)?;
+        let batch = batch(self.alloc, PEER, piece, task.size)?;
         self.take(PEER, Message::Batch(batch), task.is_work)?;
         Ok(())
     }

@@ -24,7 +24,8 @@ const RECORD_BYTES: usize = 354;
 /// The kind of a record that has an event.
 const EVENT: u8 = 1;
 
-fn empty_disk(alloc: Global) -> Result<MemDisk, AllocError> {
+/// A disk that has nothing.
+pub fn empty_disk(alloc: Global) -> Result<MemDisk, AllocError> {
     MemDisk::new(alloc, Vec::new(alloc))
 }
 

@@ -53,6 +53,8 @@ pub enum Kind {
     Book,
     /// Opening a journal of certificates.
     Reopen,
+    /// Batches that threads submit to a node, and a flusher beside them.
+    Node,
 }
 
 /// What is to be done, how often, and how large. Without the work only that is done which has to come before it.
@@ -126,6 +128,7 @@ fn kind_of(word: &str) -> Option<Kind> {
         "append" => Some(Kind::Append),
         "book" => Some(Kind::Book),
         "reopen" => Some(Kind::Reopen),
+        "node" => Some(Kind::Node),
         _ => match step_of(word) {
             Some(step) => Some(Kind::Steps(step)),
             None => kind_of_form(word),
@@ -189,7 +192,7 @@ fn sizes_of(kind: Kind) -> Sizes {
         // Records of a group.
         Kind::Append => make_sizes(1_024, 1, 1_024),
         // Events between two flushes.
-        Kind::Book => make_sizes(1_024, 1, 1_000_000),
+        Kind::Book | Kind::Node => make_sizes(1_024, 1, 1_000_000),
         // Members: four, seven, and so on.
         _ => make_sizes(4, 4, 31),
     }
