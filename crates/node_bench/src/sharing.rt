@@ -7,22 +7,22 @@ use crate::ending::Ending;
 use crate::fold::{Fold, Sum};
 use crate::messages::small_batch;
 use crate::settings::config_of;
-use crate::sharer::{Caller, Rounds};
+use crate::sharer::Sharer;
 use crate::storing::empty_disk;
 use crate::task::Task;
+use crossbeam_channel::{Receiver, Sender, unbounded};
 use diskmodel::Disk;
 use header::recheck;
 use sigface::{HashSign, Sign};
-use startup::start;
+use startup::{Caller, Rounds, start};
 use std::alloc::AllocError;
 use std::sync::Wait;
-use std::sync::atomic::{AtomicBool, Ordering};
 use std::thread::{self, Threads};
 use validator::{Config, Validator};
 use wire::{Author, Message};
 
 /// Whose batches are submitted, by a thread each.
-const SENDERS: [Author; 3] = [Author(1), Author(2), Author(3)];
+const MEMBERS: [Author; 3] = [Author(1), Author(2), Author(3)];
 
 /// Three threads submit so many batches each to a node, and a fourth flushes as often as so many were accepted, and releases the
 /// outputs. Without that work, the same events go through a validator alone.
@@ -33,52 +33,62 @@ pub fn share_node<R: Threads + Wait + Sync>(rt: &R, task: Task) -> Result<Fold, 
     }
     let (node, seat, flusher) = start(task.alloc, &config, empty_disk(task.alloc)?)?;
     let mut rounds = Rounds::new(&node, seat, flusher);
-    let callers = callers_of(task, &config, &mut rounds)?;
-    submit_all(rt, task, callers, rounds)
+    let sharers = sharers_of(task, &config, &mut rounds)?;
+    let released = rounds.caller(&config)?;
+    submit_all(rt, task, sharers, Flushing { rounds, released })
 }
 
-fn callers_of<'n, 'a, S: Sign, D: Disk>(
+// What flushes a node, and what its outputs are collected with.
+#[derive(Drop)]
+struct Flushing<'n, 'a, S: Sign, D: Disk> {
+    rounds: Rounds<'n, 'a, S, D>,
+    released: Caller<'n, 'a, S>,
+}
+
+fn sharers_of<'n, 'a, S: Sign, D: Disk>(
     task: Task,
     config: &'a Config<S>,
     rounds: &mut Rounds<'n, 'a, S, D>,
-) -> Result<Vec<Caller<'n, 'a, S>>, AllocError>
+) -> Result<Vec<Sharer<'n, 'a, S>>, AllocError>
     requires { rounds.old ≡ config.now }
+    ensures { rounds.new ≡ rounds.old }
 {
-    let [first, second, third] = SENDERS;
-    let mut callers = Vec::new(task.alloc);
-    callers.push(rounds.caller(config, first)?)?;
-    callers.push(rounds.caller(config, second)?)?;
-    callers.push(rounds.caller(config, third)?)?;
-    Ok(callers)
+    let mut first = rounds.caller(config)?;
+    let mut sharers = Vec::new(task.alloc);
+    for member in MEMBERS {
+        let node = first.split()?;
+        sharers.push(Sharer { node, member })?;
+    }
+    Ok(sharers)
 }
 
 fn submit_all<R, S, D>(
     rt: &R,
     task: Task,
-    callers: Vec<Caller<'_, '_, S>>,
-    rounds: Rounds<'_, '_, S, D>,
+    sharers: Vec<Sharer<'_, '_, S>>,
+    flushing: Flushing<'_, '_, S, D>,
 ) -> Result<Fold, Ending>
 where
     R: Threads + Wait + Sync,
     S: Sign + Send + Sync + Drop,
     D: Disk + Drop + Send,
 {
-    let ended = AtomicBool::new(false);
+    let (bell, rings) = unbounded(task.alloc)?;
     let (folds, released) = thread::join(
         rt,
-        || {
-            let folds = thread::map_vec(rt, callers, &|caller| submit_batches(rt, task, caller));
-            ended.store(true, Ordering::SeqCst);
-            folds
-        },
-        || flush_all(rt, task, rounds, &ended),
+        move || thread::map_vec(
+            rt,
+            sharers,
+            &|sharer| submit_batches(rt, task, sharer, &bell),
+        ),
+        move || flush_all(rt, flushing, rings),
     );
     let mut fold = folded(folds?)?;
     released?.add_to(&mut fold);
     Ok(fold)
 }
 
-// What the threads' work comes to, in the order of the senders.
+// What the threads' work comes to, in the order of the members.
 fn folded(folds: Vec<Result<Fold, Ending>>) -> Result<Fold, Ending> {
     let mut all = Fold::new();
     for fold in folds {
@@ -87,34 +97,36 @@ fn folded(folds: Vec<Result<Fold, Ending>>) -> Result<Fold, Ending> {
     Ok(all)
 }
 
+// Rings each time that so many events were accepted, from all threads.
 fn submit_batches<S: Sign, R: Wait>(
     rt: &R,
     task: Task,
-    mut caller: Caller<'_, '_, S>,
+    mut sharer: Sharer<'_, '_, S>,
+    bell: &Sender<()>,
 ) -> Result<Fold, Ending> {
     let mut fold = Fold::new();
     for number in 0..task.count {
-        caller.submit(rt, task.alloc, number, &mut fold)?;
+        let ticket = sharer.submit(rt, task.alloc, number, &mut fold)?;
+        if ticket % task.size.max(1) == 0 && bell.send(rt, ()).is_err() {
+            return Err(Ending::Refused);
+        }
     }
     Ok(fold)
 }
 
-// Flushes each time that so many events are pending, and what is left once no more come.
+// Flushes at each ring, and what is left once none can come.
 fn flush_all<S: Sign, D: Disk + Drop, R: Wait>(
     rt: &R,
-    task: Task,
-    mut rounds: Rounds<'_, '_, S, D>,
-    ended: &AtomicBool,
+    mut flushing: Flushing<'_, '_, S, D>,
+    rings: Receiver<()>,
 ) -> Result<Sum, Ending> {
     let mut released = Sum::new();
+    for () in rings.iter(rt) {
+        flush(rt, &mut flushing, &mut released)?;
+    }
     for _ in rt.forever() {
-        let is_last = ended.load(Ordering::SeqCst);
-        if is_last || rounds.pending() >= task.size {
-            if flush(rt, &mut rounds, &mut released)? == 0 && is_last {
-                break;
-            }
-        } else {
-            thread::yield_now();
+        if flush(rt, &mut flushing, &mut released)? == 0 {
+            break;
         }
     }
     Ok(released)
@@ -123,12 +135,12 @@ fn flush_all<S: Sign, D: Disk + Drop, R: Wait>(
 // One round, behind which all is released that may go out. Says how many events it settled.
 fn flush<S: Sign, D: Disk, R: Wait>(
     rt: &R,
-    rounds: &mut Rounds<'_, '_, S, D>,
+    flushing: &mut Flushing<'_, '_, S, D>,
     released: &mut Sum,
 ) -> Result<u64, Ending> {
-    let count = rounds.round(rt)?;
+    let count = flushing.rounds.round(rt)?;
     for _ in rt.forever() {
-        let Some(output) = rounds.collect(rt) else {
+        let Some(output) = flushing.released.collect(rt) else {
             break;
         };
         released.add(&output);
@@ -138,7 +150,7 @@ fn flush<S: Sign, D: Disk, R: Wait>(
 
 fn step_all(task: Task, mut validator: Validator<'_, HashSign>) -> Result<Fold, Ending> {
     let mut all = Fold::new();
-    for sender in SENDERS {
+    for sender in MEMBERS {
         all.join(step_batches(task, &mut validator, sender)?);
     }
     Ok(all)

@@ -2,11 +2,10 @@
 
 ghost use Rattle.std.specs.Prelude.{◌≡◌, None};
 ghost use Rattle.header.specs.Checks.{fault_of, accepts_all};
-ghost use Rattle.shared.specs.Home.{IsOf};
 
 use header::{Checked, check, recheck};
 use reception::{Told, passes};
-use shared::{Node, Refusal, Seat};
+use shared::Refusal;
 use sigface::{HashVerify, Sign};
 use std::alloc::AllocError;
 use std::marker::Model;
@@ -25,41 +24,33 @@ pub(crate) enum Taken {
     Waits(Checked),
 }
 
-/// A node, and a seat of it. Contracts see the node's configuration.
+/// A caller of a node, for messages that aren't checked yet. Contracts see the node's configuration.
 #[derive(Drop)]
 pub(crate) struct Caller<'n, 'a, S: Sign> {
-    node: &'n Node<'a, S>,
-    config: &'a Config<S>,
-    seat: Seat,
+    node: startup::Caller<'n, 'a, S>,
 }
 
 impl<'n, 'a, S: Sign> Model for Caller<'n, 'a, S> {
-    ghost use Rattle.std.specs.Prelude.{◌≡◌};
     ghost use Rattle.validator.specs.Setting.{Setting};
-    ghost use Rattle.shared.specs.Home.{IsOf};
 
     ghost Value = { Setting S };
 
-    ghost view = { λ c. c.config.now };
-
-    ghost invariant = { λ c. IsOf c.node.now c.seat × (c.node.now.setting ≡ c.config.now) };
+    ghost view = { λ c. c.node };
 }
 
 impl<'n, 'a, S: Sign> Caller<'n, 'a, S> {
-    /// A caller of a node of this configuration, with a seat of the node.
-    pub(crate) fn new(node: &'n Node<'a, S>, config: &'a Config<S>, seat: Seat) -> Caller<'n, 'a, S>
-        requires of { IsOf node.now seat }
-        requires setting { node.now.setting ≡ config.now }
-        ensures { result ≡ config.now }
+    /// This caller.
+    pub(crate) fn new(node: startup::Caller<'n, 'a, S>) -> Caller<'n, 'a, S>
+        ensures { result ≡ node.entry }
     {
-        Caller { node, config, seat }
+        Caller { node }
     }
 
     /// The configuration.
     pub(crate) fn config(&self) -> &Config<S>
         ensures { result.now ≡ self.now }
     {
-        self.config
+        self.node.config()
     }
 
     /// Checks a message from its sender, and submits it unless it is a certificate that has to wait.
@@ -71,18 +62,18 @@ impl<'n, 'a, S: Sign> Caller<'n, 'a, S> {
     ) -> Result<Taken, Told>
         ensures { self.new ≡ self.old }
     {
-        let event = check(self.config.committee(), &HashVerify, sender, message)?;
-        if event.certificate_digest().is_some() && !self.node.ready(rt, &mut self.seat, &event) {
+        let event = check(self.node.config().committee(), &HashVerify, sender, message)?;
+        if event.certificate_digest().is_some() && !self.node.ready(rt, &event) {
             return Ok(Taken::Waits(event));
         }
-        submit(rt, self.node, &mut self.seat, event)
+        submit(rt, &mut self.node, event)
     }
 
     /// Whether a waiting certificate is ready.
     pub(crate) fn is_ready<R: Wait>(&mut self, rt: &R, event: &Checked) -> bool
         ensures { self.new ≡ self.old }
     {
-        passes(self.config.committee(), event) && self.node.ready(rt, &mut self.seat, event)
+        passes(self.node.config().committee(), event) && self.node.ready(rt, event)
     }
 
     /// Submits what has waited.
@@ -90,8 +81,8 @@ impl<'n, 'a, S: Sign> Caller<'n, 'a, S> {
         ensures { self.new ≡ self.old }
     {
         let sender = event.sender();
-        let event = recheck(self.config.committee(), sender, event.into_message())?;
-        submit(rt, self.node, &mut self.seat, event)
+        let event = recheck(self.node.config().committee(), sender, event.into_message())?;
+        submit(rt, &mut self.node, event)
     }
 
     /// Submits the header that the validator proposes, if it proposes one. Says whether that was new. `AllocError` where memory was
@@ -99,14 +90,18 @@ impl<'n, 'a, S: Sign> Caller<'n, 'a, S> {
     pub(crate) fn propose<R: Wait>(&mut self, rt: &R) -> Result<bool, AllocError>
         ensures { self.new ≡ self.old }
     {
-        let Some(header) = self.node.propose(rt, &mut self.seat)? else {
+        let Some(header) = self.node.propose(rt)? else {
             return Ok(false);
         };
         let message = Message::Header(header);
-        let Ok(event) = recheck(self.config.committee(), self.config.own(), message) else {
+        let Ok(event) = recheck(
+            self.node.config().committee(),
+            self.node.config().own(),
+            message,
+        ) else {
             return Ok(false);
         };
-        match submit(rt, self.node, &mut self.seat, event) {
+        match submit(rt, &mut self.node, event) {
             Ok(Taken::New) => Ok(true),
             Err(Told::Refused(Refusal::Memory)) => Err(AllocError),
             // A node that is down refuses it, and the run says so at its end.
@@ -119,7 +114,7 @@ impl<'n, 'a, S: Sign> Caller<'n, 'a, S> {
         ensures { self.new ≡ self.old }
     {
         // There is no such place in the order, so nothing is copied.
-        let order = self.node.order(rt, &mut self.seat, u64::MAX);
+        let order = self.node.order(rt, u64::MAX);
         matches!(order, Err(Refusal::Down))
     }
 
@@ -127,21 +122,19 @@ impl<'n, 'a, S: Sign> Caller<'n, 'a, S> {
     pub(crate) fn collect<R: Wait>(&mut self, rt: &R) -> Option<Output>
         ensures { self.new ≡ self.old }
     {
-        self.node.collect(rt, &mut self.seat)
+        self.node.collect(rt)
     }
 }
 
-fn submit<'a, S: Sign, R: Wait>(
+fn submit<S: Sign, R: Wait>(
     rt: &R,
-    node: &Node<'a, S>,
-    seat: &mut Seat,
+    node: &mut startup::Caller<'_, '_, S>,
     event: Checked,
 ) -> Result<Taken, Told>
-    requires of { IsOf node.now seat.old }
-    requires passed { fault_of node.now.setting.charter accepts_all event ≡ None }
-    ensures of { IsOf node.now seat.new }
+    requires { fault_of node.old.charter accepts_all event ≡ None }
+    ensures { node.new ≡ node.old }
 {
-    let receipt = node.submit(rt, seat, event)?;
+    let receipt = node.submit(rt, event)?;
     if receipt.new {
         Ok(Taken::New)
     } else {

@@ -1,12 +1,12 @@
 //! The thread that brings records to the disk.
 
 use crate::bell::Bell;
-use crate::rounds::Rounds;
 use diskmodel::Disk;
 use flusher::FlushError;
 use journal::JournalError;
 use reception::Faults;
 use sigface::Sign;
+use startup::Rounds;
 use std::sync::Wait;
 
 /// What the thread leaves.

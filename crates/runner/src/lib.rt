@@ -9,7 +9,6 @@ mod intake;
 mod member;
 mod opening;
 mod reading;
-mod rounds;
 mod running;
 mod threads;
 mod writing;

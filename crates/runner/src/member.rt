@@ -1,13 +1,12 @@
 //! A member's node over its disk.
 
 use crate::bell::Bells;
-use crate::rounds::Rounds;
 use crate::threads::{Desks, run_threads};
 use diskmodel::Disk;
 use journal::Failed;
 use reception::Ending;
 use sigface::Sign;
-use startup::start;
+use startup::{Rounds, start};
 use std::alloc::Global;
 use std::io::{Read, Write};
 use std::sync::Wait;

@@ -8,11 +8,11 @@ use crate::caller::Caller;
 use crate::flushing::{Flushed, flush_all};
 use crate::intake::Intake;
 use crate::reading::read_all;
-use crate::rounds::Rounds;
 use crate::writing::write_outputs;
 use diskmodel::Disk;
 use reception::{Faults, Input};
 use sigface::Sign;
+use startup::Rounds;
 use std::alloc::{AllocError, Global};
 use std::io::{BufWriter, Read, Write};
 use std::sync::Wait;
@@ -49,9 +49,9 @@ impl<'n, 'a, 'e, S: Sign, I: Read + Drop, W: Write + Drop, E: Write> Desks<'n, '
             alloc,
             bells,
             input: Input::new(alloc, reader)?,
-            intake: Intake::new(alloc, rounds.caller(config)?, &bells.pending)?,
+            intake: Intake::new(alloc, Caller::new(rounds.caller(config)?), &bells.pending)?,
             errors: buffered(alloc, errors)?,
-            caller: rounds.caller(config)?,
+            caller: Caller::new(rounds.caller(config)?),
             writer: buffered(alloc, writer)?,
         })
     }

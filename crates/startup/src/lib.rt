@@ -1,5 +1,8 @@
-//! A node that threads share, and its flusher, after what is on a disk.
+//! A node that threads share, and its flusher, after what is on a disk, and what threads call them with.
 #![tactic(auto)]
+
+mod caller;
+mod rounds;
 
 ghost use Rattle.std.specs.Prelude.{◌≡◌, ◌≢◌, ◌⊎◌, ◌<◌, ◌≤◌, [], Ok, IfOk, IfErr};
 ghost use Rattle.diskmodel.specs.Disk.{AtEachMoment};
@@ -14,10 +17,12 @@ ghost use Rattle.recovery.specs.Told.{told, Tells, IsToldAsOneOf};
 ghost use Rattle.shared.specs.Home.{IsOf};
 ghost use Rattle.flusher.specs.Rounds.{journal_of, IsFlusherOf};
 
+pub use caller::Caller;
 use diskmodel::Disk;
 use flusher::Flusher;
 use journal::{Failed, Journal, JournalError};
 use recovery::reopen;
+pub use rounds::Rounds;
 use shared::{Node, Seat, Start};
 use sigface::Sign;
 use std::alloc::Global;

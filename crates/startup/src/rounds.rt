@@ -1,4 +1,4 @@
-//! The flusher of a node, and its seat.
+//! What a thread flushes a node with.
 
 ghost use Rattle.std.specs.Prelude.{◌≡◌, IfOk};
 ghost use Rattle.validator.specs.Setting.{node_of};
@@ -16,11 +16,20 @@ use std::sync::Wait;
 use validator::Config;
 
 /// A node's flusher, with the seat that it calls the node with. Contracts see the node's configuration.
-#[derive(Drop)]
-pub(crate) struct Rounds<'n, 'a, S: Sign, D: Disk> {
+pub struct Rounds<'n, 'a, S: Sign, D: Disk> {
     node: &'n Node<'a, S>,
     seat: Seat,
     flusher: Flusher<D>,
+}
+
+impl<'n, 'a, S: Sign, D: Disk + Drop> Drop for Rounds<'n, 'a, S, D> {
+    fn drop(self) {
+        let Rounds {
+            node: _,
+            seat: _,
+            flusher: _,
+        } = self;
+    }
 }
 
 impl<'n, 'a, S: Sign, D: Disk> Model for Rounds<'n, 'a, S, D> {
@@ -37,11 +46,7 @@ impl<'n, 'a, S: Sign, D: Disk> Model for Rounds<'n, 'a, S, D> {
 
 impl<'n, 'a, S: Sign, D: Disk> Rounds<'n, 'a, S, D> {
     /// The flusher of a node, with a seat of the node.
-    pub(crate) fn new(
-        node: &'n Node<'a, S>,
-        seat: Seat,
-        flusher: Flusher<D>,
-    ) -> Rounds<'n, 'a, S, D>
+    pub fn new(node: &'n Node<'a, S>, seat: Seat, flusher: Flusher<D>) -> Rounds<'n, 'a, S, D>
         requires of { IsOf node.now seat }
         requires flusher { IsFlusherOf (node_of S.own_key S.signature_of) D.content D.outcome node.now flusher }
         ensures { result ≡ node.now.setting }
@@ -53,8 +58,8 @@ impl<'n, 'a, S: Sign, D: Disk> Rounds<'n, 'a, S, D> {
         }
     }
 
-    /// A caller of the node, whose configuration this is. `AllocError` where a growth was refused.
-    pub(crate) fn caller(&mut self, config: &'a Config<S>) -> Result<Caller<'n, 'a, S>, AllocError>
+    /// A caller of the node, whose configuration this is. It takes no memory.
+    pub fn caller(&mut self, config: &'a Config<S>) -> Result<Caller<'n, 'a, S>, AllocError>
         requires setting { self.old ≡ config.now }
         ensures same { self.new ≡ self.old }
         ensures caller { IfOk result (λ caller. caller ≡ config.now) }
@@ -64,14 +69,14 @@ impl<'n, 'a, S: Sign, D: Disk> Rounds<'n, 'a, S, D> {
     }
 
     /// One round. Answers how many records were brought to the disk, 0 where all had been.
-    pub(crate) fn round<R: Wait>(&mut self, rt: &R) -> Result<u64, FlushError>
+    pub fn round<R: Wait>(&mut self, rt: &R) -> Result<u64, FlushError>
         ensures { self.new ≡ self.old }
     {
         self.flusher.round(rt, self.node, &mut self.seat)
     }
 
     /// Gives the disk back.
-    pub(crate) fn into_disk(self) -> D {
+    pub fn into_disk(self) -> D {
         let Rounds {
             node: _,
             seat: _,
