@@ -1,0 +1,189 @@
+//! Three threads that submit to one node, while a fourth flushes.
+
+use crate::ending::Ending;
+use crate::makers::{batch_of, config_of, empty_disk};
+use diskmodel::{Disk, MemDisk, StopDisk};
+use sigface::HashSign;
+use startup::{Caller, Rounds, start};
+use std::alloc::{AllocError, Global};
+use std::sync::Wait;
+use std::thread::{self, Threads};
+use stopping::losing;
+use validator::Config;
+use wire::Author;
+
+/// Whose batches are submitted, by a thread each.
+const MEMBERS: [Author; 3] = [Author(1), Author(2), Author(3)];
+
+/// How many batches each thread submits.
+const EACH: u64 = 1_000;
+
+/// How many that are together.
+const ALL: u64 = 3_000;
+
+/// How often the thread that flushes does so, before it ends without all.
+const TURNS: u64 = 10_000_000;
+
+/// Who submits, and through which seat.
+#[derive(Drop)]
+struct Member<'n, 'a> {
+    caller: Caller<'n, 'a, HashSign>,
+    author: Author,
+}
+
+/// Submits all batches to a node in three threads; stops it in a way that loses what isn't synced, opens it again and submits them once
+/// more.
+pub fn crowd<R>(rt: &R, alloc: Global, answer: &mut String) -> Result<(), Ending>
+where
+    R: Threads + Wait + Sync,
+{
+    let config = config_of(alloc)?;
+    let disk = submit_all(rt, alloc, &config, answer)?;
+    let mut disk = losing(alloc, disk)?;
+    disk.stop();
+    let known = submit_again(rt, alloc, &config, disk)?;
+    writeln!(answer, "{known} known")?;
+    Ok(())
+}
+
+fn submit_all<R>(
+    rt: &R,
+    alloc: Global,
+    config: &Config<HashSign>,
+    answer: &mut String,
+) -> Result<MemDisk, Ending>
+where
+    R: Threads + Wait + Sync,
+{
+    let (node, mut seat, flusher) = start(alloc, config, empty_disk(alloc)?)?;
+    let mut first = node.split(&mut seat)?;
+    let mut second = node.split(&mut first)?;
+    let mut rounds = Rounds::new(&node, seat, flusher);
+    let members = members_of(alloc, &mut rounds.caller(config)?)?;
+    let (tickets, flushed) = thread::join(
+        rt,
+        move || thread::map_vec(rt, members, &|member| submit_batches(rt, alloc, member)),
+        move || flush_all(rt, rounds),
+    );
+    tell_tickets(alloc, tickets?, answer)?;
+    let count = node.meet(&mut first, &mut second);
+    writeln!(answer, "two seats meet at {count}")?;
+    flushed
+}
+
+fn members_of<'n, 'a>(
+    alloc: Global,
+    caller: &mut Caller<'n, 'a, HashSign>,
+) -> Result<Vec<Member<'n, 'a>>, AllocError> {
+    let mut members = Vec::new(alloc);
+    for author in MEMBERS {
+        let caller = caller.split()?;
+        members.push(Member { caller, author })?;
+    }
+    Ok(members)
+}
+
+// Answers the tickets, in their order.
+fn submit_batches<R: Wait>(
+    rt: &R,
+    alloc: Global,
+    member: Member<'_, '_>,
+) -> Result<Vec<u64>, Ending> {
+    let Member { mut caller, author } = member;
+    let mut tickets = Vec::new(alloc);
+    for number in 0..EACH {
+        let ticket = submit_batch(rt, alloc, &mut caller, author, number)?;
+        tickets.push(ticket)?;
+    }
+    Ok(tickets)
+}
+
+// Answers the ticket of a new event.
+fn submit_batch<R: Wait>(
+    rt: &R,
+    alloc: Global,
+    caller: &mut Caller<'_, '_, HashSign>,
+    author: Author,
+    number: u64,
+) -> Result<u64, Ending> {
+    let event = batch_of(alloc, caller.config(), author, number)?;
+    let receipt = caller.submit(rt, event)?;
+    match receipt.new {
+        true => Ok(receipt.ticket),
+        false => Err(Ending::Unexpected),
+    }
+}
+
+// Flushes until all are settled, and answers the disk.
+fn flush_all<D: Disk + Drop, R: Wait>(
+    rt: &R,
+    mut rounds: Rounds<'_, '_, HashSign, D>,
+) -> Result<D, Ending> {
+    let mut settled = 0;
+    for _ in 0..TURNS {
+        let count = rounds.round(rt)?;
+        settled = count.saturating_add(settled);
+        if settled >= ALL {
+            break;
+        }
+        if count == 0 {
+            thread::yield_now();
+        }
+    }
+    match settled == ALL {
+        true => Ok(rounds.into_disk()),
+        false => Err(Ending::Unexpected),
+    }
+}
+
+fn tell_tickets(
+    alloc: Global,
+    found: Vec<Result<Vec<u64>, Ending>>,
+    answer: &mut String,
+) -> Result<(), Ending> {
+    let mut all = Vec::new(alloc);
+    for tickets in found {
+        let tickets = tickets?;
+        if tickets.is_sorted_by(|one, next| one < next) {
+            answer.push_str("a seat's tickets rise\n")?;
+        }
+        all.extend_from_slice(&tickets)?;
+    }
+    all.sort_unstable();
+    if all.iter().copied().eq(1..=ALL) {
+        answer.push_str("all tickets are those from 1 to 3000\n")?;
+    }
+    Ok(())
+}
+
+// How many of the batches a node on this disk knows.
+fn submit_again<R: Wait>(
+    rt: &R,
+    alloc: Global,
+    config: &Config<HashSign>,
+    disk: MemDisk,
+) -> Result<u64, Ending> {
+    let (node, seat, _) = start(alloc, config, disk)?;
+    let mut caller = Caller::new(&node, config, seat);
+    let mut known = 0_u64;
+    for author in MEMBERS {
+        known = known.saturating_add(known_of(rt, alloc, &mut caller, author)?);
+    }
+    Ok(known)
+}
+
+fn known_of<R: Wait>(
+    rt: &R,
+    alloc: Global,
+    caller: &mut Caller<'_, '_, HashSign>,
+    author: Author,
+) -> Result<u64, Ending> {
+    let mut known = 0_u64;
+    for number in 0..EACH {
+        let event = batch_of(alloc, caller.config(), author, number)?;
+        if !caller.submit(rt, event)?.new {
+            known = known.saturating_add(1);
+        }
+    }
+    Ok(known)
+}
