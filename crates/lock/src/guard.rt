@@ -1,12 +1,13 @@
 //! The lock.
 
-ghost use Rattle.std.specs.Prelude.{◌≡◌, [], IfOk};
+ghost use Rattle.std.specs.Prelude.{◌≡◌, [], IfOk, IsTrue, IsFalse};
 ghost use Rattle.lock.specs.Home.{Holds, Takes};
 
 use crate::rule::{Enter, Fits, Give, Home, Take, Told};
 use crate::turn::Turn;
 use atomic_table::{Refused, Seat, Table};
 use std::alloc::{AllocError, Global};
+use std::hint;
 use std::marker::{Brand, Model};
 use std::sync::Wait;
 
@@ -21,6 +22,9 @@ const TAKEN: u64 = 1;
 
 // Somebody has the value, and somebody else may sleep until it is back.
 const WANTED: u64 = 2;
+
+// How often the value is tried for before a sleep.
+const TRIES: u32 = 100;
 
 /// A lock round a value. Contracts see which lock it is, and its key.
 pub struct Lock<T, K, F: Fits<T, K>> {
@@ -68,7 +72,7 @@ impl<T, K, F: Fits<T, K>> Lock<T, K, F> {
         ensures fits { F.fits self.now.key result.1 }
     {
         let (_, mut seat) = self.table.shared.load_new_seat::<Enter>(WORD);
-        if self.take_free::<Brand>(&mut seat) == FREE {
+        if self.take_soon(&mut seat) {
             return self.open(seat);
         }
         for _ in rt.forever() {
@@ -95,6 +99,23 @@ impl<T, K, F: Fits<T, K>> Lock<T, K, F> {
         if found == WANTED {
             shared.wake_one(WORD);
         }
+    }
+
+    // Tries again for about as long as the value is mostly out: a sleep, and who wakes it, cost more. Says whether it was taken.
+    fn take_soon(&self, seat: &mut Seat<Option<T>, ()>) -> bool
+        requires of { seat.old.table_id ≡ self.now.id }
+        requires empty { seat.old.me.1 ≡ [] }
+        ensures of { seat.new.table_id ≡ self.now.id }
+        ensures taken { IsTrue result → Holds (F.fits self.now.key) seat.new.me }
+        ensures not_taken { IsFalse result → seat.new.me.1 ≡ [] }
+    {
+        for _ in 0..TRIES {
+            if self.take_free::<Brand>(seat) == FREE {
+                return true;
+            }
+            hint::spin_loop();
+        }
+        false
     }
 
     // Each answers the word as it was.

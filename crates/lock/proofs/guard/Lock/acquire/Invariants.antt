@@ -1,9 +1,6 @@
 use Rattle.std.proofs.Common.{◌≡◌, []}
 use Rattle.lock.proofs.guard.Lock.acquire.Given as goal
 
-abbrev pub ghosts-take_free : goal.ghosts-take_free
-ghosts-take_free g a = record { told = g.F.Fits.fits a.self.now.key }
-
 abbrev pub ghosts-take_wanted : goal.ghosts-take_wanted
 ghosts-take_wanted g a = record { told = g.F.Fits.fits a.self.now.key }
 
