@@ -1,8 +1,8 @@
 -- How long the spelling of a message is.
-use Rattle.std.proofs.Common.{◌≡◌, ℕ, ◌+◌, ◌*◌, List, [], ◌∷◌, ◌++◌, length, ap, refl, arith, length-append, ◌∙◌}
+use Rattle.std.proofs.Common.{◌≡◌, ℕ, ◌+◌, ◌*◌, List, [], ◌∷◌, length, arith, length-append}
 use Rattle.std.specs.Prelude.{All}
 use Rattle.std.specs.List.{flat_map}
-use Rattle.std.specs.Int.{w16, w64, to_be_bytes}
+use Rattle.std.specs.Int.{w16, to_be_bytes}
 use Rattle.std.proofs.lemmas.List.Elements.{All-head, All-tail}
 use Rattle.wire.specs.declared.header.HeaderBody.{HeaderBody}
 use Rattle.wire.specs.declared.header.Header.{Header}

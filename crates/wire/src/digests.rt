@@ -5,7 +5,8 @@ ghost use Rattle.std.specs.Int.{w16, w64, to_be_bytes};
 ghost use Rattle.sha2.specs.Sha256.{sha256};
 ghost use Rattle.sha2.specs.Hashers.{Holds256};
 ghost use Rattle.wire.specs.declared.limits.TheConstants.{MAX_BATCHES, MAX_PARENTS};
-ghost use Rattle.wire.specs.Spelling.{parent_reference_bytes, batches_bytes, parents_bytes, body_bytes};
+ghost use Rattle.std.specs.List.{flat_map};
+ghost use Rattle.wire.specs.Spelling.{batch_reference_bytes, parent_reference_bytes, parents_bytes, body_bytes};
 ghost use Rattle.wire.specs.Digests.{batch_digest_of, header_digest_of, certificate_digest_of, genesis_digest_of};
 
 use crate::batch::Batch;
@@ -25,18 +26,25 @@ const HEADER_LETTER: u8 = 0x48;
 /// What comes before a certificate in its digest: the letter C.
 const CERTIFICATE_LETTER: u8 = 0x43;
 
-fn feed_batches(hasher: &mut Sha256, batches: &[BatchReference])
-    requires { length batches.now ≤ MAX_BATCHES }
-    ensures { (m : List ℕ) → Holds256 hasher.old m → Holds256 hasher.new (m ++ batches_bytes batches.now) }
+// In one piece each, since a call of the hasher costs as much as a few bytes.
+fn batch_bytes(batch: &BatchReference) -> [u8; 34]
+    ensures { result ≡ batch_reference_bytes batch.now }
 {
-    hasher.update(two_bytes(batches.len() as u16));
+    let mut bytes = [0; 34];
+    bytes[32..].copy_from_slice(&two_bytes(batch.worker));
+    bytes[..32].copy_from_slice(&batch.digest.0);
+    bytes
+}
+
+// Without their count.
+fn feed_batches(hasher: &mut Sha256, batches: &[BatchReference])
+    ensures { (m : List ℕ) → Holds256 hasher.old m → Holds256 hasher.new (m ++ flat_map batch_reference_bytes batches.now) }
+{
     for batch in batches {
-        hasher.update(batch.digest.0);
-        hasher.update(two_bytes(batch.worker));
+        hasher.update(batch_bytes(batch));
     }
 }
 
-// In one piece, since each call of the hasher costs as much as a few bytes.
 fn parent_bytes(parent: &ParentReference) -> [u8; 34]
     ensures { result ≡ parent_reference_bytes parent.now }
 {
@@ -56,12 +64,22 @@ fn feed_parents(hasher: &mut Sha256, parents: &[ParentReference])
     }
 }
 
-fn head_bytes(author: Author, round: Round) -> [u8; 11]
+fn slot_bytes(author: Author, round: Round) -> [u8; 11]
     ensures { result ≡ 72 ∷ to_be_bytes w16 author.0 ++ to_be_bytes w64 round }
 {
     let mut bytes = [HEADER_LETTER; 11];
     bytes[1..3].copy_from_slice(&two_bytes(author.0));
     bytes[3..].copy_from_slice(&eight_bytes(round.number()));
+    bytes
+}
+
+// All that comes before the batches, of which there are so many.
+fn head_bytes(author: Author, round: Round, batches: u16) -> [u8; 13]
+    ensures { result ≡ (72 ∷ to_be_bytes w16 author.0 ++ to_be_bytes w64 round) ++ to_be_bytes w16 batches }
+{
+    let mut bytes = [0; 13];
+    bytes[..11].copy_from_slice(&slot_bytes(author, round));
+    bytes[11..].copy_from_slice(&two_bytes(batches));
     bytes
 }
 
@@ -76,7 +94,7 @@ fn body_digest(
     ensures { result.0 ≡ sha256 (72 ∷ body_bytes author.0 round batches.now parents.now) }
 {
     let mut hasher = Sha256::new();
-    hasher.update(head_bytes(author, round));
+    hasher.update(head_bytes(author, round, batches.len() as u16));
     feed_batches(&mut hasher, batches);
     feed_parents(&mut hasher, parents);
     Digest(hasher.finalize())
@@ -121,15 +139,21 @@ fn lettered_bytes(header: &Digest) -> [u8; 33]
     bytes
 }
 
+fn certificate_bytes(header: &Digest, round: Round, author: Author) -> [u8; 43]
+    ensures { result ≡ (67 ∷ header.now.0) ++ to_be_bytes w64 round ++ to_be_bytes w16 author.0 }
+{
+    let mut bytes = [0; 43];
+    bytes[33..].copy_from_slice(&place_bytes(round, author));
+    bytes[..33].copy_from_slice(&lettered_bytes(header));
+    bytes
+}
+
 /// The digest of the certificate of the header of this digest, round and author. It doesn't depend on the
 /// votes.
 pub fn certificate_digest(header: &Digest, round: Round, author: Author) -> Digest
     ensures { result.0 ≡ certificate_digest_of header.now.0 round author.0 }
 {
-    let mut hasher = Sha256::new();
-    hasher.update(lettered_bytes(header));
-    hasher.update(place_bytes(round, author));
-    Digest(hasher.finalize())
+    Digest(Sha256::digest(certificate_bytes(header, round, author)))
 }
 
 /// The digest of the genesis certificate of an author: round 0, no batches, no parents, no votes.

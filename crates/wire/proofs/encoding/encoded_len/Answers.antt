@@ -1,4 +1,4 @@
-use Rattle.std.proofs.Common.{◌≡◌, ◌+◌, ◌*◌, length, ap, sym, ◌∙◌, arith, subst}
+use Rattle.std.proofs.Common.{length, ap, arith, subst}
 use Rattle.wire.specs.Spelling.{spelling}
 use Rattle.wire.specs.Grammar.{IsMessage}
 use Rattle.wire.proofs.Lengths.{header_spelled, certificate_spelled}
