@@ -23,8 +23,15 @@ const TAKEN: u64 = 1;
 // Somebody has the value, and somebody else may sleep until it is back.
 const WANTED: u64 = 2;
 
-// How often the value is tried for before a sleep.
-const TRIES: u32 = 100;
+// How often the value is tried for before a sleep, each time behind twice as many pauses as the time before: some tens of
+// microseconds, which is what a sleep and who wakes it cost.
+const TRIES: u32 = 10;
+
+fn pause(times: u32) {
+    for _ in 0..times {
+        hint::spin_loop();
+    }
+}
 
 /// A lock round a value. Contracts see which lock it is, and its key.
 pub struct Lock<T, K, F: Fits<T, K>> {
@@ -101,7 +108,8 @@ impl<T, K, F: Fits<T, K>> Lock<T, K, F> {
         }
     }
 
-    // Tries again for about as long as the value is mostly out: a sleep, and who wakes it, cost more. Says whether it was taken.
+    // Tries for a while, and more and more seldom: who has the value then mostly takes it again, and has all of it in its
+    // cache. It looks before it tries, since a try takes the word's cache line from who will release. Says whether it was taken.
     fn take_soon(&self, seat: &mut Seat<Option<T>, ()>) -> bool
         requires of { seat.old.table_id ≡ self.now.id }
         requires empty { seat.old.me.1 ≡ [] }
@@ -109,11 +117,11 @@ impl<T, K, F: Fits<T, K>> Lock<T, K, F> {
         ensures taken { IsTrue result → Holds (F.fits self.now.key) seat.new.me }
         ensures not_taken { IsFalse result → seat.new.me.1 ≡ [] }
     {
-        for _ in 0..TRIES {
-            if self.take_free::<Brand>(seat) == FREE {
+        for doublings in 0..TRIES {
+            if self.table.shared.peek(WORD) == FREE && self.take_free::<Brand>(seat) == FREE {
                 return true;
             }
-            hint::spin_loop();
+            pause(1 << doublings);
         }
         false
     }

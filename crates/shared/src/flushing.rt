@@ -43,13 +43,14 @@ impl<'a, S: Sign> Node<'a, S> {
     {
         self.words.meet::<Anything>(seat, &mut flush.seat);
         for _ in rt.forever() {
-            let (turn, mut locked) = self.lock.acquire(rt);
-            if self.tie(rt, &mut locked, flush) {
-                let found = self.take_tied(&mut locked, flush);
-                self.lock.release(turn, locked);
+            let (turn, mut home) = self.lock.acquire(rt);
+            let locked = &mut *home;
+            if self.tie(rt, locked, flush) {
+                let found = self.take_tied(locked, flush);
+                self.lock.release(turn, home);
                 return found;
             }
-            self.lock.release(turn, locked);
+            self.lock.release(turn, home);
         }
         unreachable!()
     }
@@ -64,13 +65,14 @@ impl<'a, S: Sign> Node<'a, S> {
         ensures settled { (flush.new.settled ≡ flush.old.taken) × (flush.new.taken ≡ flush.old.taken) }
     {
         for _ in rt.forever() {
-            let (turn, mut locked) = self.lock.acquire(rt);
-            if self.tie(rt, &mut locked, flush) {
-                self.settle_tied(rt, &mut locked, flush, synced);
-                self.lock.release(turn, locked);
+            let (turn, mut home) = self.lock.acquire(rt);
+            let locked = &mut *home;
+            if self.tie(rt, locked, flush) {
+                self.settle_tied(rt, locked, flush, synced);
+                self.lock.release(turn, home);
                 return;
             }
-            self.lock.release(turn, locked);
+            self.lock.release(turn, home);
         }
         unreachable!()
     }
@@ -93,9 +95,10 @@ impl<'a, S: Sign> Node<'a, S> {
 
     /// Takes the node down, as where a device call failed or the journal is full. From now on nothing is accepted or given out.
     pub fn fail<R: Wait>(&self, rt: &R) {
-        let (turn, mut locked) = self.lock.acquire(rt);
+        let (turn, mut home) = self.lock.acquire(rt);
+        let locked = &mut *home;
         locked.book.fail();
-        self.lock.release(turn, locked);
+        self.lock.release(turn, home);
     }
 
     // The flush seat then knows what the book's seat does. The answer is whether it counts as the book does, which it will at once

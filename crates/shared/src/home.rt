@@ -18,7 +18,7 @@ impl<'a, S: Sign> Law<Validator<'a, S>> for Legal {
 
 pub(crate) type Counts<'a, S> = Words<Validator<'a, S>, Legal>;
 
-/// The book, and its own seat.
+/// The book, and its own seat. It is large, so the lock has it in a box, and hands over the box alone.
 #[derive(Drop)]
 pub(crate) struct Locked<'a, S: Sign> {
     pub(crate) book: Book<'a, S>,
@@ -35,9 +35,9 @@ pub(crate) struct Key<'a, S: Sign> {
 /// The book is at home.
 pub(crate) struct AtHome;
 
-impl<'a, S: Sign> Fits<Locked<'a, S>, Key<'a, S>> for AtHome {
+impl<'a, S: Sign> Fits<Box<Locked<'a, S>>, Key<'a, S>> for AtHome {
     ghost use Rattle.validator.specs.Setting.{node_of};
     ghost use Rattle.shared.specs.Home.{IsAtHome};
 
-    ghost fits = { λ key locked. IsAtHome (node_of S.own_key S.signature_of) (record { table = key.words.table; setting = key.words.key.setting; start = key.seat.view.start }) locked.seat locked.book };
+    ghost fits = { λ key locked. IsAtHome (node_of S.own_key S.signature_of) (record { table = key.words.table; setting = key.words.key.setting; start = key.seat.view.start }) locked.value.seat locked.value.book };
 }

@@ -21,7 +21,7 @@ use validator::Validator;
 /// A node that threads share: a book under a lock, and two words that count what it accepted and settled.
 pub struct Node<'a, S: Sign> {
     pub(crate) words: Counts<'a, S>,
-    pub(crate) lock: Lock<Locked<'a, S>, Key<'a, S>, AtHome>,
+    pub(crate) lock: Lock<Box<Locked<'a, S>>, Key<'a, S>, AtHome>,
 }
 
 impl<'a, S: Sign> Drop for Node<'a, S> {
@@ -63,7 +63,8 @@ impl<'a, S: Sign> Node<'a, S> {
         let seat = words.split(&mut own);
         let book = Book::new(alloc, validator);
         let key = Key { words, seat: first };
-        let lock = Lock::new(alloc, Locked { book, seat: own }, &key)?;
+        let locked = Box::new(alloc, Locked { book, seat: own })?;
+        let lock = Lock::new(alloc, locked, &key)?;
         let Key { words, seat: _ } = key;
         let flush_seat = FlushSeat {
             seat: flush,

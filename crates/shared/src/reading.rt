@@ -109,10 +109,11 @@ impl<'a, S: Sign> Node<'a, S> {
         ensures seen { Begins seat.old.view.seen seat.new.view.seen }
         ensures goes_out { IfSome result (λ output. MayGive (node_of S.own_key S.signature_of self.now.setting) (firm_by seat.new) output) }
     {
-        let (turn, mut locked) = self.lock.acquire(rt);
-        self.know_all(rt, &mut locked, seat);
+        let (turn, mut home) = self.lock.acquire(rt);
+        let locked = &mut *home;
+        self.know_all(rt, locked, seat);
         let output = locked.book.release();
-        self.lock.release(turn, locked);
+        self.lock.release(turn, home);
         output
     }
 
@@ -130,10 +131,11 @@ impl<'a, S: Sign> Node<'a, S> {
         ensures order { IfOk result (λ digests. digests.items ≡ drop from (order_of (node_of S.own_key S.signature_of self.now.setting) (firm_by seat.new))) }
         ensures errors { IfErr result (λ refusal. (refusal ≡ Refusal.Down) ⊎ (refusal ≡ Refusal.Memory)) }
     {
-        let (turn, mut locked) = self.lock.acquire(rt);
-        self.know_all(rt, &mut locked, seat);
+        let (turn, mut home) = self.lock.acquire(rt);
+        let locked = &mut *home;
+        self.know_all(rt, locked, seat);
         let order = locked.book.order(from);
-        self.lock.release(turn, locked);
+        self.lock.release(turn, home);
         order
     }
 
@@ -153,10 +155,11 @@ impl<'a, S: Sign> Node<'a, S> {
         ensures more { Begins seat.old.view.seen seat.new.view.seen }
         ensures voted { result ≡ unless_low (floor_of (node_of S.own_key S.signature_of self.now.setting) (seen_by seat.new)) round (voted_digest (seen_by seat.new) round author.0) }
     {
-        let (turn, mut locked) = self.lock.acquire(rt);
-        self.see_all(rt, &mut locked, seat);
+        let (turn, mut home) = self.lock.acquire(rt);
+        let locked = &mut *home;
+        self.see_all(rt, locked, seat);
         let voted = locked.book.validator().voted(author, round);
-        self.lock.release(turn, locked);
+        self.lock.release(turn, home);
         voted
     }
 
@@ -169,10 +172,11 @@ impl<'a, S: Sign> Node<'a, S> {
         ensures more { Begins seat.old.view.seen seat.new.view.seen }
         ensures round { result ≡ round_of (node_of S.own_key S.signature_of self.now.setting) (seen_by seat.new) }
     {
-        let (turn, mut locked) = self.lock.acquire(rt);
-        self.see_all(rt, &mut locked, seat);
+        let (turn, mut home) = self.lock.acquire(rt);
+        let locked = &mut *home;
+        self.see_all(rt, locked, seat);
         let round = locked.book.round_now();
-        self.lock.release(turn, locked);
+        self.lock.release(turn, home);
         round
     }
 
@@ -187,10 +191,11 @@ impl<'a, S: Sign> Node<'a, S> {
         ensures more { Begins seat.old.view.seen seat.new.view.seen }
         ensures ready { result ≡ not (is_missing_parents (admit (node_of S.own_key S.signature_of self.now.setting) (seen_by seat.new) event.now)) }
     {
-        let (turn, mut locked) = self.lock.acquire(rt);
-        self.see_all(rt, &mut locked, seat);
+        let (turn, mut home) = self.lock.acquire(rt);
+        let locked = &mut *home;
+        self.see_all(rt, locked, seat);
         let ready = locked.book.validator().ready(event);
-        self.lock.release(turn, locked);
+        self.lock.release(turn, home);
         ready
     }
 
@@ -204,10 +209,11 @@ impl<'a, S: Sign> Node<'a, S> {
         ensures more { Begins seat.old.view.seen seat.new.view.seen }
         ensures header { IfOk result (λ found. found ≡ propose_of (node_of S.own_key S.signature_of self.now.setting) (seen_by seat.new)) }
     {
-        let (turn, mut locked) = self.lock.acquire(rt);
-        self.see_all(rt, &mut locked, seat);
+        let (turn, mut home) = self.lock.acquire(rt);
+        let locked = &mut *home;
+        self.see_all(rt, locked, seat);
         let header = locked.book.validator().propose();
-        self.lock.release(turn, locked);
+        self.lock.release(turn, home);
         header
     }
 }

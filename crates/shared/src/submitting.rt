@@ -32,9 +32,10 @@ impl<'a, S: Sign> Node<'a, S> {
         ensures firm { seat.new.view.firm ≡ seat.old.view.firm }
         ensures submits { Submits (node_of S.own_key S.signature_of self.now.setting) event seat.old.view seat.new.view result }
     {
-        let (turn, mut locked) = self.lock.acquire(rt);
-        let answer = self.accept::<Brand, R>(rt, &mut locked, seat, event);
-        self.lock.release(turn, locked);
+        let (turn, mut home) = self.lock.acquire(rt);
+        let locked = &mut *home;
+        let answer = self.accept::<Brand, R>(rt, locked, seat, event);
+        self.lock.release(turn, home);
         answer
     }
 

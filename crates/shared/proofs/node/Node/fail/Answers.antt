@@ -5,5 +5,5 @@ use Rattle.shared.proofs.node.Node.fail.Goals as goal
 
 pub release-requires-clause-fits : goal.release-requires-clause-fits
 release-requires-clause-fits g c =
-    home_where _ (node_of g.S.Sign.own_key g.S.Sign.signature_of) c.acquire-turn.result.1.seat c.acquire-turn.result.1.book c.fail.new.self (search rules)
+    home_where _ (node_of g.S.Sign.own_key g.S.Sign.signature_of) c.deref_mut-locked.result.now.seat c.deref_mut-locked.result.now.book c.fail.new.self (search rules)
     (ap (λ b. b.validator.setting) c.fail.ensures.down) c.fail.ensures.stands

@@ -1,15 +1,17 @@
-use Rattle.std.proofs.Common.{rules, sym, subst}
+use Rattle.std.proofs.Common.{rules, ◌≡◌, sym, subst}
 use Rattle.validator.specs.Setting.{node_of}
 use Rattle.validator.specs.Standing.{Standing}
-use Rattle.book.specs.Book.{run_on, Stands}
+use Rattle.book.specs.Book.{Shown, run_on, Stands}
 use Rattle.shared.proofs.Standing.{at_home}
 use Rattle.shared.proofs.node.Node.new.Goals as goal
 
-pub new-requires-2 : goal.new-requires-2
-new-requires-2 g c =
+pub new-requires-3 : goal.new-requires-3
+new-requires-3 g c =
     let key = c.in_ok-words.ensures.key in
     let stands = c.new-book.ensures.stands g.H.Start.history c.requires.legal c.requires.at in
-    at_home _ (node_of g.S.Sign.own_key g.S.Sign.signature_of) c.split-seat.new.seat c.new-book.result (run_on g.H.Start.history)
+    let boxed : c.new-book.result ≡ c.in_ok-locked.locked.value.book = search rules in
+    at_home _ (node_of g.S.Sign.own_key g.S.Sign.signature_of) c.in_ok-locked.locked.value.seat c.in_ok-locked.locked.value.book (run_on g.H.Start.history)
     (search rules) (record { table = search rules; live = search rules; numbered = search rules; start = search rules })
-    (subst (λ (s : Standing g.row.S.Denot). Stands (node_of g.S.Sign.own_key g.S.Sign.signature_of s.setting) (run_on g.H.Start.history) c.new-book.result) (sym key) stands)
+    (subst (λ (b : Shown g.row.S.Denot). Stands (node_of g.S.Sign.own_key g.S.Sign.signature_of c.in_ok-words.words.key.setting) (run_on g.H.Start.history) b) boxed
+    (subst (λ (s : Standing g.row.S.Denot). Stands (node_of g.S.Sign.own_key g.S.Sign.signature_of s.setting) (run_on g.H.Start.history) c.new-book.result) (sym key) stands))
     (search rules) (search rules) (search rules)

@@ -6,7 +6,7 @@ use Rattle.shared.proofs.node.Node.order.Goals as goal
 
 pub returns-clause-order : goal.returns-clause-order
 returns-clause-order g c =
-    let home : IsAtHome (node_of g.S.Sign.own_key g.S.Sign.signature_of) c.args.self.now c.acquire-turn.result.1.seat c.acquire-turn.result.1.book = search rules in
+    let home : IsAtHome (node_of g.S.Sign.own_key g.S.Sign.signature_of) c.args.self.now c.acquire-turn.result.1.value.seat c.acquire-turn.result.1.value.book = search rules in
     let now : IsAtHome (node_of g.S.Sign.own_key g.S.Sign.signature_of) c.args.self.now c.know_all.new.locked.seat c.know_all.new.locked.book = search rules in
     ordered c.args.self.now (node_of g.S.Sign.own_key g.S.Sign.signature_of) c.know_all.new.locked.seat c.know_all.new.seat c.know_all.new.locked.book now c.know_all.ensures.of.start
     (search rules) _ c.args.from c.order-order.result c.order-order.ensures.order

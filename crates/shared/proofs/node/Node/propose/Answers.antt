@@ -6,7 +6,7 @@ use Rattle.shared.proofs.node.Node.propose.Goals as goal
 
 pub returns-clause-header : goal.returns-clause-header
 returns-clause-header g c =
-    let home : IsAtHome (node_of g.S.Sign.own_key g.S.Sign.signature_of) c.args.self.now c.acquire-turn.result.1.seat c.acquire-turn.result.1.book = search rules in
+    let home : IsAtHome (node_of g.S.Sign.own_key g.S.Sign.signature_of) c.args.self.now c.acquire-turn.result.1.value.seat c.acquire-turn.result.1.value.book = search rules in
     let now : IsAtHome (node_of g.S.Sign.own_key g.S.Sign.signature_of) c.args.self.now c.see_all.new.locked.seat c.see_all.new.locked.book = search rules in
     let seen : c.see_all.new.seat.view.seen ≡ c.see_all.new.locked.seat.view.seen = search rules in
     proposed c.args.self.now (node_of g.S.Sign.own_key g.S.Sign.signature_of) c.see_all.new.locked.seat c.see_all.new.seat c.see_all.new.locked.book now c.see_all.ensures.of.start

@@ -13,7 +13,7 @@ use Rattle.shared.proofs.node.Node.ready.Goals as goal
 
 pub returns-clause-ready : goal.returns-clause-ready
 returns-clause-ready g c =
-    let home : IsAtHome (node_of g.S.Sign.own_key g.S.Sign.signature_of) c.args.self.now c.acquire-turn.result.1.seat c.acquire-turn.result.1.book = search rules in
+    let home : IsAtHome (node_of g.S.Sign.own_key g.S.Sign.signature_of) c.args.self.now c.acquire-turn.result.1.value.seat c.acquire-turn.result.1.value.book = search rules in
     let now : IsAtHome (node_of g.S.Sign.own_key g.S.Sign.signature_of) c.args.self.now c.see_all.new.locked.seat c.see_all.new.locked.book = search rules in
     let seen : c.see_all.new.seat.view.seen ≡ c.see_all.new.locked.seat.view.seen = search rules in
     let told = subst (λ (v : Standing g.row.S.Denot). (history : History) → IsLegal (node_of g.S.Sign.own_key g.S.Sign.signature_of v.setting) history
