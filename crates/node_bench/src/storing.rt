@@ -69,8 +69,9 @@ fn append_records(
 fn records_of(task: Task, piece: u64) -> Result<Vec<Vec<u8>>, AllocError> {
     let mut records = Vec::new(task.alloc);
     for _ in 0..task.size {
-        let mut record = vec![in task.alloc; 0; RECORD_BYTES]?;
-        record[..8].copy_from_slice(&piece.to_be_bytes());
+        let mut record = Vec::with_capacity(task.alloc, RECORD_BYTES)?;
+        record.extend_from_slice(&piece.to_be_bytes())?;
+        record.extend_from_slice(&[0; RECORD_BYTES - 8])?;
         records.push(record)?;
     }
     Ok(records)

@@ -136,15 +136,22 @@ fn kind_of(word: &str) -> Option<Kind> {
     }
 }
 
+// Each step by its word.
+const STEPS: [(&str, Step); 5] = [
+    ("step-header", Step::Header),
+    ("step-vote", Step::Vote),
+    ("step-certificate", Step::Certificate),
+    ("step-batch", Step::Batch),
+    ("order", Step::Round),
+];
+
 fn step_of(word: &str) -> Option<Step> {
-    match word {
-        "step-header" => Some(Step::Header),
-        "step-vote" => Some(Step::Vote),
-        "step-certificate" => Some(Step::Certificate),
-        "step-batch" => Some(Step::Batch),
-        "order" => Some(Step::Round),
-        _ => None,
+    for (name, step) in STEPS {
+        if name == word {
+            return Some(step);
+        }
     }
+    None
 }
 
 fn kind_of_form(word: &str) -> Option<Kind> {
