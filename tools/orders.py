@@ -102,7 +102,7 @@ class Played:
         self.look()
         print('== %s' % title)
         print('# %d commits, at most %d leaders at once, %d certificates ordered that came late' % (self.commits, self.longest, self.late))
-        print('committee %d %s' % (self.depth, ' '.join(map(str, self.stakes))))
+        print('committee %s | depth = %d' % (' '.join(map(str, self.stakes)), self.depth))
         print('play ' + ' '.join(self.words))
         for line in self.lines:
             print('> ' + line)

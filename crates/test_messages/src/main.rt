@@ -1,13 +1,15 @@
-//! The tests of the messages, of the committee, and of what tests and counts messages: a case file over the public
-//! surface of their crates.
+//! The tests of the messages, of the committee, of what tests and counts messages, of what makes batches, and of what lets
+//! certificates wait: a case file over the public surface of their crates.
 #![tactic(auto)]
 
 mod frames;
+mod makers;
 mod members;
 mod messages;
 mod numbers;
 mod stakes;
 mod tables;
+mod waiters;
 mod words;
 
 use cases::{Ending, play};

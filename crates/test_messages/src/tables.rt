@@ -1,11 +1,14 @@
 //! What the commands are put to.
 
 use crate::frames::{count_ways, feed};
+use crate::makers::{make, push, seal};
 use crate::members::{add_members, check_both, read_committee, show_key, sign, verify};
 use crate::messages::{beginnings, fill, message, order, spelled_again, written};
 use crate::numbers::{genesis, laws, vote, voted};
 use crate::stakes::{is_among, is_in_both, show_stake, show_total, weigh};
+use crate::waiters::{Waiting, next, offer, offer_header, offer_rounds, open};
 use crate::words::{Names, Told, author_of, joined, numbers_of, round_of, show, tell};
+use batchmaker::BatchMaker;
 use cases::Subject;
 use committee::Committee;
 use sha2::{Digest, Sha256};
@@ -14,7 +17,7 @@ use votebook::VoteBook;
 use wire::{OpenBatch, Round, Wave};
 use wire_read::FrameReader;
 
-/// The names, the committee that was read last, and the reader and the vote book of a case.
+/// The names, the committee that was read last, and the reader, the vote book, the maker and the waiter of a case.
 #[derive(Drop)]
 pub struct Tables {
     alloc: Global,
@@ -23,6 +26,8 @@ pub struct Tables {
     committee: Option<Committee>,
     reader: FrameReader,
     book: VoteBook,
+    maker: Option<BatchMaker>,
+    waiting: Option<Waiting>,
 }
 
 impl Tables {
@@ -35,6 +40,8 @@ impl Tables {
             committee: None,
             reader: FrameReader::new(alloc),
             book: VoteBook::new(alloc),
+            maker: None,
+            waiting: None,
         }
     }
 
@@ -63,7 +70,14 @@ impl Tables {
             ("vote", [author, round]) => vote(&mut self.book, *author, *round, bytes, answer),
             ("voted", [author, round]) => voted(&self.book, *author, *round, answer),
             ("forget", [round]) => Ok(self.book.forget_to(round_of(*round))),
-            _ => plain(self.alloc, name, numbers, bytes, answer),
+            ("maker", [author, worker]) => make(self.alloc, *author, *worker, &mut self.maker),
+            ("push", []) => push(&mut self.maker, bytes, answer),
+            ("seal", []) => seal(&mut self.maker, answer),
+            ("waiter", []) => open(self.alloc, &mut self.waiting, answer),
+            _ => match &mut self.waiting {
+                Some(waiting) => wait(self.alloc, waiting, name, numbers, answer),
+                None => plain(self.alloc, name, numbers, bytes, answer),
+            },
         }
     }
 
@@ -74,6 +88,26 @@ impl Tables {
         let name = String::from_str(self.alloc, name)?;
         self.names.insert(name, bytes)?;
         Ok(())
+    }
+}
+
+// Where a case has a waiter.
+fn wait(
+    alloc: Global,
+    waiting: &mut Waiting,
+    name: &str,
+    numbers: &[u64],
+    answer: &mut String,
+) -> Told {
+    match (name, numbers) {
+        ("offer", [round, author, voter]) => {
+            offer(alloc, waiting, (*round, *author), *voter, answer)
+        }
+        ("header", [round]) => offer_header(alloc, waiting, *round, answer),
+        ("rounds", [first, end]) => offer_rounds(alloc, waiting, (*first, *end), answer),
+        ("next", []) => next(waiting, None, answer),
+        ("next", [author]) => next(waiting, Some(*author), answer),
+        _ => answer.push_str("bad case\n"),
     }
 }
 
@@ -106,6 +140,8 @@ impl Subject for Tables {
     fn begin(&mut self, _title: &str) -> Told {
         self.reader = FrameReader::new(self.alloc);
         self.book = VoteBook::new(self.alloc);
+        self.maker = None;
+        self.waiting = None;
         Ok(())
     }
 

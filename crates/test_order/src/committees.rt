@@ -1,4 +1,4 @@
-//! Committees of a depth and of members with these stakes.
+//! Committees of members with these stakes.
 
 use crate::words::Told;
 use cases::write_hex;
@@ -24,15 +24,15 @@ fn add_stakes(text: &mut String, stakes: &[u64]) -> Told {
     text.push_str("]\n")
 }
 
-/// The committee with this depth, of members with these stakes, or why it is none.
+/// The committee of members with these stakes, whose file has this line, too, or why it is none.
 pub fn committee_of(
     alloc: Global,
-    depth: u64,
     stakes: &[u64],
+    line: &str,
 ) -> Result<Result<Committee, CommitteeError>, AllocError> {
     let mut text = String::new(alloc);
-    writeln!(text, "depth = {depth}")?;
     add_members(&mut text, stakes.len())?;
     add_stakes(&mut text, stakes)?;
+    text.push_str(line)?;
     Ok(Committee::read(alloc, &text))
 }

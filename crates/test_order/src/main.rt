@@ -1,9 +1,15 @@
-//! The tests of the commit rule and of what it orders: a case file over the public surface.
+//! The tests of what a validator orders by, and of what comes before it: votes, batches, the DAG, the commit rule and the
+//! segments. A case file over their public surface.
 #![tactic(auto)]
 
+mod certificates;
 mod committees;
+mod graphs;
+mod looks;
 mod playing;
+mod stores;
 mod tables;
+mod votes;
 mod words;
 
 use cases::{Ending, play};

@@ -3,16 +3,14 @@
 ghost use Rattle.std.specs.Prelude.{◌≡◌, ◌<◌, length};
 ghost use Rattle.wire.specs.Digests.{header_digest_of, certificate_digest_of};
 
-use crate::words::{Told, author_of, numbers_in, round_of, write_slot};
+use crate::certificates::{certificate_of, digest_of};
+use crate::words::{Told, numbers_in, round_of, write_slot};
 use committee::Committee;
 use dag::{Added, Dag};
 use flatten::{Lengthening, mark, segment};
 use std::alloc::{AllocError, Global};
 use tusk::Coins;
-use wire::{
-    Author, BatchReferences, Certificate, Digest, HeaderBody, ParentReference, ParentReferences,
-    Round, VoteEntries, certificate_digest, header_digest,
-};
+use wire::{Author, Digest, Round};
 
 // What a node keeps to order by.
 #[derive(Drop)]
@@ -37,10 +35,10 @@ pub fn play_words(alloc: Global, committee: &Committee, words: &str, answer: &mu
     };
     for word in words.split_whitespace() {
         let (name, rest) = word.split_once('-').unwrap_or((word, ""));
-        let numbers = numbers_in(alloc, rest, '.')?;
+        let numbers = numbers_in(alloc, rest)?;
         match (name, numbers.as_slice()) {
             ("add", [round, author, parents @ ..]) => {
-                playing.add(*round, author_of(*author), parents, answer)?
+                playing.add(*round, *author, parents, answer)?
             }
             ("coin", [value]) => playing.coin(*value, answer)?,
             ("leaders", _) => playing.tell_leaders(answer)?,
@@ -50,59 +48,9 @@ pub fn play_words(alloc: Global, committee: &Committee, words: &str, answer: &mu
     Ok(())
 }
 
-// A header's references to the certificates of these authors in the round below; of one that isn't held the digest is zeros.
-fn parents_of(
-    alloc: Global,
-    dag: &Dag,
-    below: Round,
-    authors: &[u64],
-) -> Result<ParentReferences, AllocError> {
-    let mut parents = ParentReferences::new(alloc);
-    for author in authors {
-        let author = author_of(*author);
-        let certificate = match dag.digest(below, author) {
-            Some(digest) => *digest,
-            None => Digest([0; 32]),
-        };
-        if parents.len() < wire::MAX_PARENTS && parents.may_follow(author) {
-            parents.push(ParentReference {
-                author,
-                certificate,
-            })?;
-        }
-    }
-    Ok(parents)
-}
-
-fn digest_of(certificate: &Certificate) -> Digest
-    ensures { result.0 ≡ certificate_digest_of (header_digest_of certificate.now.header) certificate.now.header.round certificate.now.header.author.0 }
-{
-    let header = &certificate.header;
-    certificate_digest(&header_digest(header), header.round, header.author)
-}
-
 impl<'a> Playing<'a> {
-    fn certificate(
-        &self,
-        round: u64,
-        author: Author,
-        parents: &[u64],
-    ) -> Result<Certificate, AllocError> {
-        let below = round_of(round.saturating_sub(1));
-        let parents = parents_of(self.alloc, &self.dag, below, parents)?;
-        Ok(Certificate {
-            header: HeaderBody {
-                author,
-                round: round_of(round),
-                batches: BatchReferences::new(self.alloc),
-                parents,
-            },
-            votes: VoteEntries::new(self.alloc),
-        })
-    }
-
-    fn add(&mut self, round: u64, author: Author, parents: &[u64], answer: &mut String) -> Told {
-        let certificate = self.certificate(round, author, parents)?;
+    fn add(&mut self, round: u64, author: u64, parents: &[u64], answer: &mut String) -> Told {
+        let certificate = certificate_of(self.alloc, &self.dag, round, author, parents)?;
         let digest = digest_of(&certificate);
         if certificate.header.author.0 >= self.dag.committee().size()
             || certificate.header.parents.as_slice().is_empty()
@@ -150,7 +98,7 @@ impl<'a> Playing<'a> {
         answer: &mut String,
     ) -> Told {
         let again = self.coins.chain_from(self.alloc, &self.dag, self.last)?;
-        if again.as_slice() != chain || !self.is_alike(chain, made)? {
+        if again.as_slice() != chain || !self.is_alike(made)? {
             answer.push_str("otherwise\n")?;
         }
         let Some(last) = chain.last() else {
@@ -180,23 +128,29 @@ impl<'a> Playing<'a> {
         )
     }
 
-    // Whether each of leaders orders, asked alone behind the one before it, what its beginning has behind that one's.
-    fn is_alike(
-        &self,
-        chain: &[(Round, Author)],
-        made: &[Lengthening],
-    ) -> Result<bool, AllocError> {
+    // Whether each leader orders, asked alone behind the one before it, what its beginning has behind that one's.
+    fn is_alike(&self, made: &[Lengthening]) -> Result<bool, AllocError> {
         let mut previous = self.previous;
         let mut told = 0;
-        for (leader, one) in chain.iter().zip(made.iter()) {
-            let alone = segment(self.alloc, &self.dag, *leader, previous)?;
-            if !one.digests().iter().skip(told).eq(alone.iter()) {
+        for one in made {
+            if !self.orders(one.last(), previous, one.digests().get(told..))? {
                 return Ok(false);
             }
-            previous = Some(*leader);
+            previous = Some(one.last());
             told = one.digests().len();
         }
         Ok(true)
+    }
+
+    // Whether a leader orders these behind the one before it.
+    fn orders(
+        &self,
+        leader: (Round, Author),
+        previous: Option<(Round, Author)>,
+        digests: Option<&[Digest]>,
+    ) -> Result<bool, AllocError> {
+        let alone = segment(self.alloc, &self.dag, leader, previous)?;
+        Ok(digests == Some(alone.as_slice()))
     }
 
     // What each leader orders: what its beginning has behind that of the one before.
@@ -205,7 +159,7 @@ impl<'a> Playing<'a> {
         for one in made {
             let digests = one.digests();
             answer.push_str("orders")?;
-            for digest in digests.iter().skip(told) {
+            for digest in digests.get(told..).unwrap_or_default() {
                 self.tell_digest(digest, answer)?;
             }
             answer.push_str("\n")?;

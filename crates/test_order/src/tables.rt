@@ -1,7 +1,10 @@
 //! What the commands are put to.
 
 use crate::committees::committee_of;
+use crate::graphs::graph;
 use crate::playing::play_words;
+use crate::stores::store;
+use crate::votes::assemble;
 use crate::words::{Told, numbers_in};
 use cases::Subject;
 use committee::Committee;
@@ -24,11 +27,9 @@ impl Tables {
     }
 
     fn read(&mut self, words: &str, answer: &mut String) -> Told {
-        let numbers = numbers_in(self.alloc, words, ' ')?;
-        let [depth, stakes @ ..] = numbers.as_slice() else {
-            return answer.push_str("bad case\n");
-        };
-        match committee_of(self.alloc, *depth, stakes)? {
+        let (words, line) = words.split_once('|').unwrap_or((words, ""));
+        let stakes = numbers_in(self.alloc, words)?;
+        match committee_of(self.alloc, &stakes, line)? {
             Ok(committee) => {
                 self.committee = Some(committee);
                 Ok(())
@@ -44,14 +45,23 @@ impl Subject for Tables {
         Ok(())
     }
 
-    /// `committee` with its depth and stakes, or `play` and the words that are played from the genesis on.
+    /// `committee` with its stakes, and behind a line what its file has beside them, or what is asked of one: `quorum`, or a
+    /// word of one of the tables, with what is done to that table.
     fn obey(&mut self, command: &str, answer: &mut String) -> Told {
-        if let Some(words) = command.strip_prefix("committee ") {
+        let (name, words) = command.split_once(' ').unwrap_or((command, ""));
+        if name == "committee" {
             return self.read(words, answer);
         }
-        match (&self.committee, command.strip_prefix("play ")) {
-            (Some(committee), Some(words)) => play_words(self.alloc, committee, words, answer),
-            _ => answer.push_str("bad case\n"),
+        let Some(committee) = &self.committee else {
+            return answer.push_str("no committee\n");
+        };
+        match name {
+            "quorum" => writeln!(answer, "quorum {}", committee.quorum()),
+            "assemble" => assemble(self.alloc, committee, words, answer),
+            "store" => store(self.alloc, committee, words, answer),
+            "dag" => graph(self.alloc, committee, words, answer),
+            "play" => play_words(self.alloc, committee, words, answer),
+            _ => answer.push_str("bad command\n"),
         }
     }
 }

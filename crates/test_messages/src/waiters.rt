@@ -1,7 +1,7 @@
 //! The waiter, over certificates of a committee of four.
 
+use crate::members::add_members;
 use crate::words::{Told, list};
-use cases::write_hex;
 use committee::Committee;
 use header::{Checked, recheck};
 use std::alloc::{AllocError, Global};
@@ -16,15 +16,10 @@ pub struct Waiting {
     waiter: Waiter,
 }
 
-/// A waiter of nothing.
+/// A waiter of nothing, of a committee of four.
 pub fn open(alloc: Global, waiting: &mut Option<Waiting>, answer: &mut String) -> Told {
     let mut text = String::new(alloc);
-    text.push_str("members = [")?;
-    for member in 1..5u8 {
-        text.push_str("\"")?;
-        write_hex(&mut text, &[member; 32])?;
-        text.push_str("\", ")?;
-    }
+    add_members(&mut text, 4)?;
     text.push_str("]\n")?;
     match Committee::read(alloc, &text) {
         Ok(committee) => {

@@ -3,16 +3,13 @@
 ghost use Rattle.std.specs.Prelude.{◌≡◌, ◌<◌, length};
 ghost use Rattle.wire.specs.Digests.{header_digest_of, certificate_digest_of};
 
-use crate::committees::Told;
+use crate::certificates::{certificate_of, digest_of};
 use crate::looks::look;
-use crate::words::{author_of, numbers_in, round_of, set_of, write_added};
+use crate::words::{Told, numbers_in, round_of, set_of};
 use committee::Committee;
 use dag::{Added, Dag, DagRefusal, Reads};
 use std::alloc::{AllocError, Global};
-use wire::{
-    Author, BatchReferences, Certificate, Digest, HeaderBody, ParentReference, ParentReferences,
-    Round, VoteEntries, certificate_digest, header_digest,
-};
+use wire::{Certificate, Digest, Round};
 
 /// Puts a DAG to these words, and tells what it answers.
 pub fn graph(alloc: Global, committee: &Committee, words: &str, answer: &mut String) -> Told {
@@ -30,57 +27,6 @@ pub fn graph(alloc: Global, committee: &Committee, words: &str, answer: &mut Str
         look(&dag, &mut reads, name, &numbers, answer)?;
     }
     Ok(())
-}
-
-// The parents of a header of this round by these authors: the digests that are held, and else one of zeros.
-fn parents_of(
-    alloc: Global,
-    dag: &Dag,
-    below: Round,
-    authors: &[u64],
-) -> Result<ParentReferences, AllocError> {
-    let mut parents = ParentReferences::new(alloc);
-    for author in authors {
-        let author = author_of(*author);
-        let certificate = match dag.digest(below, author) {
-            Some(digest) => *digest,
-            None => Digest([0; 32]),
-        };
-        if parents.len() < wire::MAX_PARENTS && parents.may_follow(author) {
-            parents.push(ParentReference {
-                author,
-                certificate,
-            })?;
-        }
-    }
-    Ok(parents)
-}
-
-fn certificate_of(
-    alloc: Global,
-    dag: &Dag,
-    round: u64,
-    author: u64,
-    parents: &[u64],
-) -> Result<Certificate, AllocError> {
-    let below = round_of(round.saturating_sub(1));
-    let parents = parents_of(alloc, dag, below, parents)?;
-    Ok(Certificate {
-        header: HeaderBody {
-            author: author_of(author),
-            round: round_of(round),
-            batches: BatchReferences::new(alloc),
-            parents,
-        },
-        votes: VoteEntries::new(alloc),
-    })
-}
-
-fn digest_of(certificate: &Certificate) -> Digest
-    ensures { result.0 ≡ certificate_digest_of (header_digest_of certificate.now.header) certificate.now.header.round certificate.now.header.author.0 }
-{
-    let header = &certificate.header;
-    certificate_digest(&header_digest(header), header.round, header.author)
 }
 
 // How a certificate comes into a DAG: with its digest, or without it, or by hand behind its answer.
@@ -126,6 +72,14 @@ fn hold(dag: &mut Dag, certificate: Certificate, digest: Digest) -> Result<Added
         dag.hold(certificate, digest)?;
     }
     Ok(added)
+}
+
+// Writes what came of a certificate.
+fn write_added(answer: &mut String, added: &Result<Added, DagRefusal>) -> Told {
+    match added {
+        Ok(added) => writeln!(answer, "{added:?}"),
+        Err(refusal) => writeln!(answer, "{refusal}"),
+    }
 }
 
 // A change of the DAG, and whether the word is one.

@@ -1,14 +1,13 @@
 //! Makers of batches.
 
-use crate::words::{Told, list, show};
+use crate::words::{Told, author_of, list, show};
 use batchmaker::BatchMaker;
 use std::alloc::Global;
-use wire::{Author, Batch};
+use wire::Batch;
 
 /// A maker for the worker of this number, of the author of this number.
 pub fn make(alloc: Global, author: u64, worker: u64, maker: &mut Option<BatchMaker>) -> Told {
-    let author = Author(author.min(65_535) as u16);
-    *maker = Some(BatchMaker::new(alloc, author, worker.min(65_535) as u16)?);
+    *maker = Some(BatchMaker::new(alloc, author_of(author), author_of(worker).0)?);
     Ok(())
 }
 

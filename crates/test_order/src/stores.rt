@@ -1,6 +1,6 @@
 //! A store of batches that is put to words one after the other.
 
-use crate::committees::Told;
+use crate::words::{Told, author_of, numbers_in};
 use batchstore::BatchStore;
 use committee::Committee;
 use std::alloc::{AllocError, Global};
@@ -9,24 +9,15 @@ use wire::{Author, Batch, BatchReference, Digest, OpenBatch, batch_digest};
 // A batch of an author and worker with one transaction, the byte of this number. None where there is no room, which never is.
 fn batch_of(
     alloc: Global,
-    author: u16,
+    author: Author,
     worker: u16,
     byte: u8,
 ) -> Result<Option<Batch>, AllocError> {
-    let mut open = OpenBatch::new(alloc, Author(author), worker)?;
+    let mut open = OpenBatch::new(alloc, author, worker)?;
     if open.has_room(1) {
         open.push(&[byte])?;
     }
     Ok(open.close().ok())
-}
-
-// The numbers of a word, parted by dots.
-fn numbers_in(alloc: Global, word: &str) -> Result<Vec<u16>, AllocError> {
-    let mut numbers = Vec::new(alloc);
-    for part in word.split('.') {
-        numbers.push(part.parse::<u16>().unwrap_or(0))?;
-    }
-    Ok(numbers)
 }
 
 /// Puts a store of a member to these words, and tells what it answers.
@@ -55,20 +46,27 @@ fn obey(
     let numbers = numbers_in(alloc, rest)?;
     match (name, numbers.as_slice()) {
         ("put", [author, worker, byte]) => {
-            let batch = batch_of(alloc, *author, *worker, (*byte).min(255) as u8)?;
-            match batch {
+            let (author, worker) = (author_of(*author), (*worker).min(65_535) as u16);
+            match batch_of(alloc, author, worker, (*byte).min(255) as u8)? {
                 Some(batch) => put(store, digests, batch, answer),
                 None => Err(AllocError),
             }
         }
-        ("ack", [place, member]) => ack(store, digest_at(digests, *place), *member, answer),
+        ("ack", [place, member]) => {
+            ack(
+                store,
+                digest_at(digests, *place),
+                author_of(*member),
+                answer,
+            )
+        }
         ("least", _) => least(alloc, store, digests, answer),
         (_, [place]) => ask(store, name, digest_at(digests, *place), answer),
         _ => answer.push_str("bad word\n"),
     }
 }
 
-fn digest_at(digests: &[Digest], place: u16) -> Digest {
+fn digest_at(digests: &[Digest], place: u64) -> Digest {
     digests
         .get(place as usize)
         .copied()
@@ -90,11 +88,11 @@ fn put(
     writeln!(answer, " of {len}")
 }
 
-fn ack(store: &mut BatchStore, digest: Digest, member: u16, answer: &mut String) -> Told {
-    if member >= store.committee().size() {
+fn ack(store: &mut BatchStore, digest: Digest, member: Author, answer: &mut String) -> Told {
+    if member.0 >= store.committee().size() {
         return answer.push_str("no member\n");
     }
-    match store.ack(Author(member), &digest) {
+    match store.ack(member, &digest) {
         Ok(acked) => writeln!(answer, "{acked:?}"),
         Err(refusal) => writeln!(answer, "{refusal}"),
     }

@@ -1,7 +1,6 @@
 //! What is seen of a DAG.
 
-use crate::committees::Told;
-use crate::words::{author_of, round_of, write_set};
+use crate::words::{Told, author_of, round_of, write_set};
 use dag::{Dag, Reads, answers_as_admission, reach_stays, reach_stays_above};
 use wire::{Author, Round};
 

@@ -3,7 +3,7 @@
 ghost use Rattle.std.specs.Prelude.{◌≡◌, ◌<◌, length};
 ghost use Rattle.wire.specs.Digests.{header_digest_of};
 
-use crate::committees::Told;
+use crate::words::Told;
 use certify::{Added, Assembly};
 use committee::Committee;
 use std::alloc::{AllocError, Global};
