@@ -50,7 +50,7 @@ fn sharers_of<'n, 'a, S: Sign, D: Disk>(
     config: &'a Config<S>,
     rounds: &mut Rounds<'n, 'a, S, D>,
 ) -> Result<Vec<Sharer<'n, 'a, S>>, AllocError>
-    requires { rounds.old ≡ config.now }
+    requires { rounds.old.node.setting ≡ config.now }
     ensures { rounds.new ≡ rounds.old }
 {
     let mut first = rounds.caller(config)?;

@@ -35,13 +35,13 @@ impl<'n, 'a, S: Sign> Model for Caller<'n, 'a, S> {
 
     ghost Value = { Setting S };
 
-    ghost view = { λ c. c.node };
+    ghost view = { λ c. c.node.setting };
 }
 
 impl<'n, 'a, S: Sign> Caller<'n, 'a, S> {
     /// This caller.
     pub(crate) fn new(node: startup::Caller<'n, 'a, S>) -> Caller<'n, 'a, S>
-        ensures { result ≡ node.entry }
+        ensures { result ≡ node.entry.setting }
     {
         Caller { node }
     }
@@ -131,8 +131,8 @@ fn submit<S: Sign, R: Wait>(
     node: &mut startup::Caller<'_, '_, S>,
     event: Checked,
 ) -> Result<Taken, Told>
-    requires { fault_of node.old.charter accepts_all event ≡ None }
-    ensures { node.new ≡ node.old }
+    requires { fault_of node.old.setting.charter accepts_all event ≡ None }
+    ensures { node.new.setting ≡ node.old.setting }
 {
     let receipt = node.submit(rt, event)?;
     if receipt.new {

@@ -42,7 +42,7 @@ impl<'n, 'a, 'e, S: Sign, I: Read + Drop, W: Write + Drop, E: Write> Desks<'n, '
         writer: W,
         errors: &'e mut E,
     ) -> Result<Desks<'n, 'a, 'e, S, I, W, E>, AllocError>
-        requires setting { rounds.old ≡ config.now }
+        requires setting { rounds.old.node.setting ≡ config.now }
         ensures same { rounds.new ≡ rounds.old }
     {
         Ok(Desks {

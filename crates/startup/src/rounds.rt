@@ -1,9 +1,13 @@
 //! What a thread flushes a node with.
 
-ghost use Rattle.std.specs.Prelude.{◌≡◌, IfOk};
+ghost use Rattle.std.specs.Prelude.{◌≡◌, ◌⊎◌, ◌↔◌, ◌+◌, ◌<◌, ◌≤◌, [], false, length, IfOk, IsErrOf, IsTrue, OnErr};
+ghost use Rattle.diskmodel.specs.Disk.{AtEachMoment};
+ghost use Rattle.journal.specs.Journal.{disk_of};
+ghost use Rattle.laws.specs.Laws.{Begins};
 ghost use Rattle.validator.specs.Setting.{node_of};
+ghost use Rattle.seats.specs.Views.{IsSame};
 ghost use Rattle.shared.specs.Home.{IsOf};
-ghost use Rattle.flusher.specs.Rounds.{IsFlusherOf};
+ghost use Rattle.flusher.specs.Rounds.{journal_of, is_down, settled_in, taken_in, IsFlusherOf, TakesLongest, HoldsEither, HasNoRoom};
 
 use crate::caller::Caller;
 use diskmodel::Disk;
@@ -33,13 +37,14 @@ impl<'n, 'a, S: Sign, D: Disk + Drop> Drop for Rounds<'n, 'a, S, D> {
 }
 
 impl<'n, 'a, S: Sign, D: Disk> Model for Rounds<'n, 'a, S, D> {
-    ghost use Rattle.validator.specs.Setting.{Setting, node_of};
+    ghost use Rattle.validator.specs.Setting.{node_of};
     ghost use Rattle.shared.specs.Home.{IsOf};
     ghost use Rattle.flusher.specs.Rounds.{IsFlusherOf};
+    ghost use Rattle.startup.specs.Callers.{Flushing};
 
-    ghost Value = { Setting S };
+    ghost Value = { Flushing S D };
 
-    ghost view = { λ r. r.node.now.setting };
+    ghost view = { λ r. record { node = r.node.now; seat = r.seat; flusher = r.flusher } };
 
     ghost invariant = { λ r. IsOf r.node.now r.seat × IsFlusherOf (node_of S.own_key S.signature_of) D.content D.outcome r.node.now r.flusher };
 }
@@ -49,7 +54,9 @@ impl<'n, 'a, S: Sign, D: Disk> Rounds<'n, 'a, S, D> {
     pub fn new(node: &'n Node<'a, S>, seat: Seat, flusher: Flusher<D>) -> Rounds<'n, 'a, S, D>
         requires of { IsOf node.now seat }
         requires flusher { IsFlusherOf (node_of S.own_key S.signature_of) D.content D.outcome node.now flusher }
-        ensures { result ≡ node.now.setting }
+        ensures node { result.node ≡ node.now }
+        ensures seat { result.seat ≡ seat }
+        ensures flusher { result.flusher ≡ flusher }
     {
         Rounds {
             node,
@@ -58,25 +65,40 @@ impl<'n, 'a, S: Sign, D: Disk> Rounds<'n, 'a, S, D> {
         }
     }
 
-    /// A caller of the node, whose configuration this is. It takes no memory.
+    /// A caller of the node, whose configuration this is, which has seen what the flusher's seat has. It takes no memory.
     pub fn caller(&mut self, config: &'a Config<S>) -> Result<Caller<'n, 'a, S>, AllocError>
-        requires setting { self.old ≡ config.now }
+        requires setting { self.old.node.setting ≡ config.now }
         ensures same { self.new ≡ self.old }
-        ensures caller { IfOk result (λ caller. caller ≡ config.now) }
+        ensures setting { IfOk result (λ caller. caller.setting ≡ config.now) }
+        ensures node { IfOk result (λ caller. caller.node ≡ self.old.node) }
+        ensures knows { IfOk result (λ caller. (caller.seat.view.seen ≡ self.old.seat.view.seen) × (caller.seat.view.firm ≡ self.old.seat.view.firm) × (caller.seat.view.mine ≡ [])) }
     {
         let seat = self.node.split(&mut self.seat)?;
         Ok(Caller::new(self.node, config, seat))
     }
 
-    /// One round. Answers how many records were brought to the disk, 0 where all had been.
+    /// One round, as the flusher's. Answers how many records were brought to the disk, 0 where all had been.
     pub fn round<R: Wait>(&mut self, rt: &R) -> Result<u64, FlushError>
-        ensures { self.new ≡ self.old }
+        ensures node { self.new.node ≡ self.old.node }
+        ensures same { IsSame self.old.seat self.new.seat }
+        ensures more { Begins self.old.seat.view.seen self.new.seat.view.seen }
+        ensures more_firm { Begins self.old.seat.view.firm self.new.seat.view.firm }
+        ensures down { IsErrOf result FlushError.Down ↔ IsTrue (is_down self.old.flusher) }
+        ensures takes { (IsErrOf result FlushError.Down) ⊎ (IsErrOf result FlushError.Memory) ⊎ TakesLongest self.old.seat.view.seen (settled_in self.old.flusher) (taken_in self.new.flusher) }
+        ensures any_moment { IsErrOf result FlushError.Down ⊎ AtEachMoment D.clock D.outcome_since (disk_of (journal_of self.old.flusher)) (disk_of (journal_of self.new.flusher)) (HoldsEither (node_of S.own_key S.signature_of) self.old.node (settled_in self.old.flusher) (taken_in self.new.flusher)) }
+        ensures settles { IfOk result (λ count. (length (taken_in self.new.flusher) ≡ length (settled_in self.old.flusher) + count) × (settled_in self.new.flusher ≡ taken_in self.new.flusher) × (self.new.seat.view.firm ≡ taken_in self.new.flusher)) }
+        ensures not_settled { OnErr result (settled_in self.new.flusher ≡ settled_in self.old.flusher) }
+        ensures full { is_down self.old.flusher ≡ false → IsErrOf result FlushError.Full ↔ HasNoRoom (D.content (disk_of (journal_of self.old.flusher))) (settled_in self.old.flusher) (taken_in self.new.flusher) }
+        ensures device { IsErrOf result FlushError.Device → D.faults (disk_of (journal_of self.old.flusher)) < D.faults (disk_of (journal_of self.new.flusher)) }
+        ensures faults { D.faults (disk_of (journal_of self.old.flusher)) ≤ D.faults (disk_of (journal_of self.new.flusher)) }
     {
         self.flusher.round(rt, self.node, &mut self.seat)
     }
 
     /// Gives the disk back.
-    pub fn into_disk(self) -> D {
+    pub fn into_disk(self) -> D
+        ensures { result ≡ disk_of (journal_of self.entry.flusher) }
+    {
         let Rounds {
             node: _,
             seat: _,
