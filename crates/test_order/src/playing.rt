@@ -98,7 +98,7 @@ impl<'a> Playing<'a> {
         answer: &mut String,
     ) -> Told {
         let again = self.coins.chain_from(self.alloc, &self.dag, self.last)?;
-        if again.as_slice() != chain || !self.is_alike(made)? {
+        if again.as_slice() != chain || !self.is_alike(chain, made)? {
             answer.push_str("otherwise\n")?;
         }
         let Some(last) = chain.last() else {
@@ -128,18 +128,27 @@ impl<'a> Playing<'a> {
         )
     }
 
-    // Whether each leader orders, asked alone behind the one before it, what its beginning has behind that one's.
-    fn is_alike(&self, made: &[Lengthening]) -> Result<bool, AllocError> {
+    // Whether each of these leaders orders, asked alone behind the one before it, what its beginning has behind that one's.
+    fn is_alike(
+        &self,
+        chain: &[(Round, Author)],
+        made: &[Lengthening],
+    ) -> Result<bool, AllocError> {
         let mut previous = self.previous;
+        let mut place: usize = 0;
         let mut told = 0;
         for one in made {
-            if !self.orders(one.last(), previous, one.digests().get(told..))? {
+            let Some(leader) = chain.get(place) else {
+                return Ok(false);
+            };
+            if !self.orders(*leader, previous, one.digests().get(told..))? {
                 return Ok(false);
             }
-            previous = Some(one.last());
+            previous = Some(*leader);
+            place = place.saturating_add(1);
             told = one.digests().len();
         }
-        Ok(true)
+        Ok(place == chain.len())
     }
 
     // Whether a leader orders these behind the one before it.
