@@ -84,11 +84,15 @@ impl<'n, 'a, S: Sign, D: Disk> Rounds<'n, 'a, S, D> {
         ensures more { Begins self.old.seat.view.seen self.new.seat.view.seen }
         ensures more_firm { Begins self.old.seat.view.firm self.new.seat.view.firm }
         ensures down { IsErrOf result FlushError.Down ↔ IsTrue (is_down self.old.flusher) }
+        ensures no_change { IsErrOf result FlushError.Down → self.new ≡ self.old }
+        ensures goes_down { IsTrue (is_down self.new.flusher) → (IsErrOf result FlushError.Device) ⊎ (IsErrOf result FlushError.Full) ⊎ (IsErrOf result FlushError.Down) }
         ensures takes { (IsErrOf result FlushError.Down) ⊎ (IsErrOf result FlushError.Memory) ⊎ TakesLongest self.old.seat.view.seen (settled_in self.old.flusher) (taken_in self.new.flusher) }
+        ensures memory { IsErrOf result FlushError.Memory → (journal_of self.new.flusher ≡ journal_of self.old.flusher) × (taken_in self.new.flusher ≡ settled_in self.old.flusher) }
         ensures any_moment { IsErrOf result FlushError.Down ⊎ AtEachMoment D.clock D.outcome_since (disk_of (journal_of self.old.flusher)) (disk_of (journal_of self.new.flusher)) (HoldsEither (node_of S.own_key S.signature_of) self.old.node (settled_in self.old.flusher) (taken_in self.new.flusher)) }
         ensures settles { IfOk result (λ count. (length (taken_in self.new.flusher) ≡ length (settled_in self.old.flusher) + count) × (settled_in self.new.flusher ≡ taken_in self.new.flusher) × (self.new.seat.view.firm ≡ taken_in self.new.flusher)) }
         ensures not_settled { OnErr result (settled_in self.new.flusher ≡ settled_in self.old.flusher) }
         ensures full { is_down self.old.flusher ≡ false → IsErrOf result FlushError.Full ↔ HasNoRoom (D.content (disk_of (journal_of self.old.flusher))) (settled_in self.old.flusher) (taken_in self.new.flusher) }
+        ensures full_same { IsErrOf result FlushError.Full → journal_of self.new.flusher ≡ journal_of self.old.flusher }
         ensures device { IsErrOf result FlushError.Device → D.faults (disk_of (journal_of self.old.flusher)) < D.faults (disk_of (journal_of self.new.flusher)) }
         ensures faults { D.faults (disk_of (journal_of self.old.flusher)) ≤ D.faults (disk_of (journal_of self.new.flusher)) }
     {

@@ -1,2 +1,4 @@
+mod Agreeing
+mod Fitting
 mod Meeting
 mod NeverDown

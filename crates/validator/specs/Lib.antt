@@ -1,2 +1,3 @@
+pub mod Proposing
 pub mod Setting
 pub mod Standing

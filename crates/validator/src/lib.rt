@@ -2,7 +2,10 @@
 #![tactic(auto)]
 
 mod config;
+mod making;
 mod newness;
+mod parents;
+mod proposing;
 mod ready;
 mod taking;
 mod validator;

@@ -17,6 +17,7 @@ ghost use Rattle.wire.specs.declared.round.TheConstants.Round.{MAX};
 
 use crate::config::Config;
 use crate::newness::is_new;
+use crate::proposing::propose;
 use crate::ready::is_ready;
 use crate::taking::take;
 use admission::{Refusal, Step};
@@ -220,7 +221,7 @@ impl<'a, S: Sign> Validator<'a, S> {
         machine::sound_proposes();
         machine::state_proposes();
         let tables = &self.tables;
-        proposal::propose(
+        propose(
             self.alloc,
             self.config.signer(),
             self.config.own(),

@@ -4,7 +4,7 @@ ghost use Rattle.std.specs.Prelude.{◌≡◌, ◌-◌, IfOk};
 ghost use Rattle.model.specs.Nodes.{Node};
 ghost use Rattle.model.specs.States.{State};
 ghost use Rattle.machine.specs.Machine.{proposed};
-ghost use Rattle.proposal.specs.Tables.{AreAt, free_round as free_in, header_in_round};
+ghost use Rattle.validator.specs.Proposing.{AreAt, free_round as free_in, header_in_round};
 
 use crate::making::signed;
 use crate::parents::parents_of;
@@ -61,7 +61,7 @@ fn header_for<S: Sign>(
 /// The header that a validator proposes: over all certificates of the round below its own, with the least batches that may be
 /// named, up to a header's limit. None where the round has an own header, or is past the greatest round. `AllocError` where a
 /// growth was refused.
-pub fn propose<S: Sign>(
+pub(crate) fn propose<S: Sign>(
     alloc: Global,
     signer: &S,
     own: Author,

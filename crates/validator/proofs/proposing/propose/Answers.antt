@@ -1,5 +1,5 @@
-use Rattle.proposal.proofs.Agreeing.{header_is_proposed}
-use Rattle.proposal.proofs.proposing.propose.Goals as goal
+use Rattle.validator.proofs.Agreeing.{header_is_proposed}
+use Rattle.validator.proofs.proposing.propose.Goals as goal
 
 pub returns : goal.returns
 returns g c node state at =

@@ -16,7 +16,7 @@ use Rattle.laws.proofs.ProposedTaken.{all_placed-rise, few_taken, made_from}
 use Rattle.laws.proofs.Votes.{slot_is}
 use Rattle.batchstore.specs.Stock.{Stock, nameable, to_name}
 use Rattle.dag.specs.Graph.{Graph, IsGraph, size_in, slots_in, digest_in}
-use Rattle.proposal.specs.Tables.{least_batches, parents_in}
+use Rattle.validator.specs.Proposing.{least_batches, parents_in}
 
 -- a list that is short enough and rises has no fault
 no_fault : (limit count : ℕ) (rises : Bool) → count ≤ limit → rises ≡ true → list_fault limit count rises ≡ None

@@ -3,7 +3,7 @@
 ghost use Rattle.std.specs.Prelude.{◌≡◌, IfOk, option_map};
 ghost use Rattle.model.specs.Proposing.{as_parent};
 ghost use Rattle.dag.specs.Graph.{slots_in};
-ghost use Rattle.proposal.specs.Tables.{parents_in};
+ghost use Rattle.validator.specs.Proposing.{parents_in};
 
 use dag::Dag;
 use std::alloc::{AllocError, Global};

@@ -1,7 +1,7 @@
 use Rattle.std.proofs.Common.{ap, ◌∙◌}
 use Rattle.header.specs.Making.{batches_fault, parents_fault}
-use Rattle.proposal.proofs.Fitting.{batches_fit, parents_fit}
-use Rattle.proposal.proofs.proposing.header_for.Goals as goal
+use Rattle.validator.proofs.Fitting.{batches_fit, parents_fit}
+use Rattle.validator.proofs.proposing.header_for.Goals as goal
 
 pub signed-requires-clause-batches : goal.signed-requires-clause-batches
 signed-requires-clause-batches g c = ap batches_fault (c.deref.ensures.value ∙ c.in_ok-batches.ensures) ∙ batches_fit c.args.batches.now

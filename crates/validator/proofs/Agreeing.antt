@@ -14,8 +14,8 @@ use Rattle.batchstore.specs.Stock.{Stock, nameable}
 use Rattle.dag.specs.Graph.{Graph, size_in, slots_in}
 use Rattle.sequencer.specs.Sequence.{Sequence}
 use Rattle.assemblies.specs.Headers.{Headers, header_in}
-use Rattle.proposal.specs.Tables.{AreAt, free_round, header_in_round, parents_in}
-use Rattle.proposal.proofs.Fitting.{mapped_filter}
+use Rattle.validator.specs.Proposing.{AreAt, free_round, header_in_round, parents_in}
+use Rattle.validator.proofs.Fitting.{mapped_filter}
 
 -- what is made of a thing that is there unless a test holds
 made_unless : {X Y : Type 0} (make : X → Y) (test : Bool) (x : X) → option_map make (cond test None (Some x)) ≡ cond test None (Some (make x))

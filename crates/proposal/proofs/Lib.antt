@@ -1,2 +1,0 @@
-pub mod Fitting
-pub mod Agreeing
