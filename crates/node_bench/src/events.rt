@@ -5,9 +5,9 @@ ghost use Rattle.header.specs.Checks.{fault_of, accepts_all};
 
 use crate::ending::Ending;
 use crate::rounds::Rounds;
-use crate::settings::OWN;
 use committee::Committee;
 use header::{Checked, recheck};
+use script::OWN;
 use std::alloc::{AllocError, Global};
 use wire::{Author, Message};
 

@@ -169,6 +169,22 @@ fn stopping_of(word: &str) -> Option<Stopping> {
 fn with_two<'a>(word: &str, first: &'a str, second: &'a str) -> Option<Command<'a>> {
     match word {
         "set" => Some(Command::Set(setting_of(first, second)?)),
+        "peek" => Some(Command::Peek {
+            author: member(first)?,
+            round: number(second)?,
+        }),
+        "fail" => Some(Command::Fail {
+            call: call_of(first)?,
+            count: number(second)?,
+        }),
+        "stop" if first == "gate" => Some(Command::Stop(Stopping::Gate(hex_byte(second)?))),
+        _ => event_of(word, first, second),
+    }
+}
+
+// A command of two words that submits a message.
+fn event_of<'a>(word: &str, first: &'a str, second: &'a str) -> Option<Command<'a>> {
+    match word {
         "ack" => Some(Command::Ack {
             batch: label(first)?,
             sender: member(second)?,
@@ -185,15 +201,6 @@ fn with_two<'a>(word: &str, first: &'a str, second: &'a str) -> Option<Command<'
             wave: number(first)?,
             value: number(second)?,
         }),
-        "peek" => Some(Command::Peek {
-            author: member(first)?,
-            round: number(second)?,
-        }),
-        "fail" => Some(Command::Fail {
-            call: call_of(first)?,
-            count: number(second)?,
-        }),
-        "stop" if first == "gate" => Some(Command::Stop(Stopping::Gate(hex_byte(second)?))),
         _ => None,
     }
 }

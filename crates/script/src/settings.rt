@@ -1,6 +1,12 @@
-//! The committee of scripts: four members with one worker each.
+//! The committees of scripts, whose members have one worker each and sign with the test pair.
 
+use crate::signing::signer;
+use sigface::Sign;
 use std::alloc::{AllocError, Global};
+use wire::Author;
+
+/// The member whose node plays a script.
+pub const OWN: Author = Author(0);
 
 /// The depth where a script sets none.
 pub const DEPTH: u64 = 50;
@@ -8,16 +14,29 @@ pub const DEPTH: u64 = 50;
 /// The number of batches where a script sets none.
 pub const BATCHES: u64 = 1_048_576;
 
-/// The members of the committee's file: the key of each is its number plus 1, 32 times.
-const MEMBERS: &str = "members = [
-    \"0101010101010101010101010101010101010101010101010101010101010101\",
-    \"0202020202020202020202020202020202020202020202020202020202020202\",
-    \"0303030303030303030303030303030303030303030303030303030303030303\",
-    \"0404040404040404040404040404040404040404040404040404040404040404\",
-]
-";
+/// Members of the committee where a script says nothing else.
+const MEMBERS: u16 = 4;
 
-/// The committee's file. Its limits may be out of their ranges; nothing else in it is unsound.
+/// The line of a committee's file that lists so many members.
+pub fn member_list(alloc: Global, members: u16) -> Result<String, AllocError> {
+    let mut file = String::from_str(alloc, "members = [")?;
+    for member in 0..members {
+        file.push_str("\"")?;
+        for byte in signer(Author(member)).key().0 {
+            write!(file, "{byte:02x}")?;
+        }
+        file.push_str("\", ")?;
+    }
+    file.push_str("]\n")?;
+    Ok(file)
+}
+
+/// The file of a committee of four. Its limits may be out of their ranges; nothing else in it is unsound.
 pub fn committee_file(alloc: Global, depth: u64, batches: u64) -> Result<String, AllocError> {
-    format!(in alloc; "{MEMBERS}depth = {depth}\nworkers = 1\nbatches = {batches}\n")
+    let mut file = member_list(alloc, MEMBERS)?;
+    write!(
+        file,
+        "depth = {depth}\nworkers = 1\nbatches = {batches}\n"
+    )?;
+    Ok(file)
 }

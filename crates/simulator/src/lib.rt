@@ -4,7 +4,6 @@
 mod answer;
 mod ending;
 mod gathered;
-mod messages;
 mod obeying;
 mod playing;
 mod running;

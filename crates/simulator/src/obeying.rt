@@ -2,11 +2,10 @@
 
 use crate::answer::Answer;
 use crate::ending::Ending;
-use crate::messages::message_of;
 use crate::running::Running;
 use diskmodel::CallKind;
 use header::check;
-use script::{Call, Command, FormError, Labels, define_batch, define_header};
+use script::{Call, Command, FormError, Labels, define_batch, define_header, message_of};
 use shared::Refusal;
 use sigface::HashVerify;
 use std::alloc::Global;

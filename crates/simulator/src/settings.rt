@@ -3,14 +3,10 @@
 use committee::{
     Committee, CommitteeError, MAX_DEPTH, MAX_HELD_BATCHES, MIN_DEPTH, MIN_HELD_BATCHES,
 };
-use script::{BATCHES, DEPTH, Setting, committee_file, signer};
+use script::{BATCHES, DEPTH, OWN, Setting, committee_file, signer};
 use sigface::HashSign;
 use std::alloc::{AllocError, Global};
 use validator::Config;
-use wire::Author;
-
-/// The member that the simulator runs.
-pub const OWN: Author = Author(0);
 
 /// The limits that are set.
 #[derive(Clone, Copy)]

@@ -1,4 +1,6 @@
-//! The tests of the definitions: scripts over the plain programs, whose contracts the definitions are.
+//! The tests of the definitions: scripts over the plain programs, whose contracts the definitions are; and those of the
+//! validator: histories of events through its steps, with the sums over them that `tools/histories.py` computes, and for
+//! the first events beside the plain program of what a node keeps.
 #![tactic(auto)]
 
 mod beside;
@@ -7,12 +9,43 @@ mod looking;
 mod played;
 mod searching;
 mod showing;
+mod validating;
 mod weighing;
 
-use cases::{Ending, play};
+use cases::{Ending, Subject, play};
 use played::Played;
+use std::alloc::AllocError;
 use std::io::{self, BufReader};
 use std::process::ExitCode;
+use validating::Gathered;
+
+/// What the cases are put to: the plain programs, or a validator where a case says so.
+#[derive(Drop)]
+struct Models {
+    played: Played,
+    gathered: Gathered,
+    validates: bool,
+}
+
+impl Subject for Models {
+    fn begin(&mut self, title: &str) -> Result<(), AllocError> {
+        self.validates = false;
+        self.played.begin(title)?;
+        self.gathered.begin(title)
+    }
+
+    /// `validator` begins a case of the validator.
+    fn obey(&mut self, command: &str, answer: &mut String) -> Result<(), AllocError> {
+        if self.validates {
+            return self.gathered.obey(command, answer);
+        }
+        if command == "validator" {
+            self.validates = true;
+            return Ok(());
+        }
+        self.played.obey(command, answer)
+    }
+}
 
 fn main(rt: HostRuntime) -> ExitCode {
     laws_hold();
@@ -25,8 +58,12 @@ fn main(rt: HostRuntime) -> ExitCode {
 fn tested(rt: &HostRuntime) -> Result<bool, Ending> {
     let mut reader = BufReader::new(rt.alloc(), rt.reader())?;
     let mut writer = io::writer(rt);
-    let mut subject = Played::new(rt.alloc())?;
-    play(rt.alloc(), &mut reader, &mut writer, &mut subject)
+    let mut models = Models {
+        played: Played::new(rt.alloc())?,
+        gathered: Gathered::new(rt.alloc()),
+        validates: false,
+    };
+    play(rt.alloc(), &mut reader, &mut writer, &mut models)
 }
 
 /// Each law, which has no condition.

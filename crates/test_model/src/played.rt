@@ -15,15 +15,12 @@ use plain::holdings::voted_digest;
 use plain_answers::runs::{admit_last, answers, each_new};
 use plain_machine::{Tables, after, fresh};
 use script::{
-    BATCHES, Command, DEPTH, FormError, Labels, Setting, certificate, committee_file, define_batch,
-    define_header, parse, signer, vote,
+    BATCHES, Command, DEPTH, FormError, Labels, OWN, Setting, committee_file, define_batch,
+    define_header, message_of, parse, signer,
 };
 use sigface::{HashSign, HashVerify};
 use std::alloc::{AllocError, Global};
 use wire::{Author, Coin, Message, Wave};
-
-/// The node's own number.
-const OWN: Author = Author(0);
 
 /// A line that goes out once so many events are settled.
 #[derive(Drop)]
@@ -110,7 +107,7 @@ impl Played {
             Command::Round => self.round(answer)?,
             Command::Peek { author, round } => self.peek(author, round, answer)?,
             other => {
-                let (sender, message) = self.message_of(other)?;
+                let (sender, message) = message_of(self.alloc, &self.labels, other)?;
                 self.take(sender, message, answer)?;
             }
         }
@@ -122,55 +119,6 @@ impl Played {
         self.tables = fresh(self.alloc, &node)?;
         self.node = node;
         Ok(())
-    }
-
-    /// The message that a command submits, with its sender.
-    fn message_of(&self, command: Command<'_>) -> Result<(Author, Message), FormError> {
-        match command {
-            Command::Batch(label) => self.batch(label),
-            Command::Header(label) => self.header(label),
-            Command::Ack { batch, sender } => self.ack(batch, sender),
-            Command::Vote { header, voter } => self.vote(header, voter),
-            Command::Cert { header, voters } => self.certificate(header, voters),
-            Command::Coin { wave, value } => coin(OWN, wave, value),
-            _ => Err(FormError::BadCommand),
-        }
-    }
-
-    fn batch(&self, label: &str) -> Result<(Author, Message), FormError> {
-        let packed = self.labels.batch(label).ok_or(FormError::BadCommand)?;
-        match &packed.batch {
-            None => Err(FormError::BadCommand),
-            Some((batch, _)) => Ok((batch.author(), Message::Batch(batch.share()?))),
-        }
-    }
-
-    fn header(&self, label: &str) -> Result<(Author, Message), FormError> {
-        let proposed = self.labels.header(label).ok_or(FormError::BadCommand)?;
-        let header = proposed.header.try_clone()?;
-        Ok((header.body.author, Message::Header(header)))
-    }
-
-    fn ack(&self, label: &str, author: Author) -> Result<(Author, Message), FormError> {
-        let packed = self.labels.batch(label).ok_or(FormError::BadCommand)?;
-        match &packed.batch {
-            None => Err(FormError::BadCommand),
-            Some((_, digest)) => {
-                let batch = *digest;
-                Ok((author, Message::BatchAck(wire::BatchAck { author, batch })))
-            }
-        }
-    }
-
-    fn vote(&self, label: &str, voter: Author) -> Result<(Author, Message), FormError> {
-        let proposed = self.labels.header(label).ok_or(FormError::BadCommand)?;
-        Ok((voter, Message::Vote(vote(proposed, voter))))
-    }
-
-    fn certificate(&self, label: &str, voters: &str) -> Result<(Author, Message), FormError> {
-        let proposed = self.labels.header(label).ok_or(FormError::BadCommand)?;
-        let certificate = certificate(self.alloc, proposed, voters)?;
-        Ok((Author(1), Message::Certificate(certificate)))
     }
 
     /// Takes a message, where it passes the checks; what is only gathered isn't checked.
@@ -319,7 +267,12 @@ impl Played {
     /// Gives the node a committee whose members have these stakes, with the limits of its last one.
     fn weigh(&mut self, stakes: &str) -> Result<(), FormError> {
         let limits = &self.node.committee;
-        let committee = committee_of(self.alloc, stakes, limits.depth(), limits.batches())?;
+        let committee = committee_of(
+            self.alloc,
+            stakes,
+            limits.depth(),
+            u64::from(limits.batches()),
+        )?;
         label_genesis(self.alloc, &mut self.labels, committee.size())?;
         self.node.committee = committee;
         self.tables = fresh(self.alloc, &self.node)?;
@@ -355,7 +308,8 @@ impl Played {
     }
 }
 
-fn coin(sender: Author, wave: u64, value: u64) -> Result<(Author, Message), FormError> {
+/// The coin of a wave, from this sender.
+pub fn coin(sender: Author, wave: u64, value: u64) -> Result<(Author, Message), FormError> {
     let wave = Wave::new(wave)?;
     Ok((sender, Message::Coin(Coin { wave, value })))
 }

@@ -1,23 +1,25 @@
 //! A committee whose members weigh.
 
-use cases::write_hex;
 use committee::{Committee, CommitteeError};
-use script::{Form, FormError, Labels, define_header, signer};
-use sigface::Sign;
-use std::alloc::{AllocError, Global};
+use script::{Form, FormError, Labels, define_header, member_list};
+use std::alloc::Global;
 use wire::Author;
 
 /// Members whose genesis certificates have labels in every case.
 const LABELLED: u16 = 4;
 
-/// A committee of as many members as there are stakes, who sign with the test pair.
+/// A committee of as many members as there are stakes, parted by commas, who sign with the test pair.
 pub fn committee_of(
     alloc: Global,
     stakes: &str,
     depth: u64,
-    batches: u32,
+    batches: u64,
 ) -> Result<Committee, FormError> {
-    let file = file_of(alloc, stakes, depth, batches)?;
+    let mut file = member_list(alloc, count_of(stakes))?;
+    writeln!(
+        file,
+        "stakes = [{stakes}]\ndepth = {depth}\nworkers = 1\nbatches = {batches}"
+    )?;
     match Committee::read(alloc, file.as_str()) {
         Ok(committee) => Ok(committee),
         Err(CommitteeError::Memory) => Err(FormError::Memory),
@@ -25,19 +27,15 @@ pub fn committee_of(
     }
 }
 
-fn file_of(alloc: Global, stakes: &str, depth: u64, batches: u32) -> Result<String, AllocError> {
-    let mut file = String::from_str(alloc, "members = [")?;
-    for (member, _) in (0..u16::MAX).zip(stakes.split(',')) {
-        let key = signer(Author(member)).key();
-        file.push_str("\"")?;
-        write_hex(&mut file, &key.0)?;
-        file.push_str("\", ")?;
+/// How many words stand between commas.
+fn count_of(words: &str) -> u16 {
+    let mut count = 1u16;
+    for byte in words.as_bytes() {
+        if *byte == b',' {
+            count = count.saturating_add(1);
+        }
     }
-    writeln!(
-        file,
-        "]\nstakes = [{stakes}]\ndepth = {depth}\nworkers = 1\nbatches = {batches}"
-    )?;
-    Ok(file)
+    count
 }
 
 /// Labels the genesis certificates of so many members.

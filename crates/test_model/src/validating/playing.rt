@@ -1,20 +1,21 @@
 //! The lines of a case through a validator and, for its first events, through the plain program.
 
-use crate::beside::Beside;
-use crate::messages::{OWN, again, coin, message_of};
-use crate::sum::Sum;
-use crate::tally::Tally;
+use crate::validating::beside::Beside;
+use crate::validating::sum::Sum;
+use crate::validating::tally::Tally;
+use crate::looking::{member, number};
+use crate::played::coin;
+use crate::weighing::label_genesis;
 use committee::Committee;
 use header::check;
 use model::{Event, Node};
-use script::{Command, Form, FormError, Labels, define_batch, define_header, parse, signer};
+use script::{
+    Command, FormError, Labels, OWN, define_batch, define_header, message_of, parse, signer,
+};
 use sigface::{HashSign, HashVerify};
 use std::alloc::Global;
 use validator::{Config, Refusal, Step, Validator};
 use wire::{Author, Message};
-
-/// Members whose genesis certificates have labels in every case.
-const LABELLED: u16 = 4;
 
 /// A validator, with what is summed up and counted of it, and with the plain program beside it.
 #[derive(Drop)]
@@ -49,7 +50,7 @@ pub fn play_lines(
         sum: Sum::new(),
         tally: Tally::new(),
     };
-    playing.label_genesis(members)?;
+    label_genesis(alloc, &mut playing.labels, members)?;
     for line in lines.lines() {
         if let Some(differs) = playing.run(line)? {
             writeln!(answer, "{line}: otherwise {differs}")?;
@@ -59,28 +60,7 @@ pub fn play_lines(
     playing.tell(answer)
 }
 
-/// A number that stands in a line, 0 for what is none.
-fn number(word: &str) -> u64 {
-    word.parse::<u64>().unwrap_or(0)
-}
-
 impl<'c> Playing<'c> {
-    /// Labels the genesis certificates of the members that have no label in every case.
-    fn label_genesis(&mut self, members: u16) -> Result<(), FormError> {
-        for member in LABELLED..members {
-            let label = format!(in self.alloc; "g{member}")?;
-            let form = Form {
-                label: label.as_str(),
-                author: Author(member),
-                round: 0,
-                parents: "-",
-                batches: "-",
-            };
-            define_header(self.alloc, &mut self.labels, &form)?;
-        }
-        Ok(())
-    }
-
     /// Runs a line, and says what is otherwise than it should be, if anything is.
     fn run(&mut self, line: &str) -> Result<Option<&'static str>, FormError> {
         match parse(line.as_bytes()) {
@@ -105,7 +85,7 @@ impl<'c> Playing<'c> {
         let words: Vec<&str> = line.split(' ').collect(self.alloc)?;
         match words.as_slice() {
             ["coin-from", sender, wave, value] => {
-                let sender = Author(number(sender).min(65_535) as u16);
+                let sender = Author(member(sender));
                 let (sender, message) = coin(sender, number(wave), number(value))?;
                 self.take(sender, message)
             }
@@ -160,4 +140,16 @@ impl<'c> Playing<'c> {
         writeln!(answer, "beside the plain program {compared}")?;
         Ok(())
     }
+}
+
+/// A message once more.
+fn again(message: &Message) -> Result<Message, FormError> {
+    Ok(match message {
+        Message::Batch(batch) => Message::Batch(batch.share()?),
+        Message::BatchAck(ack) => Message::BatchAck(*ack),
+        Message::Header(header) => Message::Header(header.try_clone()?),
+        Message::Vote(vote) => Message::Vote(*vote),
+        Message::Certificate(certificate) => Message::Certificate(certificate.try_clone()?),
+        Message::Coin(coin) => Message::Coin(*coin),
+    })
 }

@@ -1,11 +1,17 @@
 //! The lines of a case, which are played once all are there.
 
-use crate::committees::committee_of;
-use crate::messages::OWN;
-use crate::playing::play_lines;
+mod beside;
+mod playing;
+mod same;
+mod sum;
+mod tally;
+
+use crate::looking::number;
+use crate::weighing::committee_of;
 use cases::Subject;
 use model::Node;
-use script::{FormError, signer};
+use playing::play_lines;
+use script::{BATCHES, DEPTH, FormError, OWN, signer};
 use std::alloc::{AllocError, Global};
 
 /// The lines of a case.
@@ -16,16 +22,6 @@ pub struct Gathered {
     batches: u64,
     stakes: String,
     lines: String,
-}
-
-/// What a committee has where a case says nothing else.
-const DEPTH: u64 = 50;
-
-const BATCHES: u64 = 1_048_576;
-
-/// A number that stands in a case, 0 for what is none.
-fn number(word: &str) -> u64 {
-    word.parse::<u64>().unwrap_or(0)
 }
 
 impl Gathered {

@@ -1,6 +1,6 @@
 //! The plain program beside a validator: both are given the same events.
 
-use crate::same::{difference, same_answer};
+use crate::validating::same::{difference, same_answer};
 use model::{Admission, Event, Node, Refusal};
 use plain_machine::{Tables, after, answered, fresh};
 use sigface::HashSign;

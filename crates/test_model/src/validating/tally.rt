@@ -1,6 +1,6 @@
 //! How often each answer came.
 
-use crate::sum::number_of;
+use crate::validating::sum::number_of;
 use model::Refusal;
 use std::alloc::AllocError;
 use validator::Step;

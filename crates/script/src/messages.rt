@@ -1,14 +1,18 @@
 //! The messages that commands submit, each with its sender.
 
+use crate::command::Command;
+use crate::error::FormError;
+use crate::labels::Labels;
 use crate::settings::OWN;
-use script::{Command, FormError, Labels, certificate, vote};
+use crate::signing::{certificate, vote};
 use std::alloc::Global;
 use wire::{Author, BatchAck, Coin, Message, Wave, WireError};
 
 /// The member as from whom certificates are submitted.
 const CERTIFIER: Author = Author(1);
 
-/// The sender and the message of a command that submits one; of another command, that it is bad.
+/// The sender and the message of a command that submits one; of another command, that it is bad. Coins are sent by `OWN`,
+/// certificates by member 1.
 pub fn message_of(
     alloc: Global,
     labels: &Labels,
