@@ -56,13 +56,13 @@ pub fn batch(alloc: Global, author: Author, number: u64, size: u64) -> Result<Ba
     Ok(open.close()?)
 }
 
-/// Messages of one form, each another one, with their senders and their bytes, and who tests them.
+/// Messages of one form, each another one, with their bytes, and who tests them.
 #[derive(Drop)]
 pub struct Ring {
     /// Of the committee.
     pub config: Config<HashSign>,
-    /// With their senders. Those that have signatures are signed.
-    pub messages: Vec<(Author, Message)>,
+    /// Those that have signatures are signed.
+    pub messages: Vec<Message>,
     /// The bytes of each.
     pub bytes: Vec<Vec<u8>>,
 }
@@ -82,32 +82,30 @@ impl Ring {
     fn fill(&mut self, task: Task, form: Form) -> Result<(), Ending> {
         let mut rounds = Rounds::new(task.alloc, self.config.committee())?;
         for number in 0..RING {
-            let (sender, message) = message_of(task, form, &rounds, number)?;
+            let message = message_of(task, form, &rounds, number)?;
             self.bytes.push(encode(task.alloc, &message)?)?;
-            self.messages.push((sender, message))?;
+            self.messages.push(message)?;
             rounds.raise();
         }
         Ok(())
     }
 }
 
-fn message_of(
-    task: Task,
-    form: Form,
-    rounds: &Rounds,
-    number: u64,
-) -> Result<(Author, Message), Ending> {
+fn message_of(task: Task, form: Form, rounds: &Rounds, number: u64) -> Result<Message, Ending> {
     let author = Author(place(number, rounds.members()));
-    match form {
-        Form::Header => Ok((author, Message::Header(rounds.signed_header(author)?))),
-        Form::Certificate => {
-            let certificate = rounds.signed_certificate(author)?;
-            Ok((author, Message::Certificate(certificate)))
-        }
-        Form::Batch => Ok((
-            PEER,
-            Message::Batch(batch(task.alloc, PEER, number, task.size)?),
-        )),
+    Ok(match form {
+        Form::Header => Message::Header(rounds.signed_header(author)?),
+        Form::Certificate => Message::Certificate(rounds.signed_certificate(author)?),
+        Form::Batch => Message::Batch(batch(task.alloc, PEER, number, task.size)?),
+    })
+}
+
+/// Who sends a message of the ring.
+pub fn sender_of(message: &Message) -> Author {
+    match message {
+        Message::Header(header) => header.body.author,
+        Message::Certificate(certificate) => certificate.header.author,
+        _ => PEER,
     }
 }
 

@@ -2,13 +2,13 @@
 
 use crate::ending::Ending;
 use crate::fold::Fold;
-use crate::messages::{RING, Ring, again};
+use crate::messages::{RING, Ring, again, sender_of};
 use crate::task::{Act, Form, Task};
 use header::{check, recheck};
 use sha2::{Digest as _, Sha256};
 use sigface::HashVerify;
 use std::alloc::AllocError;
-use wire::{Author, Message, encode};
+use wire::{Message, encode};
 use wire_read::{FrameReader, decode};
 
 /// What one compression takes in.
@@ -41,17 +41,13 @@ fn go_round(task: Task, act: Act, ring: &Ring) -> Result<Fold, Ending> {
 
 // The work on one of the messages.
 fn work_once(task: Task, act: Act, ring: &Ring, place: u64, fold: &mut Fold) -> Result<(), Ending> {
-    let Some((sender, message)) = ring.messages.get(place as usize) else {
-        return Err(Ending::Refused);
-    };
-    match act {
-        Act::Decode => match ring.bytes.get(place as usize) {
-            Some(bytes) => decode_once(task, bytes, fold),
-            None => Err(Ending::Refused),
-        },
-        Act::Encode => Ok(encode_once(task, message, fold)?),
-        Act::Check => test_once(task, ring, *sender, again(message)?, true, fold),
-        Act::Recheck => test_once(task, ring, *sender, again(message)?, false, fold),
+    let place = place as usize;
+    match (act, ring.messages.get(place), ring.bytes.get(place)) {
+        (Act::Decode, _, Some(bytes)) => decode_once(task, bytes, fold),
+        (Act::Encode, Some(message), _) => Ok(encode_once(task, message, fold)?),
+        (Act::Check, Some(message), _) => test_once(task, ring, again(message)?, true, fold),
+        (Act::Recheck, Some(message), _) => test_once(task, ring, again(message)?, false, fold),
+        _ => Err(Ending::Refused),
     }
 }
 
@@ -78,7 +74,6 @@ fn encode_once(task: Task, message: &Message, fold: &mut Fold) -> Result<(), All
 fn test_once(
     task: Task,
     ring: &Ring,
-    sender: Author,
     message: Message,
     is_signed: bool,
     fold: &mut Fold,
@@ -87,6 +82,7 @@ fn test_once(
         fold.add_message(&message);
         return Ok(());
     }
+    let sender = sender_of(&message);
     let tested = match is_signed {
         true => check(ring.config.committee(), &HashVerify, sender, message),
         false => recheck(ring.config.committee(), sender, message),

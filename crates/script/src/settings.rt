@@ -34,9 +34,6 @@ pub fn member_list(alloc: Global, members: u16) -> Result<String, AllocError> {
 /// The file of a committee of four. Its limits may be out of their ranges; nothing else in it is unsound.
 pub fn committee_file(alloc: Global, depth: u64, batches: u64) -> Result<String, AllocError> {
     let mut file = member_list(alloc, MEMBERS)?;
-    write!(
-        file,
-        "depth = {depth}\nworkers = 1\nbatches = {batches}\n"
-    )?;
+    write!(file, "depth = {depth}\nworkers = 1\nbatches = {batches}\n")?;
     Ok(file)
 }

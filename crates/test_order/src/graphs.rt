@@ -8,7 +8,7 @@ use crate::looks::look;
 use crate::words::{Told, numbers_in, round_of, set_of};
 use committee::Committee;
 use dag::{Added, Dag, DagRefusal, Reads};
-use std::alloc::{AllocError, Global};
+use std::alloc::Global;
 use wire::{Certificate, Digest, Round};
 
 /// Puts a DAG to these words, and tells what it answers.
@@ -18,15 +18,28 @@ pub fn graph(alloc: Global, committee: &Committee, words: &str, answer: &mut Str
     for word in words.split_whitespace() {
         let (name, rest) = word.split_once('-').unwrap_or((word, ""));
         let numbers = numbers_in(alloc, rest)?;
-        if change(alloc, &mut dag, name, &numbers, answer)? {
-            continue;
-        }
-        if ask(alloc, &dag, name, &numbers, answer)? {
-            continue;
-        }
-        look(&dag, &mut reads, name, &numbers, answer)?;
+        play(alloc, &mut dag, &mut reads, name, &numbers, answer)?;
     }
     Ok(())
+}
+
+fn play(
+    alloc: Global,
+    dag: &mut Dag,
+    reads: &mut Reads,
+    name: &str,
+    numbers: &[u64],
+    answer: &mut String,
+) -> Told {
+    match (way_of(name), numbers) {
+        (Some(way), [round, author, parents @ ..]) => {
+            add(alloc, dag, way, (*round, *author), parents, answer)
+        }
+        _ => match is_asked(name) {
+            true => ask(alloc, dag, name, numbers, answer),
+            false => change(alloc, dag, reads, name, numbers, answer),
+        },
+    }
 }
 
 // How a certificate comes into a DAG: with its digest, or without it, or by hand behind its answer.
@@ -35,6 +48,19 @@ enum Way {
     Bare,
     Digested,
     Held,
+}
+
+fn way_of(name: &str) -> Option<Way> {
+    match name {
+        "add" => Some(Way::Bare),
+        "put" => Some(Way::Digested),
+        "hold" => Some(Way::Held),
+        _ => None,
+    }
+}
+
+fn is_asked(name: &str) -> bool {
+    name == "answer" || name == "has_parents"
 }
 
 fn add(
@@ -82,38 +108,28 @@ fn write_added(answer: &mut String, added: &Result<Added, DagRefusal>) -> Told {
     }
 }
 
-// A change of the DAG, and whether the word is one.
+// A change of the DAG, or a word that only looks.
 fn change(
     alloc: Global,
     dag: &mut Dag,
+    reads: &mut Reads,
     name: &str,
     numbers: &[u64],
     answer: &mut String,
-) -> Result<bool, AllocError> {
+) -> Told {
     match (name, numbers) {
-        ("add", [round, author, parents @ ..]) => {
-            add(alloc, dag, Way::Bare, (*round, *author), parents, answer)?
+        ("full", [first, last]) => full(alloc, dag, *first, *last, answer),
+        ("mark", [round, authors @ ..]) => {
+            dag.mark(round_of(*round), &set_of(authors));
+            Ok(())
         }
-        ("put", [round, author, parents @ ..]) => {
-            add(
-                alloc,
-                dag,
-                Way::Digested,
-                (*round, *author),
-                parents,
-                answer,
-            )?
+        ("commit", [round]) => {
+            dag.commit_to(round_of(*round));
+            Ok(())
         }
-        ("hold", [round, author, parents @ ..]) => {
-            add(alloc, dag, Way::Held, (*round, *author), parents, answer)?
-        }
-        ("full", [first, last]) => full(alloc, dag, *first, *last, answer)?,
-        ("mark", [round, authors @ ..]) => dag.mark(round_of(*round), &set_of(authors)),
-        ("commit", [round]) => dag.commit_to(round_of(*round)),
-        ("drop", [round]) => drop_below(dag, round_of(*round), answer)?,
-        _ => return Ok(false),
+        ("drop", [round]) => drop_below(dag, round_of(*round), answer),
+        _ => look(dag, reads, name, numbers, answer),
     }
-    Ok(true)
 }
 
 fn drop_below(dag: &mut Dag, round: Round, answer: &mut String) -> Told {
@@ -144,29 +160,21 @@ fn full_round(alloc: Global, dag: &mut Dag, round: u64, text: &mut String) -> To
     Ok(())
 }
 
-// What a DAG says of a certificate that it isn't given, and whether the word asks so.
-fn ask(
-    alloc: Global,
-    dag: &Dag,
-    name: &str,
-    numbers: &[u64],
-    answer: &mut String,
-) -> Result<bool, AllocError> {
-    match (name, numbers) {
-        ("answer", [round, author, parents @ ..]) => {
-            let certificate = certificate_of(alloc, dag, *round, *author, parents)?;
+// What a DAG says of a certificate that it isn't given.
+fn ask(alloc: Global, dag: &Dag, name: &str, numbers: &[u64], answer: &mut String) -> Told {
+    let [round, author, parents @ ..] = numbers else {
+        return answer.push_str("bad word\n");
+    };
+    let certificate = certificate_of(alloc, dag, *round, *author, parents)?;
+    match name {
+        "answer" => {
             let digest = digest_of(&certificate);
-            write_added(answer, &dag.answer(&certificate, &digest))?
+            write_added(answer, &dag.answer(&certificate, &digest))
         }
-        ("has_parents", [round, author, parents @ ..]) => {
-            let certificate = certificate_of(alloc, dag, *round, *author, parents)?;
-            writeln!(
-                answer,
-                "has_parents {}",
-                dag.has_parents(&certificate.header)
-            )?
-        }
-        _ => return Ok(false),
+        _ => writeln!(
+            answer,
+            "has_parents {}",
+            dag.has_parents(&certificate.header)
+        ),
     }
-    Ok(true)
 }

@@ -13,13 +13,7 @@ pub fn look(
     answer: &mut String,
 ) -> Told {
     match (name, numbers) {
-        ("floor", []) => writeln!(answer, "floor {}", dag.floor().number()),
-        ("base", []) => writeln!(answer, "base {}", dag.base().number()),
-        ("end", []) => writeln!(answer, "end {}", dag.end()),
-        ("laws", []) => {
-            laws(dag);
-            answer.push_str("laws\n")
-        }
+        (_, []) => own_look(dag, name, answer),
         (_, [round]) => round_look(dag, name, round_of(*round), answer),
         (_, [round, author]) => {
             slot_look(dag, name, round_of(*round), author_of(*author), answer)
@@ -29,6 +23,19 @@ pub fn look(
             reached(dag, round_of(*round), author_of(*author), below, answer)
         }
         ("parent", [round, author, place]) => parent(dag, reads, *round, *author, *place, answer),
+        _ => answer.push_str("bad word\n"),
+    }
+}
+
+fn own_look(dag: &Dag, name: &str, answer: &mut String) -> Told {
+    match name {
+        "floor" => writeln!(answer, "floor {}", dag.floor().number()),
+        "base" => writeln!(answer, "base {}", dag.base().number()),
+        "end" => writeln!(answer, "end {}", dag.end()),
+        "laws" => {
+            laws(dag);
+            answer.push_str("laws\n")
+        }
         _ => answer.push_str("bad word\n"),
     }
 }

@@ -10,7 +10,7 @@ use dag::{Added, Dag};
 use flatten::{Lengthening, mark, segment};
 use std::alloc::{AllocError, Global};
 use tusk::Coins;
-use wire::{Author, Digest, Round};
+use wire::{Author, Certificate, Digest, Round};
 
 // What a node keeps to order by.
 #[derive(Drop)]
@@ -34,34 +34,44 @@ pub fn play_words(alloc: Global, committee: &Committee, words: &str, answer: &mu
         previous: None,
     };
     for word in words.split_whitespace() {
-        let (name, rest) = word.split_once('-').unwrap_or((word, ""));
-        let numbers = numbers_in(alloc, rest)?;
-        match (name, numbers.as_slice()) {
-            ("add", [round, author, parents @ ..]) => {
-                playing.add(*round, *author, parents, answer)?
-            }
-            ("coin", [value]) => playing.coin(*value, answer)?,
-            ("leaders", _) => playing.tell_leaders(answer)?,
-            _ => answer.push_str("bad word\n")?,
-        }
+        playing.play(word, answer)?;
     }
     Ok(())
 }
 
 impl<'a> Playing<'a> {
+    fn play(&mut self, word: &str, answer: &mut String) -> Told {
+        let (name, rest) = word.split_once('-').unwrap_or((word, ""));
+        let numbers = numbers_in(self.alloc, rest)?;
+        match (name, numbers.as_slice()) {
+            ("add", [round, author, parents @ ..]) => self.add(*round, *author, parents, answer),
+            ("coin", [value]) => self.coin(*value, answer),
+            ("leaders", _) => self.tell_leaders(answer),
+            _ => answer.push_str("bad word\n"),
+        }
+    }
+
     fn add(&mut self, round: u64, author: u64, parents: &[u64], answer: &mut String) -> Told {
         let certificate = certificate_of(self.alloc, &self.dag, round, author, parents)?;
-        let digest = digest_of(&certificate);
         if certificate.header.author.0 >= self.dag.committee().size()
             || certificate.header.parents.as_slice().is_empty()
         {
             return answer.push_str("no member or no parent\n");
         }
+        let digest = digest_of(&certificate);
         match self.dag.answer(&certificate, &digest) {
-            Ok(Added::New) => {}
-            Ok(Added::Known) => return answer.push_str("Known\n"),
-            Err(refusal) => return writeln!(answer, "{refusal}"),
+            Ok(Added::New) => self.add_new(certificate, digest, answer),
+            Ok(Added::Known) => answer.push_str("Known\n"),
+            Err(refusal) => writeln!(answer, "{refusal}"),
         }
+    }
+
+    // Adds a certificate that is new, and commits what it commits.
+    fn add_new(&mut self, certificate: Certificate, digest: Digest, answer: &mut String) -> Told
+        requires member { certificate.header.author.0 < length self.old.dag.charter.keys }
+        requires named { 0 < length certificate.header.parents }
+        requires digested { digest.0 ≡ certificate_digest_of (header_digest_of certificate.header) certificate.header.round certificate.header.author.0 }
+    {
         answer.push_str("New\n")?;
         let chain = self
             .coins
@@ -97,35 +107,41 @@ impl<'a> Playing<'a> {
         made: &[Lengthening],
         answer: &mut String,
     ) -> Told {
-        let again = self.coins.chain_from(self.alloc, &self.dag, self.last)?;
-        if again.as_slice() != chain || !self.is_alike(chain, made)? {
+        if !self.is_found(chain)? || !self.is_alike(chain, made)? {
             answer.push_str("otherwise\n")?;
         }
         let Some(last) = chain.last() else {
             return Ok(());
         };
-        let floor = round_of(last.0.number().saturating_sub(self.committee.depth()));
-        write!(answer, "chain")?;
-        for leader in chain {
-            write_slot(answer, leader)?;
-        }
-        answer.push_str("\n")?;
+        tell_chain(chain, answer)?;
         self.tell_orders(made, answer)?;
-        if let Some(all) = made.last() {
-            mark(&mut self.dag, all);
-            self.previous = Some(all.last());
-        }
-        self.last = self.coins.top(&self.dag);
-        self.dag.commit_to(last.0);
-        if floor.number() < self.dag.base().number() {
-            self.dag.drop_below(floor);
-        }
+        self.take(last.0, made.last());
         writeln!(
             answer,
             "top {} floor {}",
             self.last.unwrap_or(0),
             self.dag.floor().number()
         )
+    }
+
+    // Whether these are the leaders that the DAG commits as it is now.
+    fn is_found(&self, chain: &[(Round, Author)]) -> Result<bool, AllocError> {
+        let again = self.coins.chain_from(self.alloc, &self.dag, self.last)?;
+        Ok(again.as_slice() == chain)
+    }
+
+    // Takes the leader of a round as committed, with all that is ordered up to it.
+    fn take(&mut self, round: Round, all: Option<&Lengthening>) {
+        if let Some(all) = all {
+            mark(&mut self.dag, all);
+            self.previous = Some(all.last());
+        }
+        self.last = self.coins.top(&self.dag);
+        self.dag.commit_to(round);
+        let floor = round_of(round.number().saturating_sub(self.committee.depth()));
+        if floor.number() < self.dag.base().number() {
+            self.dag.drop_below(floor);
+        }
     }
 
     // Whether each of these leaders orders, asked alone behind the one before it, what its beginning has behind that one's.
@@ -208,4 +224,12 @@ impl<'a> Playing<'a> {
             None => answer.push_str("none"),
         }
     }
+}
+
+fn tell_chain(chain: &[(Round, Author)], answer: &mut String) -> Told {
+    answer.push_str("chain")?;
+    for leader in chain {
+        write_slot(answer, leader)?;
+    }
+    answer.push_str("\n")
 }

@@ -44,24 +44,18 @@ fn obey(
 ) -> Told {
     let (name, rest) = word.split_once('-').unwrap_or((word, ""));
     let numbers = numbers_in(alloc, rest)?;
-    match (name, numbers.as_slice()) {
-        ("put", [author, worker, byte]) => {
+    match numbers.as_slice() {
+        [author, worker, byte] if name == "put" => {
             let (author, worker) = (author_of(*author), (*worker).min(65_535) as u16);
-            match batch_of(alloc, author, worker, (*byte).min(255) as u8)? {
-                Some(batch) => put(store, digests, batch, answer),
-                None => Err(AllocError),
-            }
+            let batch = batch_of(alloc, author, worker, (*byte).min(255) as u8)?;
+            put(store, digests, batch, answer)
         }
-        ("ack", [place, member]) => {
-            ack(
-                store,
-                digest_at(digests, *place),
-                author_of(*member),
-                answer,
-            )
+        [place, member] if name == "ack" => {
+            let digest = digest_at(digests, *place);
+            ack(store, digest, author_of(*member), answer)
         }
-        ("least", _) => least(alloc, store, digests, answer),
-        (_, [place]) => ask(store, name, digest_at(digests, *place), answer),
+        [place] => ask(store, name, digest_at(digests, *place), answer),
+        _ if name == "least" => least(alloc, store, digests, answer),
         _ => answer.push_str("bad word\n"),
     }
 }
@@ -76,9 +70,12 @@ fn digest_at(digests: &[Digest], place: u64) -> Digest {
 fn put(
     store: &mut BatchStore,
     digests: &mut Vec<Digest>,
-    batch: Batch,
+    batch: Option<Batch>,
     answer: &mut String,
 ) -> Told {
+    let Some(batch) = batch else {
+        return Err(AllocError);
+    };
     digests.push(batch_digest(&batch))?;
     match store.put(batch) {
         Ok(put) => write!(answer, "{put:?}")?,
@@ -102,17 +99,7 @@ fn ack(store: &mut BatchStore, digest: Digest, member: Author, answer: &mut Stri
 // that a header names it.
 fn ask(store: &mut BatchStore, name: &str, digest: Digest, answer: &mut String) -> Told {
     match name {
-        "get" => match store.get(&digest) {
-            Some(batch) => {
-                let (author, worker) = (batch.author().0, batch.worker());
-                let (one, other) = (
-                    store.holds(&digest, worker),
-                    store.holds(&digest, worker ^ 1),
-                );
-                writeln!(answer, "of {author} {worker} {one} {other}")
-            }
-            None => answer.push_str("none\n"),
-        },
+        "get" => get(store, &digest, answer),
         "available" => writeln!(answer, "{}", store.available(&digest)),
         "named" => writeln!(answer, "{}", store.named(&digest)),
         "name" => {
@@ -120,6 +107,17 @@ fn ask(store: &mut BatchStore, name: &str, digest: Digest, answer: &mut String) 
             answer.push_str("named\n")
         }
         _ => answer.push_str("bad word\n"),
+    }
+}
+
+fn get(store: &BatchStore, digest: &Digest, answer: &mut String) -> Told {
+    match store.get(digest) {
+        Some(batch) => {
+            let (author, worker) = (batch.author().0, batch.worker());
+            let (one, other) = (store.holds(digest, worker), store.holds(digest, worker ^ 1));
+            writeln!(answer, "of {author} {worker} {one} {other}")
+        }
+        None => answer.push_str("none\n"),
     }
 }
 

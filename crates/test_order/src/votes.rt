@@ -82,19 +82,32 @@ pub fn assemble(alloc: Global, committee: &Committee, words: &str, answer: &mut 
     for word in votes.split_whitespace() {
         byte = byte.saturating_add(1);
         let vote = vote_of(&body, word, byte);
-        if vote.voter.0 >= committee.size() {
-            continue;
-        }
-        // Each second vote in two steps.
-        if byte % 2 == 1 {
-            tell_added(&assembly.add(vote)?, answer)?;
-        } else {
-            let added = assembly.answer(&vote)?;
-            tell_added(&added, answer)?;
-            assembly.count(&added, vote);
-        }
+        give(committee, &mut assembly, vote, byte % 2 == 1, answer)?;
     }
     tell_assembly(&assembly, committee.size(), answer)
+}
+
+// Gives an assembly a vote, at once or in two steps, unless no member has cast it.
+fn give(
+    committee: &Committee,
+    assembly: &mut Assembly,
+    vote: Vote,
+    at_once: bool,
+    answer: &mut String,
+) -> Told
+    requires { assembly.old.charter ≡ committee.now }
+    ensures { assembly.new.charter ≡ committee.now }
+{
+    if vote.voter.0 >= committee.size() {
+        return Ok(());
+    }
+    if at_once {
+        return tell_added(&assembly.add(vote)?, answer);
+    }
+    let added = assembly.answer(&vote)?;
+    tell_added(&added, answer)?;
+    assembly.count(&added, vote);
+    Ok(())
 }
 
 fn tell_added(added: &Added, answer: &mut String) -> Told {

@@ -1,10 +1,10 @@
 //! The lines of a case through a validator and, for its first events, through the plain program.
 
+use crate::looking::{member, number};
+use crate::played::coin;
 use crate::validating::beside::Beside;
 use crate::validating::sum::Sum;
 use crate::validating::tally::Tally;
-use crate::looking::{member, number};
-use crate::played::coin;
 use crate::weighing::label_genesis;
 use committee::Committee;
 use header::check;
