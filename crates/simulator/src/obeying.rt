@@ -39,28 +39,52 @@ fn obey<R: Wait>(
     match command {
         Command::Pack(pack) => answer_to(define_batch(alloc, labels, &pack)),
         Command::Form(form) => answer_to(define_header(alloc, labels, &form)),
-        Command::Flush => match running.flush(rt) {
-            Ok(count) => Ok(Answer::Settled(count)),
-            Err(error) => Ok(Answer::Fault(error)),
-        },
-        Command::Collect => match running.collect(rt) {
-            Some(output) => Ok(Answer::Out(output)),
-            None => Ok(Answer::OutNone),
-        },
-        Command::Order => match running.order(rt) {
-            Ok(digests) => Ok(Answer::Order(digests)),
-            Err(Refusal::Memory) => Err(Ending::Memory),
-            Err(refusal) => Ok(Answer::Refused(refusal)),
-        },
-        Command::Round => Ok(Answer::Round(running.round(rt))),
-        Command::Peek { author, round } => Ok(Answer::Voted(peek(rt, running, author, round))),
-        Command::Accepted => Ok(Answer::Count(running.accepted())),
-        Command::Synced => Ok(Answer::Count(running.synced())),
+        Command::Flush => Ok(flush(rt, running)),
+        Command::Order => order(rt, running),
         Command::Fail { call, count } => {
             running.fail(kind_of(call), count)?;
             Ok(Answer::Nothing)
         }
-        other => submit(rt, alloc, running, labels, other),
+        other => match look(rt, running, &other) {
+            Some(answer) => Ok(answer),
+            None => submit(rt, alloc, running, labels, other),
+        },
+    }
+}
+
+// What a command is answered that only looks or collects; none of another command.
+fn look<R: Wait>(rt: &R, running: &mut Running<'_>, command: &Command<'_>) -> Option<Answer> {
+    match command {
+        Command::Collect => Some(collect(rt, running)),
+        Command::Round => Some(Answer::Round(running.round(rt))),
+        Command::Peek { author, round } => {
+            Some(Answer::Voted(peek(rt, running, *author, *round)))
+        }
+        Command::Accepted => Some(Answer::Count(running.accepted())),
+        Command::Synced => Some(Answer::Count(running.synced())),
+        _ => None,
+    }
+}
+
+fn flush<R: Wait>(rt: &R, running: &mut Running<'_>) -> Answer {
+    match running.flush(rt) {
+        Ok(count) => Answer::Settled(count),
+        Err(error) => Answer::Fault(error),
+    }
+}
+
+fn collect<R: Wait>(rt: &R, running: &mut Running<'_>) -> Answer {
+    match running.collect(rt) {
+        Some(output) => Answer::Out(output),
+        None => Answer::OutNone,
+    }
+}
+
+fn order<R: Wait>(rt: &R, running: &mut Running<'_>) -> Result<Answer, Ending> {
+    match running.order(rt) {
+        Ok(digests) => Ok(Answer::Order(digests)),
+        Err(Refusal::Memory) => Err(Ending::Memory),
+        Err(refusal) => Ok(Answer::Refused(refusal)),
     }
 }
 

@@ -8,14 +8,17 @@ use wire_read::FrameReader;
 /// Tells the bodies that the piece makes whole, and whether nothing has come of the next frame then.
 pub fn feed(reader: &mut FrameReader, piece: &[u8], answer: &mut String) -> Told {
     match reader.feed(piece) {
-        Ok(bodies) => {
-            for body in &bodies {
-                show(body, answer)?;
-            }
-        }
+        Ok(bodies) => show_each(&bodies, answer)?,
         Err(error) => writeln!(answer, "{error}")?,
     }
     list("empty", &[reader.is_empty() as u64], answer)
+}
+
+fn show_each(bodies: &[Vec<u8>], answer: &mut String) -> Told {
+    for body in bodies {
+        show(body, answer)?;
+    }
+    Ok(())
 }
 
 /// Tells in how many of the first ways to cut the frame it gives its body once and leaves nothing.
@@ -31,20 +34,28 @@ pub fn count_ways(alloc: Global, ways: u64, frame: &[u8], answer: &mut String) -
 
 /// Whether the frame gives its body once and leaves nothing, cut behind each byte whose bit the number has.
 fn is_one_body(alloc: Global, frame: &[u8], cuts: u64) -> Result<bool, WireError> {
-    let (mut reader, mut piece) = (FrameReader::new(alloc), Vec::new(alloc));
-    let mut bodies = Vec::new(alloc);
-    let mut left = cuts;
-    for byte in frame {
-        piece.push(*byte)?;
+    let (mut reader, mut bodies) = (FrameReader::new(alloc), Vec::new(alloc));
+    feed_cut(&mut reader, frame, cuts, &mut bodies)?;
+    let is_one = matches!(bodies.as_slice(), [body] if Some(body.as_slice()) == frame.get(4..));
+    Ok(is_one && reader.is_empty())
+}
+
+/// Feeds the frame, cut so.
+fn feed_cut(
+    reader: &mut FrameReader,
+    frame: &[u8],
+    cuts: u64,
+    bodies: &mut Vec<Vec<u8>>,
+) -> Result<(), WireError> {
+    let (mut left, mut start) = (cuts, 0);
+    for end in 1..frame.len() {
         if left % 2 == 1 {
-            feed_into(&mut reader, &piece, &mut bodies)?;
-            piece.clear();
+            feed_into(reader, frame.get(start..end).unwrap_or(&[]), bodies)?;
+            start = end;
         }
         left /= 2;
     }
-    feed_into(&mut reader, &piece, &mut bodies)?;
-    let is_one = matches!(bodies.as_slice(), [body] if Some(body.as_slice()) == frame.get(4..));
-    Ok(is_one && reader.is_empty())
+    feed_into(reader, frame.get(start..).unwrap_or(&[]), bodies)
 }
 
 fn feed_into(

@@ -61,11 +61,6 @@ impl Tables {
         match (name, numbers) {
             ("members", [count]) => add_members(&mut self.text, *count),
             ("read", []) => self.read(answer),
-            ("key", [member]) => show_key(&self.committee, *member, answer),
-            ("total", []) => show_total(&self.committee, answer),
-            ("stake", [member]) => show_stake(&self.committee, *member, answer),
-            ("weigh", members) => weigh(&self.committee, members, answer),
-            ("check", [sender]) => check_both(self.alloc, &self.committee, *sender, bytes, answer),
             ("feed", []) => feed(&mut self.reader, bytes, answer),
             ("vote", [author, round]) => vote(&mut self.book, *author, *round, bytes, answer),
             ("voted", [author, round]) => voted(&self.book, *author, *round, answer),
@@ -76,8 +71,31 @@ impl Tables {
             ("waiter", []) => open(self.alloc, &mut self.waiting, answer),
             _ => match &mut self.waiting {
                 Some(waiting) => wait(self.alloc, waiting, name, numbers, answer),
-                None => plain(self.alloc, name, numbers, bytes, answer),
+                None => self.ask(name, numbers, bytes, answer),
             },
+        }
+    }
+
+    // What is asked of the committee, or of none.
+    fn ask(&self, name: &str, numbers: &[u64], bytes: &[u8], answer: &mut String) -> Told {
+        match (name, numbers) {
+            ("key", [member]) => show_key(&self.committee, *member, answer),
+            ("total", []) => show_total(&self.committee, answer),
+            ("stake", [member]) => show_stake(&self.committee, *member, answer),
+            ("weigh", members) => weigh(&self.committee, members, answer),
+            ("check", [sender]) => check_both(self.alloc, &self.committee, *sender, bytes, answer),
+            _ => spell(self.alloc, name, numbers, bytes, answer),
+        }
+    }
+
+    fn run(&mut self, command: &str, answer: &mut String) -> Told {
+        let (front, words) = command.split_once(':').unwrap_or((command, ""));
+        let (name, numbers) = front.split_once(' ').unwrap_or((front, ""));
+        let numbers = numbers_of(self.alloc, numbers)?;
+        let bytes = joined(self.alloc, &self.names, words)?;
+        match (numbers, bytes) {
+            (Some(numbers), Some(bytes)) => self.put(name, &numbers, &bytes, answer),
+            _ => answer.push_str("bad word\n"),
         }
     }
 
@@ -111,19 +129,38 @@ fn wait(
     }
 }
 
-fn plain(alloc: Global, name: &str, numbers: &[u64], bytes: &[u8], answer: &mut String) -> Told {
+// Messages and their bytes.
+fn spell(alloc: Global, name: &str, numbers: &[u64], bytes: &[u8], answer: &mut String) -> Told {
     match (name, numbers) {
         ("decode", []) => tell(spelled_again(alloc, bytes), answer),
         ("beginnings", []) => beginnings(alloc, bytes, answer),
         ("message", [number]) => message(alloc, *number, bytes, answer),
         ("batch", [author, worker, lens @ ..]) => {
-            let open = OpenBatch::new(alloc, author_of(*author), author_of(*worker).0)?;
-            let batch = fill(open, lens, bytes, answer)?;
-            show(&written(alloc, &batch)?, answer)
+            batch(alloc, (*author, *worker), lens, bytes, answer)
         }
         ("order", [start]) => order(alloc, *start, bytes, answer),
         ("genesis", [author]) => genesis(alloc, *author, answer),
         ("ways", [ways]) => count_ways(alloc, *ways, bytes, answer),
+        _ => reckon(name, numbers, bytes, answer),
+    }
+}
+
+// The batch of an author and worker, of transactions of these lengths.
+fn batch(
+    alloc: Global,
+    place: (u64, u64),
+    lens: &[u64],
+    bytes: &[u8],
+    answer: &mut String,
+) -> Told {
+    let open = OpenBatch::new(alloc, author_of(place.0), author_of(place.1).0)?;
+    let batch = fill(open, lens, bytes, answer)?;
+    show(&written(alloc, &batch)?, answer)
+}
+
+// Numbers, digests, signatures and sets.
+fn reckon(name: &str, numbers: &[u64], bytes: &[u8], answer: &mut String) -> Told {
+    match (name, numbers) {
         ("round", [number]) => tell(Round::new(*number).map(|round| round.number()), answer),
         ("wave", [number]) => tell(Wave::new(*number).map(|wave| wave.number()), answer),
         ("hash", []) => show(&Sha256::digest(bytes), answer),
@@ -153,13 +190,6 @@ impl Subject for Tables {
         if let Some((name, words)) = command.split_once(" = ") {
             return self.name(name, words, answer);
         }
-        let (front, words) = command.split_once(':').unwrap_or((command, ""));
-        let (name, numbers) = front.split_once(' ').unwrap_or((front, ""));
-        let numbers = numbers_of(self.alloc, numbers)?;
-        let bytes = joined(self.alloc, &self.names, words)?;
-        match (numbers, bytes) {
-            (Some(numbers), Some(bytes)) => self.put(name, &numbers, &bytes, answer),
-            _ => answer.push_str("bad word\n"),
-        }
+        self.run(command, answer)
     }
 }
