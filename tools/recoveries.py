@@ -2,10 +2,11 @@
 """Files of journals, and what opening a node on each of them comes to; scripts of commands, and what a node writes for them. All is
 computed without the node's code.
 
-    tools/recoveries.py > crates/test_recovery/stdin
+    tools/recoveries.py
 
-writes the cases of crates/test_recovery. The formats are those of docs/FORMATS.md, and what events are answered is taken from
-tools/histories.py, which reads an order afresh for each answer.
+prints a part of crates/test_store/stdin: the cases from the comment that names this file to the one that names tools/worlds.py.
+The formats are those of docs/FORMATS.md, and what events are answered is taken from tools/histories.py, which reads an order
+afresh for each answer.
 """
 import hashlib
 import sys
@@ -686,7 +687,7 @@ def faults(cases):
 def main():
     assert len(EMPTY) == 152 and len(FIRST_VOTE) == 345 and len(EVENT) == 184
     cases = Cases()
-    print('# Openings of a node on hand-made journals, and scripts of commands. `tools/recoveries.py` writes this file.')
+    print('# Openings of a node on hand-made journals, and scripts of commands. `tools/recoveries.py` writes these cases.')
     empty_files(cases)
     configurations(cases)
     events(cases)

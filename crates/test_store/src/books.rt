@@ -1,10 +1,10 @@
 //! Commands to a book of member 0.
 
-use crate::Store;
 use crate::disks::tell_if;
-use crate::headers::{batch, event, header, tell_output, vote};
+use crate::headers::{Named, batch, body, event, header, tell_output, vote};
 use crate::rounds::{Putting, put_groups};
-use crate::words::{Told, Word, bad, put, put_number};
+use crate::stores::Store;
+use crate::words::{Told, bad, put, put_number, told_bad};
 use book::Receipt;
 use committee::Committee;
 use ownbook::OwnBook;
@@ -16,6 +16,27 @@ use validator::Refusal::{
 };
 use validator::{Config, Step, Validator};
 use wire::{Author, Message, Round};
+
+/// Who sends the votes and the batches of the cases.
+const OTHER: Author = Author(1);
+
+/// Each reason to refuse an event.
+const REFUSALS: [Refusal; 14] = [
+    Memory,
+    Down,
+    TooOld,
+    MissingParents,
+    MissingBatch,
+    Equivocation,
+    CertConflict,
+    DigestClash,
+    AlreadyProposed,
+    NotOurs,
+    CoinOutOfTurn,
+    CoinEarly,
+    CoinConflict,
+    StoreFull,
+];
 
 /// A book that has accepted nothing.
 pub fn own_book(
@@ -29,26 +50,53 @@ pub fn own_book(
 }
 
 impl Store<'_> {
-    pub fn obey_book(&mut self, name: &str, words: &[Word], answer: &mut String) -> Told {
-        match (name, words) {
-            ("put", []) => return self.put(Putting::Written, answer),
-            ("flush", []) => return self.put(Putting::Settled, answer),
-            ("write_two", []) => return self.put(Putting::Two, answer),
-            ("release", []) => self.release(answer),
-            ("down", []) => tell_if(answer, self.book.is_down()),
-            ("fault", []) => self.book.fail(),
-            ("refusals", []) => tell_refusals(answer),
-            ("fill", [Word::Number(count), Word::Number(len)]) => {
-                return self.fill(*count, *len as usize, answer);
-            }
-            _ => match message_of(self.alloc, name, words)? {
-                Some((sender, message)) if name == "step" => {
-                    return step(self.alloc, self.config, sender, message, answer);
-                }
-                Some((sender, message)) => self.accept(sender, message, answer),
-                None => bad(answer),
-            },
+    /// Commands with no word: groups of the book on their way to the disk, and what it says of itself.
+    pub fn obey_book(&mut self, name: &str, answer: &mut String) -> Told {
+        match name {
+            "put" => self.put(Putting::Written, answer),
+            "flush" => self.put(Putting::Settled, answer),
+            "write_two" => self.put(Putting::Two, answer),
+            _ => self.ask_book(name, answer),
         }
+    }
+
+    fn ask_book(&mut self, name: &str, answer: &mut String) -> Told {
+        match name {
+            "release" => self.release(answer),
+            "down" => tell_if(answer, self.book.is_down()),
+            "fault" => self.book.fail(),
+            "refusals" => tell_refusals(answer),
+            _ => bad(answer),
+        }
+        Ok(())
+    }
+
+    /// The vote of a member for an author's header of a round.
+    pub fn take_vote(&mut self, author: u64, round: u64, answer: &mut String) -> Told {
+        match slot(author, round) {
+            Some((author, round)) => self.accept(OTHER, vote(OTHER, author, round), answer),
+            None => bad(answer),
+        }
+        Ok(())
+    }
+
+    /// A header over certificates of some members, to the book, or to a validator without one.
+    pub fn take_header(
+        &mut self,
+        name: &str,
+        author: u64,
+        round: u64,
+        members: &[u8],
+        answer: &mut String,
+    ) -> Told {
+        let (Some(named), Some((author, round))) = (named_of(name), slot(author, round)) else {
+            return told_bad(answer);
+        };
+        let message = header(body(self.alloc, named, author, round, members)?);
+        if name == "step" {
+            return step(self.alloc, self.config, author, message, answer);
+        }
+        self.accept(author, message, answer);
         Ok(())
     }
 
@@ -63,12 +111,11 @@ impl Store<'_> {
     }
 
     /// So many batches of member 1, each another one, whose records have this length; tells of the last.
-    fn fill(&mut self, count: u64, len: usize, answer: &mut String) -> Told {
+    pub fn fill(&mut self, count: u64, len: usize, answer: &mut String) -> Told {
         for number in 0..count {
             answer.clear();
-            let sender = Author(1);
-            match batch(self.alloc, sender, number, len)? {
-                Some(batch) => self.accept(sender, Message::Batch(batch), answer),
+            match batch(self.alloc, OTHER, number, len)? {
+                Some(batch) => self.accept(OTHER, Message::Batch(batch), answer),
                 None => bad(answer),
             }
         }
@@ -89,34 +136,13 @@ impl Store<'_> {
     }
 }
 
-/// The message of a command with its sender: a vote, or a header over the certificates of some members.
-fn message_of(
-    alloc: Global,
-    name: &str,
-    words: &[Word],
-) -> Result<Option<(Author, Message)>, AllocError> {
-    match (name, words) {
-        ("vote", [Word::Number(author), Word::Number(round)]) => {
-            Ok(match slot(*author, *round) {
-                Some((author, round)) => Some((Author(1), vote(author, round))),
-                None => None,
-            })
-        }
-        (
-            "header" | "foreign" | "batch" | "step",
-            [
-                Word::Number(author),
-                Word::Number(round),
-                Word::Bytes(members),
-            ],
-        ) => match slot(*author, *round) {
-            Some((author, round)) => {
-                let header = header(alloc, name, author, round, members)?;
-                Ok(Some((author, header)))
-            }
-            None => Ok(None),
-        },
-        _ => Ok(None),
+/// What a header names, by the name of its command.
+fn named_of(name: &str) -> Option<Named> {
+    match name {
+        "header" | "step" => Some(Named::Genesis),
+        "batch" => Some(Named::Batch),
+        "foreign" => Some(Named::Foreign),
+        _ => None,
     }
 }
 
@@ -135,8 +161,7 @@ fn step(
 ) -> Told {
     let mut validator = Validator::new(alloc, config)?;
     let Some(event) = event(validator.committee(), sender, message) else {
-        bad(answer);
-        return Ok(());
+        return told_bad(answer);
     };
     let _ = write!(answer, "from {} to {}: ", event.sender().0, config.own().0);
     let is_new = validator.is_new(&event);
@@ -181,22 +206,7 @@ fn tell_refusal(answer: &mut String, refusal: Refusal) {
 }
 
 fn tell_refusals(answer: &mut String) {
-    for refusal in [
-        Memory,
-        Down,
-        TooOld,
-        MissingParents,
-        MissingBatch,
-        Equivocation,
-        CertConflict,
-        DigestClash,
-        AlreadyProposed,
-        NotOurs,
-        CoinOutOfTurn,
-        CoinEarly,
-        CoinConflict,
-        StoreFull,
-    ] {
-        tell_refusal(answer, refusal);
+    for refusal in &REFUSALS {
+        tell_refusal(answer, *refusal);
     }
 }

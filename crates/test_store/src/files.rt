@@ -1,28 +1,14 @@
 //! A file that is cut or changed at each of some places. A line is answered wherever the answer becomes another one.
 
-use crate::Store;
+use crate::disks::tell_left;
 use crate::journals::{attempt, put_records};
-use crate::words::{Told, Word, put, put_bytes, put_number};
+use crate::words::{Told, put, put_number};
 use diskmodel::MemDisk;
 use journal::Record;
 use std::alloc::{AllocError, Global};
 
-impl Store<'_> {
-    pub fn obey_files(&mut self, name: &str, words: &[Word], answer: &mut String) -> Told {
-        match (name, words) {
-            ("beginnings", [Word::Number(from), Word::Number(to)]) => {
-                beginnings(self.alloc, self.disk.bytes(), *from, *to, answer)
-            }
-            ("changes", [Word::Number(from), Word::Number(to)]) => {
-                changes(self.alloc, self.disk.bytes(), *from, *to, answer)
-            }
-            _ => self.obey_stops(name, words, answer),
-        }
-    }
-}
-
 /// Opens the beginnings of a file, from the first of these lengths to the last.
-fn beginnings(alloc: Global, file: &[u8], from: u64, to: u64, answer: &mut String) -> Told {
+pub fn beginnings(alloc: Global, file: &[u8], from: u64, to: u64, answer: &mut String) -> Told {
     for len in from..=to {
         if let Some(bytes) = file.get(..len as usize) {
             note(answer, &[len], opened(alloc, bytes, true)?);
@@ -32,7 +18,7 @@ fn beginnings(alloc: Global, file: &[u8], from: u64, to: u64, answer: &mut Strin
 }
 
 /// Opens a file with each value at each of these places, and tells no more than the number of its records.
-fn changes(alloc: Global, file: &[u8], from: u64, to: u64, answer: &mut String) -> Told {
+pub fn changes(alloc: Global, file: &[u8], from: u64, to: u64, answer: &mut String) -> Told {
     for place in from..=to {
         for value in 0..=255 {
             let mut bytes = file.to_vec(alloc)?;
@@ -73,14 +59,7 @@ fn tell_opened(alloc: Global, file: &[u8], in_full: bool, text: &mut String) -> 
     let disk = MemDisk::new(alloc, file.to_vec(alloc)?)?;
     let (disk, found) = attempt(alloc, disk, None, text)?;
     put_records(text, &found, in_full);
-    if disk.firm() != disk.bytes() {
-        put(text, ", not firm");
-    } else if disk.bytes() == file {
-        put(text, ", as it was");
-    } else {
-        put(text, ", left");
-        put_bytes(text, disk.bytes());
-    }
+    tell_left(text, &disk, file);
     open_again(alloc, disk, &found, text)
 }
 
@@ -95,8 +74,18 @@ fn open_again(alloc: Global, disk: MemDisk, found: &[Record], text: &mut String)
 }
 
 fn are_same(records: &[Record], others: &[Record]) -> bool {
-    records.len() == others.len()
-        && records.iter().zip(others.iter()).all(|(record, other)| {
-            record.bytes.as_slice() == other.bytes.as_slice() && record.gate == other.gate
-        })
+    let mut same = records.len() == others.len();
+    for (place, record) in records.iter().enumerate() {
+        same = same && is_at(others, place, record);
+    }
+    same
+}
+
+fn is_at(records: &[Record], place: usize, record: &Record) -> bool {
+    match records.get(place) {
+        Some(other) => {
+            other.gate == record.gate && other.bytes.as_slice() == record.bytes.as_slice()
+        }
+        None => false,
+    }
 }

@@ -1,63 +1,67 @@
-//! The messages of the cases, and the committee whose members send them.
+//! The messages of the cases, and what a node puts out for them.
 
-ghost use Rattle.std.specs.Prelude.{◌≡◌, None, IfSome};
+ghost use Rattle.std.specs.Prelude.{◌≡◌, ◌≤◌, None, IfOk, IfSome, length};
 ghost use Rattle.header.specs.Checks.{fault_of, accepts_all};
 
+use crate::committees::OWN;
 use committee::Committee;
 use header::{CheckError, Checked, check, recheck};
-use sigface::{HashSign, HashVerify};
+use sigface::HashVerify;
 use std::alloc::{AllocError, Global};
-use validator::Config;
 use wire::{
-    Author, Batch, BatchReference, BatchReferences, Digest, Header, HeaderBody, Key,
+    Author, Batch, BatchReference, BatchReferences, Digest, Header, HeaderBody,
     MAX_TRANSACTION_BYTES, Message, OpenBatch, Output, ParentReference, ParentReferences, Round,
-    Signature, Vote, genesis_digest,
+    Signature, Vote, WireError, genesis_digest,
 };
-
-/// Four members. The key of each is its number plus 1, 32 times.
-const FOUR: &str = "members = [
-    \"0101010101010101010101010101010101010101010101010101010101010101\",
-    \"0202020202020202020202020202020202020202020202020202020202020202\",
-    \"0303030303030303030303030303030303030303030303030303030303030303\",
-    \"0404040404040404040404040404040404040404040404040404040404040404\",
-]";
+use wire_read::decode;
 
 /// The digest of what nobody holds.
-const FOREIGN: Digest = Digest([7; 32]);
-
-/// The member whose book it is.
-const OWN: Author = Author(0);
+pub const FOREIGN: Digest = Digest([7; 32]);
 
 /// The bytes of a batch's record around its one transaction: the kind, the sender, the tag, and the body's eight bytes
 /// and the transaction's length.
 const AROUND: usize = 16;
 
-/// What member 0 is set up with. Its committee's file is sound, so only memory can be wanting.
-pub fn config(alloc: Global) -> Result<Option<Config<HashSign>>, AllocError> {
-    let committee = Committee::read(alloc, FOUR).map_err(|_| AllocError)?;
-    Ok(Config::new(committee, OWN, HashSign::new(Key([1; 32]))))
+/// What a header of the cases names.
+#[derive(Clone, Copy)]
+pub enum Named {
+    /// The genesis certificates of its parents' authors.
+    Genesis,
+    /// These, and a batch that nobody holds.
+    Batch,
+    /// Certificates that nobody holds.
+    Foreign,
 }
 
-/// A header over these members' certificates, with a signature of zeros. They are the genesis ones, but for a
-/// header of the name `foreign`, and one of the name `batch` names a batch.
-pub fn header(
+/// A header over certificates of these members, so many as may stand in one.
+pub fn body(
     alloc: Global,
-    name: &str,
+    named: Named,
     author: Author,
     round: Round,
     members: &[u8],
-) -> Result<Message, AllocError> {
-    let (mut batches, mut parents) = (BatchReferences::new(alloc), ParentReferences::new(alloc));
-    if name == "batch" && batches.is_empty() && batches.may_follow(&FOREIGN) {
+) -> Result<HeaderBody, AllocError> {
+    let mut batches = BatchReferences::new(alloc);
+    if matches!(named, Named::Batch) && batches.is_empty() && batches.may_follow(&FOREIGN) {
         let (digest, worker) = (FOREIGN, 0);
         batches.push(BatchReference { digest, worker })?;
     }
+    let parents = parents(alloc, named, members)?;
+    Ok(HeaderBody {
+        author,
+        round,
+        batches,
+        parents,
+    })
+}
+
+fn parents(alloc: Global, named: Named, members: &[u8]) -> Result<ParentReferences, AllocError> {
+    let mut parents = ParentReferences::new(alloc);
     for member in members {
         let author = Author(u16::from(*member));
-        let certificate = if name == "foreign" {
-            FOREIGN
-        } else {
-            genesis_digest(author)
+        let certificate = match named {
+            Named::Foreign => FOREIGN,
+            _ => genesis_digest(author),
         };
         if parents.len() < 31 && parents.may_follow(author) {
             parents.push(ParentReference {
@@ -66,19 +70,18 @@ pub fn header(
             })?;
         }
     }
-    let body = HeaderBody {
-        author,
-        round,
-        batches,
-        parents,
-    };
-    let signature = Signature([0; 64]);
-    Ok(Message::Header(Header { body, signature }))
+    Ok(parents)
 }
 
-/// The vote of member 1 for another header, with a signature of zeros.
-pub fn vote(author: Author, round: Round) -> Message {
-    let (voter, signature) = (Author(1), Signature([0; 64]));
+/// The message of a header, with a signature of zeros.
+pub fn header(body: HeaderBody) -> Message {
+    let signature = Signature([0; 64]);
+    Message::Header(Header { body, signature })
+}
+
+/// The vote of a member for a header of an author that nobody holds, with a signature of zeros.
+pub fn vote(voter: Author, author: Author, round: Round) -> Message {
+    let signature = Signature([0; 64]);
     Message::Vote(Vote {
         header: FOREIGN,
         round,
@@ -99,14 +102,32 @@ pub fn batch(
     if len < AROUND + 8 || len > MAX_TRANSACTION_BYTES {
         return Ok(None);
     }
-    let mut transaction = vec![in alloc; 0; len - AROUND]?;
-    transaction[..8].copy_from_slice(&number.to_be_bytes());
+    let transaction = transaction(alloc, number, len - AROUND)?;
     let mut batch = OpenBatch::new(alloc, author, 0)?;
     if !batch.has_room(transaction.len()) {
         return Ok(None);
     }
     batch.push(&transaction)?;
     Ok(Some(batch.close()?))
+}
+
+/// A transaction of this length, which begins with a number.
+fn transaction(alloc: Global, number: u64, len: usize) -> Result<Vec<u8>, AllocError>
+    requires { 8 ≤ len }
+    ensures { IfOk result (λ bytes. length bytes.items ≡ len) }
+{
+    let mut bytes = vec![in alloc; 0; len]?;
+    bytes[..8].copy_from_slice(&number.to_be_bytes());
+    Ok(bytes)
+}
+
+/// The message that these bytes are, if they are one.
+pub fn message_in(alloc: Global, bytes: &[u8]) -> Result<Option<Message>, AllocError> {
+    match decode(alloc, bytes) {
+        Ok(message) => Ok(Some(message)),
+        Err(WireError::Memory) => Err(AllocError),
+        Err(_) => Ok(None),
+    }
 }
 
 /// The message as an event from its sender, if it passes the checks, its signature not tested.

@@ -2,8 +2,8 @@
 
 ghost use Rattle.journal.specs.Journal.{IsAlive};
 
-use crate::Store;
 use crate::spelling::group_in;
+use crate::stores::Store;
 use crate::words::{Told, Word, put, put_bytes, put_number};
 use diskmodel::{Disk, MemDisk};
 use journal::JournalError::{ConfigMismatch, Damaged, Device, Full, Memory};
@@ -11,34 +11,30 @@ use journal::{Group, Journal, JournalError, Record, stands};
 use std::alloc::{AllocError, Global};
 use std::mem;
 
+/// Each error of a journal.
+const ERRORS: [JournalError; 5] = [Memory, Device, Damaged(15), ConfigMismatch, Full];
+
 impl Store<'_> {
-    pub fn obey_journal(&mut self, name: &str, words: &[Word], answer: &mut String) -> Told {
-        match (name, words) {
-            ("open", []) => self.attempt(None, answer),
-            ("append", words) => {
-                let records = listed(self.alloc, words)?;
-                self.attempt(records, answer)
-            }
-            ("group", [Word::Number(count), Word::Number(len)]) => {
-                let records = alike(self.alloc, *count, *len as usize)?;
-                self.attempt(Some(records), answer)
-            }
-            ("written", [Word::Number(count), Word::Bytes(bytes)]) => {
-                self.append_written(*count, bytes.as_slice(), answer)
-            }
-            ("stands", []) => {
-                tell_stands(self.alloc, self.disk.bytes(), answer);
-                Ok(())
-            }
-            ("errors", []) => {
-                for error in [Memory, Device, Damaged(15), ConfigMismatch, Full] {
-                    put_error(answer, error);
-                    put(answer, "\n");
-                }
-                Ok(())
-            }
-            _ => self.obey_files(name, words, answer),
+    /// Commands with no word.
+    pub fn obey_journal(&mut self, name: &str, answer: &mut String) -> Told {
+        match name {
+            "open" => self.attempt(None, answer),
+            "stands" => tell_stands(self.alloc, self.disk.bytes(), answer),
+            "errors" => tell_errors(answer),
+            _ => self.obey_book(name, answer),
         }
+    }
+
+    /// Opens the journal, and appends the records of these words.
+    pub fn append(&mut self, words: &[Word], answer: &mut String) -> Told {
+        let records = listed(self.alloc, words)?;
+        self.attempt(records, answer)
+    }
+
+    /// Opens the journal, and appends so many records of zeros, each of this length.
+    pub fn append_alike(&mut self, count: u64, len: usize, answer: &mut String) -> Told {
+        let records = alike(self.alloc, count, len)?;
+        self.attempt(Some(records), answer)
     }
 
     /// Takes the disk, and leaves an empty one.
@@ -47,7 +43,8 @@ impl Store<'_> {
         Ok(mem::replace(&mut self.disk, empty))
     }
 
-    fn append_written(&mut self, count: u64, bytes: &[u8], answer: &mut String) -> Told {
+    /// Opens the journal, and appends the group that these bytes are, of so many records.
+    pub fn append_written(&mut self, count: u64, bytes: &[u8], answer: &mut String) -> Told {
         let disk = self.taken()?;
         self.disk = append_written(self.alloc, disk, count, bytes, answer)?;
         put(answer, "\n");
@@ -176,7 +173,16 @@ pub fn put_records(text: &mut String, records: &[Record], in_full: bool) {
     }
 }
 
-fn put_error(text: &mut String, error: JournalError) {
+fn tell_errors(answer: &mut String) -> Told {
+    for error in &ERRORS {
+        put_error(answer, *error);
+        put(answer, "\n");
+    }
+    Ok(())
+}
+
+/// Puts an error, and where damage is.
+pub fn put_error(text: &mut String, error: JournalError) {
     let _ = write!(text, "{error}");
     if let Damaged(gate) = error {
         put(text, " at");
@@ -184,7 +190,7 @@ fn put_error(text: &mut String, error: JournalError) {
     }
 }
 
-fn tell_stands(alloc: Global, bytes: &[u8], answer: &mut String) {
+fn tell_stands(alloc: Global, bytes: &[u8], answer: &mut String) -> Told {
     match stands(alloc, bytes) {
         Ok(records) => {
             put(answer, "stands");
@@ -193,4 +199,5 @@ fn tell_stands(alloc: Global, bytes: &[u8], answer: &mut String) {
         Err(error) => put_error(answer, error),
     }
     put(answer, "\n");
+    Ok(())
 }

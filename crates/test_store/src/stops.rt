@@ -1,8 +1,8 @@
 //! A stop of the machine at a call of the disk that fails, with each of its outcomes.
 
-use crate::Store;
 use crate::journals::{attempt, listed, put_records};
-use crate::words::{Told, Word, put, put_number};
+use crate::stores::Store;
+use crate::words::{Told, Word, put, put_number, put_once, told_bad};
 use diskmodel::{CallKind, Disk, MemDisk, StopDisk};
 use std::alloc::{AllocError, Global};
 
@@ -20,22 +20,20 @@ struct Trial<'a> {
 }
 
 impl Store<'_> {
-    pub fn obey_stops(&mut self, name: &str, words: &[Word], answer: &mut String) -> Told {
-        match (name, words) {
-            ("stops", [Word::Call(kind), Word::Number(count), records @ ..]) => {
-                let (alloc, file) = (self.alloc, self.disk.bytes());
-                let (kind, count) = (*kind, *count);
-                let trial = Trial {
-                    alloc,
-                    file,
-                    records,
-                    kind,
-                    count,
-                };
-                trial.tell(answer)
-            }
-            _ => self.obey_book(name, words, answer),
-        }
+    /// `stops CALL COUNT RECORD ..` opens the file and appends the records, where the count-th of these calls fails.
+    pub fn tell_stops(&mut self, words: &[Word], answer: &mut String) -> Told {
+        let [Word::Call(kind), Word::Number(count), records @ ..] = words else {
+            return told_bad(answer);
+        };
+        let (alloc, file, kind, count) = (self.alloc, self.disk.bytes(), *kind, *count);
+        let trial = Trial {
+            alloc,
+            file,
+            records,
+            kind,
+            count,
+        };
+        trial.tell(answer)
     }
 }
 
@@ -47,10 +45,7 @@ impl Trial<'_> {
         put_number(answer, found.len() as u64);
         put(answer, "\n");
         for outcome in &found {
-            let line = self.after_stop(outcome)?;
-            if !answer.as_str().contains(line.as_str()) {
-                put(answer, line.as_str());
-            }
+            put_once(answer, self.after_stop(outcome)?.as_str());
         }
         Ok(())
     }
@@ -88,12 +83,13 @@ impl Trial<'_> {
     }
 }
 
-/// Whether a call of this kind fails. Where it does it has no effect.
-fn fails(disk: &mut MemDisk, kind: CallKind) -> bool {
+/// Whether a call of this kind fails, of which neither bytes nor length become other ones.
+pub fn fails(disk: &mut MemDisk, kind: CallKind) -> bool {
+    let len = disk.bytes().len() as u64;
     let outcome = match kind {
         CallKind::Read => disk.read_at(0, &mut []),
-        CallKind::Write => disk.write_at(0, &[]),
-        CallKind::Cut => disk.cut(0),
+        CallKind::Write => disk.write_at(len, &[]),
+        CallKind::Cut => disk.cut(len),
         CallKind::Sync => disk.sync(),
     };
     outcome.is_err()
@@ -120,28 +116,35 @@ fn outcomes(alloc: Global, disk: &MemDisk) -> Result<Vec<Vec<u8>>, AllocError> {
 fn longer(alloc: Global, disk: &MemDisk, fronts: &[Vec<u8>]) -> Result<Vec<Vec<u8>>, AllocError> {
     let mut found = Vec::new(alloc);
     for front in fronts {
-        for value in values_at(alloc, disk, front.len())? {
-            let mut front = front.to_vec(alloc)?;
-            front.push(value)?;
-            if may_begin(alloc, disk, &front)? {
-                found.push(front)?;
-            }
-        }
+        lengthen(alloc, disk, front, &mut found)?;
     }
     Ok(found)
 }
 
-fn values_at(alloc: Global, disk: &MemDisk, place: usize) -> Result<Vec<u8>, AllocError> {
-    let mut values = Vec::new(alloc);
-    let (firm, read) = (disk.firm().get(place), disk.bytes().get(place));
-    for value in [firm, read, Some(&OTHER)] {
-        if let Some(value) = value
-            && !values.contains(value)
-        {
-            values.push(*value)?;
+fn lengthen(alloc: Global, disk: &MemDisk, front: &[u8], found: &mut Vec<Vec<u8>>) -> Told {
+    for value in values_at(alloc, disk, front.len())? {
+        let mut longer = front.to_vec(alloc)?;
+        longer.push(value)?;
+        if may_begin(alloc, disk, &longer)? {
+            found.push(longer)?;
         }
     }
+    Ok(())
+}
+
+fn values_at(alloc: Global, disk: &MemDisk, place: usize) -> Result<Vec<u8>, AllocError> {
+    let mut values = Vec::new(alloc);
+    add_value(&mut values, disk.firm().get(place))?;
+    add_value(&mut values, disk.bytes().get(place))?;
+    add_value(&mut values, Some(&OTHER))?;
     Ok(values)
+}
+
+fn add_value(values: &mut Vec<u8>, value: Option<&u8>) -> Told {
+    match value {
+        Some(value) if !values.contains(value) => Ok(values.push(*value)?),
+        _ => Ok(()),
+    }
 }
 
 /// Whether a stop may leave a file with this front, behind which the bytes are as they are read.

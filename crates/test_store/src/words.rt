@@ -15,9 +15,12 @@ pub enum Word {
     /// `x`, and then digits.
     Bytes(Vec<u8>),
     Call(CallKind),
+    Flush,
+    Stop,
     Bad,
 }
 
+/// The words of a text.
 pub fn words_of(alloc: Global, text: &str) -> Result<Vec<Word>, AllocError> {
     let mut words = Vec::new(alloc);
     for word in text.split_whitespace() {
@@ -27,37 +30,85 @@ pub fn words_of(alloc: Global, text: &str) -> Result<Vec<Word>, AllocError> {
 }
 
 fn word_of(alloc: Global, word: &str) -> Result<Word, AllocError> {
-    if let Some(digits) = word.strip_prefix('x') {
-        return Ok(match bytes_of(alloc, digits)? {
+    match word.strip_prefix('x') {
+        Some(digits) => Ok(match bytes_of(alloc, digits)? {
             Some(bytes) => Word::Bytes(bytes),
             None => Word::Bad,
-        });
+        }),
+        None => Ok(named(word)),
     }
-    Ok(match word {
-        "read" => Word::Call(CallKind::Read),
-        "write" => Word::Call(CallKind::Write),
-        "cut" => Word::Call(CallKind::Cut),
-        "sync" => Word::Call(CallKind::Sync),
-        _ => match word.parse() {
-            Ok(number) => Word::Number(number),
-            Err(_) => Word::Bad,
-        },
-    })
 }
 
+/// A word that has no bytes.
+fn named(word: &str) -> Word {
+    match word {
+        "flush" => Word::Flush,
+        "stop" => Word::Stop,
+        _ => match call_of(word) {
+            Some(call) => Word::Call(call),
+            None => number_of(word),
+        },
+    }
+}
+
+fn call_of(word: &str) -> Option<CallKind> {
+    match word {
+        "read" => Some(CallKind::Read),
+        "write" => Some(CallKind::Write),
+        "cut" => Some(CallKind::Cut),
+        "sync" => Some(CallKind::Sync),
+        _ => None,
+    }
+}
+
+fn number_of(word: &str) -> Word {
+    match word.parse() {
+        Ok(number) => Word::Number(number),
+        Err(_) => Word::Bad,
+    }
+}
+
+/// The numbers among these words.
+pub fn numbers(alloc: Global, words: &[Word]) -> Result<Vec<u64>, AllocError> {
+    let mut numbers = Vec::new(alloc);
+    for word in words {
+        if let Word::Number(number) = word {
+            numbers.push(*number)?;
+        }
+    }
+    Ok(numbers)
+}
+
+/// Adds a part to a text.
 pub fn put(text: &mut String, part: &str) {
     let _ = text.push_str(part);
 }
 
+/// Adds a line, unless the text has it.
+pub fn put_once(text: &mut String, line: &str) {
+    if !text.as_str().contains(line) {
+        put(text, line);
+    }
+}
+
+/// Adds a number behind a space.
 pub fn put_number(text: &mut String, number: u64) {
     let _ = write!(text, " {number}");
 }
 
+/// Adds bytes as digits, behind a space and an `x`.
 pub fn put_bytes(text: &mut String, bytes: &[u8]) {
     put(text, " x");
     let _ = write_hex(text, bytes);
 }
 
+/// Adds that a case is none.
 pub fn bad(answer: &mut String) {
     put(answer, "bad case\n");
+}
+
+/// Answers a command that is none.
+pub fn told_bad(answer: &mut String) -> Told {
+    bad(answer);
+    Ok(())
 }
