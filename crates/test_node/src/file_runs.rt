@@ -1,7 +1,7 @@
 //! Runs over files.
 
-use crate::answers::tell_seen;
-use crate::words::Told;
+use crate::answers::tell_errors;
+use crate::words::{Told, put_number};
 use runner::run;
 use std::alloc::Global;
 use std::fs::File;
@@ -23,6 +23,7 @@ pub fn run_files<R: Files<File = File> + AllocGlobal + Threads + Wait + Sync>(
     }
     let mut errors = Vec::new(alloc);
     let status = run(rt, alloc, &args, io::empty(), io::sink(), &mut errors);
-    tell_seen(alloc, &[], &errors, answer)?;
-    writeln!(answer, "status {status}")
+    tell_errors(&errors, answer);
+    put_number(answer, "status", status as u64);
+    Ok(())
 }

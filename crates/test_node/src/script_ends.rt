@@ -1,5 +1,6 @@
 //! What a script is read from, and where its lines go.
 
+use crate::streams::filled;
 use std::alloc::Global;
 use std::cell::Cell;
 use std::io::{self, Read, Write};
@@ -16,32 +17,35 @@ pub struct Input<'a> {
     pub notes: String,
 }
 
-/// Bytes up to the first newline, with it, or all.
-fn line_len(bytes: &[u8]) -> usize {
-    match bytes.iter().position(|byte| *byte == b'\n') {
-        Some(place) => place + 1,
-        None => bytes.len(),
-    }
-}
-
 impl Read for Input<'_> {
     fn read(&mut self, bytes: &mut [u8]) -> io::Result<usize> {
         let lines = self.lines.get();
-        writeln!(self.notes, "read after {lines} lines")?;
+        let _ = writeln!(self.notes, "read after {lines} lines");
         if self.rest.is_empty() && self.is_broken {
             return Err(io::ErrorKind::Other.into());
         }
-        let there = self.rest;
-        let most = if self.is_typed {
-            line_len(there)
-        } else {
-            there.len()
-        };
-        let count = most.min(bytes.len()).min(there.len());
-        let (given, rest) = there.split_at(count);
-        bytes[..count].copy_from_slice(given);
-        self.rest = rest;
+        let count = filled(self.at_once(), bytes);
+        self.rest = self.rest.get(count..).unwrap_or(&[]);
         Ok(count)
+    }
+}
+
+impl Input<'_> {
+    // What a read gives at most.
+    fn at_once(&self) -> &[u8] {
+        if self.is_typed {
+            first_line(self.rest)
+        } else {
+            self.rest
+        }
+    }
+}
+
+// Bytes up to the first newline, with it, or all.
+fn first_line(bytes: &[u8]) -> &[u8] {
+    match bytes.iter().position(|byte| *byte == b'\n') {
+        Some(place) => bytes.get(..place + 1).unwrap_or(bytes),
+        None => bytes,
     }
 }
 
@@ -55,6 +59,7 @@ pub struct Taker<'a> {
 }
 
 impl<'a> Taker<'a> {
+    /// Room for so many bytes, of which none is taken.
     pub fn new(alloc: Global, room: usize, lines: &'a Cell<u64>) -> Taker<'a> {
         Taker {
             bytes: Vec::new(alloc),
@@ -71,12 +76,22 @@ impl Write for Taker<'_> {
         let taken = bytes.get(..self.room).unwrap_or(bytes);
         self.bytes.extend_from_slice(taken)?;
         self.room = self.room.saturating_sub(taken.len());
-        let ends = taken.iter().filter(|byte| **byte == b'\n').count();
-        self.lines.set(self.lines.get().saturating_add(ends as u64));
+        let lines = self.lines.get().saturating_add(line_count(taken));
+        self.lines.set(lines);
         Ok(taken.len())
     }
 
     fn flush(&mut self) -> io::Result<()> {
         Ok(())
     }
+}
+
+fn line_count(bytes: &[u8]) -> u64 {
+    let mut count = 0_u64;
+    for byte in bytes {
+        if *byte == b'\n' {
+            count = count.saturating_add(1);
+        }
+    }
+    count
 }

@@ -1,7 +1,8 @@
 //! What a run reads and writes.
 
-ghost use Rattle.std.specs.Prelude.{◌≤◌, length, IfOk};
+ghost use Rattle.std.specs.Prelude.{◌≡◌, ◌≤◌, length, None, IfOk, IfSome};
 
+use std::alloc::Global;
 use std::collections::VecDeque;
 use std::io::{self, ErrorKind, Read, Write};
 use std::sync::{Mutex, Wait};
@@ -32,6 +33,17 @@ pub struct Seen {
     pub is_broken: bool,
 }
 
+impl Seen {
+    /// Nothing was written yet.
+    pub fn new(alloc: Global, is_broken: bool) -> Seen {
+        Seen {
+            output: Vec::new(alloc),
+            errors: Vec::new(alloc),
+            is_broken,
+        }
+    }
+}
+
 /// A reader that takes steps.
 #[derive(Drop)]
 pub struct Steps<'t, R: Wait> {
@@ -41,15 +53,18 @@ pub struct Steps<'t, R: Wait> {
 }
 
 impl<'t, R: Wait> Steps<'t, R> {
+    /// A reader that has taken none of these steps.
     pub fn new(rt: &'t R, seen: &'t Mutex<Seen>, steps: VecDeque<Step>) -> Steps<'t, R> {
         Steps { rt, seen, steps }
     }
 
-    // Waits until so many bytes were written.
-    fn wait(&self, count: usize) -> io::Result<()> {
+    // Waits until so many bytes were written. Gives none.
+    fn wait(&self, count: usize) -> io::Result<Option<usize>>
+        ensures { IfOk result (λ given. given ≡ None) }
+    {
         for _ in 0..TURNS {
             if self.seen.lock(self.rt).output.len() >= count {
-                return Ok(());
+                return Ok(None);
             }
             yield_now();
         }
@@ -68,18 +83,11 @@ impl<'t, R: Wait> Steps<'t, R> {
 impl<'t, R: Wait> Read for Steps<'t, R> {
     fn read(&mut self, buffer: &mut [u8]) -> io::Result<usize> {
         for _ in 0..TURNS {
-            match self.steps.pop_front() {
-                None => return Ok(0),
-                Some(Step::Fail) => return Err(io::Error::from(ErrorKind::Other)),
-                Some(Step::Await(count)) => self.wait(count)?,
-                Some(Step::Give(bytes)) => return self.give(bytes, buffer),
-                Some(Step::Repeat(bytes)) => {
-                    if !self.is_down() {
-                        let count = filled(&bytes, buffer);
-                        self.steps.push_front(Step::Repeat(bytes))?;
-                        return Ok(count);
-                    }
-                }
+            let Some(step) = self.steps.pop_front() else {
+                return Ok(0);
+            };
+            if let Some(count) = self.take(step, buffer)? {
+                return Ok(count);
             }
         }
         Err(io::Error::from(ErrorKind::TimedOut))
@@ -87,9 +95,32 @@ impl<'t, R: Wait> Read for Steps<'t, R> {
 }
 
 impl<'t, R: Wait> Steps<'t, R> {
+    // Takes a step. Answers how many bytes it gives; where it is over and gives none the next one follows.
+    fn take(&mut self, step: Step, buffer: &mut [u8]) -> io::Result<Option<usize>>
+        ensures { IfOk result (λ given. IfSome given (λ count. count ≤ length buffer.old)) }
+    {
+        match step {
+            Step::Fail => Err(io::Error::from(ErrorKind::Other)),
+            Step::Await(count) => self.wait(count),
+            Step::Give(bytes) => self.give(bytes, buffer),
+            Step::Repeat(bytes) => self.repeat(bytes, buffer),
+        }
+    }
+
+    fn repeat(&mut self, bytes: Vec<u8>, buffer: &mut [u8]) -> io::Result<Option<usize>>
+        ensures { IfOk result (λ given. IfSome given (λ count. count ≤ length buffer.old)) }
+    {
+        if self.is_down() {
+            return Ok(None);
+        }
+        let count = filled(&bytes, buffer);
+        self.steps.push_front(Step::Repeat(bytes))?;
+        Ok(Some(count))
+    }
+
     // Gives what fits, and keeps the rest.
-    fn give(&mut self, bytes: Vec<u8>, buffer: &mut [u8]) -> io::Result<usize>
-        ensures { IfOk result (λ count. count ≤ length buffer.old) }
+    fn give(&mut self, bytes: Vec<u8>, buffer: &mut [u8]) -> io::Result<Option<usize>>
+        ensures { IfOk result (λ given. IfSome given (λ count. count ≤ length buffer.old)) }
     {
         let count = filled(&bytes, buffer);
         if count < bytes.len() {
@@ -97,11 +128,12 @@ impl<'t, R: Wait> Steps<'t, R> {
             rest.drain(..count);
             self.steps.push_front(Step::Give(rest))?;
         }
-        Ok(count)
+        Ok(Some(count))
     }
 }
 
-fn filled(bytes: &[u8], buffer: &mut [u8]) -> usize
+/// Puts what fits of the bytes into the buffer, and answers how many these are.
+pub fn filled(bytes: &[u8], buffer: &mut [u8]) -> usize
     ensures few { result ≤ length bytes.now }
     ensures fits { result ≤ length buffer.old }
 {

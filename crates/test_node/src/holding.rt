@@ -3,7 +3,8 @@
 ghost use Rattle.std.specs.Prelude.{◌≡◌};
 
 use crate::ending::Ending;
-use crate::makers::{config_of, empty_disk, header_of};
+use crate::makers::{config_of, disk_with, header_of, submit_header};
+use crate::words::{put, put_number};
 use diskmodel::{Disk, Gate, GatedDisk};
 use flusher::FlushError;
 use sigface::HashSign;
@@ -12,12 +13,13 @@ use std::alloc::Global;
 use std::sync::Wait;
 use std::sync::atomic::{AtomicBool, Ordering};
 use std::thread::{self, Threads};
+use validator::Config;
 use wire::{Author, Output, Round};
 
-/// How often a thread looks for what it waits for, before it goes on without it.
+// How often a thread looks for what it waits for, before it goes on without it.
 const TURNS: u64 = 10_000_000;
 
-/// What the thread that flushes and the one that submits tell one another.
+// What the thread that flushes and the one that submits tell one another.
 #[derive(Drop)]
 struct Doors {
     // Whether a sync is to be held.
@@ -52,7 +54,7 @@ fn wait(flag: &AtomicBool) -> bool {
     false
 }
 
-/// A gate that holds each sync until the doors are open.
+// A gate that holds each sync until the doors are open.
 #[derive(Drop)]
 struct Held<'d> {
     doors: &'d Doors,
@@ -74,12 +76,27 @@ where
 {
     let config = config_of(alloc)?;
     let doors = Doors::new();
-    let disk = GatedDisk::new(empty_disk(alloc)?, Held { doors: &doors });
-    let (node, seat, flusher) = start(alloc, &config, disk)?;
+    let disk = GatedDisk::new(disk_with(alloc, &[])?, Held { doors: &doors });
+    hold_over(rt, alloc, &config, &doors, disk, answer)
+}
+
+fn hold_over<R, D>(
+    rt: &R,
+    alloc: Global,
+    config: &Config<HashSign>,
+    doors: &Doors,
+    disk: D,
+    answer: &mut String,
+) -> Result<(), Ending>
+where
+    R: Threads + Wait + Sync,
+    D: Disk + Drop + Send,
+{
+    let (node, seat, flusher) = start(alloc, config, disk)?;
     tell(&doors.armed);
     let mut rounds = Rounds::new(&node, seat, flusher);
-    let caller = rounds.caller(&config)?;
-    hold_round(rt, alloc, &doors, rounds, caller, answer)
+    let caller = rounds.caller(config)?;
+    hold_round(rt, alloc, doors, rounds, caller, answer)
 }
 
 fn hold_round<R, D>(
@@ -94,19 +111,39 @@ where
     R: Threads + Wait + Sync,
     D: Disk + Drop + Send,
 {
-    submit_header(rt, alloc, &mut caller, Author(1), answer)?;
-    let other = caller.split()?;
+    put_number(
+        answer,
+        "ticket",
+        submit_header(rt, alloc, &mut caller, Author(1))?,
+    );
+    let settled = flush_beside(rt, alloc, doors, rounds, caller.split()?, answer)?;
+    put_number(answer, "settled", settled);
+    put_number(answer, "synced", caller.synced());
+    tell_output(rt, &mut caller, answer);
+    tell_output(rt, &mut caller, answer);
+    Ok(())
+}
+
+// Flushes in one thread and submits in another. Answers how many records were settled.
+fn flush_beside<R, D>(
+    rt: &R,
+    alloc: Global,
+    doors: &Doors,
+    rounds: Rounds<'_, '_, HashSign, D>,
+    caller: Caller<'_, '_, HashSign>,
+    answer: &mut String,
+) -> Result<u64, Ending>
+where
+    R: Threads + Wait + Sync,
+    D: Disk + Drop + Send,
+{
     let (settled, told) = thread::join(
         rt,
         move || flush(rt, rounds),
-        move || submit_more(rt, alloc, doors, other),
+        move || submit_more(rt, alloc, doors, caller),
     );
-    answer.push_str(told?.as_str())?;
-    let settled = settled?;
-    let synced = caller.synced();
-    write!(answer, "settled {settled}\nsynced {synced}\n")?;
-    tell_output(rt, &mut caller, answer)?;
-    tell_output(rt, &mut caller, answer)
+    put(answer, told?.as_str());
+    Ok(settled?)
 }
 
 fn flush<D: Disk + Drop, R: Wait>(
@@ -139,46 +176,37 @@ fn tell_more<R: Wait>(
     caller: &mut Caller<'_, '_, HashSign>,
     told: &mut String,
 ) -> Result<(), Ending> {
-    submit_header(rt, alloc, caller, Author(2), told)?;
-    submit_header(rt, alloc, caller, Author(3), told)?;
-    let (accepted, synced) = (caller.accepted(), caller.synced());
-    write!(told, "accepted {accepted}\nsynced {synced}\n")?;
-    let voted = caller.peek_voted(rt, Author(2), Round::new(1)?);
-    let expected = header_of(alloc, caller.config(), Author(2))?;
-    match voted.as_ref() == expected.header_digest() {
-        true => told.push_str("the vote is for the header of 2\n")?,
-        false => told.push_str("the vote is for another header\n")?,
-    }
-    Ok(())
+    put_number(told, "ticket", submit_header(rt, alloc, caller, Author(2))?);
+    put_number(told, "ticket", submit_header(rt, alloc, caller, Author(3))?);
+    put_number(told, "accepted", caller.accepted());
+    put_number(told, "synced", caller.synced());
+    tell_voted(rt, alloc, caller, told)
 }
 
-fn submit_header<R: Wait>(
+fn tell_voted<R: Wait>(
     rt: &R,
     alloc: Global,
     caller: &mut Caller<'_, '_, HashSign>,
-    author: Author,
     told: &mut String,
 ) -> Result<(), Ending> {
-    let event = header_of(alloc, caller.config(), author)?;
-    let receipt = caller.submit(rt, event)?;
-    let ticket = receipt.ticket;
-    writeln!(told, "ticket {ticket}")?;
+    let voted = caller.peek_voted(rt, Author(2), Round::new(1)?);
+    let expected = header_of(alloc, caller.config(), Author(2))?;
+    match voted.as_ref() == expected.header_digest() {
+        true => put(told, "the vote is for the header of 2\n"),
+        false => put(told, "the vote is for another header\n"),
+    }
     Ok(())
 }
 
-fn tell_output<R: Wait>(
-    rt: &R,
-    caller: &mut Caller<'_, '_, HashSign>,
-    told: &mut String,
-) -> Result<(), Ending> {
+fn tell_output<R: Wait>(rt: &R, caller: &mut Caller<'_, '_, HashSign>, told: &mut String) {
     let output = caller.collect(rt);
-    match &output {
-        Some(Output::Vote(vote)) => {
-            let author = vote.author.0;
-            writeln!(told, "the vote for {author}")?;
-        }
-        Some(_) => told.push_str("another output\n")?,
-        None => told.push_str("no output\n")?,
+    tell_collected(&output, told);
+}
+
+fn tell_collected(output: &Option<Output>, told: &mut String) {
+    match output {
+        Some(Output::Vote(vote)) => put_number(told, "the vote for", vote.author.0 as u64),
+        Some(_) => put(told, "another output\n"),
+        None => put(told, "no output\n"),
     }
-    Ok(())
 }

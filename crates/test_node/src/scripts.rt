@@ -1,6 +1,6 @@
 //! The script of a case.
 
-use cases::bytes_of;
+use crate::words::add_word;
 use std::alloc::{AllocError, Global};
 
 /// A script, and how it is read and its lines are taken.
@@ -35,20 +35,28 @@ impl Script {
         Ok(())
     }
 
-    /// Adds the bytes of hexadecimal digits; says whether these are some.
-    pub fn add_bytes(&mut self, digits: &str) -> Result<bool, AllocError> {
-        match bytes_of(self.alloc, digits)? {
-            Some(bytes) => {
-                self.bytes.extend_from_slice(&bytes)?;
-                Ok(true)
-            }
-            None => Ok(false),
+    /// Changes the script, how it is read or how its lines are taken; says whether the words are ones for that.
+    pub fn change(&mut self, name: &str, rest: &str) -> Result<bool, AllocError> {
+        match name {
+            "bytes" => add_word(self.alloc, rest, &mut self.bytes),
+            "repeat" => self.repeat(rest),
+            _ => Ok(self.set(name, rest.parse().ok())),
         }
     }
 
-    /// Changes how the script is read or its lines are taken; says whether the word is one for that.
-    pub fn set(&mut self, word: &str, number: Option<usize>) -> bool {
-        match (word, number) {
+    fn repeat(&mut self, rest: &str) -> Result<bool, AllocError> {
+        let Some((times, line)) = rest.split_once(' ') else {
+            return Ok(false);
+        };
+        let Ok(times) = times.parse() else {
+            return Ok(false);
+        };
+        self.add_lines(times, line)?;
+        Ok(true)
+    }
+
+    fn set(&mut self, name: &str, number: Option<usize>) -> bool {
+        match (name, number) {
             ("typed", None) => self.is_typed = true,
             ("broken", None) => self.is_broken = true,
             ("room", Some(room)) => self.room = room,

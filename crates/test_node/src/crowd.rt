@@ -1,8 +1,10 @@
 //! Three threads that submit to one node, while a fourth flushes.
 
 use crate::ending::Ending;
-use crate::makers::{batch_of, config_of, empty_disk};
+use crate::makers::{batch_of, config_of, disk_with};
+use crate::words::{put, put_number};
 use diskmodel::{Disk, MemDisk, StopDisk};
+use shared::Receipt;
 use sigface::HashSign;
 use startup::{Caller, Rounds, start};
 use std::alloc::{AllocError, Global};
@@ -12,19 +14,19 @@ use stopping::losing;
 use validator::Config;
 use wire::Author;
 
-/// Whose batches are submitted, by a thread each.
-const MEMBERS: [Author; 3] = [Author(1), Author(2), Author(3)];
+// How many members there are. The batches of those behind the node's own are submitted, by a thread each.
+const MEMBERS: u16 = 4;
 
-/// How many batches each thread submits.
+// How many batches each thread submits.
 const EACH: u64 = 1_000;
 
-/// How many that are together.
+// How many that are together.
 const ALL: u64 = 3_000;
 
-/// How often the thread that flushes does so, before it ends without all.
+// How often the thread that flushes does so, before it ends without all.
 const TURNS: u64 = 10_000_000;
 
-/// Who submits, and through which seat.
+// Who submits, and through which seat.
 #[derive(Drop)]
 struct Member<'n, 'a> {
     caller: Caller<'n, 'a, HashSign>,
@@ -42,7 +44,7 @@ where
     let mut disk = losing(alloc, disk)?;
     disk.stop();
     let known = submit_again(rt, alloc, &config, disk)?;
-    writeln!(answer, "{known} known")?;
+    let _ = writeln!(answer, "{known} known");
     Ok(())
 }
 
@@ -55,20 +57,51 @@ fn submit_all<R>(
 where
     R: Threads + Wait + Sync,
 {
-    let (node, mut seat, flusher) = start(alloc, config, empty_disk(alloc)?)?;
+    let (node, mut seat, flusher) = start(alloc, config, disk_with(alloc, &[])?)?;
     let mut first = node.split(&mut seat)?;
     let mut second = node.split(&mut first)?;
     let mut rounds = Rounds::new(&node, seat, flusher);
-    let members = members_of(alloc, &mut rounds.caller(config)?)?;
-    let (tickets, flushed) = thread::join(
+    let caller = rounds.caller(config)?;
+    let disk = submit_beside(rt, alloc, caller, rounds, answer)?;
+    let count = node.meet(&mut first, &mut second);
+    put_number(answer, "two seats meet at", count);
+    Ok(disk)
+}
+
+// Each member submits its batches in a thread, while one more flushes.
+fn submit_beside<R>(
+    rt: &R,
+    alloc: Global,
+    caller: Caller<'_, '_, HashSign>,
+    rounds: Rounds<'_, '_, HashSign, MemDisk>,
+    answer: &mut String,
+) -> Result<MemDisk, Ending>
+where
+    R: Threads + Wait + Sync,
+{
+    let (told, flushed) = thread::join(
         rt,
-        move || thread::map_vec(rt, members, &|member| submit_batches(rt, alloc, member)),
+        move || submit_each(rt, alloc, caller),
         move || flush_all(rt, rounds),
     );
-    tell_tickets(alloc, tickets?, answer)?;
-    let count = node.meet(&mut first, &mut second);
-    writeln!(answer, "two seats meet at {count}")?;
+    put(answer, told?.as_str());
     flushed
+}
+
+// What is told of the tickets.
+fn submit_each<R>(
+    rt: &R,
+    alloc: Global,
+    mut caller: Caller<'_, '_, HashSign>,
+) -> Result<String, Ending>
+where
+    R: Threads + Wait + Sync,
+{
+    let members = members_of(alloc, &mut caller)?;
+    let found = thread::map_vec(rt, members, &|member| submit_batches(rt, alloc, member))?;
+    let mut told = String::new(alloc);
+    tell_tickets(alloc, found, &mut told)?;
+    Ok(told)
 }
 
 fn members_of<'n, 'a>(
@@ -76,8 +109,8 @@ fn members_of<'n, 'a>(
     caller: &mut Caller<'n, 'a, HashSign>,
 ) -> Result<Vec<Member<'n, 'a>>, AllocError> {
     let mut members = Vec::new(alloc);
-    for author in MEMBERS {
-        let caller = caller.split()?;
+    for number in 1..MEMBERS {
+        let (caller, author) = (caller.split()?, Author(number));
         members.push(Member { caller, author })?;
     }
     Ok(members)
@@ -106,12 +139,22 @@ fn submit_batch<R: Wait>(
     author: Author,
     number: u64,
 ) -> Result<u64, Ending> {
-    let event = batch_of(alloc, caller.config(), author, number)?;
-    let receipt = caller.submit(rt, event)?;
+    let receipt = submit(rt, alloc, caller, author, number)?;
     match receipt.new {
         true => Ok(receipt.ticket),
         false => Err(Ending::Unexpected),
     }
+}
+
+fn submit<R: Wait>(
+    rt: &R,
+    alloc: Global,
+    caller: &mut Caller<'_, '_, HashSign>,
+    author: Author,
+    number: u64,
+) -> Result<Receipt, Ending> {
+    let event = batch_of(alloc, caller.config(), author, number)?;
+    Ok(caller.submit(rt, event)?)
 }
 
 // Flushes until all are settled, and answers the disk.
@@ -143,17 +186,43 @@ fn tell_tickets(
 ) -> Result<(), Ending> {
     let mut all = Vec::new(alloc);
     for tickets in found {
-        let tickets = tickets?;
-        if tickets.is_sorted_by(|one, next| one < next) {
-            answer.push_str("a seat's tickets rise\n")?;
-        }
-        all.extend_from_slice(&tickets)?;
+        add_tickets(&tickets?, &mut all, answer)?;
     }
     all.sort_unstable();
-    if all.iter().copied().eq(1..=ALL) {
-        answer.push_str("all tickets are those from 1 to 3000\n")?;
+    if are_all(&all) {
+        put(answer, "all tickets are those from 1 to 3000\n");
     }
     Ok(())
+}
+
+fn add_tickets(tickets: &[u64], all: &mut Vec<u64>, answer: &mut String) -> Result<(), AllocError> {
+    if are_rising(tickets) {
+        put(answer, "a seat's tickets rise\n");
+    }
+    all.extend_from_slice(tickets)
+}
+
+fn are_rising(tickets: &[u64]) -> bool {
+    let mut last = 0;
+    for ticket in tickets {
+        if *ticket <= last {
+            return false;
+        }
+        last = *ticket;
+    }
+    true
+}
+
+// Whether these are the numbers from 1 to that of all.
+fn are_all(tickets: &[u64]) -> bool {
+    let mut last = 0_u64;
+    for ticket in tickets {
+        if *ticket != last.saturating_add(1) {
+            return false;
+        }
+        last = *ticket;
+    }
+    last == ALL
 }
 
 // How many of the batches a node on this disk knows.
@@ -166,8 +235,9 @@ fn submit_again<R: Wait>(
     let (node, seat, _) = start(alloc, config, disk)?;
     let mut caller = Caller::new(&node, config, seat);
     let mut known = 0_u64;
-    for author in MEMBERS {
-        known = known.saturating_add(known_of(rt, alloc, &mut caller, author)?);
+    for number in 1..MEMBERS {
+        let count = known_of(rt, alloc, &mut caller, Author(number))?;
+        known = known.saturating_add(count);
     }
     Ok(known)
 }
@@ -180,8 +250,7 @@ fn known_of<R: Wait>(
 ) -> Result<u64, Ending> {
     let mut known = 0_u64;
     for number in 0..EACH {
-        let event = batch_of(alloc, caller.config(), author, number)?;
-        if !caller.submit(rt, event)?.new {
+        if !submit(rt, alloc, caller, author, number)?.new {
             known = known.saturating_add(1);
         }
     }
