@@ -1,5 +1,5 @@
 use Rattle.std.proofs.Common.{◌≡◌}
-use Rattle.test_order.proofs.votes.assemble.Given as goal
+use Rattle.test_parts.proofs.votes.assemble.Given as goal
 
 -- the assembly is of the committee
 abbrev pub invariant-loop-word : goal.invariant-loop-word

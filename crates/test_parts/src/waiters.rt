@@ -1,7 +1,7 @@
 //! The waiter, over certificates of a committee of four.
 
 use crate::members::add_members;
-use crate::words::{Told, list};
+use crate::words::{Told, bad, list};
 use committee::Committee;
 use header::{Checked, recheck};
 use std::alloc::{AllocError, Global};
@@ -34,7 +34,7 @@ pub fn open(alloc: Global, waiting: &mut Option<Waiting>, answer: &mut String) -
 /// Offers the certificate of a round and author with the votes of three members from this one on.
 pub fn offer(
     alloc: Global,
-    waiting: &mut Waiting,
+    waiting: &mut Option<Waiting>,
     slot: (u64, u64),
     voter: u64,
     answer: &mut String,
@@ -44,7 +44,12 @@ pub fn offer(
 }
 
 /// Offers the header of a round and of member 0.
-pub fn offer_header(alloc: Global, waiting: &mut Waiting, round: u64, answer: &mut String) -> Told {
+pub fn offer_header(
+    alloc: Global,
+    waiting: &mut Option<Waiting>,
+    round: u64,
+    answer: &mut String,
+) -> Told {
     let mut bytes = Vec::new(alloc);
     bytes.push(HEADER_TAG)?;
     add_body(&mut bytes, (round, 0))?;
@@ -55,12 +60,16 @@ pub fn offer_header(alloc: Global, waiting: &mut Waiting, round: u64, answer: &m
 /// Offers the certificates of member 0 of these rounds, and tells how many may wait.
 pub fn offer_rounds(
     alloc: Global,
-    waiting: &mut Waiting,
-    rounds: (u64, u64),
+    waiting: &mut Option<Waiting>,
+    first: u64,
+    end: u64,
     answer: &mut String,
 ) -> Told {
+    let Some(waiting) = waiting else {
+        return bad(answer);
+    };
     let mut taken: u64 = 0;
-    for round in rounds.0..rounds.1 {
+    for round in first..end {
         let bytes = certificate(alloc, (round, 0), 0)?;
         if let Some(checked) = checked(alloc, &waiting.committee, &bytes) {
             taken = taken.saturating_add(waiting.waiter.offer(checked).is_ok() as u64);
@@ -70,7 +79,10 @@ pub fn offer_rounds(
 }
 
 /// Takes the next that is of this author, or of any; tells how many were asked of, and the round and author.
-pub fn next(waiting: &mut Waiting, author: Option<u64>, answer: &mut String) -> Told {
+pub fn next(waiting: &mut Option<Waiting>, author: Option<u64>, answer: &mut String) -> Told {
+    let Some(waiting) = waiting else {
+        return bad(answer);
+    };
     let mut asked: u64 = 0;
     let ready = waiting.waiter.next_ready(|checked| {
         asked = asked.saturating_add(1);
@@ -102,7 +114,10 @@ fn is_of(checked: &Checked, author: Option<u64>) -> bool {
     }
 }
 
-fn put(alloc: Global, waiting: &mut Waiting, bytes: &[u8], answer: &mut String) -> Told {
+fn put(alloc: Global, waiting: &mut Option<Waiting>, bytes: &[u8], answer: &mut String) -> Told {
+    let Some(waiting) = waiting else {
+        return bad(answer);
+    };
     let Some(checked) = checked(alloc, &waiting.committee, bytes) else {
         return answer.push_str("no message\n");
     };
