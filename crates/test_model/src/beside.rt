@@ -8,7 +8,7 @@ use model::{Admission, Event, Refusal};
 use plain::certificates::{floor, round};
 use plain::held::{Held, floor_in};
 use plain_answers::proposing::propose;
-use plain_machine::{after, answered, fresh, is_ready, proposed, round_in};
+use plain_machine::{Tables, after, answered, fresh, is_ready, proposed, round_in};
 use std::alloc::AllocError;
 use wire::{Batch, Digest, Header, batch_digest};
 
@@ -77,17 +77,27 @@ pub fn compare_answers(
 
 /// What tables answer events one after the other, from none on.
 pub fn answers_by_tables(played: &Played, events: &[Event]) -> Result<String, AllocError> {
-    let (alloc, node) = (played.alloc, &played.node);
-    let mut tables = fresh(alloc, node)?;
-    let mut text = String::new(alloc);
+    let mut tables = fresh(played.alloc, &played.node)?;
+    let mut text = String::new(played.alloc);
     for event in events {
-        let found = answered(alloc, node, &tables, event)?;
-        text.push_str(told(played, &found)?.as_str())?;
-        if found.is_new() {
-            tables = after(alloc, node, tables, event)?;
-        }
+        tables = answer_next(played, tables, event, &mut text)?;
     }
     Ok(text)
+}
+
+/// Adds what tables answer an event, and gives those behind it.
+fn answer_next(
+    played: &Played,
+    tables: Tables,
+    event: &Event,
+    text: &mut String,
+) -> Result<Tables, AllocError> {
+    let found = answered(played.alloc, &played.node, &tables, event)?;
+    text.push_str(told(played, &found)?.as_str())?;
+    match found.is_new() {
+        true => after(played.alloc, &played.node, tables, event),
+        false => Ok(tables),
+    }
 }
 
 // ---- states

@@ -51,26 +51,50 @@ pub fn member(word: &str) -> u16 {
     word.parse().unwrap_or(65535)
 }
 
+/// What a command looks at.
+enum About {
+    State,
+    Batches,
+    Votes,
+    Leaders,
+    Certificates,
+}
+
+fn kind_of_look(name: &str) -> About {
+    match name {
+        "floor" | "counts" | "propose" | "given" => About::State,
+        "available" | "acked" | "own-batch" | "was-named" | "to-name" | "nameable" | "placed" => {
+            About::Batches
+        }
+        "voted" | "vote-on" | "counted" | "entries" | "completed" | "held" | "kept" => About::Votes,
+        "top" | "committed" | "chain" | "newer" | "leader" | "by" => About::Leaders,
+        _ => About::Certificates,
+    }
+}
+
 /// Carries out a command that looks.
 pub fn look(played: &Played, words: &[&str], answer: &mut String) -> Result<(), AllocError> {
-    match words {
-        ["floor"] => floor(played, answer),
-        ["counts"] => counts(played, answer),
-        ["propose"] => proposal(played, answer),
-        ["given"] => {
+    let Some(name) = words.first() else {
+        return line("bad case", answer);
+    };
+    match kind_of_look(name) {
+        About::State => look_around(played, name, answer),
+        About::Batches => searching::batches(played, words, answer),
+        About::Votes => searching::votes(played, words, answer),
+        About::Leaders => leaders(played, &seen(played)?, words, answer),
+        About::Certificates => look_at(played, &seen(played)?, words, answer),
+    }
+}
+
+fn look_around(played: &Played, name: &str, answer: &mut String) -> Result<(), AllocError> {
+    match name {
+        "floor" => floor(played, answer),
+        "counts" => counts(played, answer),
+        "propose" => proposal(played, answer),
+        _ => {
             let given = given(played.alloc, &played.node, &played.history)?;
             outputs(played, &given, answer)
         }
-        ["low", floor, round] => yes_or_no(holdings::is_low(number(floor), number(round)), answer),
-        [
-            "available" | "acked" | "own-batch" | "was-named" | "to-name" | "nameable" | "placed",
-            ..
-        ] => searching::batches(played, words, answer),
-        [
-            "voted" | "vote-on" | "counted" | "entries" | "completed" | "held" | "kept",
-            ..
-        ] => searching::votes(played, words, answer),
-        _ => look_at(played, &seen(played)?, words, answer),
     }
 }
 
@@ -81,27 +105,58 @@ fn look_at(
     answer: &mut String,
 ) -> Result<(), AllocError> {
     match words {
-        [
-            "top" | "committed" | "chain" | "newer" | "leader" | "by",
-            ..
-        ] => { leaders(played, &ledger_of(played, view), words, answer) }
-        ["certificates"] => certificates(played, "certificates", &view.certificates, answer),
-        ["full", round] => full(played, view, number(round), answer),
-        ["of-round", round] => of_round(played, view, number(round), answer),
-        ["slot", round, author] => slot_line(played, view, number(round), member(author), answer),
-        ["is-given", round, author] => match slot(
-            &view.certificates,
-            number(round),
-            member(author),
-        ) {
-            None => line("none", answer),
-            Some(found) => yes_or_no(is_given(&played.node, &played.history, found), answer),
-        },
-        [how, one, other] => match (view.find(played, one), view.find(played, other)) {
-            (Some(one), Some(other)) => paths(played, view, how, one, other, answer),
+        [_] => certificates(played, "certificates", &view.certificates, answer),
+        [name, round] => look_in(played, view, name, number(round), answer),
+        [name, first, second] => look_for(played, view, name, first, second, answer),
+        _ => line("bad case", answer),
+    }
+}
+
+/// What a round has.
+fn look_in(
+    played: &Played,
+    view: &View,
+    name: &str,
+    round: u64,
+    answer: &mut String,
+) -> Result<(), AllocError> {
+    match name {
+        "full" => full(played, view, round, answer),
+        "of-round" => of_round(played, view, round, answer),
+        _ => line("bad case", answer),
+    }
+}
+
+fn look_for(
+    played: &Played,
+    view: &View,
+    name: &str,
+    first: &str,
+    second: &str,
+    answer: &mut String,
+) -> Result<(), AllocError> {
+    match name {
+        "low" => yes_or_no(holdings::is_low(number(first), number(second)), answer),
+        "slot" => slot_line(played, view, number(first), member(second), answer),
+        "is-given" => given_line(played, view, number(first), member(second), answer),
+        _ => match (view.find(played, first), view.find(played, second)) {
+            (Some(one), Some(other)) => paths(played, view, name, one, other, answer),
             _ => line("bad case", answer),
         },
-        _ => line("bad case", answer),
+    }
+}
+
+/// Whether the certificate of a slot was given out.
+fn given_line(
+    played: &Played,
+    view: &View,
+    round: u64,
+    author: u16,
+    answer: &mut String,
+) -> Result<(), AllocError> {
+    match slot(&view.certificates, round, author) {
+        None => line("none", answer),
+        Some(found) => yes_or_no(is_given(&played.node, &played.history, found), answer),
     }
 }
 
@@ -176,27 +231,50 @@ fn paths(
 /// Leaders, and what they order.
 fn leaders(
     played: &Played,
-    ledger: &Ledger,
+    view: &View,
     words: &[&str],
     answer: &mut String,
 ) -> Result<(), AllocError> {
-    let alloc = played.alloc;
+    let ledger = ledger_of(played, view);
     match words {
-        ["top"] => tops(ledger, answer),
-        ["by"] => by_ledger(played, ledger, answer),
-        ["leader", wave] => match leader(ledger, number(wave)) {
+        [name] => leaders_now(played, &ledger, name, answer),
+        [name, wave] => leaders_of(played, &ledger, name, number(wave), answer),
+        _ => line("bad case", answer),
+    }
+}
+
+fn leaders_now(
+    played: &Played,
+    ledger: &Ledger,
+    name: &str,
+    answer: &mut String,
+) -> Result<(), AllocError> {
+    match name {
+        "top" => tops(ledger, answer),
+        "by" => by_ledger(played, ledger, answer),
+        "committed" => {
+            let found = committed(played.alloc, ledger)?;
+            certificates(played, name, &found, answer)
+        }
+        _ => line("bad case", answer),
+    }
+}
+
+/// The leader of a wave, or those up to it or newer than it.
+fn leaders_of(
+    played: &Played,
+    ledger: &Ledger,
+    name: &str,
+    wave: u64,
+    answer: &mut String,
+) -> Result<(), AllocError> {
+    match name {
+        "leader" => match leader(ledger, wave) {
             None => line("none", answer),
             Some(found) => line(certificate_label(played, found), answer),
         },
-        ["committed"] => certificates(played, "committed", &committed(alloc, ledger)?, answer),
-        ["chain", wave] => {
-            let found = chain(alloc, ledger, number(wave))?;
-            certificates(played, "chain", &found, answer)
-        }
-        ["newer", base] => {
-            let found = newer(alloc, ledger, number(base))?;
-            certificates(played, "newer", &found, answer)
-        }
+        "chain" => certificates(played, name, &chain(played.alloc, ledger, wave)?, answer),
+        "newer" => certificates(played, name, &newer(played.alloc, ledger, wave)?, answer),
         _ => line("bad case", answer),
     }
 }

@@ -244,11 +244,7 @@ impl Played {
         let mut by_history = String::new(self.alloc);
         for found in &answers(self.alloc, &self.node, events)? {
             by_history.push_str(told(self, found)?.as_str())?;
-            match found {
-                Admission::New(_) => line("new", answer)?,
-                Admission::Known(_) => line("known", answer)?,
-                Admission::Refused(refusal) => writeln!(answer, "refused {refusal}")?,
-            }
+            tell_kind(found, answer)?;
         }
         same("answers", by_history.as_str(), by_tables.as_str(), answer)
     }
@@ -305,6 +301,14 @@ impl Played {
         }
         let words: Vec<&str> = text.split(' ').collect(self.alloc)?;
         self.run_own(words.as_slice(), answer)
+    }
+}
+
+fn tell_kind(found: &Admission, answer: &mut String) -> Result<(), AllocError> {
+    match found {
+        Admission::New(_) => line("new", answer),
+        Admission::Known(_) => line("known", answer),
+        Admission::Refused(refusal) => writeln!(answer, "refused {refusal}"),
     }
 }
 

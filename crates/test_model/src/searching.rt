@@ -2,7 +2,7 @@
 
 use crate::looking::{member, number};
 use crate::played::Played;
-use crate::showing::{add, batch_label, header_label, line, yes_or_no};
+use crate::showing::{add, batch_label, certificate_label, header_label, line, yes_or_no};
 use header::check;
 use plain::certificates::{certificates, completed, votes_on};
 use plain::held::{has_own_batch, is_available};
@@ -179,58 +179,103 @@ fn of_header(
     rest: &[&str],
     answer: &mut String,
 ) -> Result<(), AllocError> {
-    match (how, rest) {
-        ("vote-on", [voter]) => {
-            let found = counted_vote(&played.node, &played.history, &header.body, member(voter));
-            vote_line(played, found, answer)
-        }
-        ("entries", []) => {
+    match rest {
+        [] => of_header_now(played, how, header, answer),
+        [word] => of_header_with(played, how, header, word, answer),
+        _ => line("bad case", answer),
+    }
+}
+
+fn of_header_now(
+    played: &Played,
+    how: &str,
+    header: &Header,
+    answer: &mut String,
+) -> Result<(), AllocError> {
+    match how {
+        "entries" => {
             let found = votes_on(played.alloc, &played.node, &played.history, &header.body)?;
             let (count, takes_3) = (found.len(), found.may_follow(Author(3)));
             writeln!(answer, "{count} entries, may 3 follow: {takes_3}")
         }
-        ("completed", []) => {
+        "completed" => {
             let found = completed(played.alloc, &played.node, &played.history, header)?;
             yes_or_no(found.is_some(), answer)
         }
-        ("held", [floor]) => {
+        _ => line("bad case", answer),
+    }
+}
+
+fn of_header_with(
+    played: &Played,
+    how: &str,
+    header: &Header,
+    word: &str,
+    answer: &mut String,
+) -> Result<(), AllocError> {
+    match how {
+        "vote-on" => {
+            let found = counted_vote(&played.node, &played.history, &header.body, member(word));
+            vote_line(played, found, answer)
+        }
+        "held" => {
             let all = certificates(played.alloc, &played.node, &played.history)?;
-            yes_or_no(all_held(&all, number(floor), &header.body), answer)
+            yes_or_no(all_held(&all, number(word), &header.body), answer)
         }
         _ => line("bad case", answer),
     }
 }
 
 fn kept(played: &Played, kind: &str, rest: &[&str], answer: &mut String) -> Result<(), AllocError> {
-    let (alloc, node, history) = (played.alloc, &played.node, played.history.as_slice());
-    match (kind, rest) {
-        ("vote", [round, author]) => {
-            let found = kept_vote(alloc, node, history, number(round), member(author))?;
-            digest_line(played, found, answer)
-        }
-        ("header", [round]) => {
-            let found = kept_header(alloc, node, history, number(round))?;
-            digest_line(
-                played,
-                found.map(|header| header_digest(&header.body)),
-                answer,
-            )
-        }
-        ("counted", [round, voter]) => {
-            let found = kept_counted(alloc, node, history, number(round), member(voter))?;
-            vote_line(played, found, answer)
-        }
-        ("slot", [round, author]) => {
-            match kept_slot(alloc, node, history, number(round), member(author))? {
-                None => line("none", answer),
-                Some(found) => line(crate::showing::certificate_label(played, &found), answer),
-            }
-        }
-        ("highest", []) => {
-            let highest = kept_highest(alloc, node, history)?;
-            writeln!(answer, "highest {highest}")
-        }
+    match rest {
+        [] => highest_line(played, answer),
+        [round] => kept_header_line(played, number(round), answer),
+        [round, who] => kept_in(played, kind, number(round), member(who), answer),
         _ => line("bad case", answer),
+    }
+}
+
+fn highest_line(played: &Played, answer: &mut String) -> Result<(), AllocError> {
+    let highest = kept_highest(played.alloc, &played.node, &played.history)?;
+    writeln!(answer, "highest {highest}")
+}
+
+fn kept_header_line(played: &Played, round: u64, answer: &mut String) -> Result<(), AllocError> {
+    let found = kept_header(played.alloc, &played.node, &played.history, round)?;
+    let digest = found.map(|header| header_digest(&header.body));
+    digest_line(played, digest, answer)
+}
+
+/// What is kept of a round and an author or a voter.
+fn kept_in(
+    played: &Played,
+    kind: &str,
+    round: u64,
+    who: u16,
+    answer: &mut String,
+) -> Result<(), AllocError> {
+    let (alloc, node, history) = (played.alloc, &played.node, played.history.as_slice());
+    match kind {
+        "vote" => digest_line(played, kept_vote(alloc, node, history, round, who)?, answer),
+        "counted" => vote_line(
+            played,
+            kept_counted(alloc, node, history, round, who)?,
+            answer,
+        ),
+        "slot" => kept_slot_line(played, round, who, answer),
+        _ => line("bad case", answer),
+    }
+}
+
+fn kept_slot_line(
+    played: &Played,
+    round: u64,
+    author: u16,
+    answer: &mut String,
+) -> Result<(), AllocError> {
+    match kept_slot(played.alloc, &played.node, &played.history, round, author)? {
+        None => line("none", answer),
+        Some(found) => line(certificate_label(played, &found), answer),
     }
 }
 

@@ -1,5 +1,8 @@
 //! The lines of a case through a validator and, for its first events, through the plain program.
 
+ghost use Rattle.std.specs.Prelude.{◌≡◌, None};
+ghost use Rattle.header.specs.Checks.{fault_of, accepts_all};
+
 use crate::looking::{member, number};
 use crate::played::coin;
 use crate::validating::beside::Beside;
@@ -7,7 +10,7 @@ use crate::validating::sum::Sum;
 use crate::validating::tally::Tally;
 use crate::weighing::label_genesis;
 use committee::Committee;
-use header::check;
+use header::{Checked, check};
 use model::{Event, Node};
 use script::{
     Command, FormError, Labels, OWN, define_batch, define_header, message_of, parse, signer,
@@ -101,31 +104,53 @@ impl<'c> Playing<'c> {
         sender: Author,
         message: Message,
     ) -> Result<Option<&'static str>, FormError> {
-        let event = match self.beside.goes_on() {
-            true => Some(Event {
-                sender,
-                message: again(&message)?,
-            }),
-            false => None,
-        };
-        let Ok(checked) = check(self.validator.committee(), &HashVerify, sender, message) else {
-            return Ok(Some("unchecked"));
-        };
+        let event = self.beside_event(sender, &message)?;
+        match check(self.validator.committee(), &HashVerify, sender, message) {
+            Ok(checked) => self.step(checked, event),
+            Err(_) => Ok(Some("unchecked")),
+        }
+    }
+
+    /// The event for the plain program, as long as that goes on.
+    fn beside_event(&self, sender: Author, message: &Message) -> Result<Option<Event>, FormError> {
+        if !self.beside.goes_on() {
+            return Ok(None);
+        }
+        let message = again(message)?;
+        Ok(Some(Event { sender, message }))
+    }
+
+    fn step(
+        &mut self,
+        checked: Checked,
+        event: Option<Event>,
+    ) -> Result<Option<&'static str>, FormError>
+        requires { fault_of self.old.validator.setting.charter accepts_all checked ≡ None }
+    {
         let is_ready = self.validator.ready(&checked);
-        let step = match self.validator.step(checked) {
-            Err(Refusal::Memory) => return Err(FormError::Memory),
-            step => step,
-        };
+        let step = self.validator.step(checked);
+        if let Err(Refusal::Memory) = step {
+            return Err(FormError::Memory);
+        }
         self.tally.count(&step);
+        self.compare(is_ready, &step, event)
+    }
+
+    fn compare(
+        &mut self,
+        is_ready: bool,
+        step: &Result<Step, Refusal>,
+        event: Option<Event>,
+    ) -> Result<Option<&'static str>, FormError> {
         let proposal = self.validator.propose()?;
         self.tally.count_proposal(proposal.is_some());
         self.sum
-            .add_event(&self.validator, is_ready, &step, proposal.as_ref());
+            .add_event(&self.validator, is_ready, step, proposal.as_ref());
         match event {
             None => Ok(None),
             Some(event) => Ok(
                 self.beside
-                    .take(&self.validator, &event, is_ready, &step, proposal)?,
+                    .take(&self.validator, &event, is_ready, step, proposal)?,
             ),
         }
     }
