@@ -7,7 +7,7 @@ ghost use Rattle.test_store.specs.Way.{KeepsOnTheWay};
 use crate::committees::OWN;
 use crate::draws::Draws;
 use crate::events::{KINDS, SENDERS, body_of, kind_of, sender_of};
-use crate::plain::Plain;
+use crate::listed::Plain;
 use crate::running::{accept, are_of, open_book};
 use crate::stops::fails;
 use crate::tally::{Leaves, Moment, Tally, count};
