@@ -1,5 +1,5 @@
 -- What the calls of a disk do to its bytes, and what a stop may leave of them.
-use Rattle.std.specs.Prelude.{◌<◌, ◌≡◌, ◌⊎◌, ℕ, ◌+◌, ◌≤◌, max, min, List, ◌++◌, length, take, drop, Result, OnErr}
+use Rattle.std.specs.Prelude.{◌<◌, ◌≡◌, ◌⊎◌, ℕ, ◌+◌, ◌≤◌, max, min, List, ◌++◌, length, take, drop, Result, OnOk, OnErr}
 use Rattle.diskmodel.specs.declared.disk.DiskFault.{DiskFault}
 
 -- old with these bytes written at this place, which is within it or at its end
@@ -40,10 +40,11 @@ pub record GoesOn (before now : ℕ) (old new : ℕ → List ℕ → Type 0) (ou
   pub nothing_else : (t : ℕ) (c : List ℕ) → t ≤ before → new t c → old t c ⊎ outcome c
   pub keeps : (t : ℕ) (c : List ℕ) → t ≤ before → old t c → new t c
 
--- an error comes only where the disk has failed since
+-- an error comes exactly where the disk has failed since
 pub record HasCause {T : Type 0} (before now : ℕ) (result : Result T DiskFault) : Type 0 where
   pub later : before ≤ now
   pub failed : OnErr result (before < now)
+  pub none : OnOk result (now ≡ before)
 
 -- a stop at any moment since old leaves bytes of which P holds
 pub record AtEachMoment {D : Type 0} (clock : D → ℕ) (outcome_since : D → ℕ → List ℕ → Type 0) (old new : D) (P : List ℕ → Type 0) : Type 0 where

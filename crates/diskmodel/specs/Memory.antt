@@ -58,12 +58,10 @@ abbrev pub TimeGoesOn : MemDisk → MemDisk → Type 0
 TimeGoesOn old new =
     GoesOn (length (calls_of old)) (length (calls_of new)) (IsOutcomeSince (first_of old) (calls_of old)) (IsOutcomeSince (first_of new) (calls_of new)) (CanStopAt new)
 
--- A call of this kind counts, and fails where it has been told to. Where it fails it has no effect, and
--- where it succeeds no fault is counted.
+-- A call of this kind counts, and fails where it has been told to. Where it fails it has no effect.
 pub record Heeds {T : Type 0} (call : CallKind) (old new : MemDisk) (result : Result T DiskFault) : Type 0 where
   pub told : Contains (counts_for (told_of old) call) 1 → IsErr result
   pub counted : told_of new ≡ counting (told_of old) call
   pub no_effect : OnErr result (IsAsBefore old.history new.history)
-  pub no_fault : OnOk result (new.faults.count ≡ old.faults.count)
   pub choice : choice_of new ≡ choice_of old
   pub switch : switch_of new ≡ switch_of old

@@ -168,7 +168,6 @@ impl MemDisk {
     fn fail_if_told(&mut self, call: CallKind) -> Result<(), DiskFault>
         ensures undisturbed { IsUndisturbed self.old self.new }
         ensures cause { HasCause self.old.faults.count self.new.faults.count result }
-        ensures no_fault { OnOk result (self.new.faults.count ≡ self.old.faults.count) }
         ensures told { Contains (counts_for (told_of self.old) call) 1 → IsErr result }
         ensures succeeds { switch_of self.old ≡ None → OnErr result (Contains (counts_for (told_of self.old) call) 1) }
         ensures counted { told_of self.new ≡ counting (told_of self.old) call }
@@ -187,7 +186,6 @@ impl MemDisk {
         ensures undisturbed { IsUndisturbed self.old self.new }
         ensures told { told_of self.new ≡ told_of self.old }
         ensures cause { HasCause self.old.faults.count self.new.faults.count result }
-        ensures no_fault { OnOk result (self.new.faults.count ≡ self.old.faults.count) }
         ensures same { is_ok result ≡ is_ok outcome }
         ensures refusals { self.new.refusals ≡ self.old.refusals }
     {

@@ -1,6 +1,6 @@
 //! The flusher.
 
-ghost use Rattle.std.specs.Prelude.{◌≡◌, ◌⊎◌, ◌↔◌, ◌+◌, ◌<◌, ◌≤◌, true, false, length, IfOk, IfErr, IsErrOf, IsTrue, OnErr};
+ghost use Rattle.std.specs.Prelude.{◌≡◌, ◌≢◌, ◌⊎◌, ◌↔◌, ◌+◌, ◌<◌, true, false, length, IfOk, IfErr, IsErrOf, IsTrue, OnOk, OnErr};
 ghost use Rattle.diskmodel.specs.Disk.{AtEachMoment};
 ghost use Rattle.journal.specs.Format.{group_bytes};
 ghost use Rattle.journal.specs.Journal.{disk_of, IsAlive};
@@ -84,10 +84,11 @@ impl<D: Disk> Flusher<D> {
         ensures more { Begins seat.old.view.seen seat.new.view.seen }
         ensures more_firm { Begins seat.old.view.firm seat.new.view.firm }
 
-        // It answers Down exactly where an earlier round took the node down, and changes nothing then.
+        // It answers Down exactly where it is down, and changes nothing then. A round that answers Device or Full takes it down.
         ensures down { IsErrOf result FlushError.Down ↔ IsTrue (is_down self.old) }
         ensures no_change { IsErrOf result FlushError.Down → (self.new ≡ self.old) × (seat.new ≡ seat.old) }
         ensures goes_down { IsTrue (is_down self.new) → (IsErrOf result FlushError.Device) ⊎ (IsErrOf result FlushError.Full) ⊎ (IsErrOf result FlushError.Down) }
+        ensures takes_down { (IsErrOf result FlushError.Device) ⊎ (IsErrOf result FlushError.Full) → IsTrue (is_down self.new) }
 
         // What it takes; for want of memory that is nothing.
         ensures takes { (IsErrOf result FlushError.Down) ⊎ (IsErrOf result FlushError.Memory) ⊎ TakesLongest seat.old.view.seen (settled_in self.old) (taken_in self.new) }
@@ -100,8 +101,11 @@ impl<D: Disk> Flusher<D> {
 
         ensures full { is_down self.old ≡ false → IsErrOf result FlushError.Full ↔ HasNoRoom (D.content (disk_of (journal_of self.old))) (settled_in self.old) (taken_in self.new) }
         ensures full_same { IsErrOf result FlushError.Full → journal_of self.new ≡ journal_of self.old }
+
+        // It answers Device exactly where the disk has failed.
         ensures device { IsErrOf result FlushError.Device → D.faults (disk_of (journal_of self.old)) < D.faults (disk_of (journal_of self.new)) }
-        ensures faults { D.faults (disk_of (journal_of self.old)) ≤ D.faults (disk_of (journal_of self.new)) }
+        ensures no_fault { OnOk result (D.faults (disk_of (journal_of self.new)) ≡ D.faults (disk_of (journal_of self.old))) }
+        ensures no_fault_err { IfErr result (λ error. error ≢ FlushError.Device → D.faults (disk_of (journal_of self.new)) ≡ D.faults (disk_of (journal_of self.old))) }
     {
         if self.down {
             return Err(FlushError::Down);
@@ -139,8 +143,11 @@ impl<D: Disk> Flusher<D> {
         ensures errors { IfErr result (λ error. (error ≡ FlushError.Device) ⊎ (error ≡ FlushError.Full)) }
         ensures full { IsErrOf result FlushError.Full ↔ (MAX_JOURNAL_BYTES < length (D.content (disk_of (journal_of self.old))) + length (group_bytes group)) }
         ensures full_same { IsErrOf result FlushError.Full → journal_of self.new ≡ journal_of self.old }
+
+        // It answers Device exactly where the disk has failed.
         ensures device { IsErrOf result FlushError.Device → D.faults (disk_of (journal_of self.old)) < D.faults (disk_of (journal_of self.new)) }
-        ensures faults { D.faults (disk_of (journal_of self.old)) ≤ D.faults (disk_of (journal_of self.new)) }
+        ensures no_fault { OnOk result (D.faults (disk_of (journal_of self.new)) ≡ D.faults (disk_of (journal_of self.old))) }
+        ensures no_fault_err { IfErr result (λ error. error ≢ FlushError.Device → D.faults (disk_of (journal_of self.new)) ≡ D.faults (disk_of (journal_of self.old))) }
     {
         let count = group.records_count();
         match self.journal.append(group) {

@@ -74,13 +74,13 @@ impl<D: Disk> Journal<D> {
         ensures any_moment_err { IfErr result (λ failed. AtEachMoment D.clock D.outcome_since disk failed.disk (StandsAsOneOf (D.outcome disk))) }
 
         ensures damaged { IfErr result (λ failed. (gate : ℕ) → failed.error ≡ JournalError.Damaged gate → stands (D.content disk) ≡ Err gate) }
-        ensures device { IfErr result (λ failed. failed.error ≡ JournalError.Device → D.faults disk < D.faults failed.disk) }
         ensures never_full { IfErr result (λ failed. failed.error ≢ JournalError.Full) }
         ensures never_config { IfErr result (λ failed. failed.error ≢ JournalError.ConfigMismatch) }
 
-        // The count of the disk's faults doesn't fall.
-        ensures faults { IfOk result (λ opened. D.faults disk ≤ D.faults (disk_of opened.0)) }
-        ensures faults_err { IfErr result (λ failed. D.faults disk ≤ D.faults failed.disk) }
+        // It answers Device exactly where the disk has failed.
+        ensures device { IfErr result (λ failed. failed.error ≡ JournalError.Device → D.faults disk < D.faults failed.disk) }
+        ensures no_fault { IfOk result (λ opened. D.faults (disk_of opened.0) ≡ D.faults disk) }
+        ensures no_fault_err { IfErr result (λ failed. failed.error ≢ JournalError.Device → D.faults failed.disk ≡ D.faults disk) }
     {
         match repair(alloc, &mut disk) {
             Ok((records, len)) => Ok((Journal { disk, len }, records)),
@@ -102,14 +102,16 @@ impl<D: Disk> Journal<D> {
         ensures any_moment { AtEachMoment D.clock D.outcome_since (disk_of self.old) (disk_of self.new) (IsBeforeOrAfter (D.content (disk_of self.old)) group) }
 
         ensures errors { IfErr result (λ error. (error ≡ JournalError.Device) ⊎ (error ≡ JournalError.Full)) }
+
+        // It answers Device exactly where the disk has failed.
         ensures device { IsErrOf result JournalError.Device → D.faults (disk_of self.old) < D.faults (disk_of self.new) }
+        ensures no_fault { OnOk result (D.faults (disk_of self.new) ≡ D.faults (disk_of self.old)) }
 
         // At `Device` nothing can be added any more.
         ensures dead { IsErrOf result JournalError.Device → ¬ IsAlive D.content D.outcome self.new }
 
         ensures full { IsErrOf result JournalError.Full ↔ (MAX_JOURNAL_BYTES < length (D.content (disk_of self.old)) + length (group_bytes group)) }
         ensures unchanged { IsErrOf result JournalError.Full → self.new ≡ self.old }
-        ensures faults { D.faults (disk_of self.old) ≤ D.faults (disk_of self.new) }
     {
         let added = group.written_len();
         if added > MAX_JOURNAL_BYTES.saturating_sub(self.len) {
@@ -148,8 +150,8 @@ fn write_group<D: Disk>(disk: &mut D, len: u64, group: &Group) -> Result<(), Jou
     ensures firm { OnOk result (LeavesOnly (D.content disk.new) (D.outcome disk.new)) }
     ensures any_moment { AtEachMoment D.clock D.outcome_since disk.old disk.new (IsBeforeOrAfter (D.content disk.old) group.now) }
     ensures errors { IfErr result (λ error. error ≡ JournalError.Device) }
-    ensures faults { D.faults disk.old ≤ D.faults disk.new }
     ensures device { OnErr result (D.faults disk.old < D.faults disk.new) }
+    ensures no_fault { OnOk result (D.faults disk.new ≡ D.faults disk.old) }
 {
     disk.write_at(len, group.bytes())?;
     // The group has to be firm before its gate is opened.
@@ -170,8 +172,9 @@ fn repair<D: Disk>(alloc: Global, disk: &mut D) -> Result<(Vec<Record>, u64), Jo
     ensures firm { OnOk result (LeavesOnly (D.content disk.new) (D.outcome disk.new)) }
     ensures any_moment { AtEachMoment D.clock D.outcome_since disk.old disk.new (StandsAsOneOf (D.outcome disk.old)) }
     ensures damaged { (gate : ℕ) → IsErrOf result (JournalError.Damaged gate) → stands (D.content disk.old) ≡ Err gate }
-    ensures faults { D.faults disk.old ≤ D.faults disk.new }
     ensures device { IsErrOf result JournalError.Device → D.faults disk.old < D.faults disk.new }
+    ensures no_fault { OnOk result (D.faults disk.new ≡ D.faults disk.old) }
+    ensures no_fault_err { IfErr result (λ error. error ≢ JournalError.Device → D.faults disk.new ≡ D.faults disk.old) }
     ensures never_full { IfErr result (λ error. error ≢ JournalError.Full) }
     ensures never_config { IfErr result (λ error. error ≢ JournalError.ConfigMismatch) }
 {
@@ -190,8 +193,9 @@ fn read_all<D: Disk>(alloc: Global, disk: &mut D) -> Result<Vec<u8>, JournalErro
     ensures outcomes { NoneNew (D.outcome disk.old) (D.outcome disk.new) }
     ensures any_moment { AtEachMoment D.clock D.outcome_since disk.old disk.new (D.outcome disk.old) }
     ensures errors { IfErr result (λ error. (error ≡ JournalError.Memory) ⊎ (error ≡ JournalError.Device)) }
-    ensures faults { D.faults disk.old ≤ D.faults disk.new }
     ensures device { IsErrOf result JournalError.Device → D.faults disk.old < D.faults disk.new }
+    ensures no_fault { OnOk result (D.faults disk.new ≡ D.faults disk.old) }
+    ensures no_fault_err { IfErr result (λ error. error ≢ JournalError.Device → D.faults disk.new ≡ D.faults disk.old) }
 {
     let len = disk.len()? as usize;
     let mut bytes = vec![in alloc; 0; len]?;
@@ -212,8 +216,8 @@ fn close_end<D: Disk>(disk: &mut D, len: u64, gate: u64) -> Result<(), JournalEr
     ensures firm { OnOk result (LeavesOnly (D.content disk.new) (D.outcome disk.new)) }
     ensures any_moment { AtEachMoment D.clock D.outcome_since disk.old disk.new (λ left. stands left ≡ stands (D.content disk.old)) }
     ensures errors { IfErr result (λ error. error ≡ JournalError.Device) }
-    ensures faults { D.faults disk.old ≤ D.faults disk.new }
     ensures device { OnErr result (D.faults disk.old < D.faults disk.new) }
+    ensures no_fault { OnOk result (D.faults disk.new ≡ D.faults disk.old) }
 {
     if len < 2 {
         disk.write_at(0, &[CLOSED])?;

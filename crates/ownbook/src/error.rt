@@ -1,5 +1,8 @@
 //! Why a round fails.
 
+ghost use Rattle.std.specs.Prelude.{◌≡◌};
+ghost use Rattle.ownbook.specs.declared.error.FlushError.TheVariants.{Memory};
+
 use std::alloc::AllocError;
 use thiserror::Error;
 
@@ -21,6 +24,8 @@ pub enum FlushError {
 }
 
 impl From<AllocError> for FlushError {
+    ghost from_gives = { λ _ error. error ≡ Memory };
+
     fn from(_: AllocError) -> FlushError {
         FlushError::Memory
     }

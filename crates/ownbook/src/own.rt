@@ -40,11 +40,12 @@ impl<'a, S: Sign> Model for OwnBook<'a, S> {
 }
 
 impl<'a, S: Sign> OwnBook<'a, S> {
-    ghost use Rattle.std.specs.Prelude.{◌≡◌, ◌≢◌, ◌⊎◌, ◌↔◌, ◌++◌, ◌∷◌, [], List, ℕ, length, true, None, Ok, IfOk, IfErr, IfSome, OnOk, OnErr, IsErrOf, IsTrue};
+    ghost use Rattle.std.specs.Prelude.{◌≡◌, ◌≢◌, ◌⊎◌, ◌↔◌, ◌<◌, drop, ◌++◌, ◌∷◌, [], List, ℕ, length, true, None, Ok, IfOk, IfErr, IfSome, OnOk, OnErr, IsErrOf, IsTrue};
     ghost use Rattle.header.specs.Checks.{fault_of, accepts_all};
-    ghost use Rattle.journal.specs.Journal.{IsAlive};
+    ghost use Rattle.journal.specs.Journal.{disk_of, IsAlive};
     ghost use Rattle.validator.specs.Setting.{node_of};
-    ghost use Rattle.book.specs.Book.{SettlesNext};
+    ghost use Rattle.book.specs.Book.{Run, Stands, SettlesNext, history_in, settled_in};
+    ghost use Rattle.model.specs.Holdings.{order as order_of, round as round_of};
     ghost use Rattle.ownbook.specs.OnTheWay.{AreOnTheWay, StandsAtLegal};
 
     /// A book that has accepted nothing, over a validator that stands at a history.
@@ -115,6 +116,10 @@ impl<'a, S: Sign> OwnBook<'a, S> {
     pub fn flush<D: Disk>(&mut self, journal: &mut Journal<D>) -> Result<u64, FlushError>
         requires { IsAlive D.content D.outcome journal.old }
         ensures alive { (IsErrOf result FlushError.Device) ⊎ IsAlive D.content D.outcome journal.new }
+        // It answers Device exactly where the disk has failed.
+        ensures device { IsErrOf result FlushError.Device → D.faults (disk_of journal.old) < D.faults (disk_of journal.new) }
+        ensures no_fault { OnOk result (D.faults (disk_of journal.new) ≡ D.faults (disk_of journal.old)) }
+        ensures no_fault_err { IfErr result (λ error. error ≢ FlushError.Device → D.faults (disk_of journal.new) ≡ D.faults (disk_of journal.old)) }
         ensures setting { self.new.validator.setting ≡ self.old.validator.setting }
     {
         if self.is_down() {
@@ -166,12 +171,23 @@ impl<'a, S: Sign> OwnBook<'a, S> {
     }
 
     /// The validator's round, behind all that was accepted.
-    pub fn round_now(&self) -> u64 {
+    pub fn round_now(&self) -> u64
+        ensures { (run : Run) → Stands (node_of S.own_key S.signature_of self.now.validator.setting) run self.now
+            → result ≡ round_of (node_of S.own_key S.signature_of self.now.validator.setting) (history_in run) }
+    {
         self.book.round_now()
     }
 
-    /// The order behind the settled records, from this place on.
-    pub fn order(&self, from: u64) -> Result<Vec<Digest>, Refusal> {
+    /// The order behind the settled records, from this place on. It is empty past its end.
+    ///
+    /// # Errors
+    /// `Down` where the book is down, `Memory` where a growth was refused.
+    pub fn order(&self, from: u64) -> Result<Vec<Digest>, Refusal>
+        ensures order { IfOk result (λ digests. (run : Run) → Stands (node_of S.own_key S.signature_of self.now.validator.setting) run self.now
+            → digests.items ≡ drop from (order_of (node_of S.own_key S.signature_of self.now.validator.setting) (settled_in run))) }
+        ensures down { IsErrOf result Refusal.Down ↔ IsTrue self.now.down }
+        ensures errors { IfErr result (λ refusal. (refusal ≡ Refusal.Down) ⊎ (refusal ≡ Refusal.Memory)) }
+    {
         self.book.order(from)
     }
 }

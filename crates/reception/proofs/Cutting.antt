@@ -1,7 +1,7 @@
 -- One byte more of a stream.
-use Rattle.std.proofs.Common.{◌≡◌, ℕ, List, [], ◌∷◌, ◌++◌, Vec, sym, ap, subst, ◌∙◌}
+use Rattle.std.proofs.Common.{◌≡◌, ℕ, ◌≤◌, List, [], ◌∷◌, ◌++◌, length, take, Vec, sym, ap, subst, ◌∙◌}
 use Rattle.std.specs.declared.alloc.Global.{Global}
-use Rattle.std.proofs.lemmas.List.{append_assoc, map-append}
+use Rattle.std.proofs.lemmas.List.{append_assoc, append-nil, map-append, take-take, take-append-le}
 use Rattle.wire_read.specs.Frames.{Splits, Breaks, bodies_bytes}
 use Rattle.reception.specs.Cutting.{Takes, BreaksWith}
 
@@ -22,3 +22,14 @@ parts_more piece taken rest behind byte parts is = parts ∙ ap (λ l. taken ++ 
 pub breaks_more : (held mid taken : List ℕ) (byte : ℕ) (bodies : List (List ℕ)) → Takes held taken bodies mid → BreaksWith mid (byte ∷ []) → BreaksWith held (taken ++ byte ∷ [])
 breaks_more held mid taken byte bodies one breaks stream before splits =
     subst Breaks (append_assoc stream taken (byte ∷ [])) (breaks (stream ++ taken) (before ++ bodies) (one.splits stream before splits))
+
+pub takes_none : (held : List ℕ) → Takes held [] [] held
+takes_none held = record {
+  splits = λ stream before splits.
+      subst (λ s. Splits s (before ++ []) held) (sym (append-nil stream))
+      (subst (λ b. Splits stream b held) (sym (append-nil before)) splits);
+}
+
+-- what a read put at the front of a longer buffer
+pub front_same : (count len : ℕ) (bytes rest : List ℕ) → count ≤ length bytes → count ≤ len → take count (take len (bytes ++ rest)) ≡ take count bytes
+front_same count len bytes rest within shorter = take-take _ _ _ shorter ∙ take-append-le _ _ _ within

@@ -1,5 +1,6 @@
 -- How far a stream of frames is taken.
-use Rattle.std.specs.Prelude.{◌≡◌, ℕ, List, [], ◌∷◌, ◌++◌}
+use Rattle.std.specs.Prelude.{◌≡◌, ℕ, List, [], ◌∷◌, ◌++◌, Option, None, Some}
+use Rattle.std.specs.Io.KnownBytes.{Consumes}
 use Rattle.wire.specs.declared.error.WireError.{WireError}
 use Rattle.wire.specs.declared.error.WireError.TheVariants.{Memory}
 use Rattle.wire_read.specs.Frames.{Splits, Breaks}
@@ -23,7 +24,35 @@ pub record TakesUntil (held piece : List ℕ) (bodies : List (List ℕ)) (later 
   pub takes : Takes held taken bodies later
   pub breaks : BreaksWith held (taken ++ byte ∷ [])
 
+-- of a piece a beginning is taken
+pub record TakesPart (held piece : List ℕ) (bodies : List (List ℕ)) : Type 0 where
+  pub taken : List ℕ
+  pub behind : List ℕ
+  pub later : List ℕ
+  pub parts : piece ≡ taken ++ behind
+  pub takes : Takes held taken bodies later
+
 -- why no more frames come where a reader of frames refuses a piece: there was no memory for it, or such a length stands in it
 abbrev pub end_behind : WireError → End
 end_behind Memory = ends.Memory
 end_behind error = ends.Broken
+
+-- what contracts see of a stream of frames: what it is read from, what is held of the next frame, and why no more frames come
+pub record Stream (I : Type 0) : Type 0 where
+  pub reader : I
+  pub held : List ℕ
+  pub end : Option End
+
+-- What came of a piece: all of it is taken, unless no more frames come, since a length in it is refused, before which all is
+-- taken, or since there was no memory behind these bodies.
+pub record Cuts (held piece : List ℕ) (bodies : List (List ℕ)) (later : List ℕ) (end : Option End) : Type 0 where
+  pub all : end ≡ None → Takes held piece bodies later
+  pub broken : end ≡ Some ends.Broken → TakesUntil held piece bodies later
+  pub memory : end ≡ Some ends.Memory → TakesPart held piece bodies
+  pub never : end ≡ Some ends.Whole → ⊥
+
+-- one piece was read, and cut
+pub record ReadsAndCuts {I : Type 0} (remaining : I → Option (List ℕ)) (before later : Stream I) (bodies : List (List ℕ)) : Type 0 where
+  pub piece : List ℕ
+  pub read : Consumes (remaining before.reader) (remaining later.reader) piece
+  pub cut : Cuts before.held piece bodies later.held later.end

@@ -1,7 +1,34 @@
--- The makers of a node's own batches.
-use Rattle.std.specs.Prelude.{ℕ, vec_len}
-use Rattle.reception.specs.declared.makers.Makers.{Makers}
+-- The makers of a node's own batches, by what each has gathered.
+use Rattle.std.specs.Prelude.{◌≡◌, ◌≢◌, ℕ, zero, suc, List, [], ◌∷◌, ◌++◌, length, Option, Some, IsNone, IfSome, IsTrue, ◌↔◌, slice_get, slice_set}
+use Rattle.batchmaker.specs.Giving.{given}
+use Rattle.wire.specs.Batches.{Contents, has_room}
+use Rattle.wire.specs.declared.keys.Author.{Author}
 
--- for how many workers there are makers
-abbrev pub workers_of : Makers → ℕ
-workers_of makers = vec_len makers.makers
+-- those of so many workers of an author, with no transaction
+abbrev pub fresh_makers : Author → ℕ → List Contents
+fresh_makers own zero = []
+fresh_makers own (suc worker) = fresh_makers own worker ++ record { author = own; worker = worker; transactions = [] } ∷ []
+
+-- one worker's maker has become another, and no other has changed
+pub record Becomes (worker : ℕ) (maker next : Contents) (before later : List Contents) : Type 0 where
+  pub was : slice_get before worker ≡ Some maker
+  pub is : later ≡ slice_set before worker next
+
+-- A transaction was added to one worker's open batch, or begins the next where that had no room and was given.
+pub record IsPushed (worker : ℕ) (transaction : List ℕ) (full : Option Contents) (before later : List Contents) : Type 0 where
+  pub maker : Contents
+  pub next : Contents
+  pub becomes : Becomes worker maker next before later
+  pub author : next.author ≡ maker.author
+  pub number : next.worker ≡ maker.worker
+  pub kept : IsNone full ↔ IsTrue (has_room maker.transactions (length transaction))
+  pub whole : IfSome full (λ batch. batch ≡ maker)
+  pub some : IfSome full (λ batch. batch.transactions ≢ [])
+  pub each_once : given full ++ next.transactions ≡ maker.transactions ++ transaction ∷ []
+
+-- One worker's open batch was given, if it had a transaction, and none of it is open.
+pub record IsSealed (worker : ℕ) (sealed : Option Contents) (before later : List Contents) : Type 0 where
+  pub maker : Contents
+  pub becomes : Becomes worker maker (record maker { transactions = [] }) before later
+  pub none : IsNone sealed ↔ (maker.transactions ≡ [])
+  pub whole : IfSome sealed (λ batch. batch ≡ maker)

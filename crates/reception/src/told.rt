@@ -1,5 +1,10 @@
 //! Why a frame is refused, as it is told.
 
+ghost use Rattle.std.specs.Prelude.{◌≡◌};
+ghost use Rattle.reception.specs.Tellings.{of_make};
+ghost use Rattle.reception.specs.declared.told.Told.TheVariants.{Unread, Unchecked, Refused};
+ghost use Rattle.wire.specs.declared.error.WireError.TheVariants.{Memory};
+
 use batchmaker::MakeError;
 use header::CheckError;
 use model::Refusal;
@@ -22,30 +27,40 @@ pub enum Told {
 }
 
 impl From<WireError> for Told {
+    ghost from_gives = { λ error told. told ≡ Unread error };
+
     fn from(error: WireError) -> Told {
         Told::Unread(error)
     }
 }
 
 impl From<CheckError> for Told {
+    ghost from_gives = { λ error told. told ≡ Unchecked error };
+
     fn from(error: CheckError) -> Told {
         Told::Unchecked(error)
     }
 }
 
 impl From<Refusal> for Told {
+    ghost from_gives = { λ refusal told. told ≡ Refused refusal };
+
     fn from(refusal: Refusal) -> Told {
         Told::Refused(refusal)
     }
 }
 
 impl From<AllocError> for Told {
+    ghost from_gives = { λ _ told. told ≡ Unread Memory };
+
     fn from(_: AllocError) -> Told {
         Told::Unread(WireError::Memory)
     }
 }
 
 impl From<MakeError> for Told {
+    ghost from_gives = { λ error told. told ≡ of_make error };
+
     fn from(error: MakeError) -> Told {
         match error {
             MakeError::Memory => Told::Unread(WireError::Memory),

@@ -1,54 +1,69 @@
 -- What a writer's known bytes grow by.
-use Rattle.std.proofs.Common.{◌≡◌, ℕ, take, drop, Result, Ok, Err, List, [], ◌++◌, Option, Some, None, refl, sym, ap, ◌∙◌, append_assoc, append-nil}
+use Rattle.std.proofs.Common.{◌≡◌, ◌⊎◌, ℕ, ◌<◌, take, drop, length, inl, inr, subst, Result, Ok, Err, List, [], ◌++◌, Option, Some, None, refl, sym, ap, ◌∙◌, arith, append_assoc, append-nil, length-append}
+use Rattle.std.proofs.KnownBytes.{Appends-trans}
 use Rattle.std.specs.Io.KnownBytes.{Keeps, Appends}
 use Rattle.std.specs.Prelude.{OnErr}
 use Rattle.std.proofs.lemmas.List.{take-append-drop}
-use Rattle.laws.specs.Laws.{Begins}
-use Rattle.recovery.specs.Writing.{AppendsPart}
-
-pub keeps_itself : (old : Option (List ℕ)) → Keeps old old
-keeps_itself None = tt
-keeps_itself (Some xs) = refl
-
-pub appends_nil : (old : Option (List ℕ)) → Appends old old []
-appends_nil None = tt
-appends_nil (Some xs) = sym (append-nil xs)
+use Rattle.recovery.specs.Writing.{EndsAtDisk, AppendsLess, AppendsPart}
+use Rattle.recovery.specs.declared.driving.DriveError.{DriveError}
+use Rattle.recovery.specs.declared.driving.DriveError.TheVariants as ends
 
 pub keeps_appends : (old new : Option (List ℕ)) → Keeps old new → Appends old new []
 keeps_appends None new keeps = tt
 keeps_appends (Some xs) None keeps = absurd keeps
 keeps_appends (Some xs) (Some ys) keeps = keeps ∙ sym (append-nil xs)
 
--- one growth behind the other
-pub appends_more : (old mid new : Option (List ℕ)) (first second : List ℕ) → Appends old mid first → Appends mid new second → Appends old new (first ++ second)
-appends_more None mid new first second one two = tt
-appends_more (Some xs) None new first second one two = absurd one
-appends_more (Some xs) (Some ys) None first second one two = absurd two
-appends_more (Some xs) (Some ys) (Some zs) first second one two = two ∙ ap (λ (l : List ℕ). l ++ second) one ∙ append_assoc xs first second
-
 -- and the second of them in part
-pub part_behind : (old mid new : Option (List ℕ)) (first second : List ℕ) → Appends old mid first → AppendsPart mid new second → AppendsPart old new (first ++ second)
+pub part_behind : (old mid new : Option (List ℕ)) (first second : List ℕ) → Appends old mid first → AppendsLess mid new second → AppendsLess old new (first ++ second)
 part_behind old mid new first second one two = record {
   part = first ++ two.part;
   begins = record { rest = two.begins.rest; parts = ap (λ (l : List ℕ). first ++ l) two.begins.parts ∙ sym (append_assoc first two.part two.begins.rest) };
-  appends = appends_more old mid new first two.part one two.appends;
+  less = omega (arith, length-append first two.part, length-append first second, two.less);
+  appends = Appends-trans old mid new first two.part one two.appends;
 }
 
 -- a part of the front is one of the whole
-pub part_front : (old new : Option (List ℕ)) (first second : List ℕ) → AppendsPart old new first → AppendsPart old new (first ++ second)
+pub part_front : (old new : Option (List ℕ)) (first second : List ℕ) → AppendsLess old new first → AppendsLess old new (first ++ second)
 part_front old new first second one = record {
   part = one.part;
   begins = record { rest = one.begins.rest ++ second; parts = ap (λ (l : List ℕ). l ++ second) one.begins.parts ∙ append_assoc one.part one.begins.rest second };
+  less = omega (arith, length-append first second, one.less);
   appends = one.appends;
 }
 
--- what was written so far of all that is to be written
-pub part_of : (old new : Option (List ℕ)) (all first rest : List ℕ) → all ≡ first ++ rest → Appends old new first → AppendsPart old new all
-part_of old new all first rest parts one = record { part = first; begins = record { rest = rest; parts = parts }; appends = one }
+-- nothing of what isn't empty
+pub less_none : (old new : Option (List ℕ)) (all : List ℕ) → Keeps old new → 0 < length all → AppendsLess old new all
+less_none old new all keeps some = record {
+  part = [];
+  begins = record { rest = all; parts = refl };
+  less = some;
+  appends = keeps_appends old new keeps;
+}
 
--- nothing of it
-pub part_none : (old new : Option (List ℕ)) (all : List ℕ) → Keeps old new → AppendsPart old new all
-part_none old new all keeps = part_of old new all [] all refl (keeps_appends old new keeps)
+-- nothing, where it wasn't the writer that failed
+pub part_none : (error : DriveError) (old new : Option (List ℕ)) (all : List ℕ) → (error ≡ ends.Output → ⊥) → Keeps old new → AppendsPart error old new all
+part_none error old new all never keeps = record {
+  part = [];
+  begins = record { rest = all; parts = refl };
+  less = λ output. absurd (never output);
+  none = λ _. refl;
+  appends = keeps_appends old new keeps;
+}
+
+-- less than all of it, where memory or the writer failed
+pub part_less : (error : DriveError) (old new : Option (List ℕ)) (all : List ℕ) → (EndsAtDisk error → ⊥) → AppendsLess old new all → AppendsPart error old new all
+part_less error old new all never one = record {
+  part = one.part;
+  begins = one.begins;
+  less = λ output. one.less;
+  none = λ disk. absurd (never disk);
+  appends = one.appends;
+}
+
+-- where memory or the writer failed no command ended at the disk
+pub not_at_disk : (error cause : DriveError) → error ≡ cause → (cause ≡ ends.Memory) ⊎ (cause ≡ ends.Output) → EndsAtDisk error → ⊥
+not_at_disk error cause same (inl is) disk = subst EndsAtDisk (same ∙ is) disk
+not_at_disk error cause same (inr is) disk = subst EndsAtDisk (same ∙ is) disk
 
 pub appends_keeps : (old new : Option (List ℕ)) → Appends old new [] → Keeps old new
 appends_keeps None new appends = tt

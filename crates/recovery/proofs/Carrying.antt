@@ -1,5 +1,6 @@
 -- A script, command by command.
-use Rattle.std.proofs.Common.{◌≡◌, ℕ, zero, suc, ◌+◌, ◌<◌, append_assoc, drop-cons, List, [], ◌∷◌, ◌++◌, length, take, drop, map, get_or, Option, Ok, refl, sym, ap, ◌∙◌, subst, arith}
+use Rattle.std.proofs.Common.{◌≡◌, ℕ, zero, suc, ◌+◌, ◌<◌, append_assoc, append-nil, drop-cons, List, [], ◌∷◌, ◌++◌, length, take, drop, get_or, Option, Ok, refl, sym, ap, ◌∙◌, subst, arith, length-append}
+use Rattle.std.proofs.KnownBytes.{Appends-nil, Appends-trans}
 use Rattle.std.specs.Prelude.{All}
 use Rattle.std.specs.Io.KnownBytes.{Appends}
 use Rattle.std.proofs.lemmas.List.{map-append, take-append-drop}
@@ -16,7 +17,6 @@ use Rattle.recovery.specs.Writing.{AppendsPart}
 use Rattle.recovery.specs.declared.driving.Command.{Command}
 use Rattle.recovery.specs.declared.driving.DriveError.{DriveError}
 use Rattle.journal.specs.Journal.{disk_of}
-use Rattle.recovery.proofs.Appending.{appends_nil, appends_more}
 use Rattle.recovery.proofs.Scripts.{text_push, desk_push, text_nil, desk_nil}
 
 -- the first of the commands were carried out
@@ -33,7 +33,7 @@ module _ {S D : Type 0} (node : Node) (content : D → List ℕ) (outcome : D �
     history = opened.history;
     told_first = opened.told_first;
     is_of = subst (λ (d : script.Desk). IsOf node content outcome d book journal) (sym (desk_nil node (script.desk_on opened.history))) opened.is_of;
-    writes = subst (Appends old old) (sym (text_nil node (script.desk_on opened.history))) (appends_nil old);
+    writes = subst (Appends old old) (sym (text_nil node (script.desk_on opened.history))) (Appends-nil old);
   }
 
   module _ (done : List script.Command) (next : script.Command) (book : Shown S) (journal : Journal D) (old mid : Option (List ℕ)) (so_far : IsCarriedOut node content outcome before done book journal old mid) where
@@ -48,12 +48,12 @@ module _ {S D : Type 0} (node : Node) (content : D → List ℕ) (outcome : D �
       told_first = so_far.told_first;
       is_of = subst (λ (d : script.Desk). IsOf node content outcome d later new_journal) (sym (desk_push node (script.desk_on so_far.history) done next)) is;
       writes = subst (Appends old new) (sym (text_push node (script.desk_on so_far.history) done next))
-          (appends_more old mid new (script.text node (script.desk_on so_far.history) done) (script.frames (script.due (script.after node desk next))) so_far.writes appends);
+          (Appends-trans old mid new (script.text node (script.desk_on so_far.history) done) (script.frames (script.due (script.after node desk next))) so_far.writes appends);
     }
 
     -- the next one failed
     pub cut_short : (commands rest : List script.Command) (error : DriveError) (later : List ℕ) (left : List ℕ → Type 0) (new : Option (List ℕ)) → commands ≡ done ++ next ∷ rest
-        → Breaks node desk next error later left → AppendsPart mid new (script.frames (script.due (script.after node desk next))) → IsCutShort node commands error before later left old new
+        → Breaks node desk next error later left → AppendsPart error mid new (script.frames (script.due (script.after node desk next))) → IsCutShort node commands error before later left old new
     cut_short commands rest error later left new parts breaks appends =
         let text_done = script.text node (script.desk_on so_far.history) done in
         record {
@@ -64,12 +64,17 @@ module _ {S D : Type 0} (node : Node) (content : D → List ℕ) (outcome : D �
           rest = rest;
           parts = parts;
           written = text_done ++ appends.part;
-          writes = appends_more old mid new text_done appends.part so_far.writes appends.appends;
+          writes = Appends-trans old mid new text_done appends.part so_far.writes appends.appends;
           no_less = record { rest = appends.part; parts = refl };
           no_more = record {
             rest = appends.begins.rest;
             parts = text_push node (script.desk_on so_far.history) done next ∙ ap (λ (l : List ℕ). text_done ++ l) appends.begins.parts ∙ sym (append_assoc text_done appends.part appends.begins.rest);
           };
+          less = λ output.
+              let more = appends.less output in
+              let due = script.frames (script.due (script.after node desk next)) in
+              omega (arith, more, length-append text_done appends.part, length-append text_done due, ap length (text_push node (script.desk_on so_far.history) done next));
+          nothing = λ disk. ap (λ (l : List ℕ). text_done ++ l) (appends.none disk) ∙ append-nil text_done;
           breaks = breaks;
         }
 

@@ -1,5 +1,5 @@
 -- A book and a journal behind an opening.
-use Rattle.std.proofs.Common.{◌≡◌, ◌≢◌, ℕ, ◌≤◌, false, ◌⊎◌, inl, inr, List, [], ◌++◌, Result, Ok, Err, refl, sym, ap, ◌∙◌, subst, append-nil}
+use Rattle.std.proofs.Common.{◌≡◌, ◌≢◌, ℕ, ◌≤◌, false, inl, inr, List, [], Result, Ok, refl, sym, ap, ◌∙◌, subst, append-nil}
 use Rattle.diskmodel.specs.Disk.{AtEachMoment}
 use Rattle.journal.specs.Format.{stands}
 use Rattle.journal.specs.Journal.{disk_of, IsAlive}
@@ -15,10 +15,12 @@ use Rattle.validator.specs.Standing.{AreAtSound}
 use Rattle.world.specs.Text.{Desk, desk_on, settled_in, stop, after}
 use Rattle.book.specs.Book.{Shown, Stands, run_on}
 use Rattle.recovery.specs.Faults.{ended_by}
-use Rattle.recovery.specs.Script.{IsOf, IsOpenedOf, IsNotOpened, Breaks, HasNoRoom}
+use Rattle.recovery.specs.Laws.{IsNoRefusal}
+use Rattle.recovery.specs.Script.{IsOf, IsOpenedOf, IsNotOpened, MayEnd, Breaks}
 use Rattle.recovery.specs.Told.{told, Tells, StandsAt, IsToldAsOneOf}
 use Rattle.recovery.specs.declared.driving.DriveError.{DriveError}
 use Rattle.recovery.specs.declared.driving.DriveError.TheVariants.{Device, Full}
+use Rattle.recovery.proofs.Opened.{no_refusal}
 
 ok_is : (one other : History) → ◌≡◌ {A = Result History JournalError} (Ok one) (Ok other) → one ≡ other
 ok_is one other same = cc
@@ -69,11 +71,18 @@ module _ {S D : Type 0} (node : Node) (content : D → List ℕ) (outcome : D �
         let same : opened.history ≡ settled_in desk = ok_is opened.history (settled_in desk) (sym opened.told_first ∙ is) in
         subst (λ (d : Desk). IsOf node content outcome d book journal) (ap desk_on same ∙ sym (after_stop node desk)) opened.is_of
 
--- a stop behind which the node isn't opened
-pub stop_breaks : (node : Node) (desk : Desk) (error : DriveError) (bytes later : List ℕ) (possible left : List ℕ → Type 0) → ((found : List ℕ) → possible found → told node found ≡ Ok (settled_in desk))
-    → IsNotOpened node error bytes possible left → Breaks node desk stop error later left
-stop_breaks node desk error bytes later possible left only not_opened = record {
+-- where nothing is refused a stop ends for want of memory, or by a fault of the disk
+ends_stop : (cause : JournalError) → IsNoRefusal cause → MayEnd stop (ended_by cause)
+ends_stop cause (inl device) = subst (λ (e : JournalError). MayEnd stop (ended_by e)) (sym device) tt
+ends_stop cause (inr memory) = subst (λ (e : JournalError). MayEnd stop (ended_by e)) (sym memory) tt
+
+-- A stop behind which the node isn't opened: what it left is told as what is settled, which no opening refuses.
+pub stop_breaks : (node : Node) (desk : Desk) (error : DriveError) (bytes later : List ℕ) (possible left : List ℕ → Type 0) → possible bytes
+    → ((found : List ℕ) → possible found → told node found ≡ Ok (settled_in desk)) → IsNotOpened node error bytes possible left → Breaks node desk stop error later left
+stop_breaks node desk error bytes later possible left found_now only not_opened = record {
   left = λ found may. let one = not_opened.left found may in inl (one.2 ∙ only one.0 one.1);
+  errors = subst (MayEnd stop) (sym not_opened.is)
+      (ends_stop not_opened.cause (no_refusal not_opened.cause (settled_in desk) (told node bytes) (only bytes found_now) not_opened.tells));
   full = λ same. absurd (not_opened.never_full (only_full not_opened.cause (sym not_opened.is ∙ same)));
 }
 

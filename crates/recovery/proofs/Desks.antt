@@ -1,5 +1,5 @@
 -- A book and a journal behind each command.
-use Rattle.std.proofs.Common.{◌≡◌, ◌≢◌, ℕ, zero, suc, ◌+◌, ◌<◌, ◌≤◌, Bool, true, false, cond, ◌⊎◌, inl, inr, List, [], ◌∷◌, ◌++◌, length, take, drop, map, Option, Some, None, Result, Ok, Err, refl, sym, ap, ◌∙◌, subst, arith, append_assoc, append-nil, length-append}
+use Rattle.std.proofs.Common.{◌≡◌, ◌≢◌, ℕ, suc, ◌+◌, ◌<◌, ◌≤◌, true, false, ◌⊎◌, inl, inr, List, [], ◌∷◌, ◌++◌, length, take, drop, map, Result, Ok, Err, refl, sym, ap, ◌∙◌, subst, arith, append_assoc, append-nil}
 use Rattle.std.specs.Prelude.{IsErrOf, IfOk, IfErr, OnErr}
 use Rattle.std.proofs.lemmas.Bool.{cases_Bool, true≢false}
 use Rattle.std.proofs.lemmas.List.{take-take, take_at, take-append-drop, take-map}
@@ -28,7 +28,7 @@ use Rattle.book.specs.declared.book.Receipt.{Receipt}
 use Rattle.book.specs.Pending.{IsLongestBeginning}
 use Rattle.book.specs.Book.{Shown, Run, Stands, with_taken, with_settled, TakesNew, TakesKnown, MayRefuse, SettlesNext}
 use Rattle.recovery.specs.Faults.{ended_by}
-use Rattle.recovery.specs.Script.{run_of, IsOf, HasNoRoom, Breaks}
+use Rattle.recovery.specs.Script.{run_of, IsOf, MayEnd, Breaks}
 use Rattle.recovery.specs.Told.{told}
 use Rattle.recovery.specs.declared.driving.DriveError.{DriveError}
 use Rattle.recovery.specs.declared.driving.DriveError.TheVariants as ends
@@ -234,21 +234,43 @@ pub left_by : {D : Type 0} (clock : D → ℕ) (since : D → ℕ → List ℕ �
     → AtEachMoment clock since old new P → ((disk : D) (t : ℕ) (c : List ℕ) → t ≤ clock disk → may disk c → since disk t c) → may new bytes → P bytes
 left_by {D} clock since old new P bytes may at counts left = at.each bytes (counts new (clock old) bytes at.later left)
 
+-- an error of writing isn't that of a full journal, or of the disk
+not_full : (error : DriveError) → (error ≡ ends.Memory) ⊎ (error ≡ ends.Output) → error ≡ ends.Full → ⊥
+not_full error (inl memory) full = cc
+not_full error (inr output) full = cc
+
+pub not_device : (error : DriveError) → (error ≡ ends.Memory) ⊎ (error ≡ ends.Output) → error ≡ ends.Device → ⊥
+not_device error (inl memory) device = cc
+not_device error (inr output) device = cc
+
+-- it may end each command
+ends_any : (command : Command) (error : DriveError) → (error ≡ ends.Memory) ⊎ (error ≡ ends.Output) → MayEnd command error
+ends_any command error (inl memory) = subst (MayEnd command) (sym memory) tt
+ends_any command error (inr output) = subst (MayEnd command) (sym output) tt
+
+-- and an error of adding a group a flush
+ends_flush : (cause : JournalError) → (cause ≡ errors.Device) ⊎ (cause ≡ errors.Full) → MayEnd flush (ended_by cause)
+ends_flush cause (inl device) = subst (λ (e : JournalError). MayEnd flush (ended_by e)) (sym device) tt
+ends_flush cause (inr full) = subst (λ (e : JournalError). MayEnd flush (ended_by e)) (sym full) refl
+
 module _ {S D : Type 0} (node : Node) (content : D → List ℕ) (outcome : D → List ℕ → Type 0) (desk : Desk) (book : Shown S) (old : Journal D) (is : IsOf node content outcome desk book old) where
-  -- behind an error that changed nothing on the disk
-  pub same_breaks : (command : Command) (error : DriveError) → (error ≡ ends.Full → ⊥) → Breaks node desk command error (content (disk_of old)) (outcome (disk_of old))
-  same_breaks command error never = record {
+  -- behind want of memory, which changed nothing on the disk
+  pub same_breaks : (command : Command) (error : DriveError) → error ≡ ends.Memory → Breaks node desk command error (content (disk_of old)) (outcome (disk_of old))
+  same_breaks command error memory = record {
     left = λ bytes left. inl (left_firm node content outcome desk book old is bytes left);
-    full = λ full. absurd (never full);
+    errors = ends_any command error (inl memory);
+    full = λ full. absurd (not_full error (inl memory) full);
   }
 
   -- behind a group that was taken and not added
   pub flush_breaks : (taken : Shown S) (group : List (List ℕ)) (longest : IsLongestBeginning book.pending group taken.pending) (cause : JournalError) (new : Journal D)
       → ((bytes : List ℕ) → outcome (disk_of new) bytes → IsBeforeOrAfter (content (disk_of old)) group bytes)
+      → (cause ≡ errors.Device) ⊎ (cause ≡ errors.Full)
       → (cause ≡ errors.Full → (MAX_JOURNAL_BYTES < length (content (disk_of old)) + length (group_bytes group)) × (new ≡ old))
       → Breaks node desk flush (ended_by cause) (content (disk_of new)) (outcome (disk_of new))
-  flush_breaks taken group longest cause new left full = record {
+  flush_breaks taken group longest cause new left either full = record {
     left = λ bytes may. left_flushing node content outcome desk book old is taken group longest bytes (left bytes may);
+    errors = ends_flush cause either;
     full = λ same.
         let found = full (only_full cause same) in
         record {
@@ -260,10 +282,12 @@ module _ {S D : Type 0} (node : Node) (content : D → List ℕ) (outcome : D �
 
 -- behind an error in writing what a command made due
 pub behind_breaks : {S D : Type 0} (node : Node) (content : D → List ℕ) (outcome : D → List ℕ → Type 0) (desk : Desk) (command : Command) (book : Shown S) (new : Journal D)
-    → IsOf node content outcome (after node desk command) book new → (error : DriveError) → (error ≡ ends.Full → ⊥) → Breaks node desk command error (content (disk_of new)) (outcome (disk_of new))
-behind_breaks {S} {D} node content outcome desk command book new is error never = record {
+    → IsOf node content outcome (after node desk command) book new → (error : DriveError) → (error ≡ ends.Memory) ⊎ (error ≡ ends.Output)
+    → Breaks node desk command error (content (disk_of new)) (outcome (disk_of new))
+behind_breaks {S} {D} node content outcome desk command book new is error either = record {
   left = λ bytes left. inr (left_firm node content outcome (after node desk command) book new is bytes left);
-  full = λ full. absurd (never full);
+  errors = ends_any command error either;
+  full = λ full. absurd (not_full error either full);
 }
 
 -- of an error and a disk that are these
@@ -272,12 +296,3 @@ pub breaks_at : {D : Type 0} (node : Node) (content : D → List ℕ) (outcome :
 breaks_at {D} node content outcome desk command error is disk end same ends_at breaks =
     subst (λ (e : DriveError). Breaks node desk command e (content disk) (outcome disk)) (sym same)
     (subst (λ (d : D). Breaks node desk command is (content d) (outcome d)) (sym ends_at) breaks)
-
--- an error of writing isn't that of a full journal, or of the disk
-pub not_full : (error : DriveError) → (error ≡ ends.Memory) ⊎ (error ≡ ends.Output) → error ≡ ends.Full → ⊥
-not_full error (inl memory) full = cc
-not_full error (inr output) full = cc
-
-pub not_device : (error : DriveError) → (error ≡ ends.Memory) ⊎ (error ≡ ends.Output) → error ≡ ends.Device → ⊥
-not_device error (inl memory) device = cc
-not_device error (inr output) device = cc

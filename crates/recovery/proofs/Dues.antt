@@ -1,9 +1,10 @@
 -- Writing the outputs that are due.
-use Rattle.std.proofs.Common.{◌≡◌, ◌≢◌, ℕ, ◌<◌, ◌≤◌, Bool, true, false, cond, inl, inr, List, [], ◌∷◌, ◌++◌, length, drop, Option, Some, None, refl, sym, ap, ◌∙◌, subst, arith, append_assoc, append-nil}
+use Rattle.std.proofs.Common.{◌≡◌, ℕ, ◌<◌, ◌≤◌, Bool, true, false, cond, List, [], ◌∷◌, ◌++◌, length, drop, Option, Some, None, refl, sym, ap, ◌∙◌, subst, arith, append_assoc, append-nil}
+use Rattle.std.proofs.KnownBytes.{Appends-nil, Appends-trans}
 use Rattle.std.specs.Prelude.{All, not, nat_le, is_some, if◌then◌else◌}
-use Rattle.std.specs.Io.KnownBytes.{Keeps, Appends}
-use Rattle.std.specs.List.{filter, flat_map}
-use Rattle.std.proofs.lemmas.Bool.{cases_Bool, lt-leb, leb-false}
+use Rattle.std.specs.Io.KnownBytes.{Appends}
+use Rattle.std.specs.List.{filter}
+use Rattle.std.proofs.lemmas.Bool.{lt-leb, leb-false}
 use Rattle.std.proofs.lemmas.List.Elements.{All-nil, All-head, All-tail, All-weaker, All-cons}
 use Rattle.journal.specs.declared.journal.Journal.{Journal}
 use Rattle.model.specs.Nodes.{Node}
@@ -13,8 +14,8 @@ use Rattle.world.specs.Text.{Desk, due, without_due, frame_of, frames}
 use Rattle.book.specs.Queue.{settled_head, TicketsRise}
 use Rattle.book.specs.Book.{Shown, Run, Stands, releasable}
 use Rattle.recovery.specs.Script.{run_of, IsOf}
-use Rattle.recovery.specs.Writing.{AppendsPart, WritesFirst, WritesNone, WritesPartOfFirst}
-use Rattle.recovery.proofs.Appending.{appends_more, appends_nil, part_behind, part_front, part_of}
+use Rattle.recovery.specs.Writing.{AppendsLess, WritesFirst, WritesNone, WritesPartOfFirst}
+use Rattle.recovery.proofs.Appending.{part_behind, part_front}
 
 -- what is ready at so many settled records, and what isn't
 abbrev pub ready : ℕ → List Waiting → List Waiting
@@ -113,7 +114,7 @@ nothing_written {S} node before old = record {
   same = refl;
   stands = λ run at. at;
   part = [];
-  appends = appends_nil old;
+  appends = Appends-nil old;
   parts = refl;
   left = refl;
 }
@@ -135,7 +136,7 @@ module _ {S : Type 0} (node : Node) (before now : Shown S) (old mid : Option (Li
         same = next ∙ (λ i. record (so_far.same i) { queue = sym queue i });
         stands = λ run at. stands run (so_far.stands run at);
         part = so_far.part ++ frame_of output;
-        appends = appends_more old mid new so_far.part (frame_of output) so_far.appends appends;
+        appends = Appends-trans old mid new so_far.part (frame_of output) so_far.appends appends;
         parts = so_far.parts ∙ ap (λ (l : List ℕ). so_far.part ++ l) (frames_first before.settled now.queue output head)
             ∙ sym (append_assoc so_far.part (frame_of output) (frames (ready before.settled (drop 1 now.queue))))
             ∙ ap (λ (q : List Waiting). (so_far.part ++ frame_of output) ++ frames (ready before.settled q)) (sym queue);
@@ -170,14 +171,14 @@ module _ {S : Type 0} (node : Node) (before now : Shown S) (old mid : Option (Li
       told_as = is.told_as;
     }
 
-    -- or a part of it
-    pub part_written : (output : Output) (new : Option (List ℕ)) → releasable now ≡ Some output → AppendsPart mid new (frame_of output) → AppendsPart old new (frames (due desk))
+    -- or less than all of it
+    pub part_written : (output : Output) (new : Option (List ℕ)) → releasable now ≡ Some output → AppendsLess mid new (frame_of output) → AppendsLess old new (frames (due desk))
     part_written output new out appends =
         let head : settled_head before.settled now.queue ≡ Some output = sym head_now ∙ out in
         let all : frames (due desk) ≡ (so_far.part ++ frame_of output) ++ frames (ready before.settled (drop 1 now.queue)) =
         ap frames (sym due_is) ∙ so_far.parts ∙ ap (λ (l : List ℕ). so_far.part ++ l) (frames_first before.settled now.queue output head)
         ∙ sym (append_assoc so_far.part (frame_of output) (frames (ready before.settled (drop 1 now.queue)))) in
-        subst (AppendsPart old new) (sym all)
+        subst (AppendsLess old new) (sym all)
         (part_front old new (so_far.part ++ frame_of output) (frames (ready before.settled (drop 1 now.queue)))
         (part_behind old mid new so_far.part (frame_of output) so_far.appends appends))
 
@@ -201,7 +202,7 @@ module _ {S : Type 0} (before later : Shown S) (out : Option Output) (is : out �
   pub writes_first : (output : Output) (old new : Option (List ℕ)) → out ≡ Some output → Appends old new (frame_of output) → WritesFirst before later old new
   writes_first output old new some appends = record { output = output; is = sym is ∙ some; left = released (Some output) some; appends = appends }
 
-  pub writes_part : (output : Output) (old new : Option (List ℕ)) → out ≡ Some output → AppendsPart old new (frame_of output) → WritesPartOfFirst before old new
+  pub writes_part : (output : Output) (old new : Option (List ℕ)) → out ≡ Some output → AppendsLess old new (frame_of output) → WritesPartOfFirst before old new
   writes_part output old new some appends = record { output = output; is = sym is ∙ some; appends = appends }
 
 -- with an output that went out the queue is shorter

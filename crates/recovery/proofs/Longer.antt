@@ -1,11 +1,9 @@
 -- What bytes are told as with a group of new events more.
-use Rattle.std.proofs.Common.{◌≡◌, ◌≢◌, ℕ, ◌+◌, ◌-◌, ◌<◌, ◌≤◌, ◌^◌, Bool, true, false, cond, inl, inr, List, [], ◌∷◌, ◌++◌, length, drop, map, Option, Some, None, Result, Ok, Err, refl, sym, ap, ◌∙◌, subst, arith, append_assoc, append-nil}
-use Rattle.std.specs.Prelude.{All, ◌&&◌, not, nat_lt}
+use Rattle.std.proofs.Common.{◌≡◌, ◌≢◌, ℕ, ◌-◌, ◌<◌, ◌≤◌, ◌^◌, Bool, true, false, cond, inl, inr, List, [], ◌∷◌, ◌++◌, length, map, Option, Some, None, Result, Ok, Err, refl, sym, ap, ◌∙◌, subst, arith, append_assoc, append-nil}
+use Rattle.std.specs.Prelude.{◌&&◌, not, nat_lt}
 use Rattle.std.specs.Int.{w16, to_be_bytes, from_be_bytes}
-use Rattle.std.specs.List.{list_all}
 use Rattle.std.specs.Str.{bytes_eq}
 use Rattle.std.proofs.lemmas.Bool.{cases_Bool, cases_lt, and_parts, and_from, lt-ltb, ltb-true}
-use Rattle.std.proofs.lemmas.List.Elements.{All-head, All-tail}
 use Rattle.std.proofs.lemmas.List.Folds.{list_all-append}
 use Rattle.std.proofs.lemmas.Nat.{from_be_bytes-to_be_bytes_2}
 use Rattle.committee.specs.Charter.{Charter, IsCharter}
@@ -22,11 +20,9 @@ use Rattle.model.specs.Histories.{History}
 use Rattle.model.specs.Nodes.{Node, IsNode}
 use Rattle.model.specs.Words.{Event}
 use Rattle.records.specs.Records.{record_of, configuration_of}
-use Rattle.wire.specs.Reading.{message_of}
-use Rattle.wire.specs.Spelling.{spelling}
 use Rattle.wire_read.proofs.Messages.{is_read}
-use Rattle.recovery.specs.Told.{checked_in, if_passed, sender_in, event_in, read_event, go_on, read_events, or_damaged, unless, is_configuration, is_alone, has_ones, first_fault, read_journal, told}
-use Rattle.recovery.proofs.Telling.{event_is, read_new, read_nil, read_ok, read_err, journal_cons, told_records, told_damaged, told_same, ok_told}
+use Rattle.recovery.specs.Told.{checked_in, if_passed, sender_in, event_in, read_event, read_events, unless, is_configuration, is_alone, has_ones, first_fault, told}
+use Rattle.recovery.proofs.Telling.{event_is, read_new, read_nil, read_ok, read_err, journal_cons, told_records, told_damaged, ok_told}
 
 -- ---- the record of an event
 

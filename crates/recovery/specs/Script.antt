@@ -18,10 +18,11 @@ use Rattle.records.specs.Records.{record_of}
 use Rattle.world.specs.Text as script
 use Rattle.recovery.specs.Faults.{ended_by}
 use Rattle.recovery.specs.Told.{told, Tells, IsToldAsOneOf}
+use Rattle.recovery.specs.Writing.{EndsAtDisk}
 use Rattle.recovery.specs.declared.driving.Command.{Command}
 use Rattle.recovery.specs.declared.driving.Command.TheVariants.{Event, Flush, Stop}
 use Rattle.recovery.specs.declared.driving.DriveError.{DriveError}
-use Rattle.recovery.specs.declared.driving.DriveError.TheVariants.{Full}
+use Rattle.recovery.specs.declared.driving.DriveError.TheVariants.{Memory, Device, Damaged, ConfigMismatch, Full, Output}
 
 -- ---- commands
 
@@ -90,14 +91,30 @@ pub record HasNoRoom (desk : script.Desk) (command : script.Command) (content : 
   pub flushes : command ≡ script.flush
   pub too_long : MAX_JOURNAL_BYTES < length content + length (group_bytes (map record_of (script.group_of (drop (length desk.settled) desk.accepted))))
 
+-- a command calls the disk: an event is only accepted
+abbrev pub CallsDisk : script.Command → Type 0
+CallsDisk (script.take_in event) = ⊥
+CallsDisk other = ⊤
+
+-- An error may end a command: memory or the writer can fail at each of them, the disk where it is called, and the journal is full only for
+-- a flush. Damage or another configuration ends none: only the opening before the first command answers so.
+abbrev pub MayEnd : script.Command → DriveError → Type 0
+MayEnd command Memory = ⊤
+MayEnd command Output = ⊤
+MayEnd command Device = CallsDisk command
+MayEnd command Full = command ≡ script.flush
+MayEnd command (Damaged place) = ⊥
+MayEnd command ConfigMismatch = ⊥
+
 -- A command failed at a desk: what a stop leaves is told as what is settled there, or behind the command.
 pub record Breaks (node : Node) (desk : script.Desk) (command : script.Command) (error : DriveError) (content : List ℕ) (outcome : List ℕ → Type 0) : Type 0 where
   pub left : (bytes : List ℕ) → outcome bytes
       → (told node bytes ≡ Ok (script.settled_in desk)) ⊎ (told node bytes ≡ Ok (script.settled_in (script.after node desk command)))
+  pub errors : MayEnd command error
   pub full : error ≡ Full → HasNoRoom desk command content
 
 -- Some of the commands were carried out, and the next one failed: what is written is the text of these, and a beginning of what the next
--- one writes.
+-- one writes, not the whole of it where the writer failed, and nothing of it where that ended at the disk.
 pub record IsCutShort (node : Node) (commands : List script.Command) (error : DriveError) (before later : List ℕ) (outcome : List ℕ → Type 0) (old new : Option (List ℕ)) : Type 0 where
   pub history : History
   pub told_first : told node before ≡ Ok history
@@ -109,4 +126,6 @@ pub record IsCutShort (node : Node) (commands : List script.Command) (error : Dr
   pub writes : Appends old new written
   pub no_less : Begins (script.text node (script.desk_on history) done) written
   pub no_more : Begins written (script.text node (script.desk_on history) (done ++ next ∷ []))
+  pub less : error ≡ Output → length written < length (script.text node (script.desk_on history) (done ++ next ∷ []))
+  pub nothing : EndsAtDisk error → written ≡ script.text node (script.desk_on history) done
   pub breaks : Breaks node (script.desk_behind node (script.desk_on history) done) next error later outcome

@@ -1,6 +1,6 @@
 //! A book and the journal of its one owner.
 
-ghost use Rattle.std.specs.Prelude.{◌≡◌, ◌⊎◌, ◌+◌, ◌<◌, ◌≤◌, true, false, IfOk, IfErr, OnOk, OnErr, IsErrOf, None};
+ghost use Rattle.std.specs.Prelude.{◌≡◌, ◌≢◌, ◌⊎◌, ◌+◌, ◌<◌, ◌≤◌, true, false, IfOk, IfErr, OnOk, OnErr, IsErrOf, None};
 ghost use Rattle.std.specs.Io.KnownBytes.{Appends};
 ghost use Rattle.header.specs.Checks.{fault_of, accepts_all};
 ghost use Rattle.journal.specs.Journal.{disk_of};
@@ -9,7 +9,7 @@ ghost use Rattle.book.specs.declared.book.TheConstants.{MAX_ACCEPTED};
 ghost use Rattle.validator.specs.Setting.{node_of};
 ghost use Rattle.world.specs.Text.{take_in, flush as flush_it, stop as stop_it, frames, due, without_due, after, carried_out, Desk as ScriptDesk};
 ghost use Rattle.recovery.specs.Script.{said, Passes, IsOf, IsOpenedOf, IsNotOpened, Breaks};
-ghost use Rattle.recovery.specs.Writing.{AppendsPart, WritesFirst, WritesNone, WritesPartOfFirst};
+ghost use Rattle.recovery.specs.Writing.{AppendsLess, AppendsPart, WritesFirst, WritesNone, WritesPartOfFirst};
 
 use crate::driving::{Command, DriveError};
 use crate::frames::write_output;
@@ -40,9 +40,11 @@ impl<'a, S: Sign, D: StopDisk> Desk<'a, S, D> {
         ensures setting { IfOk result (λ desk. desk.book.validator.setting ≡ config.now) }
         ensures ok { IfOk result (λ desk. IsOpenedOf (node_of S.own_key S.signature_of config.now) D.content D.outcome (D.content disk) desk.book desk.journal) }
         ensures none { IfOk result (λ desk. desk.book.accepted ≡ 0) }
-        ensures faults { IfOk result (λ desk. D.faults disk ≤ D.faults (disk_of desk.journal)) }
         ensures err { IfErr result (λ failed. IsNotOpened (node_of S.own_key S.signature_of config.now) failed.error (D.content disk) (D.outcome disk) (D.outcome failed.disk)) }
         ensures device { IfErr result (λ failed. failed.error ≡ DriveError.Device → D.faults disk < D.faults failed.disk) }
+        ensures no_fault { IfOk result (λ desk. D.faults (disk_of desk.journal) ≡ D.faults disk) }
+        ensures no_fault_err { IfErr result (λ failed. failed.error ≢ DriveError.Device → D.faults failed.disk ≡ D.faults disk) }
+        ensures never_output { IfErr result (λ failed. failed.error ≢ DriveError.Output) }
     {
         match reopen(alloc, config, disk) {
             Ok((validator, journal)) => Ok(Desk {
@@ -75,12 +77,13 @@ impl<'a, S: Sign, D: StopDisk> Desk<'a, S, D> {
         ensures writes { OnOk result ((desk : ScriptDesk) → IsOf (node_of S.own_key S.signature_of config.now) D.content D.outcome desk self.entry.book self.entry.journal
             → Appends (W.contents writer.old) (W.contents writer.new) (frames (due (after (node_of S.own_key S.signature_of config.now) desk (said command))))) }
         ensures count { IfOk result (λ next. next.book.accepted ≤ self.entry.book.accepted + 1) }
-        ensures faults { IfOk result (λ next. D.faults (disk_of self.entry.journal) ≤ D.faults (disk_of next.journal)) }
         ensures err { IfErr result (λ failed. (desk : ScriptDesk) → IsOf (node_of S.own_key S.signature_of config.now) D.content D.outcome desk self.entry.book self.entry.journal
             → Breaks (node_of S.own_key S.signature_of config.now) desk (said command) failed.error (D.content failed.disk) (D.outcome failed.disk)) }
-        ensures writes_part { OnErr result ((desk : ScriptDesk) → IsOf (node_of S.own_key S.signature_of config.now) D.content D.outcome desk self.entry.book self.entry.journal
-            → AppendsPart (W.contents writer.old) (W.contents writer.new) (frames (due (after (node_of S.own_key S.signature_of config.now) desk (said command))))) }
+        ensures writes_part { IfErr result (λ failed. (desk : ScriptDesk) → IsOf (node_of S.own_key S.signature_of config.now) D.content D.outcome desk self.entry.book self.entry.journal
+            → AppendsPart failed.error (W.contents writer.old) (W.contents writer.new) (frames (due (after (node_of S.own_key S.signature_of config.now) desk (said command))))) }
         ensures device { IfErr result (λ failed. failed.error ≡ DriveError.Device → D.faults (disk_of self.entry.journal) < D.faults failed.disk) }
+        ensures no_fault { IfOk result (λ next. D.faults (disk_of next.journal) ≡ D.faults (disk_of self.entry.journal)) }
+        ensures no_fault_err { IfErr result (λ failed. failed.error ≢ DriveError.Device → D.faults failed.disk ≡ D.faults (disk_of self.entry.journal)) }
     {
         let mut desk = self.apply(alloc, config, command)?;
         match desk.write_due(alloc, writer) {
@@ -105,10 +108,12 @@ impl<'a, S: Sign, D: StopDisk> Desk<'a, S, D> {
         ensures ok { IfOk result (λ next. (desk : ScriptDesk) → IsOf (node_of S.own_key S.signature_of config.now) D.content D.outcome desk self.entry.book self.entry.journal
             → IsOf (node_of S.own_key S.signature_of config.now) D.content D.outcome (after (node_of S.own_key S.signature_of config.now) desk (said command)) next.book next.journal) }
         ensures count { IfOk result (λ next. next.book.accepted ≤ self.entry.book.accepted + 1) }
-        ensures faults { IfOk result (λ next. D.faults (disk_of self.entry.journal) ≤ D.faults (disk_of next.journal)) }
         ensures err { IfErr result (λ failed. (desk : ScriptDesk) → IsOf (node_of S.own_key S.signature_of config.now) D.content D.outcome desk self.entry.book self.entry.journal
             → Breaks (node_of S.own_key S.signature_of config.now) desk (said command) failed.error (D.content failed.disk) (D.outcome failed.disk)) }
         ensures device { IfErr result (λ failed. failed.error ≡ DriveError.Device → D.faults (disk_of self.entry.journal) < D.faults failed.disk) }
+        ensures no_fault { IfOk result (λ next. D.faults (disk_of next.journal) ≡ D.faults (disk_of self.entry.journal)) }
+        ensures no_fault_err { IfErr result (λ failed. failed.error ≢ DriveError.Device → D.faults failed.disk ≡ D.faults (disk_of self.entry.journal)) }
+        ensures never_output { IfErr result (λ failed. failed.error ≢ DriveError.Output) }
     {
         match command {
             Command::Event(event) => self.with_event(event),
@@ -128,6 +133,7 @@ impl<'a, S: Sign, D: StopDisk> Desk<'a, S, D> {
             → IsOf (node_of S.own_key S.signature_of self.entry.book.validator.setting) D.content D.outcome (after (node_of S.own_key S.signature_of self.entry.book.validator.setting) desk (take_in event)) next.book next.journal) }
         ensures count { IfOk result (λ next. next.book.accepted ≤ self.entry.book.accepted + 1) }
         ensures same { IfOk result (λ next. next.journal ≡ self.entry.journal) }
+        ensures same_err { IfErr result (λ failed. failed.disk ≡ disk_of self.entry.journal) }
         ensures err { IfErr result (λ failed. (desk : ScriptDesk) → IsOf (node_of S.own_key S.signature_of self.entry.book.validator.setting) D.content D.outcome desk self.entry.book self.entry.journal
             → Breaks (node_of S.own_key S.signature_of self.entry.book.validator.setting) desk (take_in event) failed.error (D.content failed.disk) (D.outcome failed.disk)) }
         ensures memory { IfErr result (λ failed. failed.error ≡ DriveError.Memory) }
@@ -146,10 +152,12 @@ impl<'a, S: Sign, D: StopDisk> Desk<'a, S, D> {
         ensures ok { IfOk result (λ next. (desk : ScriptDesk) → IsOf (node_of S.own_key S.signature_of self.entry.book.validator.setting) D.content D.outcome desk self.entry.book self.entry.journal
             → IsOf (node_of S.own_key S.signature_of self.entry.book.validator.setting) D.content D.outcome (after (node_of S.own_key S.signature_of self.entry.book.validator.setting) desk flush_it) next.book next.journal) }
         ensures count { IfOk result (λ next. next.book.accepted ≡ self.entry.book.accepted) }
-        ensures faults { IfOk result (λ next. D.faults (disk_of self.entry.journal) ≤ D.faults (disk_of next.journal)) }
         ensures err { IfErr result (λ failed. (desk : ScriptDesk) → IsOf (node_of S.own_key S.signature_of self.entry.book.validator.setting) D.content D.outcome desk self.entry.book self.entry.journal
             → Breaks (node_of S.own_key S.signature_of self.entry.book.validator.setting) desk flush_it failed.error (D.content failed.disk) (D.outcome failed.disk)) }
         ensures device { IfErr result (λ failed. failed.error ≡ DriveError.Device → D.faults (disk_of self.entry.journal) < D.faults failed.disk) }
+        ensures no_fault { IfOk result (λ next. D.faults (disk_of next.journal) ≡ D.faults (disk_of self.entry.journal)) }
+        ensures no_fault_err { IfErr result (λ failed. failed.error ≢ DriveError.Device → D.faults failed.disk ≡ D.faults (disk_of self.entry.journal)) }
+        ensures never_output { IfErr result (λ failed. failed.error ≢ DriveError.Output) }
     {
         match self.flush() {
             Ok(()) => Ok(self),
@@ -167,10 +175,12 @@ impl<'a, S: Sign, D: StopDisk> Desk<'a, S, D> {
         ensures ok { IfOk result (λ next. (desk : ScriptDesk) → IsOf (node_of S.own_key S.signature_of config.now) D.content D.outcome desk self.entry.book self.entry.journal
             → IsOf (node_of S.own_key S.signature_of config.now) D.content D.outcome (after (node_of S.own_key S.signature_of config.now) desk stop_it) next.book next.journal) }
         ensures count { IfOk result (λ next. next.book.accepted ≡ 0) }
-        ensures faults { IfOk result (λ next. D.faults (disk_of self.entry.journal) ≤ D.faults (disk_of next.journal)) }
         ensures err { IfErr result (λ failed. (desk : ScriptDesk) → IsOf (node_of S.own_key S.signature_of config.now) D.content D.outcome desk self.entry.book self.entry.journal
             → Breaks (node_of S.own_key S.signature_of config.now) desk stop_it failed.error (D.content failed.disk) (D.outcome failed.disk)) }
         ensures device { IfErr result (λ failed. failed.error ≡ DriveError.Device → D.faults (disk_of self.entry.journal) < D.faults failed.disk) }
+        ensures no_fault { IfOk result (λ next. D.faults (disk_of next.journal) ≡ D.faults (disk_of self.entry.journal)) }
+        ensures no_fault_err { IfErr result (λ failed. failed.error ≢ DriveError.Device → D.faults failed.disk ≡ D.faults (disk_of self.entry.journal)) }
+        ensures never_output { IfErr result (λ failed. failed.error ≢ DriveError.Output) }
     {
         let mut disk = self.into_disk();
         disk.stop();
@@ -202,10 +212,12 @@ impl<'a, S: Sign, D: StopDisk> Desk<'a, S, D> {
         ensures ok { OnOk result ((desk : ScriptDesk) → IsOf (node_of S.own_key S.signature_of self.old.book.validator.setting) D.content D.outcome desk self.old.book self.old.journal
             → IsOf (node_of S.own_key S.signature_of self.old.book.validator.setting) D.content D.outcome (after (node_of S.own_key S.signature_of self.old.book.validator.setting) desk flush_it) self.new.book self.new.journal) }
         ensures count { self.new.book.accepted ≡ self.old.book.accepted }
-        ensures faults { D.faults (disk_of self.old.journal) ≤ D.faults (disk_of self.new.journal) }
         ensures err { IfErr result (λ error. (desk : ScriptDesk) → IsOf (node_of S.own_key S.signature_of self.old.book.validator.setting) D.content D.outcome desk self.old.book self.old.journal
             → Breaks (node_of S.own_key S.signature_of self.old.book.validator.setting) desk flush_it error (D.content (disk_of self.new.journal)) (D.outcome (disk_of self.new.journal))) }
         ensures device { IfErr result (λ error. error ≡ DriveError.Device → D.faults (disk_of self.old.journal) < D.faults (disk_of self.new.journal)) }
+        ensures no_fault { OnOk result (D.faults (disk_of self.new.journal) ≡ D.faults (disk_of self.old.journal)) }
+        ensures no_fault_err { IfErr result (λ error. error ≢ DriveError.Device → D.faults (disk_of self.new.journal) ≡ D.faults (disk_of self.old.journal)) }
+        ensures never_output { IfErr result (λ error. error ≢ DriveError.Output) }
     {
         let Some(group) = self.book.take()? else {
             return Ok(());
@@ -228,7 +240,7 @@ impl<'a, S: Sign, D: StopDisk> Desk<'a, S, D> {
         ensures same { self.new.journal ≡ self.old.journal }
         ensures errors { IfErr result (λ error. (error ≡ DriveError.Memory) ⊎ (error ≡ DriveError.Output)) }
         ensures writes_part { OnErr result ((desk : ScriptDesk) → IsOf (node_of S.own_key S.signature_of self.old.book.validator.setting) D.content D.outcome desk self.old.book self.old.journal
-            → AppendsPart (W.contents writer.old) (W.contents writer.new) (frames (due desk))) }
+            → AppendsLess (W.contents writer.old) (W.contents writer.new) (frames (due desk))) }
     {
         'writing: while self.write_next(alloc, writer)? {}
         Ok(())

@@ -1,6 +1,6 @@
 //! A node with one owner, driven by commands.
 
-ghost use Rattle.std.specs.Prelude.{◌≡◌, ◌⊎◌, ◌<◌, ◌≤◌, All, IfOk, IfErr, vec_len};
+ghost use Rattle.std.specs.Prelude.{◌≡◌, ◌≢◌, ◌⊎◌, ◌<◌, ◌≤◌, All, IfOk, IfErr, vec_len};
 ghost use Rattle.book.specs.declared.book.TheConstants.{MAX_ACCEPTED};
 ghost use Rattle.validator.specs.Setting.{node_of};
 ghost use Rattle.recovery.specs.Script.{script_of, Passes, HasRun, IsUnopened, IsCutShort};
@@ -100,7 +100,11 @@ pub fn drive<'a, S: Sign, D: StopDisk, W: Write>(
     // Else nothing was carried out, or some of the commands and a part of the next one.
     ensures err { IfErr result (λ failed. IsUnopened (node_of S.own_key S.signature_of config.now) failed.error (D.content disk) (D.outcome disk) (D.outcome failed.disk) (W.contents writer.old) (W.contents writer.new)
         ⊎ IsCutShort (node_of S.own_key S.signature_of config.now) (script_of commands.items) failed.error (D.content disk) (D.content failed.disk) (D.outcome failed.disk) (W.contents writer.old) (W.contents writer.new)) }
+
+    // It answers Device exactly where the disk has failed.
     ensures device { IfErr result (λ failed. failed.error ≡ DriveError.Device → D.faults disk < D.faults failed.disk) }
+    ensures no_fault { IfOk result (λ left. D.faults left ≡ D.faults disk) }
+    ensures no_fault_err { IfErr result (λ failed. failed.error ≢ DriveError.Device → D.faults failed.disk ≡ D.faults disk) }
 {
     let mut desk = Desk::open(alloc, config, disk)?;
     for command in commands {

@@ -71,22 +71,22 @@ fn unread(error: WireError) -> Result<Option<Checked>, AllocError>
 fn take_event<S: Sign>(
     alloc: Global,
     validator: &mut Validator<'_, S>,
-    record: &Record,
+    one: &Record,
 ) -> Result<(), JournalError>
     ensures setting { validator.new.setting ≡ validator.old.setting }
     ensures ok { OnOk result ((history : History) → IsLegal (node_of S.own_key S.signature_of validator.old.setting) history
         → AreAtSound (node_of S.own_key S.signature_of validator.old.setting) validator.old.tables (kept (node_of S.own_key S.signature_of validator.old.setting) history)
-        → StandsAt (node_of S.own_key S.signature_of validator.old.setting) (read_event (node_of S.own_key S.signature_of validator.old.setting) history record.now) validator.new.tables) }
+        → StandsAt (node_of S.own_key S.signature_of validator.old.setting) (read_event (node_of S.own_key S.signature_of validator.old.setting) history one.now) validator.new.tables) }
     ensures err { IfErr result (λ error. (history : History) → IsLegal (node_of S.own_key S.signature_of validator.old.setting) history
         → AreAtSound (node_of S.own_key S.signature_of validator.old.setting) validator.old.tables (kept (node_of S.own_key S.signature_of validator.old.setting) history)
-        → FailsAs error (read_event (node_of S.own_key S.signature_of validator.old.setting) history record.now)) }
+        → FailsAs error (read_event (node_of S.own_key S.signature_of validator.old.setting) history one.now)) }
 {
-    let found = event_of(alloc, validator.committee(), record.bytes.as_slice())?;
+    let found = event_of(alloc, validator.committee(), one.bytes.as_slice())?;
     let Some(event) = found else {
-        return Err(JournalError::Damaged(record.gate));
+        return Err(JournalError::Damaged(one.gate));
     };
     let step = validator.step(event);
-    only_new(step, record.gate)
+    only_new(step, one.gate)
 }
 
 // What came of an event has to be new; else its group, at this place, is damaged, but where memory was refused.

@@ -3,7 +3,7 @@
 ghost use Rattle.std.specs.Prelude.{◌≡◌, ◌⊎◌, ◌≤◌, length, take, drop, IfOk, IfErr, OnOk, OnErr};
 ghost use Rattle.std.specs.Io.KnownBytes.{Keeps, Appends};
 ghost use Rattle.world.specs.Text.{frame_of};
-ghost use Rattle.recovery.specs.Writing.{AppendsPart};
+ghost use Rattle.recovery.specs.Writing.{AppendsLess};
 
 use crate::driving::DriveError;
 use std::alloc::Global;
@@ -17,7 +17,7 @@ pub(crate) fn write_output<W: Write>(
     writer: &mut W,
 ) -> Result<(), DriveError>
     ensures ok { OnOk result (Appends (W.contents writer.old) (W.contents writer.new) (frame_of output)) }
-    ensures err { OnErr result (AppendsPart (W.contents writer.old) (W.contents writer.new) (frame_of output)) }
+    ensures err { OnErr result (AppendsLess (W.contents writer.old) (W.contents writer.new) (frame_of output)) }
     ensures errors { IfErr result (λ error. (error ≡ DriveError.Memory) ⊎ (error ≡ DriveError.Output)) }
 {
     write_frame(alloc, &output, writer)
@@ -26,7 +26,7 @@ pub(crate) fn write_output<W: Write>(
 // Writes an output as a frame: the length of its bytes in four, the highest first, and its bytes.
 fn write_frame<W: Write>(alloc: Global, output: &Output, writer: &mut W) -> Result<(), DriveError>
     ensures ok { OnOk result (Appends (W.contents writer.old) (W.contents writer.new) (frame_of output.now)) }
-    ensures err { OnErr result (AppendsPart (W.contents writer.old) (W.contents writer.new) (frame_of output.now)) }
+    ensures err { OnErr result (AppendsLess (W.contents writer.old) (W.contents writer.new) (frame_of output.now)) }
     ensures errors { IfErr result (λ error. (error ≡ DriveError.Memory) ⊎ (error ≡ DriveError.Output)) }
 {
     let body = encode_output(alloc, output)?;
@@ -37,19 +37,22 @@ fn write_frame<W: Write>(alloc: Global, output: &Output, writer: &mut W) -> Resu
 // Writes all of these bytes, in as many calls as it takes. At an error a beginning of them was written.
 fn write_bytes<W: Write>(writer: &mut W, bytes: &[u8]) -> Result<(), DriveError>
     ensures ok { OnOk result (Appends (W.contents writer.old) (W.contents writer.new) bytes.now) }
-    ensures err { OnErr result (AppendsPart (W.contents writer.old) (W.contents writer.new) bytes.now) }
+    ensures err { OnErr result (AppendsLess (W.contents writer.old) (W.contents writer.new) bytes.now) }
     ensures errors { IfErr result (λ error. error ≡ DriveError.Output) }
 {
     let mut rest = bytes;
     for _ in 0..u64::MAX {
         if rest.is_empty() {
-            return Ok(());
+            break;
         }
         let count = write_some(writer, rest)?;
         let left = behind(rest, count);
         rest = left;
     }
-    Err(DriveError::Output)
+    if !rest.is_empty() {
+        return Err(DriveError::Output);
+    }
+    Ok(())
 }
 
 // The bytes behind so many of them.

@@ -1,6 +1,6 @@
 //! Opening a node on a disk.
 
-ghost use Rattle.std.specs.Prelude.{◌≡◌, ◌≢◌, ◌⊎◌, ◌<◌, ◌≤◌, [], ◌∷◌, drop, true, Ok, ◌&&◌, All, IfOk, IfErr, OnOk};
+ghost use Rattle.std.specs.Prelude.{◌≡◌, ◌≢◌, ◌⊎◌, ◌<◌, [], ◌∷◌, drop, true, Ok, ◌&&◌, All, IfOk, IfErr, OnOk};
 ghost use Rattle.std.specs.Str.{bytes_eq};
 ghost use Rattle.diskmodel.specs.Disk.{AtEachMoment};
 ghost use Rattle.journal.specs.Format.{stands};
@@ -39,7 +39,6 @@ pub fn reopen<'a, S: Sign, D: Disk>(
     ensures same { IfOk result (λ opened. told (node_of S.own_key S.signature_of config.now) (D.content (disk_of opened.1)) ≡ told (node_of S.own_key S.signature_of config.now) (D.content disk)) }
     ensures alive { IfOk result (λ opened. IsAlive D.content D.outcome opened.1) }
     ensures configured { IfOk result (λ opened. stands (D.content (disk_of opened.1)) ≢ Ok []) }
-    ensures faults { IfOk result (λ opened. D.faults disk ≤ D.faults (disk_of opened.1)) }
 
     // It stands at the history for which the bytes stand.
     ensures stands_for { IfOk result (λ opened. StandsForAt (node_of S.own_key S.signature_of config.now) (D.content disk) opened.0.tables) }
@@ -48,8 +47,11 @@ pub fn reopen<'a, S: Sign, D: Disk>(
 
     // Each refusal but those of memory and of the disk is what the bytes are told as.
     ensures err { IfErr result (λ failed. failed.error ≢ JournalError.Device → Tells failed.error (told (node_of S.own_key S.signature_of config.now) (D.content disk))) }
-    ensures device { IfErr result (λ failed. failed.error ≡ JournalError.Device → D.faults disk < D.faults failed.disk) }
     ensures never_full { IfErr result (λ failed. failed.error ≢ JournalError.Full) }
+    // It answers Device exactly where the disk has failed.
+    ensures device { IfErr result (λ failed. failed.error ≡ JournalError.Device → D.faults disk < D.faults failed.disk) }
+    ensures no_fault { IfOk result (λ opened. D.faults (disk_of opened.1) ≡ D.faults disk) }
+    ensures no_fault_err { IfErr result (λ failed. failed.error ≢ JournalError.Device → D.faults failed.disk ≡ D.faults disk) }
     // Only a failure of the disk leaves other bytes than there were, but for those behind the closed gate.
     ensures unchanged { IfErr result (λ failed. failed.error ≢ JournalError.Device → (D.content failed.disk ≡ D.content disk) ⊎ IsClosedUp (D.content disk) (D.content failed.disk)) }
 
@@ -95,9 +97,10 @@ fn validator_on<'a, S: Sign, D: Disk>(
     ensures same { OnOk result (told (node_of S.own_key S.signature_of config.now) (D.content (disk_of journal.new)) ≡ told (node_of S.own_key S.signature_of config.now) (D.content (disk_of journal.old))) }
     ensures alive { OnOk result (IsAlive D.content D.outcome journal.new) }
     ensures configured { OnOk result (stands (D.content (disk_of journal.new)) ≢ Ok []) }
-    ensures faults { D.faults (disk_of journal.old) ≤ D.faults (disk_of journal.new) }
     ensures err { IfErr result (λ error. error ≢ JournalError.Device → Tells error (told (node_of S.own_key S.signature_of config.now) (D.content (disk_of journal.old)))) }
     ensures device { IfErr result (λ error. error ≡ JournalError.Device → D.faults (disk_of journal.old) < D.faults (disk_of journal.new)) }
+    ensures no_fault { OnOk result (D.faults (disk_of journal.new) ≡ D.faults (disk_of journal.old)) }
+    ensures no_fault_err { IfErr result (λ error. error ≢ JournalError.Device → D.faults (disk_of journal.new) ≡ D.faults (disk_of journal.old)) }
     ensures never_full { IfErr result (λ error. error ≢ JournalError.Full) }
     ensures unchanged { IfErr result (λ error. error ≢ JournalError.Device → D.content (disk_of journal.new) ≡ D.content (disk_of journal.old)) }
     ensures any_moment { AtEachMoment D.clock D.outcome_since (disk_of journal.old) (disk_of journal.new) (λ left. told (node_of S.own_key S.signature_of config.now) left ≡ told (node_of S.own_key S.signature_of config.now) (D.content (disk_of journal.old))) }
@@ -205,10 +208,10 @@ fn write_configuration<S: Sign, D: Disk>(
     ensures alive { OnOk result (IsAlive D.content D.outcome journal.new) }
     ensures configured { OnOk result (stands (D.content (disk_of journal.new)) ≢ Ok []) }
     ensures texts { OnOk result (HasTexts (D.content (disk_of journal.new))) }
-    ensures faults { D.faults (disk_of journal.old) ≤ D.faults (disk_of journal.new) }
     ensures same { OnOk result (told (node_of S.own_key S.signature_of config.now) (D.content (disk_of journal.new)) ≡ told (node_of S.own_key S.signature_of config.now) (D.content (disk_of journal.old))) }
     ensures errors { IfErr result (λ error. (error ≡ JournalError.Device) ⊎ (error ≡ JournalError.Memory)) }
     ensures device { IfErr result (λ error. error ≡ JournalError.Device → D.faults (disk_of journal.old) < D.faults (disk_of journal.new)) }
+    ensures no_fault { OnOk result (D.faults (disk_of journal.new) ≡ D.faults (disk_of journal.old)) }
     ensures unchanged { IfErr result (λ error. error ≡ JournalError.Memory → journal.new ≡ journal.old) }
     ensures any_moment { AtEachMoment D.clock D.outcome_since (disk_of journal.old) (disk_of journal.new) (λ left. told (node_of S.own_key S.signature_of config.now) left ≡ told (node_of S.own_key S.signature_of config.now) (D.content (disk_of journal.old))) }
 {

@@ -1,0 +1,3 @@
+mod Written
+mod Taken
+mod Proposed

@@ -1,5 +1,10 @@
 //! The thread that brings records to the disk.
 
+ghost use Rattle.std.specs.Prelude.{◌≡◌, ◌≢◌, ◌<◌, Some};
+ghost use Rattle.journal.specs.Journal.{disk_of};
+ghost use Rattle.flusher.specs.Rounds.{journal_of};
+ghost use Rattle.runner.specs.Ends.{faults_behind};
+
 use crate::bell::Bell;
 use diskmodel::Disk;
 use flusher::FlushError;
@@ -44,7 +49,10 @@ fn flush_pending<S: Sign, D: Disk, R: Wait>(
     rt: &R,
     rounds: &mut Rounds<'_, '_, S, D>,
     settled: &Bell,
-) -> Faults {
+) -> Faults
+    ensures device { result.journal ≡ Some JournalError.Device → D.faults (disk_of (journal_of rounds.old.flusher)) < D.faults (disk_of (journal_of rounds.new.flusher)) }
+    ensures no_fault { result.journal ≢ Some JournalError.Device → D.faults (disk_of (journal_of rounds.new.flusher)) ≡ D.faults (disk_of (journal_of rounds.old.flusher)) }
+{
     for _ in rt.forever() {
         let round = rounds.round(rt);
         settled.ring(rt);
@@ -58,15 +66,13 @@ fn flush_pending<S: Sign, D: Disk, R: Wait>(
 }
 
 // What a round that failed means for the run. That of a node which is down was told before.
-fn faults_of(error: FlushError) -> Faults {
-    let journal = match error {
-        FlushError::Memory => return Faults::of_memory(),
-        FlushError::Device => Some(JournalError::Device),
-        FlushError::Full => Some(JournalError::Full),
-        FlushError::Down => None,
-    };
-    Faults {
-        journal,
-        ..Faults::none()
+fn faults_of(error: FlushError) -> Faults
+    ensures { result ≡ faults_behind error }
+{
+    match error {
+        FlushError::Memory => Faults::of_memory(),
+        FlushError::Device => Faults::of_journal(JournalError::Device),
+        FlushError::Full => Faults::of_journal(JournalError::Full),
+        FlushError::Down => Faults::none(),
     }
 }

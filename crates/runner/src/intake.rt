@@ -1,5 +1,8 @@
 //! What is done with the frames.
 
+ghost use Rattle.std.specs.Prelude.{◌≡◌};
+ghost use Rattle.runner.specs.Ends.{told_of_wait};
+
 use crate::bell::Bell;
 use crate::caller::{Caller, Taken};
 use header::Checked;
@@ -76,19 +79,15 @@ impl<'n, 'a, S: Sign> Intake<'n, 'a, S> {
         match request_of(self.alloc, body)? {
             Request::Message { sender, message } => self.submit(rt, sender, message),
             Request::Transaction { worker, bytes } => {
-                let maker = self.makers.of(worker)?;
-                if self.caller.is_down(rt) {
-                    return Err(Told::Refused(Refusal::Down));
-                }
-                let batch = maker.push(bytes)?;
+                self.makers.test(worker)?;
+                self.caller.test_up(rt)?;
+                let batch = self.makers.push(worker, bytes)?;
                 self.submit_batch(rt, batch)
             }
             Request::Seal { worker } => {
-                let maker = self.makers.of(worker)?;
-                if self.caller.is_down(rt) {
-                    return Err(Told::Refused(Refusal::Down));
-                }
-                let batch = maker.seal()?;
+                self.makers.test(worker)?;
+                self.caller.test_up(rt)?;
+                let batch = self.makers.seal(worker)?;
                 self.submit_batch(rt, batch)
             }
         }
@@ -123,13 +122,10 @@ impl<'n, 'a, S: Sign> Intake<'n, 'a, S> {
 
     // Lets a certificate wait.
     fn offer<R: Wait>(&mut self, rt: &R, event: Checked) -> Result<(), Told> {
-        if self.caller.is_down(rt) {
-            return Err(Told::Refused(Refusal::Down));
-        }
+        self.caller.test_up(rt)?;
         match self.waiter.offer(event) {
             Ok(()) => Ok(()),
-            Err(WaitRefusal::Memory) => Err(Told::Refused(Refusal::Memory)),
-            Err(_) => Err(Told::Refused(Refusal::MissingParents)),
+            Err(refusal) => Err(told_of_wait(refusal)),
         }
     }
 
@@ -150,4 +146,14 @@ impl<'n, 'a, S: Sign> Intake<'n, 'a, S> {
 // Where a line can't be written nobody is told.
 fn write_line<E: Write>(errors: &mut E, told: Told) {
     let _ = writeln!(errors, "{told}");
+}
+
+// What is told of a certificate that can't wait: that memory was refused, or why it would have had to.
+fn told_of_wait(refusal: WaitRefusal) -> Told
+    ensures { result ≡ told_of_wait refusal }
+{
+    match refusal {
+        WaitRefusal::Memory => Told::Refused(Refusal::Memory),
+        _ => Told::Refused(Refusal::MissingParents),
+    }
 }

@@ -1,7 +1,7 @@
 //! The thread that reads frames and takes what they bring.
 
 use crate::intake::Intake;
-use reception::{End, Faults, Input};
+use reception::{Faults, Input};
 use sigface::Sign;
 use std::io::{BufWriter, Read, Write};
 use std::sync::Wait;
@@ -13,20 +13,15 @@ pub(crate) fn read_all<S: Sign, I: Read + Drop, E: Write + Drop, R: Wait>(
     mut intake: Intake<'_, '_, S>,
     errors: &mut BufWriter<E>,
 ) -> Faults {
-    let mut faults = Faults::none();
     intake.follow(rt, errors);
     for _ in 0..u64::MAX {
         let _ = errors.flush();
         match input.next() {
             Ok(bodies) => take_all(rt, &mut intake, &bodies, errors),
-            Err(end) => {
-                faults.input = end == End::Broken;
-                faults.memory = end == End::Memory || intake.was_refused_memory();
-                break;
-            }
+            Err(end) => return Faults::of_input(end, intake.was_refused_memory()),
         }
     }
-    faults
+    Faults::none()
 }
 
 fn take_all<S: Sign, E: Write, R: Wait>(

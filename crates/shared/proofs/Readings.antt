@@ -1,6 +1,7 @@
 -- What is said of the run at which a book stands, said of what a seat has seen or knows as settled.
-use Rattle.std.proofs.Common.{◌≡◌, List, ◌++◌, sym, ◌∙◌, subst}
+use Rattle.std.proofs.Common.{◌≡◌, List, ◌++◌, length, take, sym, ap, ◌∙◌, subst, arith}
 use Rattle.std.specs.Prelude.{ℕ, Option, Some, None, IfSome, Result, Ok, Err, IfOk, drop}
+use Rattle.std.proofs.lemmas.List.{length-map, take-map}
 use Rattle.model.specs.Admitting.{IsLegal}
 use Rattle.model.specs.Giving.{MayGive, kept}
 use Rattle.model.specs.Proposing.{propose}
@@ -12,8 +13,14 @@ use Rattle.model.specs.Words.{Digest, Header, Output}
 use Rattle.validator.specs.Setting.{Setting}
 use Rattle.seats.specs.Sights.{Sight}
 use Rattle.seats.specs.Views.{events}
-use Rattle.book.specs.Book.{Shown, Run, Stands, history_in, settled_in, GoesOutSettled}
+use Rattle.seats.specs.declared.view.Marked.{Marked}
+use Rattle.seats.proofs.Beginnings.{begins_trans}
+use Rattle.world.specs.Promise.{GoesOut}
+use Rattle.world.specs.World.{put_out}
+use Rattle.book.specs.Book.{Shown, Run, Stands, history_in, history_to, settled_in, GoesOutSettled}
+use Rattle.shared.specs.Answers.{IsPutOutBy}
 use Rattle.shared.specs.Home.{Shared, IsAtHome, run_of, seen_by, firm_by}
+use Rattle.shared.proofs.Groups.{same_front}
 
 module _ {S : Type 0} (shared : Shared S) (node_of : Setting S → Node) (seat mine : Sight) (book : Shown S) (home : IsAtHome node_of shared seat book) (began : mine.view.start ≡ shared.start) where
   start_is : seat.view.start ≡ mine.view.start
@@ -40,6 +47,26 @@ module _ {S : Type 0} (shared : Shared S) (node_of : Setting S → Node) (seat m
       let there = subst (λ (s : Setting S). (run : Run) → Stands (node_of s) run book → GoesOutSettled (node_of s) run one) home.setting goes in
       let is : settled_in (run_of seat.view home.taken) ≡ firm_by mine = λ i. start_is i ++ events (sym same i) in
       subst (λ (h : History). MayGive (node_of shared.setting) h one) is (there (run_of seat.view home.taken) home.stands).may
+
+  -- and an event of that put it out
+  pub put_out_by : mine.view.firm ≡ seat.view.firm → (output : Option Output)
+      → IfSome output (λ one. (run : Run) → Stands (node_of book.validator.setting) run book → GoesOutSettled (node_of book.validator.setting) run one)
+      → IfSome output (λ one. IsPutOutBy (node_of shared.setting) mine.view one)
+  put_out_by same None goes = goes
+  put_out_by same (Some one) goes =
+      let there = subst (λ (s : Setting S). (run : Run) → Stands (node_of s) run book → GoesOutSettled (node_of s) run one) home.setting goes in
+      let out = there (run_of seat.view home.taken) home.stands in
+      let size : length (events seat.view.firm) ≡ length mine.view.firm = length-map seat.view.firm (λ (one : Marked). one.event) ∙ ap length (sym same) in
+      let begins = begins_trans (events seat.view.firm) home.taken (events seat.view.seen) home.stands.settled_begins home.stands.taken_begins in
+      let front : take out.ticket (events seat.view.seen) ≡ events (take out.ticket mine.view.firm) =
+      same_front (events seat.view.firm) (events seat.view.seen) out.ticket begins out.settled ∙ take-map (λ (one : Marked). one.event) out.ticket seat.view.firm
+      ∙ ap (λ (l : List Marked). events (take out.ticket l)) (sym same) in
+      let is : history_to out.ticket (run_of seat.view home.taken) ≡ mine.view.start ++ events (take out.ticket mine.view.firm) = λ i. start_is i ++ front i in
+      record {
+        count = out.ticket;
+        settled = omega (arith, out.settled, size);
+        goes_out = subst (λ (h : History). GoesOut (node_of shared.setting) h (put_out one)) is out.goes_out;
+      }
 
   -- the order that is told is that of what the seat knows as settled
   pub ordered : mine.view.firm ≡ seat.view.firm → {D E : Type 0} → (items : D → List Digest) (from : ℕ) (result : Result D E)

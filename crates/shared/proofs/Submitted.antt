@@ -1,5 +1,5 @@
 -- An event that a seat submits.
-use Rattle.std.proofs.Common.{◌≡◌, inl, inr, ℕ, ◌+◌, true, false, List, [], ◌∷◌, ◌++◌, length, Ok, Err, sym, ap, ◌∙◌, subst, arith, length-append}
+use Rattle.std.proofs.Common.{◌≡◌, inl, inr, ℕ, ◌+◌, ◌≤◌, true, false, List, [], ◌∷◌, ◌++◌, length, Ok, Err, sym, ap, ◌∙◌, subst, arith, length-append}
 use Rattle.std.proofs.lemmas.List.{length-map}
 use Rattle.laws.specs.Laws.{Begins}
 use Rattle.model.specs.Admitting.{admit, IsLegal}
@@ -16,6 +16,7 @@ use Rattle.seats.specs.declared.view.View.{View}
 use Rattle.seats.proofs.Marks.{events_push}
 use Rattle.book.specs.Book.{Shown, Run, Stands, TakesNew, TakesKnown, MayRefuse, with_accepted}
 use Rattle.book.specs.declared.book.Receipt.{Receipt}
+use Rattle.book.specs.declared.book.TheConstants.{MAX_ACCEPTED}
 use Rattle.shared.specs.Home.{Shared, IsAtHome, run_of}
 use Rattle.shared.specs.Answers.{Submits, MayRefuseAt}
 use Rattle.shared.proofs.Standing.{of_same, at_home}
@@ -43,15 +44,19 @@ module _ {S : Type 0} (shared : Shared S) (node_of : Setting S → Node) (seat :
         (sym (events_push by event seat.view.seen) ∙ ap events (sym seen)) (ap events (sym firm))
 
     -- the answer
-    pub submits_new : (before behind : View) (receipt : Receipt) → before.start ≡ seat.view.start → Begins before.seen seat.view.seen → receipt.new ≡ true → receipt.ticket ≡ later.accepted
+    pub submits_new : (before behind : View) (receipt : Receipt) → before.start ≡ seat.view.start → Begins before.seen seat.view.seen → receipt.new ≡ true → receipt.ticket ≡ later.accepted → receipt.ticket ≤ MAX_ACCEPTED
         → behind.seen ≡ seat.view.seen ++ mark before.number event ∷ [] → behind.mine ≡ before.mine ++ event ∷ []
         → Submits (node_of shared.setting) event before behind (Ok receipt)
-    submits_new before behind receipt began more is_new ticket seen mine = record {
+    submits_new before behind receipt began more is_new ticket limit seen mine = record {
       all = seat.view.seen;
       more = more;
       new = λ _. record {
         outputs = here.outputs;
         answer = ap (λ (h : History). admit (node_of shared.setting) (h ++ events seat.view.seen) event) began ∙ here.answer run home.stands;
+        room =
+            let stood : book.accepted ≡ length (events seat.view.seen) = home.stands.accepted in
+            let same : length (events seat.view.seen) ≡ length seat.view.seen = length-map seat.view.seen (λ (one : Marked). one.event) in
+            omega (arith, stood, same, ticket, limit, here.accepted);
         seen = seen;
         mine = mine;
         ticket =

@@ -1,5 +1,5 @@
 -- What a call of a shared node tells.
-use Rattle.std.specs.Prelude.{◌≡◌, ◌⊎◌, ⊤, ℕ, true, false, List, [], ◌∷◌, ◌++◌, length, IsTrue, Result, IfOk, IfErr}
+use Rattle.std.specs.Prelude.{◌≡◌, ◌≤◌, ◌<◌, ◌⊎◌, ⊤, ℕ, true, false, List, [], ◌∷◌, ◌++◌, length, take, IsTrue, Result, IfOk, IfErr}
 use Rattle.laws.specs.Laws.{Begins}
 use Rattle.model.specs.Admitting.{admit, is_new}
 use Rattle.model.specs.Histories.{History}
@@ -8,16 +8,20 @@ use Rattle.model.specs.Words.{Event, Output}
 use Rattle.model.specs.declared.admission.Admission.TheVariants.{New, Known, Refused}
 use Rattle.model.specs.declared.refusal.Refusal.{Refusal}
 use Rattle.model.specs.declared.refusal.Refusal.TheVariants.{Memory, Down, StoreFull}
+use Rattle.world.specs.Promise.{GoesOut}
+use Rattle.world.specs.World.{put_out}
 use Rattle.book.specs.declared.book.Receipt.{Receipt}
 use Rattle.book.specs.declared.book.TheConstants.{MAX_ACCEPTED}
 use Rattle.seats.specs.declared.view.Marked.{Marked}
 use Rattle.seats.specs.declared.view.View.{View}
 use Rattle.seats.specs.Views.{events, mark}
 
--- an event is new there, and is the last that the seat has seen, marked with its number, and the last of its own
+-- an event is new there, below the limit of a run, and is the last that the seat has seen, marked with its number, and the last of
+-- its own
 pub record IsAdded (node : Node) (event : Event) (before : View) (all : List Marked) (later : View) (receipt : Receipt) : Type 0 where
   pub outputs : List Output
   pub answer : admit node (before.start ++ events all) event ≡ New outputs
+  pub room : length all < MAX_ACCEPTED
   pub seen : later.seen ≡ all ++ mark before.number event ∷ []
   pub mine : later.mine ≡ before.mine ++ event ∷ []
   pub ticket : receipt.ticket ≡ length later.seen
@@ -50,3 +54,10 @@ pub record Submits (node : Node) (event : Event) (before : View) (later : View) 
   pub known : IfOk answer (λ receipt. receipt.new ≡ false → IsKnown node event before all later receipt)
   pub refused : IfErr answer (λ refusal. MayRefuseAt node (before.start ++ events all) (length all) event refusal)
   pub same : IfErr answer (λ refusal. (later.seen ≡ all) × (later.mine ≡ before.mine))
+
+-- an output was put out behind so many of the events that a seat knows as settled, by the last of them, which was new, or by one that is
+-- known there, and it may be given out there
+pub record IsPutOutBy (node : Node) (view : View) (output : Output) : Type 0 where
+  pub count : ℕ
+  pub settled : count ≤ length view.firm
+  pub goes_out : GoesOut node (view.start ++ events (take count view.firm)) (put_out output)

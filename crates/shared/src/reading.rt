@@ -1,6 +1,7 @@
 //! What a node tells, and what it gives out.
 
-ghost use Rattle.std.specs.Prelude.{◌≡◌, ◌⊎◌, None, not, drop, length, IfOk, IfErr, IfSome};
+ghost use Rattle.std.specs.Prelude.{◌≡◌, ◌⊎◌, None, not, drop, length, is_some, if◌then◌else◌, IfOk, IfErr, IfSome};
+ghost use Rattle.book.specs.Book.{releasable};
 ghost use Rattle.header.specs.Checks.{fault_of, accepts_all};
 ghost use Rattle.laws.specs.Laws.{Begins};
 ghost use Rattle.machine.specs.Machine.{is_missing_parents};
@@ -10,6 +11,7 @@ ghost use Rattle.model.specs.Holdings.{order as order_of, round as round_of, flo
 ghost use Rattle.model.specs.Proposing.{propose as propose_of};
 ghost use Rattle.validator.specs.Setting.{node_of};
 ghost use Rattle.seats.specs.Views.{IsSame};
+ghost use Rattle.shared.specs.Answers.{IsPutOutBy};
 ghost use Rattle.shared.specs.Home.{IsOf, IsAtHome, seen_by, firm_by};
 
 use crate::home::Locked;
@@ -30,6 +32,7 @@ impl<'a, S: Sign> Node<'a, S> {
         requires of { IsOf self.now seat.old }
         ensures of { IsOf self.now seat.new }
         ensures same { IsSame seat.old seat.new }
+        ensures firm { seat.new.view.firm ≡ seat.old.view.firm }
         ensures more { Begins seat.old.view.seen seat.new.view.seen }
         ensures count { result ≡ length seat.new.view.seen }
         ensures legal { IsLegal (node_of S.own_key S.signature_of self.now.setting) (seen_by seat.new) }
@@ -59,6 +62,8 @@ impl<'a, S: Sign> Node<'a, S> {
         ensures second { IsOf self.now second.new }
         ensures same_first { IsSame first.old first.new }
         ensures same_second { IsSame second.old second.new }
+        ensures firm_first { first.new.view.firm ≡ first.old.view.firm }
+        ensures firm_second { second.new.view.firm ≡ second.old.view.firm }
         ensures more_first { Begins first.old.view.seen first.new.view.seen }
         ensures more_second { Begins second.old.view.seen second.new.view.seen }
         ensures meets { Begins first.new.view.seen second.new.view.seen }
@@ -99,8 +104,8 @@ impl<'a, S: Sign> Node<'a, S> {
         self.words.catch_up_firm(rt, seat, &mut locked.seat, count);
     }
 
-    /// The next output that may go out, if there is one: all that it rests on is settled, which the seat then knows, and what it
-    /// is may be given out there. None where the node is down.
+    /// The next output that may go out, if there is one: all that it rests on is settled, which the seat then knows; an event put it
+    /// out there, and it may be given out. None where the node is down.
     pub fn collect<R: Wait>(&self, rt: &R, seat: &mut Seat) -> Option<Output>
         requires of { IsOf self.now seat.old }
         ensures of { IsOf self.now seat.new }
@@ -108,13 +113,32 @@ impl<'a, S: Sign> Node<'a, S> {
         ensures more { Begins seat.old.view.firm seat.new.view.firm }
         ensures seen { Begins seat.old.view.seen seat.new.view.seen }
         ensures goes_out { IfSome result (λ output. MayGive (node_of S.own_key S.signature_of self.now.setting) (firm_by seat.new) output) }
+        ensures put_out { IfSome result (λ output. IsPutOutBy (node_of S.own_key S.signature_of self.now.setting) seat.new.view output) }
     {
         let (turn, mut home) = self.lock.acquire(rt);
         let locked = &mut *home;
-        self.know_all(rt, locked, seat);
-        let output = locked.book.release();
+        let output = self.give(rt, locked, seat);
         self.lock.release(turn, home);
         output
+    }
+
+    // The same, under the lock.
+    fn give<R: Wait>(&self, rt: &R, locked: &mut Locked<'a, S>, seat: &mut Seat) -> Option<Output>
+        requires home { IsAtHome (node_of S.own_key S.signature_of) self.now locked.old.seat locked.old.book }
+        requires of { IsOf self.now seat.old }
+        ensures home { IsAtHome (node_of S.own_key S.signature_of) self.now locked.new.seat locked.new.book }
+        ensures of { IsOf self.now seat.new }
+        ensures same { IsSame seat.old seat.new }
+        ensures more { Begins seat.old.view.firm seat.new.view.firm }
+        ensures seen { Begins seat.old.view.seen seat.new.view.seen }
+        ensures goes_out { IfSome result (λ output. MayGive (node_of S.own_key S.signature_of self.now.setting) (firm_by seat.new) output) }
+        ensures put_out { IfSome result (λ output. IsPutOutBy (node_of S.own_key S.signature_of self.now.setting) seat.new.view output) }
+        // It is the book's next one, which the book then lets go of.
+        ensures next { result ≡ releasable locked.old.book }
+        ensures queue { locked.new.book ≡ (if is_some result then record locked.old.book { queue = drop 1 locked.old.book.queue } else locked.old.book) }
+    {
+        self.know_all(rt, locked, seat);
+        locked.book.release()
     }
 
     /// The order behind the settled events, which the seat then knows, from this place on: the digests of the certificates that

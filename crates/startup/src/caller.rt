@@ -10,7 +10,7 @@ ghost use Rattle.model.specs.Holdings.{order as order_of, round as round_of, flo
 ghost use Rattle.model.specs.Proposing.{propose as propose_of};
 ghost use Rattle.validator.specs.Setting.{node_of};
 ghost use Rattle.seats.specs.Views.{IsSame};
-ghost use Rattle.shared.specs.Answers.{Submits};
+ghost use Rattle.shared.specs.Answers.{Submits, IsPutOutBy};
 ghost use Rattle.shared.specs.Home.{IsOf, seen_by, firm_by};
 ghost use Rattle.startup.specs.Callers.{StaysWith};
 
@@ -99,6 +99,7 @@ impl<'n, 'a, S: Sign> Caller<'n, 'a, S> {
         ensures more { Begins self.old.seat.view.firm self.new.seat.view.firm }
         ensures seen { Begins self.old.seat.view.seen self.new.seat.view.seen }
         ensures goes_out { IfSome result (λ output. MayGive (node_of S.own_key S.signature_of self.old.node.setting) (firm_by self.new.seat) output) }
+        ensures put_out { IfSome result (λ output. IsPutOutBy (node_of S.own_key S.signature_of self.old.node.setting) self.new.seat.view output) }
     {
         self.node.collect(rt, &mut self.seat)
     }
@@ -164,6 +165,7 @@ impl<'n, 'a, S: Sign> Caller<'n, 'a, S> {
     pub fn accepted(&mut self) -> u64
         ensures stays { StaysWith self.old self.new }
         ensures same { IsSame self.old.seat self.new.seat }
+        ensures firm { self.new.seat.view.firm ≡ self.old.seat.view.firm }
         ensures more { Begins self.old.seat.view.seen self.new.seat.view.seen }
         ensures count { result ≡ length self.new.seat.view.seen }
         ensures legal { IsLegal (node_of S.own_key S.signature_of self.old.node.setting) (seen_by self.new.seat) }

@@ -4,18 +4,17 @@
 mod caller;
 mod rounds;
 
-ghost use Rattle.std.specs.Prelude.{◌≡◌, ◌≢◌, ◌⊎◌, ◌<◌, ◌≤◌, [], Ok, IfOk, IfErr};
+ghost use Rattle.std.specs.Prelude.{◌≡◌, ◌≢◌, ◌<◌, [], false, Ok, IfOk, IfErr};
 ghost use Rattle.diskmodel.specs.Disk.{AtEachMoment};
-ghost use Rattle.journal.specs.Journal.{disk_of, IsAlive, IsClosedUp};
+ghost use Rattle.journal.specs.Journal.{disk_of, IsAlive};
 ghost use Rattle.model.specs.Admitting.{IsLegal};
 ghost use Rattle.model.specs.Giving.{kept};
 ghost use Rattle.world.specs.World.{Holds};
 ghost use Rattle.validator.specs.Setting.{node_of};
 ghost use Rattle.validator.specs.Standing.{AreAtSound};
-ghost use Rattle.recovery.specs.Laws.{IsLeft, IsNoRefusal};
 ghost use Rattle.recovery.specs.Told.{told, Tells, IsToldAsOneOf};
 ghost use Rattle.shared.specs.Home.{IsOf};
-ghost use Rattle.flusher.specs.Rounds.{journal_of, IsFlusherOf};
+ghost use Rattle.flusher.specs.Rounds.{journal_of, is_down, settled_in, taken_in, IsFlusherOf};
 
 pub use caller::Caller;
 use diskmodel::Disk;
@@ -44,11 +43,17 @@ pub fn start<'a, S: Sign, D: Disk>(
     ensures seat { IfOk result (λ started. IsOf started.0 started.1) }
     ensures nothing { IfOk result (λ started. (started.1.view.seen ≡ []) × (started.1.view.firm ≡ []) × (started.1.view.mine ≡ [])) }
     ensures flusher { IfOk result (λ started. IsFlusherOf (node_of S.own_key S.signature_of) D.content D.outcome started.0 started.2) }
+    ensures up { IfOk result (λ started. is_down started.2 ≡ false) }
+    ensures nothing_settled { IfOk result (λ started. (settled_in started.2 ≡ []) × (taken_in started.2 ≡ [])) }
 
     // Each refusal but those of memory and of the disk is what the bytes are told as.
     ensures err { IfErr result (λ failed. failed.error ≢ JournalError.Device → Tells failed.error (told (node_of S.own_key S.signature_of config.now) (D.content disk))) }
-    ensures device { IfErr result (λ failed. failed.error ≡ JournalError.Device → D.faults disk < D.faults failed.disk) }
     ensures never_full { IfErr result (λ failed. failed.error ≢ JournalError.Full) }
+
+    // It answers Device exactly where the disk has failed.
+    ensures device { IfErr result (λ failed. failed.error ≡ JournalError.Device → D.faults disk < D.faults failed.disk) }
+    ensures no_fault { IfOk result (λ started. D.faults (disk_of (journal_of started.2)) ≡ D.faults disk) }
+    ensures no_fault_err { IfErr result (λ failed. failed.error ≢ JournalError.Device → D.faults failed.disk ≡ D.faults disk) }
 
     // A stop at any moment of the call leaves what is told as one outcome from before it is.
     ensures any_moment { IfOk result (λ started. AtEachMoment D.clock D.outcome_since disk (disk_of (journal_of started.2)) (IsToldAsOneOf (node_of S.own_key S.signature_of config.now) (D.outcome disk))) }
@@ -73,6 +78,8 @@ fn begin<'a, H: Start, S: Sign, D: Disk>(
     ensures seat { IfOk result (λ started. IsOf started.0 started.1) }
     ensures nothing { IfOk result (λ started. (started.1.view.seen ≡ []) × (started.1.view.firm ≡ []) × (started.1.view.mine ≡ [])) }
     ensures flusher { IfOk result (λ started. IsFlusherOf (node_of S.own_key S.signature_of) D.content D.outcome started.0 started.2) }
+    ensures up { IfOk result (λ started. is_down started.2 ≡ false) }
+    ensures nothing_settled { IfOk result (λ started. (settled_in started.2 ≡ []) × (taken_in started.2 ≡ [])) }
     ensures journal { IfOk result (λ started. journal_of started.2 ≡ journal) }
     ensures err { IfErr result (λ failed. (failed.error ≡ JournalError.Memory) × (failed.disk ≡ disk_of journal)) }
 {

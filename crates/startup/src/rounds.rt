@@ -1,6 +1,6 @@
 //! What a thread flushes a node with.
 
-ghost use Rattle.std.specs.Prelude.{◌≡◌, ◌⊎◌, ◌↔◌, ◌+◌, ◌<◌, ◌≤◌, [], false, length, IfOk, IsErrOf, IsTrue, OnErr};
+ghost use Rattle.std.specs.Prelude.{◌≡◌, ◌≢◌, ◌⊎◌, ◌↔◌, ◌+◌, ◌<◌, [], false, length, IfOk, IfErr, IsErrOf, IsTrue, OnOk, OnErr};
 ghost use Rattle.diskmodel.specs.Disk.{AtEachMoment};
 ghost use Rattle.journal.specs.Journal.{disk_of};
 ghost use Rattle.laws.specs.Laws.{Begins};
@@ -19,7 +19,7 @@ use std::marker::Model;
 use std::sync::Wait;
 use validator::Config;
 
-/// A node's flusher, with the seat that it calls the node with. Contracts see the node's configuration.
+/// A node's flusher, with the seat that it calls the node with. Contracts see all three.
 pub struct Rounds<'n, 'a, S: Sign, D: Disk> {
     node: &'n Node<'a, S>,
     seat: Seat,
@@ -86,6 +86,7 @@ impl<'n, 'a, S: Sign, D: Disk> Rounds<'n, 'a, S, D> {
         ensures down { IsErrOf result FlushError.Down ↔ IsTrue (is_down self.old.flusher) }
         ensures no_change { IsErrOf result FlushError.Down → self.new ≡ self.old }
         ensures goes_down { IsTrue (is_down self.new.flusher) → (IsErrOf result FlushError.Device) ⊎ (IsErrOf result FlushError.Full) ⊎ (IsErrOf result FlushError.Down) }
+        ensures takes_down { (IsErrOf result FlushError.Device) ⊎ (IsErrOf result FlushError.Full) → IsTrue (is_down self.new.flusher) }
         ensures takes { (IsErrOf result FlushError.Down) ⊎ (IsErrOf result FlushError.Memory) ⊎ TakesLongest self.old.seat.view.seen (settled_in self.old.flusher) (taken_in self.new.flusher) }
         ensures memory { IsErrOf result FlushError.Memory → (journal_of self.new.flusher ≡ journal_of self.old.flusher) × (taken_in self.new.flusher ≡ settled_in self.old.flusher) }
         ensures any_moment { IsErrOf result FlushError.Down ⊎ AtEachMoment D.clock D.outcome_since (disk_of (journal_of self.old.flusher)) (disk_of (journal_of self.new.flusher)) (HoldsEither (node_of S.own_key S.signature_of) self.old.node (settled_in self.old.flusher) (taken_in self.new.flusher)) }
@@ -94,7 +95,8 @@ impl<'n, 'a, S: Sign, D: Disk> Rounds<'n, 'a, S, D> {
         ensures full { is_down self.old.flusher ≡ false → IsErrOf result FlushError.Full ↔ HasNoRoom (D.content (disk_of (journal_of self.old.flusher))) (settled_in self.old.flusher) (taken_in self.new.flusher) }
         ensures full_same { IsErrOf result FlushError.Full → journal_of self.new.flusher ≡ journal_of self.old.flusher }
         ensures device { IsErrOf result FlushError.Device → D.faults (disk_of (journal_of self.old.flusher)) < D.faults (disk_of (journal_of self.new.flusher)) }
-        ensures faults { D.faults (disk_of (journal_of self.old.flusher)) ≤ D.faults (disk_of (journal_of self.new.flusher)) }
+        ensures no_fault { OnOk result (D.faults (disk_of (journal_of self.new.flusher)) ≡ D.faults (disk_of (journal_of self.old.flusher))) }
+        ensures no_fault_err { IfErr result (λ error. error ≢ FlushError.Device → D.faults (disk_of (journal_of self.new.flusher)) ≡ D.faults (disk_of (journal_of self.old.flusher))) }
     {
         self.flusher.round(rt, self.node, &mut self.seat)
     }

@@ -1,13 +1,13 @@
 -- What a stop is to leave of the node's disk.
-use Rattle.std.specs.Prelude.{◌≡◌, ℕ, ◌<◌, List, length, Some, slice_index, if◌then◌else◌}
+use Rattle.std.specs.Prelude.{◌≡◌, ℕ, ◌<◌, List, length, slice_index, if◌then◌else◌}
 use Rattle.diskmodel.specs.declared.memory.MemDisk.{MemDisk}
-use Rattle.diskmodel.specs.Memory.{content_of, state_of, choice_of, CanStopAt}
+use Rattle.diskmodel.specs.Memory.{content_of, state_of, CanStopAt, choosing}
 use Rattle.diskmodel.specs.Outcomes.{is_written}
 
--- the next stop leaves these bytes: they are chosen, and one of its outcomes
-pub record WillLeave (disk : MemDisk) (found : List ℕ) : Type 0 where
-  pub chosen : choice_of disk ≡ Some found
-  pub possible : CanStopAt disk found
+-- it is the disk from before, of which the next stop leaves these bytes: they are chosen, and one of its outcomes
+pub record WillLeave (before later : MemDisk) (found : List ℕ) : Type 0 where
+  pub chosen : later ≡ choosing before found
+  pub possible : CanStopAt before found
 
 -- what a read gives, with this byte wherever one was written since the last sync
 pub record IsTornBy (byte : ℕ) (disk : MemDisk) (found : List ℕ) : Type 0 where

@@ -1,7 +1,7 @@
 //! What a stop is to leave of a disk in memory.
 #![tactic(auto)]
 
-ghost use Rattle.std.specs.Prelude.{◌≡◌, ℕ, List, IfOk};
+ghost use Rattle.std.specs.Prelude.{ℕ, List, IfOk};
 ghost use Rattle.diskmodel.specs.Memory.{state_of};
 ghost use Rattle.stopping.specs.Stops.{WillLeave, IsTornBy};
 
@@ -10,7 +10,7 @@ use std::alloc::{AllocError, Global};
 
 /// The disk, of which the next stop leaves the bytes of the last sync. `AllocError` where a growth was refused.
 pub fn losing(alloc: Global, mut disk: MemDisk) -> Result<MemDisk, AllocError>
-    ensures { IfOk result (λ left. WillLeave left (state_of disk).firm) }
+    ensures { IfOk result (λ left. WillLeave disk left (state_of disk).firm) }
 {
     let firm = disk.firm().to_vec(alloc)?;
     disk.choose(firm);
@@ -20,7 +20,7 @@ pub fn losing(alloc: Global, mut disk: MemDisk) -> Result<MemDisk, AllocError>
 /// The disk, of which the next stop leaves this byte wherever one was written since the last sync. `AllocError` where a growth
 /// was refused.
 pub fn tearing(alloc: Global, mut disk: MemDisk, byte: u8) -> Result<MemDisk, AllocError>
-    ensures { IfOk result (λ left. (found : List ℕ) × IsTornBy byte disk found × WillLeave left found) }
+    ensures { IfOk result (λ left. (found : List ℕ) × IsTornBy byte disk found × WillLeave disk left found) }
 {
     let found = torn(alloc, &disk, byte)?;
     disk.choose(found);

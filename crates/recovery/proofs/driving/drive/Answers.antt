@@ -1,20 +1,19 @@
-use Rattle.std.proofs.Common.{◌≡◌, ℕ, ◌+◌, ◌<◌, ◌≤◌, List, [], ◌∷◌, ◌++◌, length, drop, take, inl, inr, refl, sym, ap, ◌∙◌, subst, arith, rules, map-id}
+use Rattle.std.proofs.Common.{◌≡◌, ◌+◌, List, length, drop, inl, inr, sym, ap, ◌∙◌, subst, arith, rules, map-id}
+use Rattle.std.proofs.KnownBytes.{Keeps-refl}
 use Rattle.std.proofs.lemmas.Iterator.Consumers.{YieldsList-so_far, YieldsList-turn, YieldsList-end}
 use Rattle.std.proofs.lemmas.Iterator.Adapters.{YieldsList-from_vec}
 use Rattle.std.proofs.lemmas.List.{length_push}
 use Rattle.std.proofs.lemmas.Result.{err_from_is_err_and}
-use Rattle.journal.specs.Journal.{disk_of}
 use Rattle.validator.specs.Setting.{node_of}
 use Rattle.world.specs.Text as script
 use Rattle.recovery.specs.Script.{said, script_of, HasRun}
-use Rattle.recovery.proofs.Appending.{keeps_itself}
 use Rattle.recovery.proofs.Carrying.{IsCarriedOut, first_carried, next_carried, cut_short, all_carried, script_parts, script_push, passes_at}
 use Rattle.recovery.proofs.driving.drive.Goals as goal
 
 pub returns-in_err-desk-clause-err : goal.returns-in_err-desk-clause-err
 returns-in_err-desk-clause-err g c =
     let p = err_from_is_err_and c.from_residual.result c.from_residual.ensures.1 in
-    rw (p.1, p.2) (inl (c.in_err-desk.ensures.err, keeps_itself (g.W.Write.contents c.args.writer.now)))
+    rw (p.1, p.2) (inl (c.in_err-desk.ensures.err, Keeps-refl (g.W.Write.contents c.args.writer.now)))
 
 pub loop-command-init : goal.loop-command-init
 loop-command-init g c =
@@ -24,7 +23,7 @@ loop-command-init g c =
       so_far = first_carried node g.D.Disk.content g.D.Disk.outcome before c.in_ok-desk.desk.book c.in_ok-desk.desk.journal (g.W.Write.contents c.args.writer.now) c.in_ok-desk.ensures.ok;
       setting = c.in_ok-desk.ensures.setting;
       count = omega (arith, c.in_ok-desk.ensures.none);
-      faults = c.in_ok-desk.ensures.faults;
+      no_fault = c.in_ok-desk.ensures.no_fault;
     }
 
 pub carry_out-requires-clause-setting : goal.carry_out-requires-clause-setting
@@ -73,7 +72,13 @@ pub returns-in_err-desk-2-clause-device : goal.returns-in_err-desk-2-clause-devi
 returns-in_err-desk-2-clause-device g c =
     let p = err_from_is_err_and c.from_residual-in_err-desk-2.result c.from_residual-in_err-desk-2.ensures.1 in
     rw (p.1, p.2)
-    (λ device. let rises = c.in_err-desk-2.ensures.device device in let faults = c.loop-command.invariant.faults in omega (arith, rises, faults))
+    (λ device. let rises = c.in_err-desk-2.ensures.device device in let none = c.loop-command.invariant.no_fault in omega (arith, rises, none))
+
+pub returns-in_err-desk-2-clause-no_fault_err : goal.returns-in_err-desk-2-clause-no_fault_err
+returns-in_err-desk-2-clause-no_fault_err g c =
+    let p = err_from_is_err_and c.from_residual-in_err-desk-2.result c.from_residual-in_err-desk-2.ensures.1 in
+    rw (p.1, p.2)
+    (λ other. c.in_err-desk-2.ensures.no_fault_err other ∙ c.loop-command.invariant.no_fault)
 
 pub loop-command-preserved : goal.loop-command-preserved
 loop-command-preserved g c =
@@ -91,7 +96,7 @@ loop-command-preserved g c =
       so_far = subst (λ (l : List script.Command). IsCarriedOut node g.D.Disk.content g.D.Disk.outcome before l later.book later.journal old (g.W.Write.contents c.carry_out.new.writer)) (sym (script_push done next)) carried;
       setting = c.in_ok-desk-2.ensures.setting;
       count = let more = c.in_ok-desk-2.ensures.count in let count = c.loop-command.invariant.count in omega (arith, more, count, length_push done next);
-      faults = let more = c.in_ok-desk-2.ensures.faults in let faults = c.loop-command.invariant.faults in omega (arith, more, faults);
+      no_fault = c.in_ok-desk-2.ensures.no_fault ∙ c.loop-command.invariant.no_fault;
     }
 
 pub returns-clause-ok : goal.returns-clause-ok
@@ -106,3 +111,6 @@ returns-clause-ok g c =
     let new = g.W.Write.contents c.loop-command.writer in
     let run = all_carried node g.D.Disk.content g.D.Disk.outcome before (script_of commands) (script_of done) c.loop-command.desk.book c.loop-command.desk.journal old new whole c.loop-command.invariant.so_far in
     subst (λ (d : g.row.D.Denot). HasRun node (script_of commands) before (g.D.Disk.content d) (g.D.Disk.outcome d) old new) (sym c.into_disk.ensures) run
+
+pub returns-clause-no_fault : goal.returns-clause-no_fault
+returns-clause-no_fault g c = ap g.D.Disk.faults c.into_disk.ensures ∙ c.loop-command.invariant.no_fault

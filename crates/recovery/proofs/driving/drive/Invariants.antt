@@ -11,5 +11,5 @@ invariant-loop-command g l = record {
   so_far : IsCarriedOut (node_of g.S.Sign.own_key g.S.Sign.signature_of l.config) g.D.Disk.content g.D.Disk.outcome (g.D.Disk.content l.fn.disk) (script_of l.yielded) l.desk.book l.desk.journal (g.W.Write.contents l.initial.writer) (g.W.Write.contents l.writer);
   setting : l.desk.book.validator.setting ≡ l.config;
   count : l.desk.book.accepted ≤ length l.yielded;
-  faults : g.D.Disk.faults l.fn.disk ≤ g.D.Disk.faults (disk_of l.desk.journal);
+  no_fault : g.D.Disk.faults (disk_of l.desk.journal) ≡ g.D.Disk.faults l.fn.disk;
 }

@@ -9,7 +9,7 @@ use Rattle.recovery.proofs.events.take_event.Goals as goal
 pub returns-in_default-clause-err : goal.returns-in_default-clause-err
 returns-in_default-clause-err g c = λ history legal at.
     let node = node_of g.S.Sign.own_key g.S.Sign.signature_of c.args.validator.now.setting in
-    let one = c.args.record.now in
+    let one = c.args.one.now in
     read_none node history one (sym c.in_default.is ∙ c.in_ok-found.ensures.found ∙ (λ i. event_in (c.committee.ensures i) (c.as_slice.ensures i)))
 
 pub returns-clause-ok : goal.returns-clause-ok
@@ -17,7 +17,7 @@ returns-clause-ok g c =
     on_ok_weaker c.only_new.result
     (λ new history legal at.
     let node = node_of g.S.Sign.own_key g.S.Sign.signature_of c.args.validator.now.setting in
-    let one = c.args.record.now in
+    let one = c.args.one.now in
     let event = c.in-Some.event in
     let some : Some event ≡ event_in node.charter one.bytes = sym c.in-Some.is ∙ c.in_ok-found.ensures.found ∙ (λ i. event_in (c.committee.ensures i) (c.as_slice.ensures i)) in
     let goes = c.step-step.ensures.longer new history legal at in
@@ -34,7 +34,7 @@ returns-clause-err g c =
     err_weaker c.only_new.result _ _
     (λ error is history legal at.
     let node = node_of g.S.Sign.own_key g.S.Sign.signature_of c.args.validator.now.setting in
-    let one = c.args.record.now in
+    let one = c.args.one.now in
     let event = c.in-Some.event in
     let some : Some event ≡ event_in node.charter one.bytes = sym c.in-Some.is ∙ c.in_ok-found.ensures.found ∙ (λ i. event_in (c.committee.ensures i) (c.as_slice.ensures i)) in
     fails_by error (read_event node history one) one.gate

@@ -5,7 +5,7 @@ use Rattle.std.proofs.lemmas.Result.{err_from_is_err_and}
 use Rattle.journal.specs.Format.{stands}
 use Rattle.journal.specs.Journal.{disk_of}
 use Rattle.validator.specs.Setting.{node_of}
-use Rattle.recovery.specs.Told.{told, read_journal, HasTexts}
+use Rattle.recovery.specs.Told.{told, read_journal}
 use Rattle.recovery.proofs.Opened.{same_texts}
 use Rattle.recovery.proofs.Moments.{started}
 use Rattle.recovery.proofs.Telling.{told_same, told_records, tells_same, stands_same, ones_from}

@@ -1,4 +1,4 @@
-use Rattle.std.proofs.Common.{rules, ◌≡◌, ◌⊎◌, inl, inr, true, false, List, ℕ, sym, ap, ◌∙◌, subst, Err}
+use Rattle.std.proofs.Common.{◌≡◌, true, false, List, ℕ, sym, ◌∙◌, subst}
 use Rattle.journal.specs.Format.{stands}
 use Rattle.journal.specs.Journal.{disk_of, stands_with, IsBeforeOrAfter}
 use Rattle.seats.specs.declared.view.Marked.{Marked}
@@ -40,30 +40,22 @@ returns-in-Ok-clause-any_moment g c =
     (taken_events c.args.node.now flush of node c.requires.legal) left
     (subst (λ (group : List (List ℕ)). IsBeforeOrAfter file group left) (c.requires.group ∙ group_behind c.args.node.now flush of) is))
 
-pub returns-in_default : goal.returns-in_default
-returns-in_default g c =
+pub returns-in_default-clause-flusher : goal.returns-in_default-clause-flusher
+returns-in_default-clause-flusher g c = record {
+  seat = c.requires.seat;
+  rests = λ up. let bad : true ≡ false = up in absurd cc;
+  alive = λ up. let bad : true ≡ false = up in absurd cc;
+  holds = λ up. let bad : true ≡ false = up in absurd cc;
+}
+
+pub returns-in_default-clause-any_moment : goal.returns-in_default-clause-any_moment
+returns-in_default-clause-any_moment g c =
     let node = node_of g.S.Sign.own_key g.S.Sign.signature_of c.args.node.now.setting in
     let flush = c.args.self.now.seat in
     let of = c.requires.seat in
     let file = g.D.Disk.content (disk_of c.args.self.now.journal) in
-    record {
-      flusher = record {
-        seat = of;
-        rests = λ up. let bad : true ≡ false = up in absurd cc;
-        alive = λ up. let bad : true ≡ false = up in absurd cc;
-        holds = λ up. let bad : true ≡ false = up in absurd cc;
-      };
-      taken = search rules;
-      any_moment = weaker g.D.Disk.clock g.D.Disk.outcome_since (disk_of c.args.self.now.journal) (disk_of c.append.new.self)
-          (HoldsEither (node_of g.S.Sign.own_key g.S.Sign.signature_of) c.args.node.now flush.seat.view.firm (taken_by flush)) (IsBeforeOrAfter file c.args.group) c.append.ensures.any_moment
-          (λ left is. holds_either node c.args.node.now.start flush.seat.view.firm (taken_by flush) file c.requires.holds (settled_begins c.args.node.now flush of)
-          (taken_events c.args.node.now flush of node c.requires.legal) left
-          (subst (λ (group : List (List ℕ)). IsBeforeOrAfter file group left) (c.requires.group ∙ group_behind c.args.node.now flush of) is));
-      ok = tt;
-      err = search rules;
-      errors = inl (search rules);
-      full = search rules;
-      full_same = search rules;
-      device = search rules;
-      faults = c.append.ensures.faults;
-    }
+    weaker g.D.Disk.clock g.D.Disk.outcome_since (disk_of c.args.self.now.journal) (disk_of c.append.new.self)
+    (HoldsEither (node_of g.S.Sign.own_key g.S.Sign.signature_of) c.args.node.now flush.seat.view.firm (taken_by flush)) (IsBeforeOrAfter file c.args.group) c.append.ensures.any_moment
+    (λ left is. holds_either node c.args.node.now.start flush.seat.view.firm (taken_by flush) file c.requires.holds (settled_begins c.args.node.now flush of)
+    (taken_events c.args.node.now flush of node c.requires.legal) left
+    (subst (λ (group : List (List ℕ)). IsBeforeOrAfter file group left) (c.requires.group ∙ group_behind c.args.node.now flush of) is))

@@ -4,7 +4,7 @@ use Rattle.header.specs.Checks.{fault_of, accepts_all}
 use Rattle.journal.specs.Journal.{disk_of}
 use Rattle.journal.specs.declared.journal.Journal.{Journal}
 use Rattle.validator.specs.Setting.{Setting, node_of}
-use Rattle.world.specs.Text.{Desk, after, take_in, flush, stop, Command as ScriptCommand}
+use Rattle.world.specs.Text.{Desk, after, take_in, flush, Command as ScriptCommand}
 use Rattle.recovery.specs.Script.{said, Passes, IsOf, Breaks}
 use Rattle.recovery.specs.declared.driving.Command.{Command}
 use Rattle.recovery.proofs.Telling.{ok_weaker, err_weaker}
@@ -59,8 +59,11 @@ returns-in-Stop-clause-err g c =
     subst (λ (k : ScriptCommand). IfErr c.stopped.result (λ failed. (desk : Desk) → IsOf (node_of g.S.Sign.own_key g.S.Sign.signature_of c.args.config.now) g.D.Disk.content g.D.Disk.outcome desk c.args.self.book c.args.self.journal → Breaks (node_of g.S.Sign.own_key g.S.Sign.signature_of c.args.config.now) desk k failed.error (g.D.Disk.content failed.disk) (g.D.Disk.outcome failed.disk))) (ap said (sym c.in-Stop.is))
     c.stopped.ensures.err
 
-pub returns-in-Event-clause-faults : goal.returns-in-Event-clause-faults
-returns-in-Event-clause-faults g c = ok_weaker c.with_event.result _ _ (λ next same. omega (arith, ap (λ (j : Journal g.row.D.Denot). g.D.Disk.faults (disk_of j)) same)) c.with_event.ensures.same
+pub returns-in-Event-clause-no_fault : goal.returns-in-Event-clause-no_fault
+returns-in-Event-clause-no_fault g c = ok_weaker c.with_event.result _ _ (λ next same. ap (λ (j : Journal g.row.D.Denot). g.D.Disk.faults (disk_of j)) same) c.with_event.ensures.same
+
+pub returns-in-Event-clause-no_fault_err : goal.returns-in-Event-clause-no_fault_err
+returns-in-Event-clause-no_fault_err g c = err_weaker c.with_event.result _ _ (λ failed same other. ap g.D.Disk.faults same) c.with_event.ensures.same_err
 
 pub returns-in-Event-clause-device : goal.returns-in-Event-clause-device
 returns-in-Event-clause-device g c = err_weaker c.with_event.result _ _ (λ failed memory device. absurd (cc)) c.with_event.ensures.memory

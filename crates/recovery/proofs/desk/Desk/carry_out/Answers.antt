@@ -1,13 +1,14 @@
-use Rattle.std.proofs.Common.{◌≡◌, ap, sym, ◌∙◌, subst}
+use Rattle.std.proofs.Common.{ap, sym, ◌∙◌, subst}
+use Rattle.std.proofs.KnownBytes.{Keeps-refl}
 use Rattle.std.specs.Io.KnownBytes.{Appends}
 use Rattle.std.proofs.lemmas.Result.{err_from_is_err_and}
 use Rattle.journal.specs.Journal.{disk_of}
 use Rattle.validator.specs.Setting.{Setting, node_of}
 use Rattle.world.specs.Text.{Desk, after, due, without_due, frames}
 use Rattle.recovery.specs.Script.{said, IsOf}
-use Rattle.recovery.specs.Writing.{AppendsPart}
-use Rattle.recovery.proofs.Appending.{keeps_itself, part_none, on_err}
-use Rattle.recovery.proofs.Desks.{behind_breaks, breaks_at, not_full, not_device}
+use Rattle.recovery.specs.Writing.{AppendsLess}
+use Rattle.recovery.proofs.Appending.{part_none, part_less, not_at_disk}
+use Rattle.recovery.proofs.Desks.{behind_breaks, breaks_at, not_device}
 use Rattle.recovery.proofs.desk.Desk.carry_out.Goals as goal
 
 pub write_due-requires : goal.write_due-requires
@@ -16,7 +17,8 @@ write_due-requires g c = record { up = (c.in_ok-desk.ensures.ok c.requires.stand
 pub returns-in_err-desk-clause-writes_part : goal.returns-in_err-desk-clause-writes_part
 returns-in_err-desk-clause-writes_part g c =
     let held = g.W.Write.contents c.args.writer.now in
-    on_err c.from_residual.result _ (λ desk is. part_none held held _ (keeps_itself held))
+    let p = err_from_is_err_and c.from_residual.result c.from_residual.ensures.1 in
+    rw (p.1, p.2) (λ desk is. part_none c.in_err-desk.field-0.0.error held held _ c.in_err-desk.ensures.never_output (Keeps-refl held))
 
 pub returns-in-Ok-clause-ok : goal.returns-in-Ok-clause-ok
 returns-in-Ok-clause-ok g c = λ desk is.
@@ -40,15 +42,20 @@ returns-in-Err-clause-err g c = λ desk is.
     let next = c.in_ok-desk.desk in
     let command = said c.args.command in
     breaks_at node g.D.Disk.content g.D.Disk.outcome desk command c.fail.result.error c.in-Err.error c.fail.result.disk (disk_of next.journal) c.fail.ensures.error (c.fail.ensures.disk ∙ ap disk_of c.write_due.ensures.same)
-    (behind_breaks node g.D.Disk.content g.D.Disk.outcome desk command next.book next.journal (c.in_ok-desk.ensures.ok desk is) c.in-Err.error (not_full c.in-Err.error c.in-Err.ensures.errors))
+    (behind_breaks node g.D.Disk.content g.D.Disk.outcome desk command next.book next.journal (c.in_ok-desk.ensures.ok desk is) c.in-Err.error c.in-Err.ensures.errors)
 
 pub returns-in-Err-clause-writes_part : goal.returns-in-Err-clause-writes_part
 returns-in-Err-clause-writes_part g c = λ desk is.
     let node = node_of g.S.Sign.own_key g.S.Sign.signature_of c.args.config.now in
     let next = c.in_ok-desk.desk in
     let command = said c.args.command in
-    subst (λ (s : Setting g.row.S.Denot). (d : Desk) → IsOf (node_of g.S.Sign.own_key g.S.Sign.signature_of s) g.D.Disk.content g.D.Disk.outcome d next.book next.journal → AppendsPart (g.W.Write.contents c.args.writer.now) (g.W.Write.contents c.write_due.new.writer) (frames (due d)))
-    c.in_ok-desk.ensures.setting c.in-Err.ensures.writes_part (after node desk command) (c.in_ok-desk.ensures.ok desk is)
+    let less = subst (λ (s : Setting g.row.S.Denot). (d : Desk) → IsOf (node_of g.S.Sign.own_key g.S.Sign.signature_of s) g.D.Disk.content g.D.Disk.outcome d next.book next.journal → AppendsLess (g.W.Write.contents c.args.writer.now) (g.W.Write.contents c.write_due.new.writer) (frames (due d)))
+    c.in_ok-desk.ensures.setting c.in-Err.ensures.writes_part (after node desk command) (c.in_ok-desk.ensures.ok desk is) in
+    part_less c.fail.result.error (g.W.Write.contents c.args.writer.now) (g.W.Write.contents c.write_due.new.writer) _
+    (not_at_disk c.fail.result.error c.in-Err.error c.fail.ensures.error c.in-Err.ensures.errors) less
 
 pub returns-in-Err-clause-device : goal.returns-in-Err-clause-device
 returns-in-Err-clause-device g c = λ device. absurd (not_device c.in-Err.error c.in-Err.ensures.errors (sym c.fail.ensures.error ∙ device))
+
+pub returns-in-Err-clause-no_fault_err : goal.returns-in-Err-clause-no_fault_err
+returns-in-Err-clause-no_fault_err g c = λ other. ap g.D.Disk.faults (c.fail.ensures.disk ∙ ap disk_of c.write_due.ensures.same) ∙ c.in_ok-desk.ensures.no_fault

@@ -1,14 +1,15 @@
-use Rattle.std.proofs.Common.{◌≡◌, ℕ, ◌+◌, List, length, drop, map, Option, refl, sym, ap, ◌∙◌, subst}
-use Rattle.std.specs.Prelude.{Err, IfSome, IsNone, ◌↔◌, [], None}
+use Rattle.std.proofs.Common.{◌≡◌, ℕ, ◌+◌, inl, inr, List, length, drop, map, Option, refl, sym, ap, ◌∙◌, subst}
+use Rattle.std.specs.Prelude.{Err, IfSome, IsNone, ◌↔◌, []}
 use Rattle.std.proofs.lemmas.Result.{err_from_is_err_and}
 use Rattle.journal.specs.Journal.{disk_of, IsBeforeOrAfter}
 use Rattle.journal.specs.declared.error.JournalError.{JournalError}
-use Rattle.model.specs.Nodes.{Node}
+use Rattle.journal.specs.declared.journal.Journal.{Journal}
 use Rattle.records.specs.Records.{record_of}
-use Rattle.validator.specs.Setting.{Setting, node_of}
+use Rattle.validator.specs.Setting.{node_of}
 use Rattle.world.specs.Text.{flush, after}
 use Rattle.book.specs.Pending.{IsLongestBeginning}
 use Rattle.book.specs.Book.{Shown, Run, Stands, with_taken}
+use Rattle.recovery.specs.Faults.{ended_by}
 use Rattle.recovery.specs.Script.{run_of, IsOf}
 use Rattle.recovery.proofs.Desks.{flushed_is, nothing_flushed, settled_at, settles_at, left_by, same_breaks, flush_breaks}
 use Rattle.recovery.proofs.DeskOpening.{only_device}
@@ -22,7 +23,7 @@ returns-in_err-group-clause-err g c =
     let node = node_of g.S.Sign.own_key g.S.Sign.signature_of c.args.self.now.book.validator.setting in
     let p = err_from_is_err_and c.from_residual.result c.from_residual.ensures.1 in
     rw (p.1, p.2)
-    (λ desk is. same_breaks node g.D.Disk.content g.D.Disk.outcome desk c.args.self.now.book c.args.self.now.journal is flush _ (λ same. cc))
+    (λ desk is. same_breaks node g.D.Disk.content g.D.Disk.outcome desk c.args.self.now.book c.args.self.now.journal is flush _ refl)
 
 pub returns-in_default-clause-ok : goal.returns-in_default-clause-ok
 returns-in_default-clause-ok g c = λ desk is.
@@ -62,6 +63,7 @@ returns-in_err-synced-clause-err g c =
     rw (p.1, p.2)
     (λ desk is. flush_breaks node g.D.Disk.content g.D.Disk.outcome desk before old is taken group longest c.in_err-synced.field-0.0 new
     (λ bytes may. left_by g.D.Disk.clock g.D.Disk.outcome_since (disk_of old) (disk_of new) (IsBeforeOrAfter (g.D.Disk.content (disk_of old)) group) bytes g.D.Disk.outcome c.append.ensures.any_moment g.met.D.Disk.counts_now may)
+    c.in_err-synced.ensures.errors
     (λ full. (c.in_err-synced.ensures.full.0 (ap (λ (e : JournalError). Err e) full), c.in_err-synced.ensures.unchanged (ap (λ (e : JournalError). Err e) full))))
 
 pub returns-in_err-synced-clause-device : goal.returns-in_err-synced-clause-device
@@ -69,6 +71,15 @@ returns-in_err-synced-clause-device g c =
     let p = err_from_is_err_and c.from_residual-in_err-synced.result c.from_residual-in_err-synced.ensures.1 in
     rw (p.1, p.2)
     (λ device. c.in_err-synced.ensures.device (ap (λ (e : JournalError). Err e) (only_device c.in_err-synced.field-0.0 device)))
+
+pub returns-in_err-synced-clause-no_fault_err : goal.returns-in_err-synced-clause-no_fault_err
+returns-in_err-synced-clause-no_fault_err g c =
+    let p = err_from_is_err_and c.from_residual-in_err-synced.result c.from_residual-in_err-synced.ensures.1 in
+    rw (p.1, p.2)
+    (λ other. elim c.in_err-synced.ensures.errors [
+      | inl device ↦ absurd (other (ap ended_by device))
+      | inr full ↦ ap (λ (j : Journal g.row.D.Denot). g.D.Disk.faults (disk_of j)) (c.in_err-synced.ensures.unchanged (ap (λ (e : JournalError). Err e) full))
+    ])
 
 pub returns-clause-ok : goal.returns-clause-ok
 returns-clause-ok g c = λ desk is.

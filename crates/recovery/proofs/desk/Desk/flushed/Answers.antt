@@ -13,3 +13,10 @@ returns-in-Err-clause-err g c = λ desk is.
 pub returns-in-Err-clause-device : goal.returns-in-Err-clause-device
 returns-in-Err-clause-device g c = λ device.
     subst (λ (d : g.row.D.Denot). g.D.Disk.faults (disk_of c.args.self.journal) < g.D.Disk.faults d) (sym c.fail.ensures.disk) (c.in-Err.ensures.device (sym c.fail.ensures.error ∙ device))
+
+pub returns-in-Err-clause-no_fault_err : goal.returns-in-Err-clause-no_fault_err
+returns-in-Err-clause-no_fault_err g c = λ other.
+    subst (λ (d : g.row.D.Denot). g.D.Disk.faults d ≡ g.D.Disk.faults (disk_of c.args.self.journal)) (sym c.fail.ensures.disk) (c.in-Err.ensures.no_fault_err (λ is. other (c.fail.ensures.error ∙ is)))
+
+pub returns-in-Err-clause-never_output : goal.returns-in-Err-clause-never_output
+returns-in-Err-clause-never_output g c = λ output. c.in-Err.ensures.never_output (sym c.fail.ensures.error ∙ output)

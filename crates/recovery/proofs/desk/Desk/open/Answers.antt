@@ -1,10 +1,11 @@
-use Rattle.std.proofs.Common.{sym, ◌∙◌, subst}
+use Rattle.std.proofs.Common.{sym, ap, ◌∙◌, subst}
 use Rattle.model.specs.Admitting.{IsLegal}
 use Rattle.model.specs.Giving.{kept}
 use Rattle.model.specs.Histories.{History}
 use Rattle.validator.specs.Setting.{Setting, node_of}
 use Rattle.validator.specs.Standing.{AreAtSound}
 use Rattle.book.specs.Book.{Stands, run_on}
+use Rattle.recovery.specs.Faults.{ended_by}
 use Rattle.recovery.proofs.DeskOpening.{opened_of, only_device, not_opened_of}
 use Rattle.recovery.proofs.desk.Desk.open.Goals as goal
 
@@ -35,3 +36,6 @@ returns-in-Err-clause-err g c =
 
 pub returns-in-Err-clause-device : goal.returns-in-Err-clause-device
 returns-in-Err-clause-device g c = λ is. c.in-Err.ensures.device (only_device c.in-Err.field-0.error (sym c.from.ensures ∙ is))
+
+pub returns-in-Err-clause-no_fault_err : goal.returns-in-Err-clause-no_fault_err
+returns-in-Err-clause-no_fault_err g c = λ other. c.in-Err.ensures.no_fault_err (λ is. other (c.from.ensures ∙ ap ended_by is))

@@ -1,4 +1,4 @@
-use Rattle.std.proofs.Common.{◌≡◌, ap, ◌∙◌}
+use Rattle.std.proofs.Common.{ap, ◌∙◌}
 use Rattle.validator.specs.Setting.{node_of}
 use Rattle.journal.specs.Journal.{disk_of}
 use Rattle.world.specs.Text.{take_in}
@@ -9,4 +9,7 @@ pub returns-in-Err-clause-err : goal.returns-in-Err-clause-err
 returns-in-Err-clause-err g c = λ desk is.
     let node = node_of g.S.Sign.own_key g.S.Sign.signature_of c.args.self.book.validator.setting in
     breaks_at node g.D.Disk.content g.D.Disk.outcome desk (take_in c.args.event) c.fail.result.error c.in-Err.error c.fail.result.disk (disk_of c.args.self.journal) c.fail.ensures.error (c.fail.ensures.disk ∙ ap disk_of c.accept.ensures.same)
-    (same_breaks node g.D.Disk.content g.D.Disk.outcome desk c.args.self.book c.args.self.journal is (take_in c.args.event) c.in-Err.error (λ full. let memory = c.in-Err.ensures.memory in cc))
+    (same_breaks node g.D.Disk.content g.D.Disk.outcome desk c.args.self.book c.args.self.journal is (take_in c.args.event) c.in-Err.error c.in-Err.ensures.memory)
+
+pub returns-in-Err-clause-same_err : goal.returns-in-Err-clause-same_err
+returns-in-Err-clause-same_err g c = c.fail.ensures.disk ∙ ap disk_of c.accept.ensures.same

@@ -40,7 +40,7 @@ returns-then-receipt-clause-submits g c =
     let last = c.catch_up-then-receipt.ensures in
     let home = c.requires.home in
     submits_new c.args.self.now (node_of g.S.Sign.own_key g.S.Sign.signature_of) c.args.locked.now.seat c.args.locked.now.book c.accept.new.self c.args.event home (c.in-Ok.ensures.new c.if-receipt.true)
-    c.args.seat.now.view c.catch_up-then-receipt.new.other.view c.in-Ok.receipt (c.requires.of.start ∙ sym home.of_node.start) (search rules) c.if-receipt.true c.in-Ok.ensures.ticket
+    c.args.seat.now.view c.catch_up-then-receipt.new.other.view c.in-Ok.receipt (c.requires.of.start ∙ sym home.of_node.start) (search rules) c.if-receipt.true c.in-Ok.ensures.ticket c.in-Ok.ensures.limit
     (ap (λ s. s.view.seen) last.other ∙ raised.seen ∙ ap (λ l. l ++ mark c.catch_up.new.seat.view.number g.C.Call.event ∷ []) first.seen ∙ ap (λ e. c.args.locked.now.seat.view.seen ++ mark c.catch_up.new.seat.view.number e ∷ []) c.requires.call ∙ ap (λ n. c.args.locked.now.seat.view.seen ++ mark n c.args.event ∷ []) first.same.number)
     (ap (λ s. s.view.mine) last.other ∙ raised.mine ∙ ap (λ l. l ++ g.C.Call.event ∷ []) first.same.mine ∙ ap (λ e. c.args.seat.now.view.mine ++ e ∷ []) c.requires.call)
 

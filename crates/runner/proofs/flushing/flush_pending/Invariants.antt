@@ -1,0 +1,9 @@
+use Rattle.std.proofs.Common.{◌≡◌}
+use Rattle.journal.specs.Journal.{disk_of}
+use Rattle.flusher.specs.Rounds.{journal_of}
+use Rattle.runner.proofs.flushing.flush_pending.Given as goal
+
+abbrev pub invariant-loop : goal.invariant-loop
+invariant-loop g l =
+    (goal.iterator-loop g).can_next l.iterator' × (goal.iterator-loop g).is_finite l.iterator'
+    × (g.D.Disk.faults (disk_of (journal_of l.rounds.flusher)) ≡ g.D.Disk.faults (disk_of (journal_of l.initial.rounds.flusher)))
