@@ -1,3 +1,4 @@
 pub mod Ends
+pub mod Members
 pub mod Taking
 pub mod Writing

@@ -1,6 +1,7 @@
 //! What is done with the frames.
 
-ghost use Rattle.std.specs.Prelude.{◌≡◌};
+ghost use Rattle.std.specs.Prelude.{◌≡◌, IfOk};
+ghost use Rattle.reception.specs.Makers.{fresh_makers};
 ghost use Rattle.runner.specs.Ends.{told_of_wait};
 
 use crate::bell::Bell;
@@ -32,7 +33,10 @@ impl<'n, 'a, S: Sign> Intake<'n, 'a, S> {
         alloc: Global,
         caller: Caller<'n, 'a, S>,
         pending: &'n Bell,
-    ) -> Result<Intake<'n, 'a, S>, AllocError> {
+    ) -> Result<Intake<'n, 'a, S>, AllocError>
+        ensures caller { IfOk result (λ intake. intake.caller ≡ caller.entry) }
+        ensures makers { IfOk result (λ intake. intake.makers ≡ fresh_makers caller.entry.setting.own caller.entry.setting.charter.workers) }
+    {
         let config = caller.config();
         let makers = Makers::new(alloc, config.committee(), config.own())?;
         Ok(Intake {

@@ -1,5 +1,8 @@
 //! The arguments, and what they name.
 
+ghost use Rattle.std.specs.Prelude.{◌≡◌, ◌≢◌, ℕ, List, Err, IfOk, IfSome, length, slice_get, string_bytes};
+ghost use Rattle.runner.specs.Members.{IsConfigOf};
+
 use committee::{Committee, CommitteeError};
 use filedisk::{FileDisk, OpenError};
 use journal::JournalError;
@@ -20,7 +23,10 @@ pub(crate) fn open_all<R: Files<File = File> + AllocGlobal>(
     rt: &R,
     alloc: Global,
     args: &[String],
-) -> Result<(Config<HashSign>, FileDisk), Ending> {
+) -> Result<(Config<HashSign>, FileDisk), Ending>
+    ensures arguments { length args.now ≢ 3 → result ≡ Err Ending.Usage }
+    ensures member { IfOk result (λ opened. (text : List ℕ) × IfSome (slice_get args.now 1) (λ own. IsConfigOf text (string_bytes own) opened.0)) }
+{
     let [file, own, journal] = args else {
         return Err(Ending::Usage);
     };
@@ -41,7 +47,9 @@ pub(crate) fn open_all<R: Files<File = File> + AllocGlobal>(
 ///
 /// # Errors
 /// `Config` or `Memory` of the text, then `Usage` of a number that is no member's.
-pub(crate) fn config_of(alloc: Global, text: &[u8], own: &str) -> Result<Config<HashSign>, Ending> {
+pub(crate) fn config_of(alloc: Global, text: &[u8], own: &str) -> Result<Config<HashSign>, Ending>
+    ensures ok { IfOk result (λ config. IsConfigOf text.now own.now config) }
+{
     let Ok(text) = str::from_utf8(text) else {
         return Err(Ending::Config(CommitteeError::NotToml));
     };
