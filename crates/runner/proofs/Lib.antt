@@ -1,3 +1,4 @@
 mod Written
 mod Taken
 mod Proposed
+mod Brought

@@ -1,7 +1,12 @@
 //! What is done with the frames.
 
-ghost use Rattle.std.specs.Prelude.{◌≡◌, IfOk};
+ghost use Rattle.std.specs.Prelude.{◌≡◌, ◌≢◌, true, false, None, Ok, IfOk, IfSome, OnOk, OnErr};
+ghost use Rattle.header.specs.Checks.{fault_of};
 ghost use Rattle.reception.specs.Makers.{fresh_makers};
+ghost use Rattle.sigface.specs.Pair.{is_pair_signature};
+ghost use Rattle.startup.specs.Callers.{StaysWith};
+ghost use Rattle.validator.specs.Setting.{node_of};
+ghost use Rattle.runner.specs.Bringing.{Brings, Enters, own_batch};
 ghost use Rattle.runner.specs.Ends.{told_of_wait};
 
 use crate::bell::Bell;
@@ -97,7 +102,13 @@ impl<'n, 'a, S: Sign> Intake<'n, 'a, S> {
         }
     }
 
-    fn submit_batch<R: Wait>(&mut self, rt: &R, batch: Option<Batch>) -> Result<bool, Told> {
+    // Submits a batch of the node's own, if one was given.
+    fn submit_batch<R: Wait>(&mut self, rt: &R, batch: Option<Batch>) -> Result<bool, Told>
+        ensures makers { self.new.makers ≡ self.old.makers }
+        ensures stays { StaysWith self.old.caller self.new.caller }
+        ensures none { batch ≡ None → (result ≡ Ok false) × (self.new ≡ self.old) }
+        ensures some { IfSome batch (λ given. Brings (node_of S.own_key S.signature_of self.old.caller.node.setting) (fault_of self.old.caller.setting.charter is_pair_signature (own_batch self.old.caller.setting.own given)) (own_batch self.old.caller.setting.own given) self.old.caller self.old.waiter self.new.waiter result) }
+    {
         match batch {
             Some(batch) => {
                 let own = self.caller.config().own();
@@ -107,28 +118,38 @@ impl<'n, 'a, S: Sign> Intake<'n, 'a, S> {
         }
     }
 
-    fn submit<R: Wait>(&mut self, rt: &R, sender: Author, message: Message) -> Result<bool, Told> {
-        match self.caller.take(rt, sender, message)? {
-            Taken::New => {
+    fn submit<R: Wait>(&mut self, rt: &R, sender: Author, message: Message) -> Result<bool, Told>
+        ensures makers { self.new.makers ≡ self.old.makers }
+        ensures stays { StaysWith self.old.caller self.new.caller }
+        ensures brings { Brings (node_of S.own_key S.signature_of self.old.caller.node.setting) (fault_of self.old.caller.setting.charter is_pair_signature (record { sender = sender; message = message })) (record { sender = sender; message = message }) self.old.caller self.old.waiter self.new.waiter result }
+    {
+        match self.caller.take(rt, sender, message) {
+            Ok(Taken::New) => {
                 self.pending.ring(rt);
                 Ok(true)
             }
-            Taken::Known => {
+            Ok(Taken::Known) => {
                 self.pending.ring(rt);
                 Ok(false)
             }
-            Taken::Waits(event) => {
-                self.offer(rt, event)?;
-                Ok(false)
-            }
+            Ok(Taken::Waits(event)) => self.offer(rt, event),
+            Err(told) => Err(told),
         }
     }
 
-    // Lets a certificate wait.
-    fn offer<R: Wait>(&mut self, rt: &R, event: Checked) -> Result<(), Told> {
-        self.caller.test_up(rt)?;
+    // Lets a certificate wait. That is no new record.
+    fn offer<R: Wait>(&mut self, rt: &R, event: Checked) -> Result<bool, Told>
+        ensures makers { self.new.makers ≡ self.old.makers }
+        ensures stays { StaysWith self.old.caller self.new.caller }
+        ensures never_new { result ≢ Ok true }
+        ensures ok { OnOk result (Enters event self.old.waiter self.new.waiter) }
+        ensures err { OnErr result (self.new.waiter ≡ self.old.waiter) }
+    {
+        if let Err(told) = self.caller.test_up(rt) {
+            return Err(told);
+        }
         match self.waiter.offer(event) {
-            Ok(()) => Ok(()),
+            Ok(()) => Ok(false),
             Err(refusal) => Err(told_of_wait(refusal)),
         }
     }
