@@ -79,8 +79,8 @@ fn run<R: Env + AllocGlobal + Print + Threads + Wait + Sync>(rt: &R) -> Result<(
 }
 
 fn run_little<R: AllocGlobal + Print + Threads + Wait + Sync>(rt: &R) -> Result<(), Ending> {
-    for (word, count) in LITTLE {
-        let task = sized(rt.alloc(), word, count, None).ok_or(Ending::Usage)?;
+    for (word, count) in &LITTLE {
+        let task = sized(rt.alloc(), word, *count, None).ok_or(Ending::Usage)?;
         tell(rt, word, task)?;
     }
     Ok(())

@@ -146,9 +146,9 @@ const STEPS: [(&str, Step); 5] = [
 ];
 
 fn step_of(word: &str) -> Option<Step> {
-    for (name, step) in STEPS {
-        if name == word {
-            return Some(step);
+    for (name, step) in &STEPS {
+        if *name == word {
+            return Some(*step);
         }
     }
     None
