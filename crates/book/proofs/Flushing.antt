@@ -25,6 +25,10 @@ use Rattle.book.proofs.Lengths.{UpTo}
 begins_take : {X : Type 0} (one other : List X) → Begins one other → take (length one) other ≡ one
 begins_take one other begins = ap (take (length one)) begins.parts ∙ take-append-le (length one) one begins.rest (omega arith) ∙ take_all (length one) one (omega arith)
 
+-- the taken and the pending ones stay as many as were accepted
+pub count_stays : (taken count accepted : ℕ) (pending group left : List (List ℕ)) → IsLongestBeginning pending group left → count ≡ length group → taken + length pending ≡ accepted → taken + count + length left ≡ accepted
+count_stays taken count accepted pending group left longest counts all = omega (arith, counts, all, ap length longest.parts, length-append group left)
+
 take_begins : {X : Type 0} (count : ℕ) (xs : List X) → Begins (take count xs) xs
 take_begins count xs = record { rest = drop count xs; parts = sym (take-append-drop count xs) }
 

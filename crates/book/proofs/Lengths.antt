@@ -1,6 +1,8 @@
 -- How long the order is at which record.
-use Rattle.std.proofs.Common.{◌≡◌, ◌≢◌, ◌⊎◌, ℕ, ◌+◌, ◌≤◌, ◌<◌, List, [], ◌∷◌, ◌++◌, inl, inr, true, false, refl, sym, ap, ◌∙◌, subst, arith}
-use Rattle.std.specs.Prelude.{All, nat_le, Bool, if◌then◌else◌}
+use Rattle.std.proofs.Common.{◌≡◌, ◌≢◌, ◌⊎◌, ℕ, ◌+◌, ◌≤◌, ◌<◌, List, [], ◌∷◌, ◌++◌, length, get_or, drop, Bor, inl, inr, true, false, refl, sym, ap, ◌∙◌, subst, arith}
+use Rattle.std.specs.Prelude.{All, nat_le, Bool, if◌then◌else◌, Option, Some, None, IsSome, IfSome, ◌↔◌}
+use Rattle.std.specs.Option.{option_copied}
+use Rattle.std.proofs.lemmas.Option.{none-some, same_Some}
 use Rattle.std.proofs.lemmas.Bool.{cases_Bool, leb-true, leb-false, le-leb}
 use Rattle.std.proofs.lemmas.List.Elements.{All-cons, All-head, All-tail}
 use Rattle.book.specs.declared.reached.Reached.{Reached}
@@ -62,3 +64,24 @@ ends_at count before items rest next is high =
     not_low : (nat_le next.ticket count ≡ true) ⊎ (nat_le next.ticket count ≡ false) → nat_le next.ticket count ≡ false
     not_low (inl le) = (let under = leb-true next.ticket count le in absurd (omega (arith, under, high)))
     not_low (inr not) = not
+
+-- what was read of the first one is what stands first
+head_is : (items : List Reached) (first : Reached) → 0 < length items → first ≡ get_or items 0 first → items ≡ first ∷ drop 1 items
+head_is [] first some is = absurd (omega (arith, some))
+head_is (r ∷ rest) first some is = ap (λ q. q ∷ rest) (sym is)
+
+pub first_stands : (items rest : List Reached) (front : Option (Bor Reached)) (next : Reached) (len : ℕ) → len ≡ length items → (IsSome front ↔ (0 < len)) → IfSome front (λ x. x.now ≡ get_or items 0 x.now)
+    → option_copied front ≡ Some next → rest ≡ drop 1 items → items ≡ next ∷ rest
+first_stands items rest None next len long some is copied behind = absurd (none-some next copied)
+first_stands items rest (Some x) next len long some is copied behind =
+    let there : 0 < len = some.0 refl in
+    let same : x.now ≡ next = same_Some x.now next copied in
+    let back : drop 1 items ≡ rest = sym behind in
+    head_is items x.now (omega (arith, there, long)) is ∙ (λ i. same i ∷ back i)
+
+-- which says what was said before
+pub left_to : (count later before : ℕ) (items rest : List Reached) (next : Reached) → items ≡ next ∷ rest → next.ticket ≤ count → count ≤ later → length_at later next.length rest ≡ length_at later before items
+left_to count later before items rest next is low le = sym (left_away later before items rest next is (omega (arith, low, le)))
+
+pub said_here : (count before : ℕ) (items rest : List Reached) (next : Reached) (said : ℕ → ℕ) → items ≡ next ∷ rest → count < next.ticket → ((later : ℕ) → count ≤ later → length_at later before items ≡ said later) → before ≡ said count
+said_here count before items rest next said is high all = sym (ends_at count before items rest next is high) ∙ all count (omega arith)

@@ -6,5 +6,6 @@ mod Flushing
 mod Packs
 mod Stepping
 mod Queueing
+mod Recording
 mod Releasing
 mod Accepted

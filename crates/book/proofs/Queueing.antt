@@ -4,7 +4,7 @@ use Rattle.std.specs.Prelude.{All, MatchOption, Option, Some, None, IsSome, is_s
 use Rattle.std.specs.Option.{option_to_list}
 use Rattle.std.proofs.lemmas.List.Elements.{All-cons, All-head, All-tail}
 use Rattle.std.proofs.lemmas.List.{nil_from_length}
-use Rattle.std.proofs.lemmas.Bool.{eq-eqb, true≢false, leb-true}
+use Rattle.std.proofs.lemmas.Bool.{eq-eqb, eqb-true, true≢false, leb-true}
 use Rattle.std.proofs.Math.Dec.{eqb}
 use Rattle.model.specs.Words.{Output}
 use Rattle.world.specs.Steps.{ticketed}
@@ -42,6 +42,19 @@ none_there {X} r items len long some none = nil_from_length items (here (length 
 
 pub some_left : {X : Type 0} (items : List X) (len : ℕ) (empty : Bool) → len ≡ length items → empty ≡ eqb len 0 → empty ≡ false → items ≢ []
 some_left items len empty long is not none = absurd (true≢false (sym (is ∙ eq-eqb len 0 (long ∙ ap length none)) ∙ not))
+
+pub none_left : {X : Type 0} (items : List X) (len : ℕ) (empty : Bool) → len ≡ length items → empty ≡ eqb len 0 → empty ≡ true → items ≡ []
+none_left items len empty long is none = nil_from_length items (sym long ∙ eqb-true len 0 (sym is ∙ none))
+
+-- where the first event has no other output, it leaves with it
+pub last_out : (old rest : List Queued) (first : Queued) (left : List Output) (r : Option Output) → old ≡ first ∷ rest → first.outputs.items ≡ option_to_list r ++ left → left ≡ []
+    → (r ≡ None → first.outputs.items ≡ []) → All HasOutput old
+    → MatchOption r (queue_of old ≡ []) (λ output. (ticket : ℕ) × (queue_of old ≡ record { ticket = ticket; output = output } ∷ queue_of rest))
+last_out old rest first left None was outputs gone none each = absurd (All-head HasOutput first rest (subst (All HasOutput) was each) (none refl))
+last_out old rest first left (Some output) was outputs gone none each = (
+  first.ticket,
+  ap queue_of was ∙ ap (λ l. ticketed first.ticket l ++ queue_of rest) (outputs ∙ ap (λ l. output ∷ l) gone),
+)
 
 -- ---- the head
 

@@ -4,8 +4,8 @@ use Rattle.std.proofs.lemmas.Bool.{and_parts, leb-true}
 use Rattle.std.specs.List.{list_any, filter_map}
 use Rattle.std.specs.Prelude.{◌&&◌, ◌||◌, ◌==◌, ◌%◌, sum, if◌then◌else◌}
 use Rattle.toml.specs.Data.{Data, Members}
-use Rattle.committee.specs.declared.error.CommitteeError.TheVariants.{BadStake}
-use Rattle.committee.specs.Answer.{answer}
+use Rattle.committee.specs.declared.error.CommitteeError.TheVariants.{BadSize, RepeatedKey, BadStake}
+use Rattle.committee.specs.Answer.{has_bad_size, answer}
 use Rattle.committee.specs.File.{members_in, has_stakes, is_size, depth_in, workers_in, batches_in, stakes_in}
 use Rattle.committee.specs.Keys.{key_of, is_no_key, repeats}
 
@@ -25,3 +25,16 @@ pub answer-read : (file : Members) (list : List Data) (stakes : List ℕ) (depth
     → answer file ≡ (if list_any (λ stake. nat_le (2 * sum stakes / 3 + 1) stake) stakes then Err BadStake else Ok (record { keys = filter_map key_of list; stakes = stakes; depth = depth; workers = workers; batches = batches }))
 answer-read file list stakes depth workers batches listed size each distinct deep worked batched staked =
     rw (← listed, size, each, distinct, ← deep, ← worked, ← batched, staked)
+
+-- a list of no committee's length
+pub answer-size : (file : Members) (list : List Data) → Some list ≡ members_in file → is_size (has_stakes file) (length list) ≡ false → answer file ≡ Err BadSize
+answer-size file list listed size = rw (← listed, size)
+
+-- a list of a committee's length
+pub good-size : (file : Members) (list : List Data) → Some list ≡ members_in file → is_size (has_stakes file) (length list) ≡ true → has_bad_size file ≡ false
+good-size file list listed size = rw (← listed, size)
+
+-- a list of keys of which one stands there twice
+pub answer-repeats : (file : Members) (list : List Data) → Some list ≡ members_in file → is_size (has_stakes file) (length list) ≡ true
+    → list_any is_no_key list ≡ false → repeats (filter_map key_of list) ≡ true → answer file ≡ Err RepeatedKey
+answer-repeats file list listed size each repeated = rw (← listed, size, each, repeated)

@@ -5,3 +5,4 @@ pub mod FileLemmas
 pub mod StakeLemmas
 pub mod AnswerLemmas
 pub mod Bits
+pub mod MemoryLemmas

@@ -11,7 +11,7 @@ use Rattle.dag.specs.Graph.{Graph, slots_in}
 use Rattle.dag.specs.declared.answers.Added.{Added}
 use Rattle.dag.specs.declared.answers.Added.TheVariants.{New, Known}
 use Rattle.dag.specs.declared.refusal.DagRefusal.{DagRefusal}
-use Rattle.dag.specs.declared.refusal.DagRefusal.TheVariants.{TooOld, CertConflict, DigestClash, MissingParents}
+use Rattle.dag.specs.declared.refusal.DagRefusal.TheVariants.{Memory, TooOld, CertConflict, DigestClash, MissingParents}
 
 pub record IsNew (graph : Graph) (c : Certificate) : Type 0 where
   pub high : is_low graph.floor c.header.round ≡ false
@@ -41,3 +41,19 @@ answer_held graph c held high there = rw (high, there) refl
 
 pub answer_free : (graph : Graph) (c : Certificate) → is_low graph.floor c.header.round ≡ false → slots_in graph c.header.round c.header.author.0 ≡ None → answer graph c ≡ free_answer graph c
 answer_free graph c high none = rw (high, none) refl
+
+held_or_clash : (digest header : Bool) → ◌≡◌ {A = Result Added DagRefusal} (if not digest then Err CertConflict else if header then Ok Known else Err DigestClash) (Err Memory) → ⊥
+held_or_clash false header is = absurd cc
+held_or_clash true true is = absurd cc
+held_or_clash true false is = absurd cc
+
+of_none : (c : Certificate) (low all : Bool) (slot : Option Certificate)
+    → ◌≡◌ {A = Result Added DagRefusal} (if low then Err TooOld else option_map_or (λ held. held_answer held c) slot (if not all then Err MissingParents else Ok New)) (Err Memory) → ⊥
+of_none c true all slot is = absurd cc
+of_none c false true None is = absurd cc
+of_none c false false None is = absurd cc
+of_none c false all (Some held) is = held_or_clash (same_digest (certificate_digest held.header) (certificate_digest c.header)) (same_header held.header c.header) is
+
+-- an answer is of no refused growth
+pub never_memory : (graph : Graph) (c : Certificate) → answer graph c ≡ Err Memory → ⊥
+never_memory graph c is = of_none c (is_low graph.floor c.header.round) (all_held (slots_in graph) graph.floor c.header) (slots_in graph c.header.round c.header.author.0) is

@@ -1,5 +1,5 @@
 -- The set of those whose certificates have no mark, beside a row that changes.
-use Rattle.std.proofs.Common.{◌≡◌, ◌≢◌, ℕ, zero, suc, ◌+◌, ◌<◌, Bool, true, false, List, [], ◌∷◌, map, length, Option, Some, None, inl, inr, refl, ap, sym, ◌∙◌, arith, slice_set}
+use Rattle.std.proofs.Common.{◌≡◌, ◌≢◌, ℕ, zero, suc, ◌+◌, ◌<◌, Bool, true, false, List, [], ◌∷◌, ◌++◌, map, length, Option, Some, None, inl, inr, refl, ap, sym, ◌∙◌, arith, slice_set}
 use Rattle.std.specs.Prelude.{option_map, not, replicate, if◌then◌else◌, ◌==◌, ◌&&◌, ◌||◌}
 use Rattle.std.specs.Option.{option_map_or}
 use Rattle.std.proofs.lemmas.Bool.{cases_Bool, eqb-true, eqb-false}
@@ -17,6 +17,16 @@ bare_at : (size author : ℕ) → slot_at (replicate size None) author ≡ None
 bare_at zero author = refl
 bare_at (suc size) zero = refl
 bare_at (suc size) (suc author) = bare_at size author
+
+bare_and_one : (size : ℕ) → ◌≡◌ {A = List (Option Entry)} (replicate size None ++ None ∷ []) (replicate (suc size) None)
+bare_and_one zero = refl
+bare_and_one (suc size) = ap (λ row. None ∷ row) (bare_and_one size)
+
+-- one more slot that holds nothing
+pub bare_more : (size : ℕ) → ◌≡◌ {A = List (Option Entry)} (replicate size None ++ None ∷ []) (replicate (size + 1) None)
+bare_more size =
+    let next : suc size ≡ size + 1 = omega arith in
+    bare_and_one size ∙ ap (λ n. replicate n None) next
 
 pub of_nobody : (size : ℕ) (set : MemberSet) → ((author : ℕ) → has set author ≡ false) → IsRow (replicate size None) set
 of_nobody size set none author = none author ∙ ap without_mark (sym (bare_at size author))

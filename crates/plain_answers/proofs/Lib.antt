@@ -1,2 +1,3 @@
+mod Answered
 mod Lasts
 mod Parents

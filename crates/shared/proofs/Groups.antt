@@ -1,7 +1,7 @@
 -- Groups that a flush seat takes and settles.
-use Rattle.std.proofs.Common.{◌≡◌, ℕ, ◌+◌, ◌-◌, ◌≤◌, List, [], ◌∷◌, length, map, take, drop, refl, sym, ap, ◌∙◌, subst, arith}
+use Rattle.std.proofs.Common.{◌≡◌, ℕ, ◌+◌, ◌-◌, ◌≤◌, List, [], length, map, take, drop, refl, sym, ap, ◌∙◌, subst, arith}
 use Rattle.std.specs.Prelude.{Option, Some, IfSome}
-use Rattle.std.proofs.lemmas.List.{take_at, take-append-le, take-map, take_all, length-map, length-drop, length-take-le}
+use Rattle.std.proofs.lemmas.List.{take_at, take-append-le, take-map, take_all, length-map, length-drop}
 use Rattle.laws.specs.Laws.{Begins}
 use Rattle.model.specs.Histories.{History}
 use Rattle.model.specs.Nodes.{Node}
@@ -10,10 +10,10 @@ use Rattle.validator.specs.Setting.{Setting}
 use Rattle.seats.specs.Sights.{Sight}
 use Rattle.seats.specs.Views.{events, IsSame}
 use Rattle.seats.specs.declared.view.Marked.{Marked}
-use Rattle.seats.proofs.Beginnings.{begins_length, begins_whole, begins_same, take_begins}
+use Rattle.seats.proofs.Beginnings.{begins_length, begins_whole, begins_same}
 use Rattle.book.specs.Book.{Shown, Run, Stands, with_taken, with_settled, SettlesNext}
 use Rattle.book.specs.Pending.{IsLongestBeginning}
-use Rattle.shared.specs.Home.{Shared, IsOf, IsAtHome, IsFlushOf, IsTied, TakesNext, taken_by, group_of, run_of}
+use Rattle.shared.specs.Home.{Shared, IsAtHome, IsFlushOf, IsTied, TakesNext, taken_by, group_of, run_of}
 use Rattle.shared.specs.declared.flush_seat.FlushSeat.{FlushSeat}
 use Rattle.shared.proofs.Standing.{of_same, at_home}
 

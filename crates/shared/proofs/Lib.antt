@@ -2,3 +2,4 @@ pub mod Standing
 pub mod Groups
 pub mod Submitted
 pub mod Readings
+pub mod Tied

@@ -1,5 +1,5 @@
 -- What a new vote on an own header comes to.
-use Rattle.std.proofs.Common.{◌≡◌, ℕ, Bool, true, false, List, [], ◌∷◌, ◌++◌, length, drop, Option, Some, None, inl, inr, refl, ap, sym, ◌∙◌}
+use Rattle.std.proofs.Common.{◌≡◌, ℕ, Bool, true, false, List, [], ◌∷◌, ◌++◌, length, drop, Option, Some, None, ◌⊎◌, inl, inr, refl, ap, sym, ◌∙◌}
 use Rattle.std.specs.Prelude.{not, ◌==◌, nat_le, map, if◌then◌else◌}
 use Rattle.std.specs.Option.{option_map_or, option_to_list}
 use Rattle.std.specs.Str.{bytes_eq}
@@ -22,7 +22,7 @@ use Rattle.model.specs.Words.{Certificate, Digest, Event, Vote}
 use Rattle.machine.specs.Laws.{LowIsToTheFloor}
 use Rattle.machine.specs.Machine.{answered, grown, certificate_of}
 use Rattle.assemblies.specs.Headers.{Headers, assembly_at, answer_in}
-use Rattle.assemblies.specs.Laws.{VoteComesTo}
+use Rattle.assemblies.specs.Laws.{VoteComesTo, added_by}
 use Rattle.admission.proofs.Answering.{answered_as}
 use Rattle.tables.specs.Standing.{Meets}
 use Rattle.tables.specs.declared.tables.Tables.{Tables}
@@ -88,3 +88,10 @@ outputs_without node state event vote before came comes is same =
     ap (λ m. vote_outputs node state (grown node state m) vote.round) (sym came)
     ∙ ap (λ (o : Option Certificate). map output.Certificate (option_to_list o) ++ order_outputs state (grown node state event.message)) (comes.completed ∙ is)
     ∙ nothing_ordered state (grown node state event.message) same
+
+-- a new vote is counted, or completes a certificate
+pub counted_or_complete : (found : Option Certificate) → (added_by found ≡ Again) ⊎ (added_by found ≡ NotOurs) → ⊥
+counted_or_complete None (inl is) = cc
+counted_or_complete None (inr is) = cc
+counted_or_complete (Some certificate) (inl is) = cc
+counted_or_complete (Some certificate) (inr is) = cc

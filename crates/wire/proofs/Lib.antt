@@ -3,3 +3,4 @@ pub mod Joining
 pub mod Transactions
 pub mod DigestLemmas
 mod Lengths
+pub mod Pieces

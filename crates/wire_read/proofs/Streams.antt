@@ -1,15 +1,18 @@
 -- A stream is frames in one way, and frames behind frames are frames.
-use Rattle.std.proofs.Common.{◌≡◌, ℕ, ◌+◌, ◌≤◌, List, [], ◌∷◌, ◌++◌, length, take, drop, drop-drop, refl, sym, ap, subst, ◌∙◌, append_assoc, arith}
+use Rattle.std.proofs.Common.{◌≡◌, ℕ, ◌+◌, ◌-◌, ◌≤◌, List, [], ◌∷◌, ◌++◌, length, take, drop, drop-drop, refl, sym, ap, subst, ◌∙◌, append_assoc, arith}
+use Rattle.std.specs.Prelude.{All, Vec, Option, Some, None}
+use Rattle.std.specs.Option.{MatchOption}
+use Rattle.std.specs.declared.alloc.Global.{Global}
 use Rattle.std.specs.List.{flat_map, AllByRecursion}
 use Rattle.std.specs.Int.{w32, to_be_bytes}
-use Rattle.std.proofs.lemmas.List.{take_at, drop_at, take-append-drop, length-append, length-take}
+use Rattle.std.proofs.lemmas.List.{take_at, drop_at, take_all, take-append-drop, length-append, length-take, length-drop, map-append}
 use Rattle.std.proofs.lemmas.List.Concat.{flat_map-cons}
-use Rattle.std.proofs.lemmas.List.Elements.{All-append, recursion_from_All}
+use Rattle.std.proofs.lemmas.List.Elements.{All-append, All-push, recursion_from_All}
 use Rattle.std.proofs.lemmas.Grind.{flat_map-append}
 use Rattle.std.proofs.lemmas.Nat.{from_be_bytes-to_be_bytes_4}
 use Rattle.wire_read.proofs.Steps.{IsBytes, IsBytes-take}
 use Rattle.wire_read.proofs.Fields.{wide32}
-use Rattle.wire_read.specs.Frames.{IsFrameBody, frame, length_field, IsPartial, IsTooLong, stream_of, Splits, Breaks}
+use Rattle.wire_read.specs.Frames.{IsFrameBody, frame, length_field, IsPartial, IsTooLong, stream_of, bodies_bytes, Splits, Breaks}
 
 -- a frame at the front tells how long its body is
 field_is : (body rest : List ℕ) → IsFrameBody body → length_field (frame body ++ rest) ≡ length body
@@ -96,3 +99,43 @@ framed bytes body fits long whole is =
     let rest : drop (4 + length body) bytes ≡ drop n (drop 4 bytes) = ap (λ (k : ℕ). drop (4 + k) bytes) len ∙ sym (drop-drop n 4 bytes) in
     let back : body ++ drop (4 + length body) bytes ≡ drop 4 bytes = rw (rest, is) (take-append-drop n (drop 4 bytes)) in
     sym (ap (λ (l : List ℕ). l ++ (body ++ drop (4 + length body) bytes)) head ∙ ap (λ (l : List ℕ). take 4 bytes ++ l) back ∙ take-append-drop 4 bytes)
+
+-- ---- one more frame
+
+-- what is left of a stream, whose length is known
+left : (stream : List ℕ) (taken : ℕ) → taken ≤ length stream → take (length stream - taken) (drop taken stream) ≡ drop taken stream
+left stream taken within = take_all (length stream - taken) (drop taken stream) (omega (arith, length-drop taken stream))
+
+-- where a body was found there, it is one more
+pub one_more : {B : Type 0} (now : B → List ℕ) (stream : List ℕ) (bodies more : List (Vec ℕ Global)) (copy : Vec ℕ Global) (taken : ℕ) (found : Option B) (body : B)
+    → (taken ≤ length stream) × (stream ≡ stream_of (bodies_bytes bodies) (drop taken stream)) × All IsFrameBody (bodies_bytes bodies)
+    → MatchOption found (IsPartial (take (length stream - taken) (drop taken stream)))
+    (λ b. IsFrameBody (now b) × (take (length stream - taken) (drop taken stream) ≡ frame (now b) ++ drop (4 + length (now b)) (take (length stream - taken) (drop taken stream))))
+    → found ≡ Some body → more ≡ bodies ++ copy ∷ [] → copy.items ≡ now body
+    → (taken + (4 + length (now body)) ≤ length stream) × (stream ≡ stream_of (bodies_bytes more) (drop (taken + (4 + length (now body))) stream)) × All IsFrameBody (bodies_bytes more)
+one_more {B} now stream bodies more copy taken found body until whole is longer same =
+    let n = 4 + length (now body) in
+    let rest = drop taken stream in
+    let before = bodies_bytes bodies in
+    let there = subst (λ (o : Option B). MatchOption o (IsPartial (take (length stream - taken) rest)) (λ b. IsFrameBody (now b) × (take (length stream - taken) rest ≡ frame (now b) ++ drop (4 + length (now b)) (take (length stream - taken) rest)))) is whole in
+    let front : rest ≡ frame (now body) ++ drop n rest = subst (λ (l : List ℕ). l ≡ frame (now body) ++ drop n l) (left stream taken until.0) there.1 in
+    let after : drop n rest ≡ drop (taken + n) stream = drop-drop n taken stream in
+    let bytes : bodies_bytes more ≡ before ++ now body ∷ [] = ap bodies_bytes longer ∙ map-append (λ (b : Vec ℕ Global). b.items) bodies (copy ∷ []) ∙ ap (λ (b : List ℕ). before ++ b ∷ []) same in
+    let joint : stream ≡ stream_of (before ++ now body ∷ []) (drop (taken + n) stream) =
+    until.1 ∙ ap (λ (l : List ℕ). flat_map frame before ++ l) (front ∙ ap (λ (l : List ℕ). frame (now body) ++ l) after ∙ sym (cons (now body) [] (drop (taken + n) stream)))
+    ∙ sym (append_assoc (flat_map frame before) (flat_map frame (now body ∷ [])) (drop (taken + n) stream)) ∙ ap (λ (l : List ℕ). l ++ drop (taken + n) stream) (sym (flat_map-append frame before (now body ∷ []))) in (
+      omega (arith, ap length front, framed_len (now body) (drop n rest), length-drop taken stream, until.0),
+      joint ∙ ap (λ (l : List (List ℕ)). stream_of l (drop (taken + n) stream)) (sym bytes),
+      subst (All IsFrameBody) (sym bytes) (All-push IsFrameBody before (now body) until.2 there.0),
+    )
+
+-- and where none was, the rest is less than a whole one
+pub no_more : {B : Type 0} (is_body : B → Type 0) (stream : List ℕ) (bodies : List (List ℕ)) (taken : ℕ) (found : Option B)
+    → taken ≤ length stream → stream ≡ stream_of bodies (drop taken stream) → All IsFrameBody bodies
+    → MatchOption found (IsPartial (take (length stream - taken) (drop taken stream))) is_body → found ≡ None
+    → Splits stream bodies (drop taken stream)
+no_more {B} is_body stream bodies taken found within so_far each whole is = record {
+  whole = so_far;
+  each = each;
+  partial = subst IsPartial (left stream taken within) (subst (λ (o : Option B). MatchOption o (IsPartial (take (length stream - taken) (drop taken stream))) is_body) is whole);
+}

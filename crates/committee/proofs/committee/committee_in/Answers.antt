@@ -6,7 +6,7 @@ use Rattle.toml.specs.Data.{get_member}
 use Rattle.toml.specs.View.{view, table_view}
 use Rattle.committee.specs.Keys.{key_of, repeats}
 use Rattle.committee.specs.File.{is_size, has_stakes, stakes_in}
-use Rattle.committee.proofs.AnswerLemmas.{size-bounds, answer-read}
+use Rattle.committee.proofs.AnswerLemmas.{size-bounds, answer-read, answer-size, good-size, answer-repeats}
 use Rattle.committee.proofs.ElementLemmas.{length-read}
 use Rattle.committee.proofs.KeyLemmas.{distinct-keys}
 use Rattle.committee.proofs.FileLemmas.{limit-bounds}
@@ -62,3 +62,32 @@ invariant_of-result c =
       workers = limit-bounds 1 16 1 (get_member (codes "workers") file) _ (omega arith) (omega arith) c.in-Some-Some-Some.ensures';
       batches = limit-bounds 1 1048576 1048576 (get_member (codes "batches") file) _ (omega arith) (omega arith) c.in-Some-Some-Some.ensures'';
     }
+
+pub returns-then-not-is_size-clause-refused : goal.returns-then-not-is_size-clause-refused
+returns-then-not-is_size-clause-refused c _ =
+    let file = table_view c.args.table.now in
+    let list = map view c.in-Some.elements.now in
+    let size : is_size (has_stakes file) (length list) ≡ false = ap (λ n. is_size (has_stakes file) n) (length-map c.in-Some.elements.now view) ∙ sym (c.if-not-is_size.ensures ∙ ap (λ s. is_size s (length c.in-Some.elements.now)) c.has_stakes.ensures) in
+    answer-size file list c.in-Some.ensures size
+
+pub returns-in_err-keys-clause-memory : goal.returns-in_err-keys-clause-memory
+returns-in_err-keys-clause-memory c _ =
+    let file = table_view c.args.table.now in
+    let list = map view c.in-Some.elements.now in
+    let size : is_size (has_stakes file) (length list) ≡ true = ap (λ n. is_size (has_stakes file) n) (length-map c.in-Some.elements.now view) ∙ sym (c.if-not-is_size.ensures ∙ ap (λ s. is_size s (length c.in-Some.elements.now)) c.has_stakes.ensures) in
+    good-size file list c.in-Some.ensures size
+
+pub returns-in_err-stakes-clause-memory : goal.returns-in_err-stakes-clause-memory
+returns-in_err-stakes-clause-memory c _ =
+    let file = table_view c.args.table.now in
+    let list = map view c.in-Some.elements.now in
+    let size : is_size (has_stakes file) (length list) ≡ true = ap (λ n. is_size (has_stakes file) n) (length-map c.in-Some.elements.now view) ∙ sym (c.if-not-is_size.ensures ∙ ap (λ s. is_size s (length c.in-Some.elements.now)) c.has_stakes.ensures) in
+    good-size file list c.in-Some.ensures size
+
+pub returns-then-repeats-clause-refused : goal.returns-then-repeats-clause-refused
+returns-then-repeats-clause-refused c _ =
+    let file = table_view c.args.table.now in
+    let list = map view c.in-Some.elements.now in
+    let size : is_size (has_stakes file) (length list) ≡ true = ap (λ n. is_size (has_stakes file) n) (length-map c.in-Some.elements.now view) ∙ sym (c.if-not-is_size.ensures ∙ ap (λ s. is_size s (length c.in-Some.elements.now)) c.has_stakes.ensures) in
+    let repeated : repeats (filter_map key_of list) ≡ true = cc (c.if-repeats.ensures, c.deref.ensures.value, c.in_ok-keys.ensures.keys) in
+    answer-repeats file list c.in-Some.ensures size c.in_ok-keys.ensures.each repeated

@@ -49,3 +49,32 @@ pub returns-clause-records : goal.returns-clause-records
 returns-clause-records g c =
     let bytes_are : c.deref.result.now ≡ g.D.Disk.content c.args.disk.now = c.deref.ensures.value ∙ c.in_ok-bytes.ensures.bytes ∙ c.sync.ensures.content in
     ap stands (sym bytes_are) ∙ scan_ok c.deref.result.now (c.in_ok-records.records.items, c.in_ok-records.gate) c.in_ok-records.ensures.ok
+
+pub returns-in_err-sync-clause-any_moment : goal.returns-in_err-sync-clause-any_moment
+returns-in_err-sync-clause-any_moment g c =
+    let old = c.args.disk.now in
+    let P : List ℕ → Type 0 = StandsAsOneOf (g.D.Disk.outcome old) in
+    let clock = g.D.Disk.clock in
+    let since = g.D.Disk.outcome_since in
+    let at_start = started clock since old P (λ left now. (left, g.met.D.Disk.only_now old left now, refl)) in
+    goes_on clock since old old c.sync.new.self P (g.D.Disk.outcome c.sync.new.self) at_start c.sync.ensures.time (λ left now. (left, c.sync.ensures.outcomes left now, refl))
+
+pub returns-in_err-bytes-clause-any_moment : goal.returns-in_err-bytes-clause-any_moment
+returns-in_err-bytes-clause-any_moment g c =
+    let old = c.args.disk.now in
+    let P : List ℕ → Type 0 = StandsAsOneOf (g.D.Disk.outcome old) in
+    let clock = g.D.Disk.clock in
+    let since = g.D.Disk.outcome_since in
+    let at_start = started clock since old P (λ left now. (left, g.met.D.Disk.only_now old left now, refl)) in
+    let one = goes_on clock since old old c.sync.new.self P (g.D.Disk.outcome c.sync.new.self) at_start c.sync.ensures.time (λ left now. (left, c.sync.ensures.outcomes left now, refl)) in
+    joins clock since old c.sync.new.self c.read_all.new.disk P (g.D.Disk.outcome c.sync.new.self) one c.read_all.ensures.any_moment (λ left now. (left, c.sync.ensures.outcomes left now, refl))
+
+pub returns-in_err-records-clause-any_moment : goal.returns-in_err-records-clause-any_moment
+returns-in_err-records-clause-any_moment g c =
+    let old = c.args.disk.now in
+    let P : List ℕ → Type 0 = StandsAsOneOf (g.D.Disk.outcome old) in
+    let clock = g.D.Disk.clock in
+    let since = g.D.Disk.outcome_since in
+    let at_start = started clock since old P (λ left now. (left, g.met.D.Disk.only_now old left now, refl)) in
+    let one = goes_on clock since old old c.sync.new.self P (g.D.Disk.outcome c.sync.new.self) at_start c.sync.ensures.time (λ left now. (left, c.sync.ensures.outcomes left now, refl)) in
+    joins clock since old c.sync.new.self c.read_all.new.disk P (g.D.Disk.outcome c.sync.new.self) one c.read_all.ensures.any_moment (λ left now. (left, c.sync.ensures.outcomes left now, refl))

@@ -1,5 +1,5 @@
-use Rattle.std.proofs.Common.{◌≡◌, [], ap, sym, ◌∙◌, length}
-use Rattle.std.proofs.lemmas.Bool.{eqb-true}
+use Rattle.std.proofs.Common.{◌≡◌, ℕ, List, [], Result, Ok, Err, ap, sym, ◌∙◌, length}
+use Rattle.std.proofs.lemmas.Bool.{eqb-true, eqb-false}
 use Rattle.std.proofs.lemmas.List.{nil_from_length}
 use Rattle.std.proofs.lemmas.Result.{err_from_is_err_and}
 use Rattle.journal.specs.Format.{stands}
@@ -11,6 +11,11 @@ use Rattle.recovery.proofs.Moments.{started}
 use Rattle.recovery.proofs.Telling.{told_same, told_records, tells_same, stands_same, ones_from}
 use Rattle.recovery.proofs.reopening.validator_on.Goals as goal
 use Rattle.recovery.proofs.reopening.validator_on.Goals.{then-is_empty+in_ok-write_configuration, else-is_empty}
+
+-- how many records were read
+abbrev length_read : {X E : Type 0} → Result (List X) E → ℕ
+length_read (Ok xs) = length xs
+length_read (Err _) = 0
 
 pub returns-in_err-validator-clause-err : goal.returns-in_err-validator-clause-err
 returns-in_err-validator-clause-err g c =
@@ -25,6 +30,11 @@ returns-clause-stands g c =
     let node = node_of g.S.Sign.own_key g.S.Sign.signature_of c.args.config.now in
     let file = g.D.Disk.content (disk_of c.args.journal.now) in
     stands_same node (read_journal node c.args.records.now) (told node file) c.in_ok-validator.validator.tables (sym (told_records node file c.args.records.now c.requires.records)) c.in_ok-validator.ensures.stands
+
+pub write_configuration-requires-clause-empty : goal.write_configuration-requires-clause-empty
+write_configuration-requires-clause-empty g c =
+    let none : c.args.records.now ≡ [] = nil_from_length c.args.records.now (eqb-true (length c.args.records.now) 0 (sym c.is_empty.ensures ∙ c.if-is_empty.true)) in
+    c.requires.records ∙ ap Ok none
 
 pub write_configuration-requires-clause-ones : goal.write_configuration-requires-clause-ones
 write_configuration-requires-clause-ones g c =
@@ -59,4 +69,27 @@ returns-clause-texts_left g c =
     elim c.if-is_empty.branch [
       | then-is_empty+in_ok-write_configuration w ↦ rw w.journal-is w.in_ok-write_configuration.ensures.texts
       | else-is_empty w ↦ rw w.journal-is (same_texts file c.args.records.now c.requires.records c.in_ok-validator.ensures.texts)
+    ]
+
+pub returns-clause-alive : goal.returns-clause-alive
+returns-clause-alive g c =
+    elim c.if-is_empty.branch [
+      | then-is_empty+in_ok-write_configuration w ↦ rw w.journal-is w.in_ok-write_configuration.ensures.alive
+      | else-is_empty w ↦ rw w.journal-is c.requires.alive
+    ]
+
+pub returns-clause-no_fault : goal.returns-clause-no_fault
+returns-clause-no_fault g c =
+    elim c.if-is_empty.branch [
+      | then-is_empty+in_ok-write_configuration w ↦ ap (λ j. g.D.Disk.faults (disk_of j)) w.journal-is ∙ w.in_ok-write_configuration.ensures.no_fault
+      | else-is_empty w ↦ ap (λ j. g.D.Disk.faults (disk_of j)) w.journal-is
+    ]
+
+pub returns-clause-configured : goal.returns-clause-configured
+returns-clause-configured g c =
+    elim c.if-is_empty.branch [
+      | then-is_empty+in_ok-write_configuration w ↦ rw w.journal-is w.in_ok-write_configuration.ensures.configured
+      | else-is_empty w ↦
+          rw w.journal-is
+          (λ none. eqb-false (length c.args.records.now) 0 (sym c.is_empty.ensures ∙ w.if-is_empty.false) (ap length_read (sym c.requires.records ∙ none)))
     ]

@@ -1,4 +1,7 @@
 use Rattle.std.proofs.Common.{◌≡◌, ◌≢◌, ◌+◌, ◌≤◌, ℕ, List, [], ◌∷◌, ◌++◌, length, None, refl, sym, ap, ◌∙◌, subst, arith, length-append}
+use Rattle.std.specs.Prelude.{All}
+use Rattle.std.proofs.lemmas.Bool.{true≢false}
+use Rattle.book.specs.Queue.{HasOutput}
 use Rattle.wire.specs.Grammar.{IsMessage}
 use Rattle.header.specs.Checks.{fault_of, accepts_all}
 use Rattle.std.specs.Prelude.{Result, Ok}
@@ -116,3 +119,65 @@ returns-in-Err-clause-refused g c =
     let before : Shown g.row.S.Denot = record { validator = b.validator; pending = b.pending; queue = queue_of b.queue.items; accepted = b.accepted; taken = b.taken; settled = b.settled; ordered = b.ordered; reached = b.reached.items; down = b.down } in
     subst (λ (s : Shown g.row.S.Denot). (run : Run) → Stands (node_of g.S.Sign.own_key g.S.Sign.signature_of s.validator.setting) run s → MayRefuse (node_of g.S.Sign.own_key g.S.Sign.signature_of s.validator.setting) run s event c.in-Err.refusal) c.self.view_is
     (λ run at. may_refuse node run before event c.in-Err.refusal (c.in-Err.ensures.admits (history_in run) at.legal at.at) c.in-Err.ensures.never_down)
+
+pub returns-in-Ok-New-clause-setting : goal.returns-in-Ok-New-clause-setting
+returns-in-Ok-New-clause-setting g c = c.step.ensures.setting ∙ ap (λ (s : Shown g.row.S.Denot). s.validator.setting) c.self.view_is
+
+pub returns-in-Ok-Known-clause-setting : goal.returns-in-Ok-Known-clause-setting
+returns-in-Ok-Known-clause-setting g c = c.step.ensures.setting ∙ ap (λ (s : Shown g.row.S.Denot). s.validator.setting) c.self.view_is
+
+pub returns-in-Err-clause-setting : goal.returns-in-Err-clause-setting
+returns-in-Err-clause-setting g c = c.step.ensures.setting ∙ ap (λ (s : Shown g.row.S.Denot). s.validator.setting) c.self.view_is
+
+pub returns-in_err-make_room-clause-setting : goal.returns-in_err-make_room-clause-setting
+returns-in_err-make_room-clause-setting g c = ap (λ (s : Shown g.row.S.Denot). s.validator.setting) c.self.view_is
+
+pub returns-in-Ok-New-clause-known : goal.returns-in-Ok-New-clause-known
+returns-in-Ok-New-clause-known g c = λ no. absurd (true≢false no)
+
+pub returns-in-Ok-Known-clause-new : goal.returns-in-Ok-Known-clause-new
+returns-in-Ok-Known-clause-new g c = λ yes. absurd (true≢false (sym yes))
+
+pub invariant_of-self-in-Ok-Known : goal.invariant_of-self-in-Ok-Known
+invariant_of-self-in-Ok-Known g c =
+    let left : c.take_back.new.self ≡ c.self.inside.pending = c.take_back.ensures c.self.inside.pending (record_of c.args.event) c.in_ok-make_room.ensures.ok in
+    (c.self.invariant.0, ap (λ (l : List (List ℕ)). c.self.inside.taken + length l) left ∙ c.self.invariant.1, c.enqueue-in-Ok-Known.ensures.each)
+
+pub invariant_of-self-in-Err : goal.invariant_of-self-in-Err
+invariant_of-self-in-Err g c =
+    let left : c.take_back-in-Err.new.self ≡ c.self.inside.pending = c.take_back-in-Err.ensures c.self.inside.pending (record_of c.args.event) c.in_ok-make_room.ensures.ok in
+    (c.self.invariant.0, ap (λ (l : List (List ℕ)). c.self.inside.taken + length l) left ∙ c.self.invariant.1, subst (All HasOutput) (sym c.make_room.ensures.queue) c.self.invariant.2)
+
+pub enqueue-requires-clause-room : goal.enqueue-requires-clause-room
+enqueue-requires-clause-room g c = c.in_ok-make_room.ensures.queue_room
+
+pub enqueue-requires-in-Ok-Known-clause-room : goal.enqueue-requires-in-Ok-Known-clause-room
+enqueue-requires-in-Ok-Known-clause-room g c = c.in_ok-make_room.ensures.queue_room
+
+pub note_order-requires : goal.note_order-requires
+note_order-requires g c = record { room = c.in_ok-make_room.ensures.reached_room }
+
+pub enqueue-requires-clause-each : goal.enqueue-requires-clause-each
+enqueue-requires-clause-each g c = subst (All HasOutput) (sym c.make_room.ensures.queue) c.self.invariant.2
+
+pub enqueue-requires-in-Ok-Known-clause-each : goal.enqueue-requires-in-Ok-Known-clause-each
+enqueue-requires-in-Ok-Known-clause-each g c = subst (All HasOutput) (sym c.make_room.ensures.queue) c.self.invariant.2
+
+pub returns-in-Ok-Known-clause-ticket : goal.returns-in-Ok-Known-clause-ticket
+returns-in-Ok-Known-clause-ticket g c = refl
+
+pub returns-in-Ok-Known-clause-limit : goal.returns-in-Ok-Known-clause-limit
+returns-in-Ok-Known-clause-limit g c = c.self.invariant.0
+
+pub take_back-requires : goal.take_back-requires
+take_back-requires g c = (c.self.inside.pending, record_of c.args.event, c.in_ok-make_room.ensures.ok, sym c.record_len-len.ensures.len)
+
+pub take_back-requires-in-Err : goal.take_back-requires-in-Err
+take_back-requires-in-Err g c = (c.self.inside.pending, record_of c.args.event, c.in_ok-make_room.ensures.ok, sym c.record_len-len.ensures.len)
+
+pub returns-in-Err-clause-err : goal.returns-in-Err-clause-err
+returns-in-Err-clause-err g c =
+    let b = c.self.inside in
+    let before : Shown g.row.S.Denot = record { validator = b.validator; pending = b.pending; queue = queue_of b.queue.items; accepted = b.accepted; taken = b.taken; settled = b.settled; ordered = b.ordered; reached = b.reached.items; down = b.down } in
+    let later : Shown g.row.S.Denot = record before { validator = c.step.new.self; pending = c.take_back-in-Err.new.self; queue = queue_of c.make_room.new.queue.items; reached = c.make_room.new.reached.items } in
+    queue_alone before later before.queue (c.in-Err.ensures.same refl) (c.take_back-in-Err.ensures b.pending (record_of c.args.event) c.in_ok-make_room.ensures.ok) (ap queue_of c.make_room.ensures.queue) c.make_room.ensures.reached refl refl refl refl refl ∙ c.self.view_is

@@ -6,7 +6,7 @@ use Rattle.validator.specs.Setting.{node_of}
 use Rattle.book.specs.Queue.{queue_of}
 use Rattle.book.specs.Pending.{IsLongestBeginning}
 use Rattle.book.specs.Book.{Shown, Run, Stands, with_taken}
-use Rattle.book.proofs.Flushing.{stands_taken, records_taken}
+use Rattle.book.proofs.Flushing.{count_stays, stands_taken, records_taken}
 use Rattle.book.proofs.book.Book.take.Goals as goal
 
 pub returns-clause-stands : goal.returns-clause-stands
@@ -32,3 +32,12 @@ returns-clause-records g c =
     let longest = subst (λ (o : Option (List (List ℕ))). IfSome o (λ group. IsLongestBeginning b.pending group left)) c.in-Some.is c.in_ok-group.ensures.group in
     subst (λ (s : Shown g.row.S.Denot). (run : Run) → Stands (node_of g.S.Sign.own_key g.S.Sign.signature_of s.validator.setting) run s → group ≡ map record_of (drop (length run.taken) (take (length run.taken + length group) run.accepted))) c.self.view_is
     (λ run at. records_taken node run before later at group longest)
+
+pub invariant_of-self-2 : goal.invariant_of-self-2
+invariant_of-self-2 g c =
+    let b = c.self.inside in
+    let longest = subst (λ (o : Option (List (List ℕ))). IfSome o (λ group. IsLongestBeginning b.pending group c.take.new.self)) c.in-Some.is c.in_ok-group.ensures.group in
+    (c.self.invariant.0, count_stays b.taken c.records_count.result b.accepted b.pending c.in-Some.group c.take.new.self longest c.records_count.ensures.value c.self.invariant.1, c.self.invariant.2)
+
+pub returns-clause-taken : goal.returns-clause-taken
+returns-clause-taken g c = λ i. record (c.self.view_is i) { pending = c.take.new.self; taken = (c.self.view_is i).taken + c.records_count.ensures.value i }

@@ -1,11 +1,27 @@
-use Rattle.std.proofs.Common.{◌≡◌, ◌<◌, ◌∙◌, ℕ, Bool, true, length, inl, inr, ap, arith}
+use Rattle.std.proofs.Common.{◌≡◌, ◌<◌, ◌∙◌, ℕ, Bool, true, length, inl, inr, ap, sym, arith}
 use Rattle.std.specs.Prelude.{is_some, nat_lt, ◌&&◌}
 use Rattle.committee.specs.Sets.{has}
+use Rattle.committee.specs.declared.sets.MemberSet.{MemberSet}
 use Rattle.laws.proofs.Lists.{given_or_none}
 use Rattle.dag.specs.Graph.{Graph, slots_in}
 use Rattle.dag.proofs.Entries.{of_members}
-use Rattle.dag.proofs.Looking.{all_in}
+use Rattle.dag.proofs.Looking.{all_in, one_in, one_out, some_copied}
 use Rattle.dag.proofs.dag.Dag.authors_at.Goals as goal
+use Rattle.dag.proofs.dag.Dag.authors_at.Goals.{then-is_some, else-is_some}
+
+pub loop-author-preserved : goal.loop-author-preserved
+loop-author-preserved c other =
+    let next = c.loop-author.author in
+    let test : ℕ → Bool = λ a. is_some (slots_in c.args.self.now c.args.round a) in
+    let tested : test next ≡ c.is_some.result = ap is_some (sym c.get.ensures) ∙ some_copied c.get.result ∙ sym c.is_some.ensures in
+    elim c.if-is_some.branch [
+      | then-is_some w ↦
+          ap (λ (s : MemberSet). has s other) w.authors-is ∙ w.insert.ensures other
+          ∙ one_in test next other (has c.loop-author.authors other) (c.loop-author.invariant other) (tested ∙ w.if-is_some.true)
+      | else-is_some w ↦
+          ap (λ (s : MemberSet). has s other) w.authors-is
+          ∙ one_out test next other (has c.loop-author.authors other) (c.loop-author.invariant other) (tested ∙ w.if-is_some.false)
+    ]
 
 pub returns : goal.returns
 returns c other =

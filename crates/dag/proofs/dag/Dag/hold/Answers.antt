@@ -1,11 +1,12 @@
-use Rattle.std.proofs.Common.{◌≡◌, ◌-◌, ◌∙◌, Some, length, ap, sym, refl, subst, false, true}
+use Rattle.std.proofs.Common.{◌≡◌, ◌<◌, ◌-◌, ◌∙◌, Some, [], length, ap, sym, refl, subst, false, true, arith}
+use Rattle.std.specs.Prelude.{All, get_or}
 use Rattle.model.specs.Holdings.{all_held}
 use Rattle.dag.specs.Changes.{IsWith}
 use Rattle.dag.specs.Graph.{Graph, slots_in}
 use Rattle.dag.specs.Kept.{Rows, graph_of, IsKept}
 use Rattle.dag.specs.declared.entry.Entry.{Entry}
 use Rattle.dag.proofs.Answering.{is_new}
-use Rattle.dag.proofs.Inserting.{Enters, extended, entered, is_near, kept_with, is_with}
+use Rattle.dag.proofs.Inserting.{Enters, extended, entered, is_near, long_enough, full_row, kept_with, is_with}
 use Rattle.dag.proofs.Slots.{set_slot}
 use Rattle.dag.proofs.dag.Dag.hold.Goals as goal
 
@@ -78,3 +79,25 @@ returns-clause-ok c =
     let with : IsWith (graph_of charter inside.floor inside.base rows) (graph_of charter inside.floor inside.base c.put.new.rows.items) x =
     subst (λ l. IsWith (graph_of charter inside.floor inside.base rows) (graph_of charter inside.floor inside.base l) x) (sym all) (is_with charter inside.floor inside.base rows entry enters) in
     subst (λ (g : Graph). IsWith g (graph_of charter inside.floor inside.base c.put.new.rows.items) x) c.self.view_is with
+
+pub reached_by-requires-clause-held : goal.reached_by-requires-clause-held
+reached_by-requires-clause-held c =
+    let fresh = is_new c.args.self.now c.args.certificate c.requires.new in
+    fresh.held
+
+pub put-requires-clause-row : goal.put-requires-clause-row
+put-requires-clause-row c =
+    let place = c.slot_of-place.result.0 in
+    subst (λ (l : Rows). place < length l) (sym c.in_ok-extend.ensures.ok) (long_enough c.size-size.result c.self.inside.rows.items place)
+
+pub put-requires-clause-slot : goal.put-requires-clause-slot
+put-requires-clause-slot c =
+    let inside = c.self.inside in
+    let rows = inside.rows.items in
+    let place = c.slot_of-place.result.0 in
+    let author = c.slot_of-place.result.1 in
+    let size = c.size-size.ensures.value in
+    let full = full_row c.size-size.result rows place (subst (λ n. All (λ row. length row ≡ n) rows) (sym size) c.self.invariant.full) in
+    let is : author.0 ≡ c.args.certificate.header.author.0 = ap (λ p. p.1.0) c.slot_of-place.ensures.value in
+    let member : c.args.certificate.header.author.0 < length inside.committee.now.keys = rw (← c.self.view_is) at c.requires.member in
+    subst (λ (l : Rows). author.0 < length (get_or l place [])) (sym c.in_ok-extend.ensures.ok) (omega (arith, full, is, size, member))

@@ -1,4 +1,5 @@
-use Rattle.std.proofs.Common.{rules, ◌∷◌, [], ◌++◌, sym, ap, ◌∙◌, subst}
+use Rattle.std.proofs.Common.{rules, ◌∷◌, [], ◌++◌, length, sym, ap, ◌∙◌, subst}
+use Rattle.std.proofs.lemmas.List.{length-map}
 use Rattle.model.specs.Admitting.{IsLegal}
 use Rattle.model.specs.Words.{Event}
 use Rattle.validator.specs.Setting.{node_of, Setting}
@@ -56,3 +57,11 @@ returns-else-receipt-clause-submits g c =
     let home = c.requires.home in
     submits_known c.args.self.now (node_of g.S.Sign.own_key g.S.Sign.signature_of) c.args.locked.now.seat c.args.locked.now.book c.accept.new.self c.args.event home (c.in-Ok.ensures.known c.if-receipt.false)
     c.args.seat.now.view c.catch_up.new.seat.view c.in-Ok.receipt (c.requires.of.start ∙ sym home.of_node.start) (search rules) c.if-receipt.false c.in-Ok.ensures.ticket first.seen first.same.mine
+
+pub catch_up-requires-clause-count : goal.catch_up-requires-clause-count
+catch_up-requires-clause-count g c =
+    sym (length-map c.args.locked.now.seat.view.seen (λ one. one.event)) ∙ sym c.requires.home.stands.accepted ∙ sym c.accepted-count.ensures.value
+
+pub raise-requires-clause-seen : goal.raise-requires-clause-seen
+raise-requires-clause-seen g c =
+    ap length c.catch_up.ensures.seen ∙ sym (length-map c.args.locked.now.seat.view.seen (λ one. one.event)) ∙ sym c.requires.home.stands.accepted ∙ sym c.accepted-count.ensures.value

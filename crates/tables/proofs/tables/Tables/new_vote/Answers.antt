@@ -1,4 +1,4 @@
-use Rattle.std.proofs.Common.{ap, sym, ◌∙◌}
+use Rattle.std.proofs.Common.{◌≡◌, ◌⊎◌, ap, sym, ◌∙◌, subst}
 use Rattle.wire.specs.declared.message.Message.TheVariants as message
 use Rattle.model.specs.Admitting.{vote_outputs}
 use Rattle.model.specs.Histories.{as_coin}
@@ -8,7 +8,8 @@ use Rattle.dag.specs.Graph.{slots_in}
 use Rattle.tables.specs.Decisions.{vote_decision, known_outputs}
 use Rattle.tables.proofs.Answering.{vote_answered}
 use Rattle.tables.proofs.Closing.{comes_of, new_is_told}
-use Rattle.tables.proofs.Voting.{outputs_without}
+use Rattle.tables.proofs.Voting.{outputs_without, counted_or_complete}
+use Rattle.certify.specs.declared.added.Added.TheVariants as added
 use Rattle.tables.proofs.tables.Tables.new_vote.Goals as goal
 
 pub returns-in-Counted-clause-outputs : goal.returns-in-Counted-clause-outputs
@@ -22,3 +23,17 @@ returns-in-Counted-clause-outputs c = λ node state event meets new.
     new_is_told _ (vote_outputs node state (grown node state (message.Vote vote)) vote.round) (known_outputs (slots_in tables.sequencer.graph vote.round tables.own.0)) (vote_decision tables vote)
     (vote_answered c.votes_agree.ensures node state event tables vote meets) new
     ∙ ap admission.New (outputs_without node state event vote tables.headers meets.message is none (sym beside.sequence.order ∙ meets.at.sequence.order) ∙ sym c.new.ensures.items)
+
+pub answer-requires : goal.answer-requires
+answer-requires c =
+    let meets = c.requires.meets in
+    let comes = comes_of meets.0 meets.1 meets.2 c.args.self.now (message.Vote c.args.vote) meets.3 meets.4 in
+    let is = c.vote_comes.ensures meets.0 meets.1 meets.2 c.args.vote c.args.self.now.headers comes c.limits_hold.ensures meets.3.at.headers meets.3.message in
+    record { member = is.member }
+
+pub unreachable-requires : goal.unreachable-requires
+unreachable-requires c =
+    let meets = c.requires.meets in
+    let comes = comes_of meets.0 meets.1 meets.2 c.args.self.now (message.Vote c.args.vote) meets.3 meets.4 in
+    let is = c.vote_comes.ensures meets.0 meets.1 meets.2 c.args.vote c.args.self.now.headers comes c.limits_hold.ensures meets.3.at.headers meets.3.message in
+    counted_or_complete _ (subst (λ a. (a ≡ added.Again) ⊎ (a ≡ added.NotOurs)) (c.in_ok-certificate.ensures ∙ is.answer) c.in-Again.is)
