@@ -11,4 +11,4 @@ mod script_lines;
 mod settings;
 mod shown;
 
-pub use playing::{disk_after, output_after, run};
+pub use playing::{disk_after, run, vote_after};

@@ -12,7 +12,7 @@ use script::{Command, Labels};
 use std::alloc::Global;
 use std::io::{self, Read, Write};
 use std::sync::Wait;
-use wire::Output;
+use wire::{Output, Vote};
 
 /// Runs the script that is read, and writes a line for each command. Where several lines of the script are there, their
 /// answers may be written together, but always before more input is waited for. Answers the exit status: 0, or 2 after
@@ -55,9 +55,12 @@ pub fn disk_after<R: Wait>(rt: &R, alloc: Global, script: &[u8]) -> Option<MemDi
     Some(left_by(rt, alloc, script)?.disk)
 }
 
-/// The output that may go out next after a script, if there is one.
-pub fn output_after<R: Wait>(rt: &R, alloc: Global, script: &[u8]) -> Option<Output> {
-    left_by(rt, alloc, script)?.output
+/// The vote that may go out next after a script; nothing where it is another output or none, or the script isn't run to its end.
+pub fn vote_after<R: Wait>(rt: &R, alloc: Global, script: &[u8]) -> Option<Vote> {
+    match left_by(rt, alloc, script)?.output? {
+        Output::Vote(vote) => Some(vote),
+        _ => None,
+    }
 }
 
 fn left_by<R: Wait>(rt: &R, alloc: Global, script: &[u8]) -> Option<Left> {

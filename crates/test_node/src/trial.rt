@@ -6,11 +6,11 @@ use crate::scripts::Script;
 use crate::words::{Told, bad, put, put_len, put_number, put_text};
 use header::check;
 use sigface::HashVerify;
-use simulator::{disk_after, output_after, run};
+use simulator::{disk_after, run, vote_after};
 use std::alloc::Global;
 use std::cell::Cell;
 use std::sync::Wait;
-use wire::{Author, Message, Output};
+use wire::{Author, Message, Vote};
 
 /// A line behind `|` is one of the script. The other commands change how it is run, or run it.
 pub fn obey_script<R: Wait>(
@@ -116,21 +116,18 @@ fn journal<R: Wait>(rt: &R, alloc: Global, script: &Script, answer: &mut String)
     }
 }
 
-// Whether what may go out after the script is a vote that passes the checks.
+// Whether a vote may go out after the script, and passes the checks.
 fn vote<R: Wait>(rt: &R, alloc: Global, script: &Script, answer: &mut String) {
-    match output_after(rt, alloc, &script.bytes) {
-        Some(output) if passes(alloc, &output) => put(answer, "passes\n"),
+    match vote_after(rt, alloc, &script.bytes) {
+        Some(vote) if passes(alloc, vote) => put(answer, "passes\n"),
         Some(_) => put(answer, "fails\n"),
-        None => put(answer, "nothing goes out\n"),
+        None => put(answer, "no vote goes out\n"),
     }
 }
 
-fn passes(alloc: Global, output: &Output) -> bool {
-    let Output::Vote(vote) = output else {
-        return false;
-    };
+fn passes(alloc: Global, vote: Vote) -> bool {
     match committee_of(alloc) {
-        Ok(committee) => check(&committee, &HashVerify, Author(0), Message::Vote(*vote)).is_ok(),
+        Ok(committee) => check(&committee, &HashVerify, Author(0), Message::Vote(vote)).is_ok(),
         Err(_) => false,
     }
 }
