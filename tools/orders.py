@@ -1,5 +1,5 @@
 #!/usr/bin/env python3
-"""Writes cases for the end of crates/test_parts/stdin: certificates and coins in the order in which they come to a node, and what they commit.
+"""Writes cases for the end of the parts in crates/test_core/stdin: certificates and coins in the order in which they come to a node, and what they commit.
 
     tools/orders.py [--segments] > CASES
 
@@ -101,6 +101,7 @@ class Played:
     def case(self, title):
         self.look()
         print('== %s' % title)
+        print('parts')
         print('# %d commits, at most %d leaders at once, %d certificates ordered that came late' % (self.commits, self.longest, self.late))
         print('committee %s | depth = %d' % (' '.join(map(str, self.stakes)), self.depth))
         print('play ' + ' '.join(self.words))

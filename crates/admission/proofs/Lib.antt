@@ -4,3 +4,17 @@ pub mod Behind
 pub mod Answering
 pub mod Voting
 pub mod Beginning
+pub mod Looking
+pub mod NewThere
+pub mod HeaderVotes
+pub mod HeadersBehind
+pub mod HeaderComing
+pub mod VoteComing
+mod Beside
+mod Deciding
+mod Closing
+mod Committing
+mod Answered
+mod VoteCounting
+mod Heading
+mod Readying

@@ -2,3 +2,8 @@ pub mod Answers
 pub mod Batches
 pub mod Votes
 pub mod Laws
+pub mod Headers
+pub mod HeaderLaws
+pub mod Standing
+pub mod Decisions
+pub mod Behind

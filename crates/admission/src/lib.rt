@@ -1,16 +1,17 @@
-//! What a validator's tables answer events, and how they go on behind new ones: the batches, and the votes for the headers
-//! of others. What is right is the machine that the contracts name.
+//! A validator's tables, and what each event comes to there: the batches, the votes for the headers of others, the own
+//! headers with the votes on them, the certificates with the coins and the order. What is right is the machine that the
+//! contracts name.
 #![tactic(auto)]
 
+mod assemblies;
 mod batches;
 mod facts;
 mod step;
+mod tables;
 mod votes;
 
-pub use batches::{is_new_ack, is_new_batch, may_name_all, name_all, take_ack, take_batch};
-pub use facts::{
-    batches_read, batches_stay, nameable_agrees, starts_empty, vote_is_kept, votes_stay,
-};
+pub use assemblies::{Assemblies, votes_agree};
+pub use facts::nameable_agrees;
 pub use model::Refusal;
 pub use step::Step;
-pub use votes::keep_vote;
+pub use tables::{Tables, others_are_ready};

@@ -1,3 +1,4 @@
+pub mod OnTheWay
 mod Drafts
 mod Due
 mod Lengths

@@ -3,3 +3,4 @@ pub mod OneDraft
 pub mod Queue
 pub mod Book
 pub mod Steps
+pub mod OnTheWay

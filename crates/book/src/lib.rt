@@ -1,9 +1,10 @@
 //! The value under the lock: the validator, the records that were accepted and not yet taken, and the
-//! outputs, each with the number of records that it rests on.
+//! outputs, each with the number of records that it rests on. The same with one owner, who needs no lock.
 #![tactic(auto)]
 
 mod book;
 mod draft;
+mod own;
 mod pending;
 mod queue;
 mod reached;
@@ -11,6 +12,7 @@ mod record;
 mod steps;
 
 pub use book::{Book, MAX_ACCEPTED, Receipt, limits_in_numbers};
+pub use own::{FlushError, OwnBook};
 pub use record::EVENT_RECORD;
 pub use steps::{accept_is_a_step, release_is_a_step, settle_is_a_step, take_is_a_step};
 pub use validator::Refusal;

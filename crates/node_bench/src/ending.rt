@@ -1,10 +1,10 @@
 //! What ends a run before its work is done.
 
+use book::FlushError;
 use committee::CommitteeError;
 use flusher::FlushError as RoundError;
 use header::CheckError;
 use journal::{Failed, JournalError};
-use ownbook::FlushError;
 use std::alloc::{AllocError, AllocFailed};
 use std::io;
 use validator::Refusal;

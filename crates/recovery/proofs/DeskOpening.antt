@@ -10,7 +10,7 @@ use Rattle.model.specs.Admitting.{IsLegal}
 use Rattle.model.specs.Giving.{kept}
 use Rattle.model.specs.Histories.{History}
 use Rattle.model.specs.Nodes.{Node}
-use Rattle.tables.specs.declared.tables.Tables.{Tables}
+use Rattle.admission.specs.declared.tables.Tables.{Tables}
 use Rattle.validator.specs.Standing.{AreAtSound}
 use Rattle.world.specs.Text.{Desk, desk_on, settled_in, stop, after}
 use Rattle.book.specs.Book.{Shown, Stands, run_on}

@@ -14,7 +14,7 @@ use Rattle.recovery.specs.Laws.{StandsForAt, HoldsAt, IsNoRefusal}
 use Rattle.recovery.specs.Told.{IsText, HasTexts, told, Tells, StandsAt}
 use Rattle.recovery.proofs.Laws.{found_records}
 use Rattle.recovery.proofs.Telling.{told_records, told_damaged}
-use Rattle.tables.specs.declared.tables.Tables.{Tables}
+use Rattle.admission.specs.declared.tables.Tables.{Tables}
 
 -- the tables stand where the bytes stand, if the records behind the first are bytes
 pub stands_for_at : (node : Node) (bytes : List ℕ) (records : List Record) (tables : Tables) → stands bytes ≡ Ok records → All IsText (drop 1 records) → StandsAt node (told node bytes) tables

@@ -24,7 +24,7 @@ use Rattle.admission.specs.declared.step.Step.{Step}
 use Rattle.admission.specs.declared.step.Step.TheVariants.{New, Known}
 use Rattle.machine.specs.Machine.{fresh}
 use Rattle.records.specs.Records.{configuration_of}
-use Rattle.tables.specs.declared.tables.Tables.{Tables}
+use Rattle.admission.specs.declared.tables.Tables.{Tables}
 use Rattle.validator.specs.Standing.{AreAtSound}
 use Rattle.wire.specs.Reading.{Faults, message_of}
 use Rattle.wire.specs.declared.error.WireError.{WireError}

@@ -8,7 +8,7 @@ use Rattle.model.specs.Giving.{kept}
 use Rattle.model.specs.Histories.{History}
 use Rattle.model.specs.Nodes.{Node, IsNode}
 use Rattle.recovery.specs.Told.{told}
-use Rattle.tables.specs.declared.tables.Tables.{Tables}
+use Rattle.admission.specs.declared.tables.Tables.{Tables}
 use Rattle.validator.specs.Standing.{AreAtSound}
 use Rattle.world.specs.Promise.{IsRecovered}
 use Rattle.world.specs.Runs.{AreKeys}

@@ -23,7 +23,7 @@ use Rattle.model.specs.declared.refusal.Refusal.TheVariants as refusals
 use Rattle.records.specs.Records.{configuration_of}
 use Rattle.recovery.specs.declared.configuration.TheConstants.{SETTINGS_BYTES, KEY_BYTES}
 use Rattle.recovery.specs.declared.events.TheConstants.{EVENT, FRONT_BYTES}
-use Rattle.tables.specs.declared.tables.Tables.{Tables}
+use Rattle.admission.specs.declared.tables.Tables.{Tables}
 use Rattle.validator.specs.Standing.{AreAtSound}
 use Rattle.wire.specs.Reading.{message_of}
 use Rattle.wire.specs.declared.error.WireError.{WireError}

@@ -7,7 +7,7 @@ use Rattle.model.specs.Histories.{History}
 use Rattle.model.specs.Nodes.{Node}
 use Rattle.model.specs.Words.{Digest, Signature}
 use Rattle.wire.specs.declared.keys.Key.{Key}
-use Rattle.tables.specs.declared.tables.Tables.{Tables}
+use Rattle.admission.specs.declared.tables.Tables.{Tables}
 use Rattle.validator.specs.Setting.{Setting, node_of}
 use Rattle.validator.specs.Standing.{AreAtSound}
 use Rattle.world.specs.World.{Holds}

@@ -1,56 +1,92 @@
-//! The tests of a disk over a file, of the simulator, of the runner, and of the node that threads share with its flusher: a case file
-//! of all of these.
+//! The tests of all that needs a disk: of the disks, the journal and the book, of openings and scripts of a node, of lists of
+//! random steps, of the node that threads share, and of the programs. A case file of all of these.
 #![tactic(auto)]
 
-mod answers;
-mod crowd;
-mod disks;
-mod ending;
-mod failing;
-mod file_runs;
-mod folder;
-mod holding;
-mod journals;
-mod makers;
-mod runs;
-mod script_ends;
-mod scripts;
-mod streams;
-mod subjects;
-mod threads;
-mod trial;
-mod words;
+mod live;
+mod store;
 
-use cases::{Ending, Player};
+use cases::{Ending, Player, Subject};
+use live::Case;
+use std::alloc::AllocError;
 use std::fs::File;
 use std::io::{self, BufRead, BufReader, Write};
 use std::process::ExitCode;
 use std::rt::Files;
 use std::sync::Wait;
 use std::thread::Threads;
-use subjects::Case;
+use store::{FOUR, StoreCases, laws_hold, own_config};
+
+/// What the cases are put to.
+#[derive(Drop)]
+struct Cases<'a> {
+    store: StoreCases<'a>,
+    case: Case,
+    /// The case is one of the store.
+    has_store: bool,
+}
+
+impl Cases<'_> {
+    fn begin(&mut self) -> Result<(), AllocError> {
+        self.has_store = false;
+        self.case.begin();
+        self.store.begin("")
+    }
+
+    /// `store` begins a case of the store.
+    fn obey<R>(&mut self, rt: &R, command: &str, answer: &mut String) -> Result<(), AllocError>
+    where
+        R: Files<File = File> + AllocGlobal + Threads + Wait + Sync,
+    {
+        if self.has_store {
+            return self.store.obey(command, answer);
+        }
+        if command == "store" {
+            self.has_store = true;
+            return Ok(());
+        }
+        self.case.obey(rt, command, answer)
+    }
+}
 
 fn main(rt: HostRuntime) -> ExitCode {
+    laws_hold();
     let Ok(reader) = BufReader::new(rt.alloc(), rt.reader()) else {
         return ExitCode::FAILURE;
     };
     let player = Player::new(rt.alloc(), reader, io::writer(&rt));
-    match play_all(&rt, player) {
+    match tested(&rt, player, io::writer(&rt)) {
         Ok(true) => ExitCode::SUCCESS,
         _ => ExitCode::FAILURE,
     }
 }
 
-// The commands start threads, so that they are played here and not by `cases::play`.
-fn play_all<R, I, W>(rt: &R, mut player: Player<I, W>) -> Result<bool, Ending>
+/// Plays the cases, and prints the report of the lists behind them.
+fn tested<R, I, W>(rt: &R, player: Player<I, W>, mut writer: W) -> Result<bool, Ending>
 where
     R: Files<File = File> + AllocGlobal + Threads + Wait + Sync,
     I: BufRead + Drop,
     W: Write + Drop,
 {
-    let mut case = Case::new(rt.alloc());
+    let config = own_config(rt.alloc(), &FOUR)?;
+    let mut cases = Cases {
+        store: StoreCases::new(rt.alloc(), &config)?,
+        case: Case::new(rt.alloc()),
+        has_store: false,
+    };
+    let right = play_all(rt, player, &mut cases)?;
+    writer.write_all(cases.store.report())?;
+    Ok(right)
+}
+
+// The commands start threads, so that they are played here and not by `cases::play`.
+fn play_all<R, I, W>(rt: &R, mut player: Player<I, W>, cases: &mut Cases) -> Result<bool, Ending>
+where
+    R: Files<File = File> + AllocGlobal + Threads + Wait + Sync,
+    I: BufRead + Drop,
+    W: Write + Drop,
+{
     for _ in 0..u64::MAX {
-        if !play_next(rt, &mut player, &mut case)? {
+        if !play_next(rt, &mut player, cases)? {
             break;
         }
     }
@@ -58,7 +94,7 @@ where
 }
 
 // Plays the next title or command; says whether there was one.
-fn play_next<R, I, W>(rt: &R, player: &mut Player<I, W>, case: &mut Case) -> Result<bool, Ending>
+fn play_next<R, I, W>(rt: &R, player: &mut Player<I, W>, cases: &mut Cases) -> Result<bool, Ending>
 where
     R: Files<File = File> + AllocGlobal + Threads + Wait + Sync,
     I: BufRead + Drop,
@@ -68,20 +104,20 @@ where
         return Ok(false);
     }
     if player.is_title() {
-        case.begin();
+        cases.begin()?;
     } else {
-        play_command(rt, player, case)?;
+        play_command(rt, player, cases)?;
     }
     Ok(true)
 }
 
-fn play_command<R, I, W>(rt: &R, player: &mut Player<I, W>, case: &mut Case) -> Result<(), Ending>
+fn play_command<R, I, W>(rt: &R, player: &mut Player<I, W>, cases: &mut Cases) -> Result<(), Ending>
 where
     R: Files<File = File> + AllocGlobal + Threads + Wait + Sync,
     I: BufRead + Drop,
     W: Write + Drop,
 {
     let mut answer = String::new(rt.alloc());
-    case.obey(rt, player.command(), &mut answer)?;
+    cases.obey(rt, player.command(), &mut answer)?;
     player.answered(answer.as_str())
 }

@@ -13,7 +13,7 @@ use Rattle.machine.specs.Machine.{proposed, round_in}
 use Rattle.batchstore.specs.Stock.{Stock, nameable}
 use Rattle.dag.specs.Graph.{Graph, size_in, slots_in}
 use Rattle.sequencer.specs.Sequence.{Sequence}
-use Rattle.assemblies.specs.Headers.{Headers, header_in}
+use Rattle.admission.specs.Headers.{Headers, header_in}
 use Rattle.validator.specs.Proposing.{AreAt, free_round, header_in_round, parents_in}
 use Rattle.validator.proofs.Fitting.{mapped_filter}
 

@@ -20,9 +20,9 @@ use Rattle.machine.specs.Machine.{answered, after}
 use Rattle.admission.specs.Answers.{IsAnswer, is_new_step}
 use Rattle.admission.specs.declared.step.Step.{Step}
 use Rattle.admission.specs.declared.step.Step.TheVariants as step
-use Rattle.tables.specs.Standing.{Meets, MeetSome, has_parents}
+use Rattle.admission.specs.Standing.{Meets, MeetSome, has_parents}
 use Rattle.validator.specs.Standing.{AreAtSound, StandSomewhere, AnswersEvent, GoOnBehind, GoesOn}
-use Rattle.tables.specs.declared.tables.Tables.{Tables}
+use Rattle.admission.specs.declared.tables.Tables.{Tables}
 
 -- an event with this message meets them
 pub met : (node : Node) (state : State) (event : Event) (tables : Tables) (came : Message) → Meets node state event tables event.message → event.message ≡ came

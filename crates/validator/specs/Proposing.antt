@@ -13,8 +13,8 @@ use Rattle.batchstore.specs.Stock.{Stock, nameable}
 use Rattle.dag.specs.Graph.{Graph, size_in, slots_in}
 use Rattle.sequencer.specs.Sequence.{Sequence}
 use Rattle.sequencer.specs.Sequence as sequencer
-use Rattle.assemblies.specs.Headers.{Headers, header_in}
-use Rattle.assemblies.specs.Headers as assemblies
+use Rattle.admission.specs.Headers.{Headers, header_in}
+use Rattle.admission.specs.Headers as assemblies
 use Rattle.admission.specs.Batches.{HasBatches}
 
 -- a number is that of a round for which a header may still be made: there is such a round, and it has no own header

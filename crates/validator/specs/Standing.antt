@@ -14,8 +14,8 @@ use Rattle.machine.specs.Machine.{answered, after}
 use Rattle.machine.specs.Sound.{IsSound}
 use Rattle.admission.specs.Answers.{IsAnswer, RefusesAs}
 use Rattle.admission.specs.declared.step.Step.{Step}
-use Rattle.tables.specs.Standing.{AreAt, Meets}
-use Rattle.tables.specs.declared.tables.Tables.{Tables}
+use Rattle.admission.specs.Standing.{AreAt, Meets}
+use Rattle.admission.specs.declared.tables.Tables.{Tables}
 use Rattle.validator.specs.Setting.{Setting}
 
 -- a validator: what it is set up with, and its tables

@@ -5,11 +5,11 @@ ghost use Rattle.model.specs.Admitting.{is_new};
 ghost use Rattle.model.specs.Nodes.{Node};
 ghost use Rattle.model.specs.States.{State};
 ghost use Rattle.machine.specs.Machine.{answered};
-ghost use Rattle.tables.specs.Standing.{Meets, MeetSome};
+ghost use Rattle.admission.specs.Standing.{Meets, MeetSome};
 
 use crate::taking::given;
+use admission::Tables;
 use header::Checked;
-use tables::Tables;
 use wire::Message;
 
 /// Whether an event would be new at tables. It takes no memory.

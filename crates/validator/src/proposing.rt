@@ -8,8 +8,7 @@ ghost use Rattle.validator.specs.Proposing.{AreAt, free_round as free_in, header
 
 use crate::making::signed;
 use crate::parents::parents_of;
-use admission::nameable_agrees;
-use assemblies::Assemblies;
+use admission::{Assemblies, nameable_agrees};
 use batchstore::BatchStore;
 use dag::Dag;
 use sequencer::Sequencer;

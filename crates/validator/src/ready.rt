@@ -4,11 +4,11 @@ ghost use Rattle.std.specs.Prelude.{◌≡◌};
 ghost use Rattle.model.specs.Nodes.{Node};
 ghost use Rattle.model.specs.States.{State};
 ghost use Rattle.machine.specs.Machine.{is_ready};
-ghost use Rattle.tables.specs.Standing.{Meets, MeetSome};
+ghost use Rattle.admission.specs.Standing.{Meets, MeetSome};
 
 use crate::taking::given;
+use admission::{Tables, others_are_ready};
 use header::Checked;
-use tables::Tables;
 use wire::Message;
 
 /// Whether an event is ready at tables: its answer isn't that a parent is missing.
@@ -16,7 +16,7 @@ pub(crate) fn is_ready(tables: &Tables, event: &Checked) -> bool
     requires meets { MeetSome tables.now event.now.message }
     ensures { (node : Node) (state : State) → Meets node state event.now tables.now event.now.message → result ≡ is_ready node state event.now }
 {
-    tables::others_are_ready();
+    others_are_ready();
     match event.message() {
         Message::Header(header) => {
             let digest = given(event.header_digest().copied());

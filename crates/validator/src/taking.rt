@@ -2,14 +2,13 @@
 
 ghost use Rattle.std.specs.Prelude.{◌≡◌, ◌≢◌, true, false, None, Some};
 ghost use Rattle.admission.specs.Answers.{is_new_step};
-ghost use Rattle.tables.specs.Standing.{MeetSome};
+ghost use Rattle.admission.specs.Standing.{MeetSome};
 ghost use Rattle.validator.specs.Standing.{AnswersEvent, RefusesEvent, GoOnBehind};
 
-use admission::{Refusal, Step};
+use admission::{Refusal, Step, Tables};
 use header::Checked;
 use sigface::Sign;
 use std::alloc::Global;
-use tables::Tables;
 use wire::{Digest, Message};
 
 /// The digest of a message that has one.

@@ -20,13 +20,12 @@ use crate::newness::is_new;
 use crate::proposing::propose;
 use crate::ready::is_ready;
 use crate::taking::take;
-use admission::{Refusal, Step};
+use admission::{Refusal, Step, Tables, votes_agree};
 use committee::Committee;
 use header::Checked;
 use sigface::Sign;
 use std::alloc::{AllocError, Global};
 use std::marker::Model;
-use tables::Tables;
 use wire::{Author, Digest, Header, Round};
 
 /// A validator without a disk. It answers events, keeps what it has to, and orders. Contracts see its configuration and
@@ -170,7 +169,7 @@ impl<'a, S: Sign> Validator<'a, S> {
         ensures history { (history : History) → AreAtSound (node_of S.own_key S.signature_of self.now.setting) self.now.tables (kept (node_of S.own_key S.signature_of self.now.setting) history)
             → result ≡ unless_low (floor_of (node_of S.own_key S.signature_of self.now.setting) history) round (voted_digest history round author.0) }
     {
-        assemblies::votes_agree();
+        votes_agree();
         self.tables.voted(author, round)
     }
 

@@ -1,5 +1,5 @@
 use Rattle.std.proofs.Common.{ap, sym, ◌∙◌}
-use Rattle.tables.specs.Standing.{has_parents}
+use Rattle.admission.specs.Standing.{has_parents}
 use Rattle.validator.proofs.Meeting.{no_parents}
 use Rattle.validator.proofs.ready.is_ready.Goals as goal
 

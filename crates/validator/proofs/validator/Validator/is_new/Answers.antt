@@ -7,7 +7,7 @@ use Rattle.model.specs.Giving.{kept}
 use Rattle.model.specs.Nodes.{Node}
 use Rattle.model.specs.States.{State}
 use Rattle.model.specs.Words.{Message}
-use Rattle.tables.specs.declared.tables.Tables.{Tables}
+use Rattle.admission.specs.declared.tables.Tables.{Tables}
 use Rattle.validator.specs.Setting.{node_of}
 use Rattle.validator.specs.Standing.{AreAtSound}
 use Rattle.validator.proofs.Meeting.{meets_at}

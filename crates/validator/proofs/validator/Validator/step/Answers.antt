@@ -10,8 +10,8 @@ use Rattle.model.specs.Nodes.{Node}
 use Rattle.model.specs.States.{State}
 use Rattle.model.specs.Words.{Digest, Message, Signature}
 use Rattle.admission.specs.Answers.{IsAnswer, RefusesAs}
-use Rattle.tables.specs.Standing.{Meets}
-use Rattle.tables.specs.declared.tables.Tables.{Tables}
+use Rattle.admission.specs.Standing.{Meets}
+use Rattle.admission.specs.declared.tables.Tables.{Tables}
 use Rattle.validator.specs.Setting.{node_of}
 use Rattle.validator.specs.Standing.{AreAtSound, GoesOn}
 use Rattle.validator.proofs.NeverDown.{never_down, comes_up}

@@ -1,0 +1,140 @@
+-- What a table has at a round, by the entries of its tree.
+use Rattle.std.proofs.Common.{◌≡◌, ℕ, ◌<◌, true, cond, List, [], ◌∷◌, length, Option, Some, None, refl, sym, ap, ◌∙◌, subst, inl, inr, arith}
+use Rattle.std.specs.Prelude.{◌==◌, IsSome, filter, find, map, nat_le, nat_lt, option_map, if◌then◌else◌}
+use Rattle.std.specs.BTreeMap.{BTreeMap, WritesThrough, get_by, is_at}
+use Rattle.std.specs.List.Sorted.{IsStrictlySortedBy}
+use Rattle.std.specs.Map.{lookup}
+use Rattle.std.specs.Option.{option_map_or}
+use Rattle.std.specs.Ordering.{nat_cmp}
+use Rattle.std.proofs.lemmas.Bool.{cases_Bool, cases_lt, eqb-true}
+use Rattle.std.proofs.lemmas.Grind.{common_steps}
+use Rattle.std.proofs.lemmas.Map.Entries.{lookup-filter-keys}
+use Rattle.std.proofs.lemmas.Option.{none-some}
+use Rattle.wire.specs.declared.header.Vote.{Vote}
+use Rattle.committee.specs.Charter.{Charter, IsCharter}
+use Rattle.certify.specs.Answer.{answer}
+use Rattle.certify.specs.Assembled.{Assembled}
+use Rattle.certify.specs.declared.added.Added.TheVariants.{NotOurs}
+use Rattle.admission.specs.Headers.{Headers, assembly_at, answer_in, IsEntry, IsHeaders, IsWith, IsForgotten}
+
+-- two numbers compare alike where they are one
+pub is_at-same : (one other : ℕ) → is_at (nat_cmp one) other ≡ (other == one)
+is_at-same one other = grind (arith, common_steps)
+
+-- what a tree's look-up finds is what the table has
+pub found : (entries : List (ℕ × Assembled)) (round : ℕ) → lookup (is_at (nat_cmp round)) entries ≡ option_map (λ entry. entry.1) (find (λ entry. entry.0 == round) entries)
+found [] round = refl
+found (e ∷ es) round =
+    elim (cases_Bool (e.0 == round)) [
+      | inl here ↦ rw (is_at-same round e.0, here) refl
+      | inr apart ↦ rw (is_at-same round e.0, apart) (found es round)
+    ]
+
+-- so where a table is these entries, at a number that is the round
+pub looked : (inside headers : Headers) (number round : ℕ) (o : Option Assembled) → o ≡ lookup (is_at (nat_cmp number)) inside.rounds → number ≡ round → inside ≡ headers → assembly_at headers round ≡ o
+looked inside headers number round o is same view =
+    ap (λ h. assembly_at h round) (sym view) ∙ ap (assembly_at inside) (sym same) ∙ sym (found inside.rounds number) ∙ sym is
+
+-- ---- changes
+
+-- entries of which those of a key are others
+pub updated : (old new : List (ℕ × Assembled)) (key : ℕ) (held : Option Assembled)
+    → ((other : ℕ) → lookup (is_at (nat_cmp other)) new ≡ cond (is_at (nat_cmp key) other) held (lookup (is_at (nat_cmp other)) old))
+    → (charter : Charter) (own : ℕ) → IsWith (record { charter = charter; own = own; rounds = old }) (record { charter = charter; own = own; rounds = new }) key held
+updated old new key held more charter own = record {
+  charter = refl;
+  own = refl;
+  rounds = λ other.
+      sym (found new other) ∙ more other ∙ ap (λ b. cond b held (lookup (is_at (nat_cmp other)) old)) (is_at-same key other)
+      ∙ ap (cond (other == key) held) (found old other);
+}
+
+above : (last round : ℕ) (o : Option Assembled) → cond (nat_lt last round) o None ≡ (if nat_le round last then None else o)
+above last round o =
+    elim (cases_lt last round) [
+      | inl less ↦ grind (arith, less, common_steps)
+      | inr not ↦ grind (arith, not, common_steps)
+    ]
+
+key_is : (round key last : ℕ) → is_at (nat_cmp round) key ≡ true → nat_lt last key ≡ nat_lt last round
+key_is round key last at = ap (nat_lt last) (eqb-true key round (sym (is_at-same round key) ∙ at))
+
+-- entries without those of the keys up to one
+pub dropped : (old new : List (ℕ × Assembled)) (last : ℕ) → new ≡ filter (λ e. nat_lt last e.0) old
+    → (charter : Charter) (own : ℕ) → IsForgotten (record { charter = charter; own = own; rounds = old }) (record { charter = charter; own = own; rounds = new }) last
+dropped old new last is charter own = record {
+  charter = refl;
+  own = refl;
+  rounds = λ other.
+      sym (found new other) ∙ ap (lookup (is_at (nat_cmp other))) is
+      ∙ lookup-filter-keys (is_at (nat_cmp other)) (nat_lt last) (nat_lt last other) (λ key at. key_is other key last at) old
+      ∙ ap (λ o. cond (nat_lt last other) o None) (found old other)
+      ∙ above last other (option_map (λ entry. entry.1) (find (λ entry. entry.0 == other) old));
+}
+
+-- ---- what holds of each table
+
+entry_stays : (old new : Headers) (round : ℕ) (assembled : Assembled) → new.charter ≡ old.charter → new.own ≡ old.own → IsEntry old round assembled → IsEntry new round assembled
+entry_stays old new round assembled charter own was =
+    record { charter = was.charter ∙ sym charter; place = was.place; author = was.author ∙ sym own; assembly = was.assembly }
+
+-- of one with another entry of its committee for a round
+pub holds_with : (old new : Headers) (round : ℕ) (held : Option Assembled) → IsHeaders old → IsWith old new round held → IsStrictlySortedBy nat_cmp (map (λ entry. entry.0) new.rounds)
+    → ((assembled : Assembled) → held ≡ Some assembled → IsEntry old round assembled) → IsHeaders new
+holds_with old new round held was with rise entry = record {
+  charter = subst IsCharter (sym with.charter) was.charter;
+  member = subst (λ (c : Charter). new.own < length c.keys) (sym with.charter) (subst (λ n. n < length old.charter.keys) (sym with.own) was.member);
+  rise = rise;
+  entries = λ other assembled is.
+      entry_stays old new other assembled with.charter with.own
+      (elim (cases_Bool (other == round)) [
+        | inl same ↦
+            subst (λ r. IsEntry old r assembled) (sym (eqb-true other round same))
+            (entry assembled (sym (ap (λ b. if b then held else assembly_at old other) same) ∙ sym (with.rounds other) ∙ is))
+        | inr apart ↦ was.entries other assembled (sym (ap (λ b. if b then held else assembly_at old other) apart) ∙ sym (with.rounds other) ∙ is)
+      ]);
+}
+
+-- of one that has forgotten some rounds
+pub holds_without : (old new : Headers) (last : ℕ) → IsHeaders old → IsForgotten old new last → IsStrictlySortedBy nat_cmp (map (λ entry. entry.0) new.rounds) → IsHeaders new
+holds_without old new last was less rise = record {
+  charter = subst IsCharter (sym less.charter) was.charter;
+  member = subst (λ (c : Charter). new.own < length c.keys) (sym less.charter) (subst (λ n. n < length old.charter.keys) (sym less.own) was.member);
+  rise = rise;
+  entries = λ other assembled is.
+      entry_stays old new other assembled less.charter less.own
+      (elim (cases_Bool (nat_le other last)) [
+        | inl low ↦ absurd (none-some assembled (sym (ap (λ b. if b then None else assembly_at old other) low) ∙ sym (less.rounds other) ∙ is))
+        | inr high ↦ was.entries other assembled (sym (ap (λ b. if b then None else assembly_at old other) high) ∙ sym (less.rounds other) ∙ is)
+      ]);
+}
+
+-- a member of the table's committee is one of the committee of each entry
+pub member_of : (inside headers : Headers) (number : ℕ) (assembled : Assembled) (voter : ℕ) → IsHeaders inside → Some assembled ≡ lookup (is_at (nat_cmp number)) inside.rounds → inside ≡ headers
+    → voter < length headers.charter.keys → voter < length assembled.charter.keys
+member_of inside headers number assembled voter holds is view member =
+    let entry = holds.entries number assembled (looked inside inside number number (Some assembled) is refl refl) in
+    subst (λ (charter : Charter). voter < length charter.keys) (ap (λ (h : Headers). h.charter) (sym view) ∙ sym entry.charter) member
+
+-- what a vote is answered by what its round has
+pub answer_of : (headers : Headers) (vote : Vote) (o : Option Assembled) → assembly_at headers vote.round ≡ o → answer_in headers vote ≡ option_map_or (λ assembled. answer assembled vote) o NotOurs
+answer_of headers vote o is = ap (λ o. option_map_or (λ assembled. answer assembled vote) o NotOurs) is
+
+-- a tree with another value at a key that has one
+pub written : (old new : BTreeMap ℕ Assembled) (key : ℕ) (before later : Assembled) → Some before ≡ lookup (is_at (nat_cmp key)) old.entries → WritesThrough nat_cmp (nat_cmp key) old later new
+    → (charter : Charter) (own : ℕ) → IsWith (record { charter = charter; own = own; rounds = old.entries }) (record { charter = charter; own = own; rounds = new.entries }) key (Some later)
+    × IsStrictlySortedBy nat_cmp (map (λ entry. entry.0) new.entries)
+written old new key before later is writes charter own =
+    let there : IsSome (get_by (nat_cmp key) old) = subst IsSome is refl in
+    (updated old.entries new.entries key (Some later) (writes.3 there).0 charter own, writes.4)
+
+-- nothing where there is nothing changes nothing
+pub unchanged : (headers : Headers) (round : ℕ) → assembly_at headers round ≡ None → IsWith headers headers round None
+unchanged headers round none = record {
+  charter = refl;
+  own = refl;
+  rounds = λ other. elim (cases_Bool (other == round)) [
+    | inl same ↦ ap (assembly_at headers) (eqb-true other round same) ∙ none ∙ sym (ap (λ b. if b then None else assembly_at headers other) same)
+    | inr apart ↦ sym (ap (λ b. if b then None else assembly_at headers other) apart)
+  ];
+}

@@ -1,0 +1,39 @@
+use Rattle.std.proofs.Common.{◌∙◌, ap, sym, subst, ℕ, Some}
+use Rattle.std.proofs.lemmas.Option.{same_Some}
+use Rattle.certify.specs.Assembled.{Assembled}
+use Rattle.admission.specs.Headers.{Headers, IsEntry, IsWith}
+use Rattle.admission.proofs.Looking.{updated, holds_with}
+use Rattle.admission.proofs.assemblies.Assemblies.hold.Goals as goal
+
+pub invariant_of-self-2 : goal.invariant_of-self-2
+invariant_of-self-2 c =
+    let inside = c.self.inside in
+    let charter = inside.committee.now in
+    let own = inside.own.0 in
+    let old : Headers = record { charter = charter; own = own; rounds = inside.rounds.entries } in
+    let new : Headers = record { charter = charter; own = own; rounds = c.insert.new.self.entries } in
+    let key = c.number-round.result in
+    let made = c.in_ok-assembly.assembly in
+    let is = c.in_ok-assembly.ensures in
+    let entry : IsEntry old key made = record {
+      charter = ap (λ (a : Assembled). a.charter) is;
+      place = ap (λ (a : Assembled). a.header.body.round) is ∙ sym c.number-round.ensures.value;
+      author = ap (λ (a : Assembled). a.header.body.author.0) is ∙ c.requires.own ∙ sym (ap (λ (h : Headers). h.own) c.self.view_is);
+      assembly = c.limits_hold.ensures;
+    } in
+    holds_with old new key (Some made) c.self.invariant (updated inside.rounds.entries c.insert.new.self.entries key (Some made) c.in_ok-insert.ensures.updates.0 charter own) c.insert.ensures.ordered
+    (λ a same. subst (IsEntry old key) (same_Some made a same) entry)
+
+pub returns-clause-ok : goal.returns-clause-ok
+returns-clause-ok c =
+    let inside = c.self.inside in
+    let charter = inside.committee.now in
+    let own = inside.own.0 in
+    let old : Headers = record { charter = charter; own = own; rounds = inside.rounds.entries } in
+    let new : Headers = record { charter = charter; own = own; rounds = c.insert.new.self.entries } in
+    let key = c.number-round.result in
+    let made = c.in_ok-assembly.assembly in
+    let with = updated inside.rounds.entries c.insert.new.self.entries key (Some made) c.in_ok-insert.ensures.updates.0 charter own in
+    rw (← c.self.view_is)
+    (subst (λ (a : Assembled). IsWith old new c.args.header.body.round (Some a)) c.in_ok-assembly.ensures
+    (subst (λ (r : ℕ). IsWith old new r (Some made)) c.number-round.ensures.value with))

@@ -1,0 +1,44 @@
+use Rattle.std.proofs.Common.{ℕ, ap, sym, subst}
+use Rattle.wire.specs.declared.message.Message.TheVariants as message
+use Rattle.model.specs.Histories.{as_coin}
+use Rattle.admission.specs.Headers.{IsForgotten, IsWith, counted_in}
+use Rattle.certify.specs.declared.added.Added.{Added}
+use Rattle.admission.specs.Batches.{changes_batches}
+use Rattle.admission.specs.Votes.{is_peers_header}
+use Rattle.admission.proofs.Closing.{comes_of}
+use Rattle.admission.proofs.Committing.{with_high}
+use Rattle.admission.proofs.VoteCounting.{vote_high}
+use Rattle.admission.proofs.tables.Tables.count_vote.Goals as goal
+
+pub returns : goal.returns
+returns c = λ node state event meets new.
+    let tables = c.args.self.now in
+    let vote = c.args.vote in
+    let held = c.count.new.self in
+    let others = c.others_stay.ensures in
+    let comes = comes_of node state event tables (message.Vote vote) meets new in
+    let is = c.vote_comes.ensures node state event vote tables.headers comes c.limits_hold.ensures meets.at.headers meets.message in
+    let beside = others.beside node state event tables comes meets.at (is.counted (sym c.requires.added)) (ap as_coin meets.message) in
+    let low = others.low node state event tables comes meets.at in
+    let with : IsWith tables.headers held vote.round (counted_in _ tables.headers vote) =
+    subst (λ (a : Added). IsWith tables.headers held vote.round (counted_in a tables.headers vote)) c.requires.added c.count.ensures in
+    let forgotten = with_high tables.headers held _ vote.round _ low.headers with (vote_high others.high node state event tables vote meets new) in
+    record {
+      own = meets.at.own;
+      batches = beside.batches (ap (changes_batches node) meets.message);
+      votes = beside.votes (ap (is_peers_header node) meets.message);
+      headers = is.behind held with held (subst (λ (f : ℕ). IsForgotten held held f) (sym beside.floor) forgotten);
+      sequence = beside.sequence;
+    }
+
+pub count-requires-clause-member : goal.count-requires-clause-member
+count-requires-clause-member c =
+    let headers = c.args.self.now.headers in
+    let vote = c.args.vote in
+    let node = c.requires.meets.0 in
+    let state = c.requires.meets.1 in
+    let event = c.requires.meets.2 in
+    let meets = c.requires.meets.3 in
+    let comes = comes_of node state event c.args.self.now (message.Vote vote) meets c.requires.meets.4 in
+    let is = c.vote_comes.ensures node state event vote headers comes c.limits_hold.ensures meets.at.headers meets.message in
+    is.member

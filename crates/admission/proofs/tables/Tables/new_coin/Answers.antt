@@ -1,0 +1,38 @@
+use Rattle.std.proofs.Common.{◌++◌, List, [], ap, sym, ◌∙◌}
+use Rattle.wire.specs.declared.message.Message.TheVariants as message
+use Rattle.model.specs.Admitting.{order_outputs}
+use Rattle.model.specs.Histories.{as_coin}
+use Rattle.model.specs.Words.{Message, Output}
+use Rattle.model.specs.declared.admission.Admission.TheVariants as admission
+use Rattle.machine.specs.Machine.{grown}
+use Rattle.admission.specs.Batches.{changes_batches}
+use Rattle.admission.specs.Votes.{is_peers_header}
+use Rattle.admission.specs.HeaderLaws.{is_other}
+use Rattle.admission.specs.Decisions.{coin_decision}
+use Rattle.admission.proofs.Answered.{coin_answered}
+use Rattle.admission.proofs.Closing.{comes_of, new_is_told}
+use Rattle.admission.proofs.Committing.{comes_to, after_commit, headers_after}
+use Rattle.admission.proofs.tables.Tables.new_coin.Goals as goal
+
+pub returns-clause-outputs : goal.returns-clause-outputs
+returns-clause-outputs c = λ node state event meets new.
+    let tables = c.args.self.now in
+    let coin = c.args.coin.now in
+    let comes = comes_of node state event tables (message.Coin coin) meets new in
+    let puts = c.in_ok-push_coin.ensures.outputs node state event (comes_to node state event tables comes meets.at) (ap as_coin meets.message) in
+    new_is_told _ (order_outputs state (grown node state (message.Coin coin))) [] (coin_decision tables event.sender coin) (coin_answered node state event tables coin meets) new
+    ∙ ap admission.New (ap (λ (m : Message). order_outputs state (grown node state m)) (sym meets.message)
+    ∙ sym (c.into_vec.ensures ∙ puts ∙ ap (λ (l : List Output). l ++ order_outputs state (grown node state event.message)) c.new-outputs.ensures))
+
+pub returns-clause-at : goal.returns-clause-at
+returns-clause-at c = λ node state event meets new.
+    let tables = c.args.self.now in
+    let later = c.trim.new.self in
+    let made = c.push_coin.new.sequencer in
+    let before = c.floor-before.result in
+    let others = c.others_stay.ensures in
+    let comes = comes_of node state event tables (message.Coin c.args.coin.now) meets new in
+    let at = c.in_ok-push_coin.ensures.at node state event (comes_to node state event tables comes meets.at) (ap as_coin meets.message) in
+    after_commit others node state event tables later made before comes meets.at (ap (changes_batches node) meets.message) (ap (is_peers_header node) meets.message)
+    c.trim.ensures.own c.trim.ensures.batches at c.trim.ensures.sequencer c.floor-before.ensures c.trim.ensures.votes
+    (headers_after others node state event tables later made before comes meets.at (ap (is_other node) meets.message) at c.floor-before.ensures c.trim.ensures.headers)

@@ -1,0 +1,157 @@
+-- What tables decide of a message: of the tests in their order the first that applies.
+use Rattle.std.specs.Prelude.{ℕ, ◌+◌, ◌-◌, ◌*◌, ◌==◌, not, nat_le, Bool, false, true, List, [], ◌∷◌, length, Option, Result, Ok, Err, slice_get, if◌then◌else◌}
+use Rattle.std.specs.List.{list_all}
+use Rattle.std.specs.Option.{option_map_or}
+use Rattle.wire.specs.declared.output.Output.TheVariants as output
+use Rattle.model.specs.Holdings.{is_low, all_held}
+use Rattle.model.specs.Slots.{same_digest, header_digest, certificate_digest}
+use Rattle.model.specs.Words.{Author, Certificate, Coin, Digest, Header, HeaderBody, Output, Signature, Vote}
+use Rattle.model.specs.declared.admission.Admission.{Admission}
+use Rattle.model.specs.declared.admission.Admission.TheVariants as admission
+use Rattle.model.specs.declared.refusal.Refusal.{Refusal}
+use Rattle.model.specs.declared.refusal.Refusal.TheVariants.{Memory, TooOld, MissingParents, MissingBatch, Equivocation, CertConflict, DigestClash, AlreadyProposed, NotOurs, CoinOutOfTurn, CoinEarly, CoinConflict}
+use Rattle.committee.specs.Charter.{quorum_of}
+use Rattle.dag.specs.Answer.{answer}
+use Rattle.dag.specs.Graph.{slots_in, stake_in}
+use Rattle.dag.specs.declared.answers.Added.{Added}
+use Rattle.dag.specs.declared.answers.Added.TheVariants as added
+use Rattle.dag.specs.declared.refusal.DagRefusal.{DagRefusal}
+use Rattle.dag.specs.declared.refusal.DagRefusal.TheVariants as dag
+use Rattle.votebook.specs.Votes.{voted_in}
+use Rattle.admission.specs.Headers.{digest_in, header_in, has_voted_in}
+use Rattle.admission.specs.Batches.{may_name_by}
+use Rattle.admission.specs.declared.tables.Tables.{Tables}
+use Rattle.admission.specs.declared.tables.answer.Answer.{Answer}
+use Rattle.admission.specs.declared.tables.answer.Answer.TheVariants.{New, Known}
+
+-- what admission answers by what is decided, if a new event puts the first list out and a known one the second
+abbrev pub told : List Output → List Output → Result Answer Refusal → Admission
+told new known (Ok New) = admission.New new
+told new known (Ok Known) = admission.Known known
+told new known (Err refusal) = admission.Refused refusal
+
+-- what is decided is that a parent is missing
+abbrev pub lacks_parents : Result Answer Refusal → Bool
+lacks_parents (Err MissingParents) = true
+lacks_parents _ = false
+
+-- what is decided is that the message will be accepted
+abbrev pub is_new_decision : Result Answer Refusal → Bool
+is_new_decision (Ok New) = true
+is_new_decision (Ok Known) = false
+is_new_decision (Err refusal) = false
+
+-- an author is the validator itself
+abbrev pub is_own_of : Tables → Author → Bool
+is_own_of tables author = author.0 == tables.own.0
+
+-- ---- headers
+
+-- the digest that has the vote of an author and round: for the validator itself that of its own header
+abbrev pub voted_by : Tables → Author → ℕ → Option Digest
+voted_by tables author round = if is_own_of tables author then digest_in tables.headers round else voted_in tables.votes author round
+
+-- where the header's author and round have the vote for this digest
+abbrev pub voted_decision : Tables → Digest → Header → Result Answer Refusal
+voted_decision tables voted header =
+    if same_digest voted (header_digest header.body) then Ok Known
+    else Err (if is_own_of tables header.body.author then AlreadyProposed else Equivocation)
+
+-- where they have none
+abbrev pub free_decision : Tables → Header → Result Answer Refusal
+free_decision tables header =
+    if not (all_held (slots_in tables.sequencer.graph) tables.sequencer.graph.floor header.body) then Err MissingParents
+    else if not (list_all (may_name_by tables.batches header.body.author) header.body.batches) then Err MissingBatch
+    else Ok New
+
+abbrev pub header_decision : Tables → Header → Result Answer Refusal
+header_decision tables header =
+    if is_low tables.sequencer.graph.floor header.body.round then Err TooOld
+    else option_map_or (λ voted. voted_decision tables voted header) (voted_by tables header.body.author header.body.round) (free_decision tables header)
+
+-- the vote of a member for a header: it signs the certificate's digest
+abbrev pub vote_by : Author → (Digest → Signature) → HeaderBody → Vote
+vote_by own sign body = record {
+  header = header_digest body;
+  round = body.round;
+  author = body.author;
+  voter = own;
+  signature = sign (certificate_digest body);
+}
+
+-- what a new header puts out: itself, if it is an own one, and else the vote for it
+abbrev pub new_header_outputs : Tables → (Digest → Signature) → Header → List Output
+new_header_outputs tables sign header =
+    (if is_own_of tables header.body.author then output.Header header else output.Vote (vote_by tables.own sign header.body)) ∷ []
+
+-- what a known one puts out: for an own one that which is held
+abbrev pub known_header_outputs : Tables → (Digest → Signature) → Header → List Output
+known_header_outputs tables sign header =
+    if is_own_of tables header.body.author then option_map_or (λ held. output.Header held ∷ []) (header_in tables.headers header.body.round) []
+    else output.Vote (vote_by tables.own sign header.body) ∷ []
+
+-- ---- votes
+
+-- where the vote's round holds this own certificate
+abbrev pub certified_decision : Certificate → Vote → Result Answer Refusal
+certified_decision held vote = if same_digest (header_digest held.header) vote.header then Ok Known else Err CertConflict
+
+-- where it holds none
+abbrev pub open_decision : Tables → Vote → Result Answer Refusal
+open_decision tables vote = if has_voted_in tables.headers vote.round vote.voter.0 then Ok Known else Ok New
+
+-- a vote is on the own header of its round
+abbrev pub is_on_own : Tables → Vote → Bool
+is_on_own tables vote = option_map_or (λ digest. same_digest digest vote.header) (digest_in tables.headers vote.round) false
+
+abbrev pub vote_decision : Tables → Vote → Result Answer Refusal
+vote_decision tables vote =
+    if not (is_own_of tables vote.author) then Err NotOurs
+    else if is_low tables.sequencer.graph.floor vote.round then Err TooOld
+    else if not (is_on_own tables vote) then Err NotOurs
+    else option_map_or (λ held. certified_decision held vote) (slots_in tables.sequencer.graph vote.round tables.own.0) (open_decision tables vote)
+
+-- what a known vote puts out: the own certificate of its round, if it is held
+abbrev pub known_outputs : Option Certificate → List Output
+known_outputs held = option_map_or (λ c. output.Certificate c ∷ []) held []
+
+-- ---- certificates
+
+-- a DAG's refusal, as admission says it
+abbrev pub as_refusal : DagRefusal → Refusal
+as_refusal dag.Memory = Memory
+as_refusal dag.TooOld = TooOld
+as_refusal dag.CertConflict = CertConflict
+as_refusal dag.DigestClash = DigestClash
+as_refusal dag.MissingParents = MissingParents
+
+-- a DAG's answer, as admission says it
+abbrev pub as_decision : Result Added DagRefusal → Result Answer Refusal
+as_decision (Ok added.New) = Ok New
+as_decision (Ok added.Known) = Ok Known
+as_decision (Err refusal) = Err (as_refusal refusal)
+
+abbrev pub certificate_decision : Tables → Certificate → Result Answer Refusal
+certificate_decision tables certificate = as_decision (answer tables.sequencer.graph certificate)
+
+-- ---- coins
+
+-- where the wave has this value
+abbrev pub taken_decision : ℕ → Coin → Result Answer Refusal
+taken_decision taken coin = if taken == coin.value then Ok Known else Err CoinConflict
+
+-- those who have certificates of a round are a quorum
+abbrev pub is_full_in : Tables → ℕ → Bool
+is_full_in tables round = nat_le (quorum_of tables.sequencer.graph.charter) (stake_in tables.sequencer.graph round)
+
+-- where it has none
+abbrev pub next_decision : Tables → Coin → Result Answer Refusal
+next_decision tables coin =
+    if not (coin.wave == length tables.sequencer.coins + 1) then Err CoinOutOfTurn
+    else if not (is_full_in tables (2 * coin.wave + 1)) then Err CoinEarly
+    else Ok New
+
+abbrev pub coin_decision : Tables → Author → Coin → Result Answer Refusal
+coin_decision tables sender coin =
+    if not (is_own_of tables sender) then Err NotOurs
+    else option_map_or (λ taken. taken_decision taken coin) (slice_get tables.sequencer.coins (coin.wave - 1)) (next_decision tables coin)

@@ -1,0 +1,111 @@
+-- When a validator's tables have what a state has.
+use Rattle.std.specs.Prelude.{◌≡◌, IsTrue, Bool, true, false, Result}
+use Rattle.std.specs.Global.{Vec}
+use Rattle.wire.specs.declared.message.Message.TheVariants as message
+use Rattle.model.specs.Admitting.{is_new, IsTaken}
+use Rattle.model.specs.Nodes.{Node, IsNode}
+use Rattle.model.specs.States.{State}
+use Rattle.model.specs.Words.{Author, Digest, Event, Message, Output, Signature}
+use Rattle.model.specs.declared.admission.Admission.TheVariants.{New}
+use Rattle.model.specs.declared.refusal.Refusal.{Refusal}
+use Rattle.machine.specs.Machine.{answered, after, is_ready}
+use Rattle.machine.specs.Sound.{IsSound}
+use Rattle.admission.specs.Headers as headers
+use Rattle.sequencer.specs.Sequence as sequence
+use Rattle.admission.specs.declared.step.Step.{Step}
+use Rattle.admission.specs.Answers.{IsAnswer, RefusesAs}
+use Rattle.admission.specs.Batches.{HasBatches}
+use Rattle.admission.specs.Votes.{HasVotes}
+use Rattle.admission.specs.declared.tables.Tables.{Tables}
+
+-- tables have what a node's state has: its batches, the votes for the headers of others, the own headers with the votes on them, and
+-- the certificates with the coins and the order
+pub record AreAt (node : Node) (state : State) (tables : Tables) : Type 0 where
+  pub own : tables.own ≡ node.own
+  pub batches : HasBatches node state tables.batches
+  pub votes : HasVotes node state tables.votes
+  pub headers : headers.IsAt node state tables.headers
+  pub sequence : sequence.IsAt node state tables.sequencer
+
+-- an event with this message, which a node takes, meets tables that have what a sound state of it has
+pub record Meets (node : Node) (state : State) (event : Event) (tables : Tables) (came : Message) : Type 0 where
+  pub node_is : IsNode node
+  pub sound : IsSound node state
+  pub taken : IsTaken node event
+  pub message : event.message ≡ came
+  pub at : AreAt node state tables
+
+-- there are such a node, state and event
+abbrev pub MeetSome : Tables → Message → Type 0
+MeetSome tables came = (node : Node) × (state : State) × (event : Event) × Meets node state event tables came
+
+-- there are such, and the event is new there
+abbrev pub MeetNew : Tables → Message → Type 0
+MeetNew tables came =
+    (node : Node) × (state : State) × (event : Event) × Meets node state event tables came × IsTrue (is_new (answered node state event))
+
+-- what comes of a message is what each such state answers each such event
+abbrev pub Answers : Tables → Message → Result Step Refusal → Type 0
+Answers tables came result = (node : Node) (state : State) (event : Event) → Meets node state event tables came → IsAnswer (answered node state event) result
+
+-- where such a state refuses the event, so does what comes of the message, by the same refusal, whatever memory there is
+abbrev pub Refuses : Tables → Message → Result Step Refusal → Type 0
+Refuses tables came result = (node : Node) (state : State) (event : Event) → Meets node state event tables came → RefusesAs (answered node state event) result
+
+-- where the event is new, this is what it puts out
+abbrev pub PutsOut : Tables → Message → Vec Output → Type 0
+PutsOut tables came outputs = (node : Node) (state : State) (event : Event) → Meets node state event tables came
+    → IsTrue (is_new (answered node state event)) → answered node state event ≡ New outputs.items
+
+-- and the later tables have what the state behind it has
+abbrev pub GoOn : Tables → Tables → Message → Type 0
+GoOn before later came = (node : Node) (state : State) (event : Event) → Meets node state event before came
+    → IsTrue (is_new (answered node state event)) → AreAt node (after node state event) later
+
+-- this is whether each such event is ready
+abbrev pub IsReady : Tables → Message → Bool → Type 0
+IsReady tables came result = (node : Node) (state : State) (event : Event) → Meets node state event tables came → result ≡ is_ready node state event
+
+-- this is whether each such event is new
+abbrev pub IsNew : Tables → Message → Bool → Type 0
+IsNew tables came result = (node : Node) (state : State) (event : Event) → Meets node state event tables came → result ≡ is_new (answered node state event)
+
+-- ---- said of events from one sender
+
+abbrev pub AnswersFrom : Tables → Author → Message → Result Step Refusal → Type 0
+AnswersFrom tables sender came result = (node : Node) (state : State) (event : Event) → Meets node state event tables came → event.sender ≡ sender
+    → IsAnswer (answered node state event) result
+
+abbrev pub RefusesFrom : Tables → Author → Message → Result Step Refusal → Type 0
+RefusesFrom tables sender came result = (node : Node) (state : State) (event : Event) → Meets node state event tables came → event.sender ≡ sender
+    → RefusesAs (answered node state event) result
+
+abbrev pub IsNewFrom : Tables → Author → Message → Bool → Type 0
+IsNewFrom tables sender came result = (node : Node) (state : State) (event : Event) → Meets node state event tables came → event.sender ≡ sender
+    → result ≡ is_new (answered node state event)
+
+-- ---- said of nodes that give these signatures
+
+abbrev pub AnswersBy : Tables → (Digest → Signature) → Message → Result Step Refusal → Type 0
+AnswersBy tables sign came result = (node : Node) (state : State) (event : Event) → Meets node state event tables came → node.sign ≡ sign
+    → IsAnswer (answered node state event) result
+
+abbrev pub RefusesBy : Tables → (Digest → Signature) → Message → Result Step Refusal → Type 0
+RefusesBy tables sign came result = (node : Node) (state : State) (event : Event) → Meets node state event tables came → node.sign ≡ sign
+    → RefusesAs (answered node state event) result
+
+abbrev pub GoOnBy : Tables → Tables → (Digest → Signature) → Message → Type 0
+GoOnBy before later sign came = (node : Node) (state : State) (event : Event) → Meets node state event before came → node.sign ≡ sign
+    → IsTrue (is_new (answered node state event)) → AreAt node (after node state event) later
+
+-- ---- laws
+
+-- a message has parents: it is a header or a certificate
+abbrev pub has_parents : Message → Bool
+has_parents (message.Header header) = true
+has_parents (message.Certificate certificate) = true
+has_parents _ = false
+
+-- what has no parents lacks none
+abbrev pub OthersAreReady : Type 0
+OthersAreReady = (node : Node) (state : State) (event : Event) → has_parents event.message ≡ false → is_ready node state event ≡ true

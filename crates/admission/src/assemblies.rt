@@ -1,0 +1,147 @@
+//! The table of own headers.
+
+mod facts;
+
+ghost use Rattle.std.specs.Prelude.{◌≡◌, ◌<◌, length, Some, None, IsTrue, IfOk, OnOk, OnErr, option_copied};
+ghost use Rattle.certify.specs.Assembled.{is_on, started};
+ghost use Rattle.admission.specs.Headers.{empty, assembly_at, header_in, digest_in, has_voted_in, IsHeaders, answer_in, counted_in, IsWith, IsForgotten};
+
+use certify::{Added, Assembly};
+use committee::Committee;
+pub use facts::votes_agree;
+pub(crate) use facts::{header_comes, others_come, starts_fresh, vote_comes};
+use std::alloc::{AllocError, Global};
+use std::collections::BTreeMap;
+use std::marker::Model;
+use wire::{Author, Digest, Header, Round, Vote};
+
+/// A validator's own headers, by round, each with the votes that count on it. Contracts see the committee, the validator's
+/// number, and of each round that has a header its assembly.
+pub struct Assemblies<'a> {
+    committee: &'a Committee,
+    own: Author,
+    rounds: BTreeMap<u64, Assembly<'a>>,
+}
+
+impl<'a> Drop for Assemblies<'a> {
+    fn drop(self) {
+        let Assemblies {
+            committee: _,
+            own: _,
+            rounds: _,
+        } = self;
+    }
+}
+
+impl<'a> Model for Assemblies<'a> {
+    ghost use Rattle.admission.specs.Headers.{Headers, IsHeaders};
+
+    ghost Value = { Headers };
+
+    ghost view = { λ a. record { charter = a.committee.now; own = a.own.0; rounds = a.rounds.entries } };
+
+    ghost invariant = { λ a. IsHeaders (record { charter = a.committee.now; own = a.own.0; rounds = a.rounds.entries }) };
+}
+
+impl<'a> Assemblies<'a> {
+    /// A table with no header, of a member of the committee.
+    pub fn new(alloc: Global, committee: &'a Committee, own: Author) -> Assemblies<'a>
+        requires { own.0 < length committee.now.keys }
+        ensures { result ≡ empty committee.now own.0 }
+    {
+        committee.limits_hold();
+        Assemblies {
+            committee,
+            own,
+            rounds: BTreeMap::new(alloc),
+        }
+    }
+
+    /// The own header of a round.
+    pub fn header(&self, round: Round) -> Option<&Header>
+        ensures { option_copied result ≡ header_in self.now round }
+    {
+        match self.rounds.get(&round.number()) {
+            Some(assembly) => Some(assembly.header()),
+            None => None,
+        }
+    }
+
+    /// The digest of the own header of a round.
+    pub fn digest(&self, round: Round) -> Option<&Digest>
+        ensures { option_copied result ≡ digest_in self.now round }
+    {
+        match self.rounds.get(&round.number()) {
+            Some(assembly) => Some(assembly.digest()),
+            None => None,
+        }
+    }
+
+    /// Whether a member's vote on the own header of a round is counted.
+    pub fn has_voted(&self, round: Round, voter: Author) -> bool
+        ensures { result ≡ has_voted_in self.now round voter.0 }
+    {
+        match self.rounds.get(&round.number()) {
+            Some(assembly) => assembly.voted(voter),
+            None => false,
+        }
+    }
+
+    /// Holds an own header with the own vote on it, for a round that has none. `AllocError` where a growth was refused:
+    /// nothing has changed then.
+    pub fn hold(&mut self, alloc: Global, header: Header, vote: Vote) -> Result<(), AllocError>
+        requires own { header.body.author.0 ≡ self.old.own }
+        requires ours { IsTrue (is_on header.body vote) }
+        requires voter { vote.voter.0 ≡ self.old.own }
+        requires free { assembly_at self.old header.body.round ≡ None }
+        ensures ok { OnOk result (IsWith self.old self.new header.body.round (Some (started self.old.charter header vote))) }
+        ensures err { OnErr result (self.new ≡ self.old) }
+    {
+        let body = &header.body;
+        let round = body.round.number();
+        let committee = self.committee;
+        let assembly = Assembly::start(alloc, committee, header, vote)?;
+        assembly.limits_hold();
+        self.rounds.insert(round, assembly)?;
+        Ok(())
+    }
+
+    /// What comes of a member's vote. `AllocError` where a growth for the certificate was refused.
+    pub fn answer(&self, vote: &Vote) -> Result<Added, AllocError>
+        requires member { vote.now.voter.0 < length self.now.charter.keys }
+        ensures { IfOk result (λ added. added ≡ answer_in self.now vote.now) }
+    {
+        match self.rounds.get(&vote.round.number()) {
+            Some(assembly) => assembly.answer(vote),
+            None => Ok(Added::NotOurs),
+        }
+    }
+
+    /// Counts a member's vote of which this comes. It takes no memory.
+    pub fn count(&mut self, added: &Added, vote: Vote)
+        requires member { vote.voter.0 < length self.old.charter.keys }
+        requires added { added.now ≡ answer_in self.old vote }
+        ensures { IsWith self.old self.new vote.round (counted_in added.now self.old vote) }
+    {
+        if let Some(assembly) = self.rounds.get_mut(&vote.round.number()) {
+            assembly.count(added, vote);
+            assembly.limits_hold();
+        }
+    }
+
+    /// Forgets the rounds at or below this one. It takes no memory.
+    pub fn forget_to(&mut self, round: Round)
+        ensures { IsForgotten self.old self.new round }
+    {
+        let last = round.number();
+        self.rounds.retain(|round, _| *round > last);
+    }
+
+    /// What holds of each table: its rounds rise, and each has an own header of that round, with votes of the committee. The
+    /// call does nothing.
+    pub fn limits_hold(&self)
+        ensures { IsHeaders self.now }
+    {
+        let _ = &self.own;
+    }
+}

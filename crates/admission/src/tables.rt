@@ -1,0 +1,126 @@
+//! The tables.
+
+mod answer;
+mod batches;
+mod certificates;
+mod coins;
+mod facts;
+mod headers;
+mod votes;
+
+ghost use Rattle.std.specs.Prelude.{◌≡◌, ◌<◌, length, IfOk};
+ghost use Rattle.model.specs.Nodes.{Node};
+ghost use Rattle.machine.specs.Machine.{fresh};
+ghost use Rattle.votebook.specs.Votes.{ForgetsTo};
+ghost use Rattle.admission.specs.Headers.{IsForgotten};
+ghost use Rattle.admission.specs.Standing.{AreAt};
+ghost use Rattle.admission.specs.Decisions.{voted_by};
+
+use crate::assemblies::{Assemblies, starts_fresh};
+use crate::facts::starts_empty;
+use batchstore::BatchStore;
+use committee::Committee;
+pub use facts::others_are_ready;
+use sequencer::Sequencer;
+use std::alloc::{AllocError, Global};
+use votebook::VoteBook;
+use wire::{Author, Digest, Round};
+
+/// What a validator keeps: the batches, the votes for the headers of others, the own headers with the votes on them, and
+/// the certificates with the coins and the order.
+pub struct Tables<'a> {
+    pub(crate) own: Author,
+    pub(crate) batches: BatchStore<'a>,
+    pub(crate) votes: VoteBook,
+    pub(crate) headers: Assemblies<'a>,
+    pub(crate) sequencer: Sequencer<'a>,
+}
+
+impl<'a> Drop for Tables<'a> {
+    fn drop(self) {
+        let Tables {
+            own: _,
+            batches: _,
+            votes: _,
+            headers: _,
+            sequencer: _,
+        } = self;
+    }
+}
+
+impl<'a> Tables<'a> {
+    /// Those of a member that has taken nothing: they hold the genesis. `AllocError` where a growth was refused.
+    pub fn new(
+        alloc: Global,
+        committee: &'a Committee,
+        own: Author,
+    ) -> Result<Tables<'a>, AllocError>
+        requires { own.0 < length committee.now.keys }
+        ensures { IfOk result (λ made. (node : Node) → node.charter ≡ committee.now → node.own ≡ own → AreAt node (fresh node) made) }
+    {
+        starts_empty();
+        starts_fresh();
+        Ok(Tables {
+            own,
+            batches: BatchStore::new(alloc, committee, own),
+            votes: VoteBook::new(alloc),
+            headers: Assemblies::new(alloc, committee, own),
+            sequencer: Sequencer::new(alloc, committee)?,
+        })
+    }
+
+    /// The batches.
+    pub fn batches(&self) -> &BatchStore<'a>
+        ensures { result.now ≡ self.now.batches }
+    {
+        &self.batches
+    }
+
+    /// The own headers, with the votes on them.
+    pub fn headers(&self) -> &Assemblies<'a>
+        ensures { result.now ≡ self.now.headers }
+    {
+        &self.headers
+    }
+
+    /// The certificates, the coins and the order.
+    pub fn sequencer(&self) -> &Sequencer<'a>
+        ensures { result.now ≡ self.now.sequencer }
+    {
+        &self.sequencer
+    }
+
+    /// The digest of the header that has the vote of an author and round; an own header has the own one.
+    pub fn voted(&self, author: Author, round: Round) -> Option<Digest>
+        ensures { result ≡ voted_by self.now author round }
+    {
+        if author == self.own {
+            return self.headers.digest(round).copied();
+        }
+        self.votes.voted(author, round)
+    }
+
+    /// The lowest round of which certificates are held.
+    pub fn floor(&self) -> Round
+        ensures { result ≡ self.now.sequencer.graph.floor }
+    {
+        self.sequencer.dag().floor()
+    }
+
+    // Forgets what the floor has come to since it was this. It takes no memory.
+    pub(crate) fn trim(&mut self, before: Round)
+        // Where nothing up to the earlier floor was kept, nothing up to the present one is.
+        ensures votes { ForgetsTo before self.old.votes self.old.votes → ForgetsTo self.old.sequencer.graph.floor self.old.votes self.new.votes }
+        ensures headers { IsForgotten self.old.headers self.old.headers before → IsForgotten self.old.headers self.new.headers self.old.sequencer.graph.floor }
+        ensures own { self.new.own ≡ self.old.own }
+        ensures batches { self.new.batches ≡ self.old.batches }
+        ensures sequencer { self.new.sequencer ≡ self.old.sequencer }
+    {
+        let floor = self.floor();
+        if floor == before {
+            return;
+        }
+        self.votes.forget_to(floor);
+        self.headers.forget_to(floor);
+    }
+}

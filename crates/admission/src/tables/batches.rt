@@ -1,0 +1,68 @@
+//! Batches and acknowledgements.
+
+ghost use Rattle.std.specs.Prelude.{◌≡◌, true, false};
+ghost use Rattle.wire.specs.declared.message.Message.TheVariants as message;
+ghost use Rattle.model.specs.Words.{Contents};
+ghost use Rattle.batchstore.specs.Stock.{digest_of};
+ghost use Rattle.admission.specs.Answers.{is_new_step};
+ghost use Rattle.admission.specs.Standing.{IsNew, MeetSome, Answers, Refuses, GoOn};
+
+use crate::batches::{is_new_ack, is_new_batch, take_ack, take_batch};
+use crate::step::Step;
+use crate::tables::Tables;
+use crate::tables::facts::others_stay;
+use model::Refusal;
+use std::alloc::Global;
+use wire::{Batch, BatchAck, Digest};
+
+impl<'a> Tables<'a> {
+    /// Takes a batch of this digest.
+    ///
+    /// # Errors
+    /// What admission answers, or `Memory` where a growth was refused. They change nothing.
+    pub fn take_batch(
+        &mut self,
+        alloc: Global,
+        digest: &Digest,
+        batch: Batch,
+    ) -> Result<Step, Refusal>
+        requires meets { MeetSome self.old (message.Batch batch) }
+        requires digested { digest.now ≡ digest_of batch }
+        ensures answer { Answers self.old (message.Batch batch) result }
+        ensures refused { Refuses self.old (message.Batch batch) result }
+        ensures at { is_new_step result ≡ true → GoOn self.old self.new (message.Batch batch) }
+        ensures same { is_new_step result ≡ false → self.new ≡ self.old }
+    {
+        others_stay();
+        take_batch(alloc, self.own, &mut self.batches, digest, batch)
+    }
+
+    /// Whether a batch of this digest would be new. It takes no memory.
+    pub fn is_batch_new(&self, digest: &Digest) -> bool
+        ensures { (batch : Contents) → digest.now ≡ digest_of batch → IsNew self.now (message.Batch batch) result }
+    {
+        is_new_batch(&self.batches, digest)
+    }
+
+    /// Takes an acknowledgement.
+    ///
+    /// # Errors
+    /// What admission answers, or `Memory` where a growth was refused. They change nothing.
+    pub fn take_ack(&mut self, alloc: Global, ack: &BatchAck) -> Result<Step, Refusal>
+        requires meets { MeetSome self.old (message.BatchAck ack.now) }
+        ensures answer { Answers self.old (message.BatchAck ack.now) result }
+        ensures refused { Refuses self.old (message.BatchAck ack.now) result }
+        ensures at { is_new_step result ≡ true → GoOn self.old self.new (message.BatchAck ack.now) }
+        ensures same { is_new_step result ≡ false → self.new ≡ self.old }
+    {
+        others_stay();
+        take_ack(alloc, &mut self.batches, ack)
+    }
+
+    /// Whether an acknowledgement would be new. It takes no memory.
+    pub fn is_ack_new(&self, ack: &BatchAck) -> bool
+        ensures { IsNew self.now (message.BatchAck ack.now) result }
+    {
+        is_new_ack(&self.batches, ack)
+    }
+}

@@ -1,0 +1,23 @@
+//! Laws. The calls do nothing: each one's contract is a law.
+
+ghost use Rattle.admission.specs.Behind.{OthersStay};
+ghost use Rattle.admission.specs.Standing.{OthersAreReady};
+
+use crate::assemblies::others_come;
+use crate::facts::{batches_stay, votes_stay};
+
+/// A message without parents lacks none.
+pub fn others_are_ready()
+    ensures { OthersAreReady }
+{}
+
+// An event that adds neither a certificate nor a coin leaves the tables at the state behind it, but for what it is.
+pub(crate) fn others_stay()
+    ensures { OthersStay }
+{
+    machine::low_is_to_the_floor();
+    batches_stay();
+    votes_stay();
+    others_come();
+    sequencer::sequence_stays();
+}

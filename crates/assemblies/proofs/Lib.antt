@@ -1,6 +1,0 @@
-pub mod Looking
-pub mod NewThere
-pub mod Votes
-pub mod Behind
-pub mod HeaderComing
-pub mod VoteComing

@@ -1,0 +1,146 @@
+-- What becomes of the groups on the way.
+use Rattle.std.proofs.Common.{◌≡◌, ℕ, ◌+◌, ◌≤◌, List, [], ◌∷◌, ◌++◌, length, take, drop, map, Bool, true, false, Ok, Err, refl, sym, ap, ◌∙◌, subst, arith, drop-drop, append-nil}
+use Rattle.std.specs.Prelude.{Result, IfOk, OnErr, Option, Some, None, IfSome, IsNone}
+use Rattle.std.specs.declared.alloc.AllocError.{AllocError}
+use Rattle.std.proofs.lemmas.List.{nil_from_length, take_all, take-take, drop_at, take-append-le, take-append-drop, length-take-le, drop-append-le, drop-map, map-append, length-append, length-map, length-drop}
+use Rattle.std.proofs.lemmas.Grind.{flat_map-append}
+use Rattle.laws.specs.Laws.{Begins}
+use Rattle.model.specs.Histories.{History}
+use Rattle.model.specs.Nodes.{Node}
+use Rattle.model.specs.Words.{Event}
+use Rattle.model.specs.declared.refusal.Refusal.{Refusal}
+use Rattle.records.specs.Records.{record_of}
+use Rattle.book.specs.Book.{Shown, Run, Stands, run_on, with_accepted, with_taken, with_settled, TakesNew, TakesKnown, SettlesNext}
+use Rattle.book.specs.OnTheWay.{AreOnTheWay, StandsSomewhere}
+use Rattle.book.specs.Pending.{all_records}
+use Rattle.book.specs.declared.book.Receipt.{Receipt}
+
+begins_length : {X : Type 0} (one other : List X) → Begins one other → length one ≤ length other
+begins_length one other begins = omega (arith, ap length begins.parts, length-append one begins.rest)
+
+module _ {S : Type 0} (node : Node) where
+  -- at first there are none
+  pub way_first : (began : History) (book : Shown S) → Stands node (run_on began) book → AreOnTheWay node book []
+  way_first began book at = record { run = run_on began; stands = at; are = refl }
+
+  -- they stay where the runs stay
+  pub way_same : (before later : Shown S) (groups : List (List (List ℕ))) → ((run : Run) → Stands node run before → Stands node run later) → AreOnTheWay node before groups → AreOnTheWay node later groups
+  way_same before later groups same way = record { run = way.run; stands = same way.run way.stands; are = way.are }
+
+  -- and when an event is taken
+  pub way_new : (before later : Shown S) (groups : List (List (List ℕ))) (event : Event) → TakesNew node before later event → AreOnTheWay node before groups → AreOnTheWay node later groups
+  way_new before later groups event takes way = record { run = with_accepted way.run event; stands = takes.stands way.run way.stands; are = way.are }
+
+  pub way_accepted : (before later : Shown S) (groups : List (List (List ℕ))) (event : Event) (r : Result Receipt Refusal)
+      → IfOk r (λ receipt. receipt.new ≡ true → TakesNew node before later event) → IfOk r (λ receipt. receipt.new ≡ false → TakesKnown node before later event) → OnErr r (later ≡ before)
+      → AreOnTheWay node before groups → AreOnTheWay node later groups
+  way_accepted before later groups event (Ok receipt) new known same way = by_newness receipt.new new known
+    where
+      by_newness : (is_new : Bool) → (is_new ≡ true → TakesNew node before later event) → (is_new ≡ false → TakesKnown node before later event) → AreOnTheWay node later groups
+      by_newness true new known = way_new before later groups event (new refl) way
+      by_newness false new known = way_same before later groups (known refl).stands way
+  way_accepted before later groups event (Err refusal) new known same way = subst (λ s. AreOnTheWay node s groups) (sym same) way
+
+  -- a group that is taken is the last of them
+  pub way_taken : (before later : Shown S) (groups : List (List (List ℕ))) (group : List (List ℕ))
+      → ((run : Run) → Stands node run before → Stands node (with_taken run (length group)) later)
+      → ((run : Run) → Stands node run before → group ≡ map record_of (drop (length run.taken) (with_taken run (length group)).taken))
+      → AreOnTheWay node before groups → AreOnTheWay node later (groups ++ group ∷ [])
+  way_taken before later groups group stands records way =
+      let run : Run = way.run in
+      let at : Stands node run before = way.stands in
+      let taken : History = (with_taken run (length group)).taken in
+      let begins : taken ≡ run.taken ++ drop (length run.taken) taken =
+      sym (take-append-drop (length run.taken) taken) ∙ ap (λ l. l ++ drop (length run.taken) taken) (first_of run.taken run.accepted at.taken_begins (length group)) in
+      record {
+        run = with_taken run (length group);
+        stands = stands run at;
+        are = ap (λ l. map record_of (drop (length run.settled) l)) begins
+            ∙ ap (map record_of) (drop-append-le (length run.settled) run.taken (drop (length run.taken) taken) (begins_length run.settled run.taken at.settled_begins))
+            ∙ map-append record_of (drop (length run.settled) run.taken) (drop (length run.taken) taken)
+            ∙ ap (λ l. l ++ map record_of (drop (length run.taken) taken)) way.are
+            ∙ ap (λ l. all_records groups ++ l) (sym (records run at) ∙ sym (append-nil group))
+            ∙ sym (flat_map-append (λ g. g) groups (group ∷ []));
+      }
+    where
+      -- what begins a list begins more of its first elements
+      first_of : (taken accepted : History) → Begins taken accepted → (count : ℕ) → take (length taken) (take (length taken + count) accepted) ≡ taken
+      first_of taken accepted begins count =
+          take-take (length taken) (length taken + count) accepted (omega arith) ∙ ap (take (length taken)) begins.parts ∙ take-append-le (length taken) taken begins.rest (omega arith) ∙ take_all (length taken) taken (omega arith)
+
+  -- the first of them may be settled
+  pub way_settles : (book : Shown S) (first : List (List ℕ)) (rest : List (List (List ℕ))) → AreOnTheWay node book (first ∷ rest) → SettlesNext node book first
+  way_settles book first rest way = (way.run, way.stands, record { rest = all_records rest; parts = way.are })
+
+  -- and then it is none of them
+  pub way_settled : (before later : Shown S) (first : List (List ℕ)) (rest : List (List (List ℕ)))
+      → ((run : Run) → Stands node run before → Begins first (map record_of (drop (length run.settled) run.taken)) → Stands node (with_settled run (length first)) later)
+      → AreOnTheWay node before (first ∷ rest) → AreOnTheWay node later rest
+  way_settled before later first rest stands way =
+      let run : Run = way.run in
+      let begins : Begins first (map record_of (drop (length run.settled) run.taken)) = record { rest = all_records rest; parts = way.are } in
+      let count : ℕ = length run.settled + length first in
+      let long : length (take count run.taken) ≡ count = length-take-le count run.taken (within run first begins way.stands.settled_begins) in
+      record {
+        run = with_settled run (length first);
+        stands = stands run way.stands begins;
+        are = ap (λ n. map record_of (drop n run.taken)) long
+            ∙ ap (map record_of) (sym (drop-drop (length first) (length run.settled) run.taken))
+            ∙ sym (drop-map record_of (length first) (drop (length run.settled) run.taken))
+            ∙ ap (drop (length first)) way.are
+            ∙ drop_at first (all_records rest) (length first) refl;
+      }
+    where
+      within : (run : Run) (group : List (List ℕ)) → Begins group (map record_of (drop (length run.settled) run.taken)) → Begins run.settled run.taken → length run.settled + length group ≤ length run.taken
+      within run group begins settled =
+          let rest = drop (length run.settled) run.taken in
+          omega (arith, begins_length group (map record_of rest) begins, length-map rest record_of, length-drop (length run.settled) run.taken, begins_length run.settled run.taken settled)
+
+  -- where as much is settled as was taken, there are none
+  pub way_none : (book : Shown S) (run : Run) → Stands node run book → book.taken ≡ book.settled → AreOnTheWay node book []
+  way_none book run at same = record {
+    run = run;
+    stands = at;
+    are = ap (map record_of) (nil_from_length (drop (length run.settled) run.taken) (omega (arith, length-drop (length run.settled) run.taken, at.taken, at.settled, same)));
+  }
+
+  -- a book that stands somewhere has some on the way, and one that has them stands somewhere
+  pub some_way : (book : Shown S) → StandsSomewhere node book → (groups : List (List (List ℕ))) × AreOnTheWay node book groups
+  some_way book (run, at) = (map record_of (drop (length run.settled) run.taken) ∷ [], record { run = run; stands = at; are = sym (append-nil (map record_of (drop (length run.settled) run.taken))) })
+
+  pub way_somewhere : (book : Shown S) (groups : List (List (List ℕ))) → AreOnTheWay node book groups → StandsSomewhere node book
+  way_somewhere book groups way = (way.run, way.stands)
+
+  module _ (before later : Shown S) (r : Result (Option (List (List ℕ))) AllocError)
+      (stands : IfOk r (λ group. IfSome group (λ group. (run : Run) → Stands node run before → Stands node (with_taken run (length group)) later)))
+      (records : IfOk r (λ group. IfSome group (λ group. (run : Run) → Stands node run before → group ≡ map record_of (drop (length run.taken) (with_taken run (length group)).taken)))) where
+    -- what a call that takes makes of the way
+    pub way_took : IfOk r (λ taken. IfSome taken (λ group. (groups : List (List (List ℕ))) → AreOnTheWay node before groups → AreOnTheWay node later (groups ++ group ∷ [])))
+    way_took = by_result r stands records
+      where
+        by_result : (r : Result (Option (List (List ℕ))) AllocError)
+            → IfOk r (λ group. IfSome group (λ group. (run : Run) → Stands node run before → Stands node (with_taken run (length group)) later))
+            → IfOk r (λ group. IfSome group (λ group. (run : Run) → Stands node run before → group ≡ map record_of (drop (length run.taken) (with_taken run (length group)).taken)))
+            → IfOk r (λ taken. IfSome taken (λ group. (groups : List (List (List ℕ))) → AreOnTheWay node before groups → AreOnTheWay node later (groups ++ group ∷ [])))
+        by_result (Ok (Some group)) stands records = λ groups. way_taken before later groups group stands records
+        by_result (Ok None) stands records = stands
+        by_result (Err error) stands records = stands
+
+    -- and that the book stands somewhere behind it
+    pub took_somewhere : IfOk r (λ group. IsNone group → later ≡ before) → OnErr r (later ≡ before) → StandsSomewhere node before → StandsSomewhere node later
+    took_somewhere nothing same some = by_result r stands nothing same
+      where
+        by_result : (r : Result (Option (List (List ℕ))) AllocError)
+            → IfOk r (λ group. IfSome group (λ group. (run : Run) → Stands node run before → Stands node (with_taken run (length group)) later))
+            → IfOk r (λ group. IsNone group → later ≡ before) → OnErr r (later ≡ before) → StandsSomewhere node later
+        by_result (Ok (Some group)) stands nothing same = (with_taken some.0 (length group), stands some.0 some.1)
+        by_result (Ok None) stands nothing same = subst (StandsSomewhere node) (sym (nothing refl)) some
+        by_result (Err error) stands nothing same = subst (StandsSomewhere node) (sym same) some
+
+-- a call that takes leaves what the validator is set up with
+pub setting_stays : {S : Type 0} (before later : Shown S) (r : Result (Option (List (List ℕ))) AllocError)
+    → IfOk r (λ group. IfSome group (λ group. later ≡ record before { pending = later.pending; taken = before.taken + length group }))
+    → IfOk r (λ group. IsNone group → later ≡ before) → OnErr r (later ≡ before) → later.validator.setting ≡ before.validator.setting
+setting_stays before later (Ok (Some group)) taken nothing same = ap (λ b. b.validator.setting) taken
+setting_stays before later (Ok None) taken nothing same = ap (λ b. b.validator.setting) (nothing refl)
+setting_stays before later (Err error) taken nothing same = ap (λ b. b.validator.setting) same

@@ -1,0 +1,27 @@
+-- The groups that a book handed over and that aren't settled yet.
+use Rattle.std.specs.Prelude.{◌≡◌, ℕ, List, length, map, drop}
+use Rattle.model.specs.Admitting.{IsLegal}
+use Rattle.model.specs.Giving.{kept}
+use Rattle.model.specs.Histories.{History}
+use Rattle.model.specs.Nodes.{Node}
+use Rattle.records.specs.Records.{record_of}
+use Rattle.admission.specs.declared.tables.Tables.{Tables}
+use Rattle.validator.specs.Standing.{AreAtSound}
+use Rattle.book.specs.Book.{Shown, Run, Stands}
+use Rattle.book.specs.Pending.{all_records}
+
+-- at a run at which the book stands these groups, oldest first, have the records that were taken and aren't settled
+pub record AreOnTheWay {S : Type 0} (node : Node) (book : Shown S) (groups : List (List (List ℕ))) : Type 0 where
+  pub run : Run
+  pub stands : Stands node run book
+  pub are : map record_of (drop (length run.settled) run.taken) ≡ all_records groups
+
+-- a book stands at a run, whatever that is
+abbrev pub StandsSomewhere : {S : Type 0} → Node → Shown S → Type 0
+StandsSomewhere node book = (run : Run) × Stands node run book
+
+-- there is a legal history at which a node's tables stand
+pub record StandsAtLegal (node : Node) (tables : Tables) : Type 0 where
+  pub history : History
+  pub legal : IsLegal node history
+  pub at : AreAtSound node tables (kept node history)

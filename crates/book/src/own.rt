@@ -1,0 +1,195 @@
+//! The book of one owner, who takes a group, adds it to the journal and settles it.
+
+mod error;
+
+use crate::book::{Book, Receipt};
+use committee::Committee;
+use diskmodel::Disk;
+pub use error::FlushError;
+use header::Checked;
+use journal::{Group, Journal, JournalError, Synced};
+use sigface::Sign;
+use std::alloc::{AllocError, Global};
+use std::marker::Model;
+use validator::{Refusal, Validator};
+use wire::{Digest, Output};
+
+/// A book that stands at what its run began with, accepted, took and settled, for an owner who needn't say what that is.
+pub struct OwnBook<'a, S: Sign> {
+    book: Book<'a, S>,
+}
+
+impl<'a, S: Sign> Drop for OwnBook<'a, S> {
+    fn drop(self) {
+        let OwnBook { book: _ } = self;
+    }
+}
+
+impl<'a, S: Sign> Model for OwnBook<'a, S> {
+    ghost use Rattle.std.specs.Coded.{codes};
+    ghost use Rattle.votebook.specs.contracts.book.VoteBook as votes;
+    ghost use Rattle.book.specs.Book.{Shown};
+    ghost use Rattle.validator.specs.Setting.{node_of};
+    ghost use Rattle.book.specs.OnTheWay.{StandsSomewhere};
+
+    ghost Value = { Shown S };
+
+    ghost coded = { Prim.hlevel (codes, S.code, votes.the_row.coded) };
+
+    ghost view = { λ own. own.book };
+
+    ghost invariant = { λ own. StandsSomewhere (node_of S.own_key S.signature_of own.book.validator.setting) own.book };
+}
+
+impl<'a, S: Sign> OwnBook<'a, S> {
+    ghost use Rattle.std.specs.Prelude.{◌≡◌, ◌≢◌, ◌⊎◌, ◌↔◌, ◌<◌, drop, ◌++◌, ◌∷◌, [], List, ℕ, length, true, None, Ok, IfOk, IfErr, IfSome, OnOk, OnErr, IsErrOf, IsTrue};
+    ghost use Rattle.header.specs.Checks.{fault_of, accepts_all};
+    ghost use Rattle.journal.specs.Journal.{disk_of, IsAlive};
+    ghost use Rattle.validator.specs.Setting.{node_of};
+    ghost use Rattle.book.specs.Book.{Run, Stands, SettlesNext, history_in, settled_in};
+    ghost use Rattle.model.specs.Holdings.{order as order_of, round as round_of};
+    ghost use Rattle.book.specs.OnTheWay.{AreOnTheWay, StandsAtLegal};
+
+    /// A book that has accepted nothing, over a validator that stands at a history.
+    pub fn new(alloc: Global, validator: Validator<'a, S>) -> OwnBook<'a, S>
+        requires { StandsAtLegal (node_of S.own_key S.signature_of validator.setting) validator.tables }
+        ensures { result.validator ≡ validator.entry }
+    {
+        OwnBook {
+            book: Book::new(alloc, validator),
+        }
+    }
+
+    /// Takes an event, which passed the checks under the book's committee, as the book does.
+    pub fn accept(&mut self, event: Checked) -> Result<Receipt, Refusal>
+        requires passed { fault_of self.old.validator.setting.charter accepts_all event ≡ None }
+        ensures way { (groups : List (List (List ℕ))) → AreOnTheWay (node_of S.own_key S.signature_of self.old.validator.setting) self.old groups
+            → AreOnTheWay (node_of S.own_key S.signature_of self.old.validator.setting) self.new groups }
+        ensures setting { self.new.validator.setting ≡ self.old.validator.setting }
+    {
+        self.book.accept(event)
+    }
+
+    /// Takes the longest beginning of the pending records that fits a group, which is then the last on the way; `None` where
+    /// nothing is pending. `AllocError` where a growth was refused: nothing was taken then.
+    pub fn take(&mut self) -> Result<Option<Group>, AllocError>
+        ensures way { IfOk result (λ taken. IfSome taken (λ group. (groups : List (List (List ℕ))) → AreOnTheWay (node_of S.own_key S.signature_of self.old.validator.setting) self.old groups
+            → AreOnTheWay (node_of S.own_key S.signature_of self.old.validator.setting) self.new (groups ++ group ∷ []))) }
+        ensures setting { self.new.validator.setting ≡ self.old.validator.setting }
+    {
+        self.book.take()
+    }
+
+    /// Settles the first group on the way.
+    pub fn settle(&mut self, synced: Synced)
+        requires { SettlesNext (node_of S.own_key S.signature_of self.old.validator.setting) self.old synced }
+        ensures way { (groups : List (List (List ℕ))) → AreOnTheWay (node_of S.own_key S.signature_of self.old.validator.setting) self.old (synced ∷ groups)
+            → AreOnTheWay (node_of S.own_key S.signature_of self.old.validator.setting) self.new groups }
+        ensures setting { self.new.validator.setting ≡ self.old.validator.setting }
+    {
+        self.book.settle(synced);
+    }
+
+    /// Whether no group is on the way.
+    pub fn is_settled(&self) -> bool
+        ensures { IsTrue result → AreOnTheWay (node_of S.own_key S.signature_of self.now.validator.setting) self.now [] }
+    {
+        self.book.taken() == self.book.settled()
+    }
+
+    /// The next output that may go out.
+    pub fn release(&mut self) -> Option<Output>
+        ensures way { (groups : List (List (List ℕ))) → AreOnTheWay (node_of S.own_key S.signature_of self.old.validator.setting) self.old groups
+            → AreOnTheWay (node_of S.own_key S.signature_of self.old.validator.setting) self.new groups }
+        ensures setting { self.new.validator.setting ≡ self.old.validator.setting }
+    {
+        self.book.release()
+    }
+
+    /// Takes the book down. From now on nothing is accepted or released.
+    pub fn fail(&mut self)
+        ensures setting { self.new.validator.setting ≡ self.old.validator.setting }
+    {
+        self.book.fail();
+    }
+
+    /// One round: takes a group, adds it to the journal and settles it. Answers how many records it has; 0 where nothing is
+    /// pending.
+    pub fn flush<D: Disk>(&mut self, journal: &mut Journal<D>) -> Result<u64, FlushError>
+        requires { IsAlive D.content D.outcome journal.old }
+        ensures alive { (IsErrOf result FlushError.Device) ⊎ IsAlive D.content D.outcome journal.new }
+        // It answers Device exactly where the disk has failed.
+        ensures device { IsErrOf result FlushError.Device → D.faults (disk_of journal.old) < D.faults (disk_of journal.new) }
+        ensures no_fault { OnOk result (D.faults (disk_of journal.new) ≡ D.faults (disk_of journal.old)) }
+        ensures no_fault_err { IfErr result (λ error. error ≢ FlushError.Device → D.faults (disk_of journal.new) ≡ D.faults (disk_of journal.old)) }
+        ensures setting { self.new.validator.setting ≡ self.old.validator.setting }
+    {
+        if self.is_down() {
+            return Err(FlushError::Down);
+        }
+        // A group of a round that failed stays on the way.
+        if !self.is_settled() {
+            return Err(FlushError::Down);
+        }
+        let Some(group) = self.take()? else {
+            return Ok(0);
+        };
+        let count = group.records_count();
+        match journal.append(group) {
+            Ok(synced) => {
+                self.settle(synced);
+                Ok(count)
+            }
+            Err(JournalError::Full) => {
+                self.fail();
+                Err(FlushError::Full)
+            }
+            Err(_) => {
+                self.fail();
+                Err(FlushError::Device)
+            }
+        }
+    }
+
+    /// Whether the book is down.
+    pub fn is_down(&self) -> bool
+        ensures { result ≡ self.now.down }
+    {
+        self.book.is_down()
+    }
+
+    /// Whether a record is pending.
+    pub fn has_pending(&self) -> bool
+        ensures { IsTrue result ↔ (self.now.pending ≢ []) }
+    {
+        self.book.has_pending()
+    }
+
+    /// The committee of its validator.
+    pub fn committee(&self) -> &Committee
+        ensures { result.now ≡ self.now.validator.setting.charter }
+    {
+        self.book.committee()
+    }
+
+    /// The validator's round, behind all that was accepted.
+    pub fn round_now(&self) -> u64
+        ensures { (run : Run) → Stands (node_of S.own_key S.signature_of self.now.validator.setting) run self.now
+            → result ≡ round_of (node_of S.own_key S.signature_of self.now.validator.setting) (history_in run) }
+    {
+        self.book.round_now()
+    }
+
+    /// The order behind the settled records, from this place on. It is empty past its end.
+    ///
+    /// # Errors
+    /// `Down` where the book is down, `Memory` where a growth was refused.
+    pub fn order(&self, from: u64) -> Result<Vec<Digest>, Refusal>
+        ensures order { IfOk result (λ digests. (run : Run) → Stands (node_of S.own_key S.signature_of self.now.validator.setting) run self.now
+            → digests.items ≡ drop from (order_of (node_of S.own_key S.signature_of self.now.validator.setting) (settled_in run))) }
+        ensures down { IsErrOf result Refusal.Down ↔ IsTrue self.now.down }
+        ensures errors { IfErr result (λ refusal. (refusal ≡ Refusal.Down) ⊎ (refusal ≡ Refusal.Memory)) }
+    {
+        self.book.order(from)
+    }
+}

@@ -1,4 +1,0 @@
-use Rattle.tables.proofs.tables.Tables.is_ack_new.Goals as goal
-
-pub returns : goal.returns
-returns c = λ node state event meets. c.is_new_ack.ensures node state event meets.message meets.at.batches

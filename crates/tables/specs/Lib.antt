@@ -1,3 +1,0 @@
-pub mod Standing
-pub mod Decisions
-pub mod Behind

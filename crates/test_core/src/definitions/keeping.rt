@@ -1,0 +1,101 @@
+//! What the tables of a node have, beside what is kept of its history.
+
+use crate::definitions::beside::same;
+use crate::definitions::played::Played;
+use crate::definitions::searching::{digest_line, vote_line};
+use crate::definitions::showing::certificate_line;
+use plain::held::Held;
+use plain::slots::slot;
+use plain_answers::keeping::{kept_counted, kept_header, kept_highest, kept_slot, kept_vote};
+use std::alloc::AllocError;
+use wire::{Certificate, Digest, Header, Vote, header_digest};
+
+/// What is kept of a round, for an author or voter.
+#[derive(Drop)]
+struct Kept {
+    vote: Option<Digest>,
+    /// The own header's, where the author is the node itself.
+    header: Option<Digest>,
+    counted: Option<Vote>,
+    certificate: Option<Certificate>,
+}
+
+fn digest(header: Option<&Header>) -> Option<Digest> {
+    header.map(|header| header_digest(&header.body))
+}
+
+fn by_history(played: &Played, round: u64, author: u16) -> Result<Kept, AllocError> {
+    let (alloc, node, history) = (played.alloc, &played.node, played.history.as_slice());
+    Ok(Kept {
+        vote: kept_vote(alloc, node, history, round, author)?,
+        header: match author == node.own.0 {
+            true => digest(kept_header(alloc, node, history, round)?),
+            false => None,
+        },
+        counted: kept_counted(alloc, node, history, round, author)?,
+        certificate: kept_slot(alloc, node, history, round, author)?,
+    })
+}
+
+fn by_tables(played: &Played, round: u64, author: u16) -> Result<Kept, AllocError> {
+    let tables = &played.tables;
+    let certificates = tables.certificates(played.alloc)?;
+    Ok(Kept {
+        vote: tables.voted_digest(round, author),
+        header: match author == played.node.own.0 {
+            true => digest(tables.own_header(round)),
+            false => None,
+        },
+        counted: tables.counted(round, author),
+        certificate: match slot(&certificates, round, author) {
+            None => None,
+            Some(certificate) => Some(certificate.try_clone()?),
+        },
+    })
+}
+
+/// What is kept, a line for each.
+fn text_of(played: &Played, kept: Kept) -> Result<String, AllocError> {
+    let mut text = String::new(played.alloc);
+    digest_line(played, kept.vote, &mut text)?;
+    digest_line(played, kept.header, &mut text)?;
+    vote_line(played, kept.counted, &mut text)?;
+    certificate_line(played, kept.certificate.as_ref(), &mut text)?;
+    Ok(text)
+}
+
+/// Compares what is kept of a round for an author or voter.
+fn compare_one(
+    played: &Played,
+    round: u64,
+    author: u16,
+    answer: &mut String,
+) -> Result<(), AllocError> {
+    let kept = text_of(played, by_history(played, round, author)?)?;
+    let found = text_of(played, by_tables(played, round, author)?)?;
+    let what = format!(in played.alloc; "kept of round {round}, author {author},")?;
+    same(what.as_str(), kept.as_str(), found.as_str(), answer)
+}
+
+fn compare_round(played: &Played, round: u64, answer: &mut String) -> Result<(), AllocError> {
+    for author in 0..played.node.size() {
+        compare_one(played, round, author, answer)?;
+    }
+    Ok(())
+}
+
+/// Compares what is kept, for each author of each round up to two above that of any certificate.
+pub fn compare_kept(played: &Played, answer: &mut String) -> Result<(), AllocError> {
+    let highest = kept_highest(played.alloc, &played.node, &played.history)?;
+    let by_tables = played.tables.highest(played.alloc)?;
+    if by_tables != highest {
+        writeln!(
+            answer,
+            "highest {highest} by the history, {by_tables} by the tables"
+        )?;
+    }
+    for round in 0..highest.saturating_add(3) {
+        compare_round(played, round, answer)?;
+    }
+    Ok(())
+}

@@ -1,0 +1,326 @@
+//! Commands that look at a history: certificates, leaders, the order, and what is proposed and kept.
+
+use crate::definitions::played::Played;
+use crate::definitions::searching;
+use crate::definitions::showing::{
+    add, certificate_label, certificates, label_of, line, order, outputs, yes_or_no,
+};
+use plain::ledger::Ledger;
+use plain::newer::{last_wave, newer};
+use plain::ordering::{chain, committed, floor_by, leader, order_by, top};
+use plain::slots::{has_path, is_parent, reaches, round_of, slot};
+use plain::{certificates as held, histories, holdings};
+use plain_answers::giving::{given, is_given};
+use plain_answers::proposing::propose;
+use std::alloc::{AllocError, Global};
+use wire::{Certificate, Header};
+
+/// The certificates and coins of a history.
+#[derive(Drop)]
+pub struct View {
+    certificates: Vec<Certificate>,
+    coins: Vec<u64>,
+}
+
+fn ledger_of<'a>(played: &'a Played, view: &'a View) -> Ledger<'a> {
+    Ledger {
+        committee: &played.node.committee,
+        certificates: &view.certificates,
+        coins: &view.coins,
+    }
+}
+
+fn seen(played: &Played) -> Result<View, AllocError> {
+    Ok(View {
+        certificates: held::certificates(played.alloc, &played.node, &played.history)?,
+        coins: histories::coins(played.alloc, &played.history)?,
+    })
+}
+
+impl View {
+    fn find(&self, played: &Played, label: &str) -> Option<&Certificate> {
+        self.certificates.iter().find(|certificate| certificate_label(played, certificate) == label)
+    }
+}
+
+pub fn number(word: &str) -> u64 {
+    word.parse().unwrap_or(0)
+}
+
+pub fn member(word: &str) -> u16 {
+    word.parse().unwrap_or(65535)
+}
+
+/// What a command looks at.
+enum About {
+    State,
+    Batches,
+    Votes,
+    Leaders,
+    Certificates,
+}
+
+fn kind_of_look(name: &str) -> About {
+    match name {
+        "floor" | "counts" | "propose" | "given" => About::State,
+        "available" | "acked" | "own-batch" | "was-named" | "to-name" | "nameable" | "placed" => {
+            About::Batches
+        }
+        "voted" | "vote-on" | "counted" | "entries" | "completed" | "held" | "kept" => About::Votes,
+        "top" | "committed" | "chain" | "newer" | "leader" | "by" => About::Leaders,
+        _ => About::Certificates,
+    }
+}
+
+/// Carries out a command that looks.
+pub fn look(played: &Played, words: &[&str], answer: &mut String) -> Result<(), AllocError> {
+    let Some(name) = words.first() else {
+        return line("bad case", answer);
+    };
+    match kind_of_look(name) {
+        About::State => look_around(played, name, answer),
+        About::Batches => searching::batches(played, words, answer),
+        About::Votes => searching::votes(played, words, answer),
+        About::Leaders => leaders(played, &seen(played)?, words, answer),
+        About::Certificates => look_at(played, &seen(played)?, words, answer),
+    }
+}
+
+fn look_around(played: &Played, name: &str, answer: &mut String) -> Result<(), AllocError> {
+    match name {
+        "floor" => floor(played, answer),
+        "counts" => counts(played, answer),
+        "propose" => proposal(played, answer),
+        _ => {
+            let given = given(played.alloc, &played.node, &played.history)?;
+            outputs(played, &given, answer)
+        }
+    }
+}
+
+fn look_at(
+    played: &Played,
+    view: &View,
+    words: &[&str],
+    answer: &mut String,
+) -> Result<(), AllocError> {
+    match words {
+        [_] => certificates(played, "certificates", &view.certificates, answer),
+        [name, round] => look_in(played, view, name, number(round), answer),
+        [name, first, second] => look_for(played, view, name, first, second, answer),
+        _ => line("bad case", answer),
+    }
+}
+
+/// What a round has.
+fn look_in(
+    played: &Played,
+    view: &View,
+    name: &str,
+    round: u64,
+    answer: &mut String,
+) -> Result<(), AllocError> {
+    match name {
+        "full" => full(played, view, round, answer),
+        "of-round" => of_round(played, view, round, answer),
+        _ => line("bad case", answer),
+    }
+}
+
+fn look_for(
+    played: &Played,
+    view: &View,
+    name: &str,
+    first: &str,
+    second: &str,
+    answer: &mut String,
+) -> Result<(), AllocError> {
+    match name {
+        "low" => yes_or_no(holdings::is_low(number(first), number(second)), answer),
+        "slot" => slot_line(played, view, number(first), member(second), answer),
+        "is-given" => given_line(played, view, number(first), member(second), answer),
+        _ => match (view.find(played, first), view.find(played, second)) {
+            (Some(one), Some(other)) => paths(played, view, name, one, other, answer),
+            _ => line("bad case", answer),
+        },
+    }
+}
+
+/// Whether the certificate of a slot was given out.
+fn given_line(
+    played: &Played,
+    view: &View,
+    round: u64,
+    author: u16,
+    answer: &mut String,
+) -> Result<(), AllocError> {
+    match slot(&view.certificates, round, author) {
+        None => line("none", answer),
+        Some(found) => yes_or_no(is_given(&played.node, &played.history, found), answer),
+    }
+}
+
+fn floor(played: &Played, answer: &mut String) -> Result<(), AllocError> {
+    let floor = held::floor(played.alloc, &played.node, &played.history)?;
+    writeln!(answer, "floor {floor}")
+}
+
+fn counts(played: &Played, answer: &mut String) -> Result<(), AllocError> {
+    let (alloc, history) = (played.alloc, played.history.as_slice());
+    let batches = histories::batches(alloc, history)?.len();
+    let acks = histories::acks(alloc, history)?.len();
+    let headers = histories::headers(alloc, history)?.len();
+    write!(answer, "batches {batches} acks {acks} headers {headers} ")?;
+    rest_of_counts(played, answer)
+}
+
+fn rest_of_counts(played: &Played, answer: &mut String) -> Result<(), AllocError> {
+    let (alloc, history) = (played.alloc, played.history.as_slice());
+    let votes = histories::votes(alloc, history)?.len();
+    let received = histories::received(alloc, history)?.len();
+    let coins = histories::coins(alloc, history)?.len();
+    writeln!(answer, "votes {votes} received {received} coins {coins}")
+}
+
+fn full(played: &Played, view: &View, round: u64, answer: &mut String) -> Result<(), AllocError> {
+    let is_full = holdings::is_full(&played.node, &view.certificates, round);
+    yes_or_no(is_full, answer)
+}
+
+fn of_round(
+    played: &Played,
+    view: &View,
+    round: u64,
+    answer: &mut String,
+) -> Result<(), AllocError> {
+    let found = round_of(played.alloc, played.node.size(), &view.certificates, round)?;
+    certificates(played, "of", &found, answer)
+}
+
+fn slot_line(
+    played: &Played,
+    view: &View,
+    round: u64,
+    author: u16,
+    answer: &mut String,
+) -> Result<(), AllocError> {
+    match slot(&view.certificates, round, author) {
+        None => line("none", answer),
+        Some(found) => line(certificate_label(played, found), answer),
+    }
+}
+
+/// Whether one certificate is a parent of another or reaches it.
+fn paths(
+    played: &Played,
+    view: &View,
+    how: &str,
+    one: &Certificate,
+    other: &Certificate,
+    answer: &mut String,
+) -> Result<(), AllocError> {
+    let (alloc, size, all) = (played.alloc, played.node.size(), &view.certificates);
+    match how {
+        "parent" => yes_or_no(is_parent(one, other), answer),
+        "reaches" => yes_or_no(reaches(alloc, size, all, one, other)?, answer),
+        "path-of-1" => yes_or_no(has_path(alloc, size, all, 1, one, other)?, answer),
+        _ => line("bad case", answer),
+    }
+}
+
+/// Leaders, and what they order.
+fn leaders(
+    played: &Played,
+    view: &View,
+    words: &[&str],
+    answer: &mut String,
+) -> Result<(), AllocError> {
+    let ledger = ledger_of(played, view);
+    match words {
+        [name] => leaders_now(played, &ledger, name, answer),
+        [name, wave] => leaders_of(played, &ledger, name, number(wave), answer),
+        _ => line("bad case", answer),
+    }
+}
+
+fn leaders_now(
+    played: &Played,
+    ledger: &Ledger,
+    name: &str,
+    answer: &mut String,
+) -> Result<(), AllocError> {
+    match name {
+        "top" => tops(ledger, answer),
+        "by" => by_ledger(played, ledger, answer),
+        "committed" => {
+            let found = committed(played.alloc, ledger)?;
+            certificates(played, name, &found, answer)
+        }
+        _ => line("bad case", answer),
+    }
+}
+
+/// The leader of a wave, or those up to it or newer than it.
+fn leaders_of(
+    played: &Played,
+    ledger: &Ledger,
+    name: &str,
+    wave: u64,
+    answer: &mut String,
+) -> Result<(), AllocError> {
+    match name {
+        "leader" => match leader(ledger, wave) {
+            None => line("none", answer),
+            Some(found) => line(certificate_label(played, found), answer),
+        },
+        "chain" => certificates(played, name, &chain(played.alloc, ledger, wave)?, answer),
+        "newer" => certificates(played, name, &newer(played.alloc, ledger, wave)?, answer),
+        _ => line("bad case", answer),
+    }
+}
+
+fn tops(ledger: &Ledger, answer: &mut String) -> Result<(), AllocError> {
+    let last = last_wave(ledger);
+    match top(ledger) {
+        None => writeln!(answer, "top none, {last}"),
+        Some(wave) => writeln!(answer, "top {wave}, {last}"),
+    }
+}
+
+/// The order and the floor of certificates and coins.
+fn by_ledger(played: &Played, ledger: &Ledger, answer: &mut String) -> Result<(), AllocError> {
+    let floor = floor_by(ledger);
+    write!(answer, "floor {floor}, order")?;
+    let digests = order_by(played.alloc, ledger)?;
+    order(played, &digests, answer)
+}
+
+/// The header that the node proposes.
+fn proposal(played: &Played, answer: &mut String) -> Result<(), AllocError> {
+    let found = propose(played.alloc, &played.node, &played.history)?;
+    proposal_line(played, found, answer)
+}
+
+/// A header that is proposed, or that none is.
+pub fn proposal_line(
+    played: &Played,
+    found: Option<Header>,
+    answer: &mut String,
+) -> Result<(), AllocError> {
+    match found {
+        None => line("proposes none", answer),
+        Some(header) => proposed(played, &header, answer),
+    }
+}
+
+/// The round of a header, the labels of its parents, and of its batches.
+fn proposed(played: &Played, header: &Header, answer: &mut String) -> Result<(), AllocError> {
+    let round = header.body.round.number();
+    write!(answer, "proposes {round}")?;
+    let mut mark = " ";
+    for parent in header.body.parents.as_slice() {
+        add(mark, label_of(played, &parent.certificate), answer)?;
+        mark = ",";
+    }
+    searching::named(played, header.body.batches.as_slice(), answer)
+}

@@ -1,0 +1,27 @@
+//! Committees of members with these stakes.
+
+use crate::parts::members::add_members;
+use crate::parts::words::Told;
+use committee::{Committee, CommitteeError};
+use std::alloc::{AllocError, Global};
+
+fn add_stakes(text: &mut String, stakes: &[u64]) -> Told {
+    text.push_str("]\nstakes = [")?;
+    for stake in stakes {
+        write!(text, "{stake}, ")?;
+    }
+    text.push_str("]\n")
+}
+
+/// The committee of members with these stakes, whose file has this line, too, or why it is none.
+pub fn committee_of(
+    alloc: Global,
+    stakes: &[u64],
+    line: &str,
+) -> Result<Result<Committee, CommitteeError>, AllocError> {
+    let mut text = String::new(alloc);
+    add_members(&mut text, stakes.len() as u64)?;
+    add_stakes(&mut text, stakes)?;
+    text.push_str(line)?;
+    Ok(Committee::read(alloc, &text))
+}

@@ -1,0 +1,70 @@
+//! Frames on a stream.
+
+use crate::parts::words::{Told, list, show};
+use std::alloc::Global;
+use wire::WireError;
+use wire_read::FrameReader;
+
+/// Tells the bodies that the piece makes whole, and whether nothing has come of the next frame then.
+pub fn feed(reader: &mut FrameReader, piece: &[u8], answer: &mut String) -> Told {
+    match reader.feed(piece) {
+        Ok(bodies) => show_each(&bodies, answer)?,
+        Err(error) => writeln!(answer, "{error}")?,
+    }
+    list("empty", &[reader.is_empty() as u64], answer)
+}
+
+fn show_each(bodies: &[Vec<u8>], answer: &mut String) -> Told {
+    for body in bodies {
+        show(body, answer)?;
+    }
+    Ok(())
+}
+
+/// Tells in how many of the first ways to cut the frame it gives its body once and leaves nothing.
+pub fn count_ways(alloc: Global, ways: u64, frame: &[u8], answer: &mut String) -> Told {
+    let mut good: u64 = 0;
+    for cuts in 0..ways {
+        if is_one_body(alloc, frame, cuts).unwrap_or(false) {
+            good = good.saturating_add(1);
+        }
+    }
+    list("good", &[good, ways], answer)
+}
+
+/// Whether the frame gives its body once and leaves nothing, cut behind each byte whose bit the number has.
+fn is_one_body(alloc: Global, frame: &[u8], cuts: u64) -> Result<bool, WireError> {
+    let (mut reader, mut bodies) = (FrameReader::new(alloc), Vec::new(alloc));
+    feed_cut(&mut reader, frame, cuts, &mut bodies)?;
+    let is_one = matches!(bodies.as_slice(), [body] if Some(body.as_slice()) == frame.get(4..));
+    Ok(is_one && reader.is_empty())
+}
+
+/// Feeds the frame, cut so.
+fn feed_cut(
+    reader: &mut FrameReader,
+    frame: &[u8],
+    cuts: u64,
+    bodies: &mut Vec<Vec<u8>>,
+) -> Result<(), WireError> {
+    let (mut left, mut start) = (cuts, 0);
+    for end in 1..frame.len() {
+        if left % 2 == 1 {
+            feed_into(reader, frame.get(start..end).unwrap_or(&[]), bodies)?;
+            start = end;
+        }
+        left /= 2;
+    }
+    feed_into(reader, frame.get(start..).unwrap_or(&[]), bodies)
+}
+
+fn feed_into(
+    reader: &mut FrameReader,
+    piece: &[u8],
+    bodies: &mut Vec<Vec<u8>>,
+) -> Result<(), WireError> {
+    for body in reader.feed(piece)? {
+        bodies.push(body)?;
+    }
+    Ok(())
+}

@@ -1,0 +1,180 @@
+//! A DAG that is put to words one after the other.
+
+ghost use Rattle.std.specs.Prelude.{◌≡◌, ◌<◌, length};
+ghost use Rattle.wire.specs.Digests.{header_digest_of, certificate_digest_of};
+
+use crate::parts::certificates::{certificate_of, digest_of};
+use crate::parts::looks::look;
+use crate::parts::words::{Told, numbers_in, round_of, set_of};
+use committee::Committee;
+use dag::{Added, Dag, DagRefusal, Reads};
+use std::alloc::Global;
+use wire::{Certificate, Digest, Round};
+
+/// Puts a DAG to these words, and tells what it answers.
+pub fn graph(alloc: Global, committee: &Committee, words: &str, answer: &mut String) -> Told {
+    let mut dag = Dag::new(alloc, committee)?;
+    let mut reads = Reads::new();
+    for word in words.split_whitespace() {
+        let (name, rest) = word.split_once('-').unwrap_or((word, ""));
+        let numbers = numbers_in(alloc, rest)?;
+        play(alloc, &mut dag, &mut reads, name, &numbers, answer)?;
+    }
+    Ok(())
+}
+
+fn play(
+    alloc: Global,
+    dag: &mut Dag,
+    reads: &mut Reads,
+    name: &str,
+    numbers: &[u64],
+    answer: &mut String,
+) -> Told {
+    match (way_of(name), numbers) {
+        (Some(way), [round, author, parents @ ..]) => {
+            add(alloc, dag, way, (*round, *author), parents, answer)
+        }
+        _ => match is_asked(name) {
+            true => ask(alloc, dag, name, numbers, answer),
+            false => change(alloc, dag, reads, name, numbers, answer),
+        },
+    }
+}
+
+// How a certificate comes into a DAG: with its digest, or without it, or by hand behind its answer.
+#[derive(Clone, Copy, PartialEq, Eq)]
+enum Way {
+    Bare,
+    Digested,
+    Held,
+}
+
+fn way_of(name: &str) -> Option<Way> {
+    match name {
+        "add" => Some(Way::Bare),
+        "put" => Some(Way::Digested),
+        "hold" => Some(Way::Held),
+        _ => None,
+    }
+}
+
+fn is_asked(name: &str) -> bool {
+    name == "answer" || name == "has_parents"
+}
+
+fn add(
+    alloc: Global,
+    dag: &mut Dag,
+    way: Way,
+    numbers: (u64, u64),
+    parents: &[u64],
+    answer: &mut String,
+) -> Told {
+    let certificate = certificate_of(alloc, dag, numbers.0, numbers.1, parents)?;
+    if certificate.header.author.0 >= dag.committee().size() {
+        return answer.push_str("no member\n");
+    }
+    if certificate.header.parents.len() == 0 {
+        return answer.push_str("no parent\n");
+    }
+    let digest = digest_of(&certificate);
+    let added = match way {
+        Way::Bare => dag.add(certificate),
+        Way::Digested => dag.add_digested(certificate, digest),
+        Way::Held => hold(dag, certificate, digest),
+    };
+    write_added(answer, &added)
+}
+
+// Holds a certificate of a member that names a parent, if it is a new one.
+fn hold(dag: &mut Dag, certificate: Certificate, digest: Digest) -> Result<Added, DagRefusal>
+    requires member { certificate.header.author.0 < length dag.old.charter.keys }
+    requires named { 0 < length certificate.header.parents }
+    requires digested { digest.0 ≡ certificate_digest_of (header_digest_of certificate.header) certificate.header.round certificate.header.author.0 }
+{
+    let added = dag.answer(&certificate, &digest)?;
+    if added == Added::New {
+        dag.hold(certificate, digest)?;
+    }
+    Ok(added)
+}
+
+// Writes what came of a certificate.
+fn write_added(answer: &mut String, added: &Result<Added, DagRefusal>) -> Told {
+    match added {
+        Ok(added) => writeln!(answer, "{added:?}"),
+        Err(refusal) => writeln!(answer, "{refusal}"),
+    }
+}
+
+// A change of the DAG, or a word that only looks.
+fn change(
+    alloc: Global,
+    dag: &mut Dag,
+    reads: &mut Reads,
+    name: &str,
+    numbers: &[u64],
+    answer: &mut String,
+) -> Told {
+    match (name, numbers) {
+        ("full", [first, last]) => full(alloc, dag, *first, *last, answer),
+        ("mark", [round, authors @ ..]) => {
+            dag.mark(round_of(*round), &set_of(authors));
+            Ok(())
+        }
+        ("commit", [round]) => {
+            dag.commit_to(round_of(*round));
+            Ok(())
+        }
+        ("drop", [round]) => drop_below(dag, round_of(*round), answer),
+        _ => look(dag, reads, name, numbers, answer),
+    }
+}
+
+fn drop_below(dag: &mut Dag, round: Round, answer: &mut String) -> Told {
+    if round.number() >= dag.base().number() {
+        return answer.push_str("not below the base\n");
+    }
+    dag.drop_below(round);
+    Ok(())
+}
+
+// Adds certificates of four members for these rounds, each over the four below; how many rounds are then full.
+fn full(alloc: Global, dag: &mut Dag, first: u64, last: u64, answer: &mut String) -> Told {
+    let mut text = String::new(alloc);
+    for round in first..last.saturating_add(1) {
+        full_round(alloc, dag, round, &mut text)?;
+    }
+    writeln!(
+        answer,
+        "{}",
+        text.lines().filter(|line| *line == "New").count()
+    )
+}
+
+fn full_round(alloc: Global, dag: &mut Dag, round: u64, text: &mut String) -> Told {
+    for author in 0..4 {
+        add(alloc, dag, Way::Bare, (round, author), &[0, 1, 2, 3], text)?;
+    }
+    Ok(())
+}
+
+// What a DAG says of a certificate that it isn't given.
+fn ask(alloc: Global, dag: &Dag, name: &str, numbers: &[u64], answer: &mut String) -> Told {
+    let [round, author, parents @ ..] = numbers else {
+        return answer.push_str("bad word\n");
+    };
+    let certificate = certificate_of(alloc, dag, *round, *author, parents)?;
+    match name {
+        "answer" => {
+            let digest = digest_of(&certificate);
+            write_added(answer, &dag.answer(&certificate, &digest))
+        }
+        _ => writeln!(
+            answer,
+            "has_parents {}",
+            dag.has_parents(&certificate.header)
+        ),
+    }
+}

@@ -1,0 +1,121 @@
+//! What is seen of a DAG.
+
+use crate::parts::words::{Told, author_of, round_of, write_set};
+use dag::{Dag, Reads, answers_as_admission, reach_stays, reach_stays_above};
+use wire::{Author, Round};
+
+/// Tells what a word asks of a DAG.
+pub fn look(
+    dag: &Dag,
+    reads: &mut Reads,
+    name: &str,
+    numbers: &[u64],
+    answer: &mut String,
+) -> Told {
+    match (name, numbers) {
+        (_, []) => own_look(dag, name, answer),
+        (_, [round]) => round_look(dag, name, round_of(*round), answer),
+        (_, [round, author]) => {
+            slot_look(dag, name, round_of(*round), author_of(*author), answer)
+        }
+        ("reached", [round, author, below]) => {
+            let below = round_of(*below);
+            reached(dag, round_of(*round), author_of(*author), below, answer)
+        }
+        ("parent", [round, author, place]) => parent(dag, reads, *round, *author, *place, answer),
+        _ => answer.push_str("bad word\n"),
+    }
+}
+
+fn own_look(dag: &Dag, name: &str, answer: &mut String) -> Told {
+    match name {
+        "floor" => writeln!(answer, "floor {}", dag.floor().number()),
+        "base" => writeln!(answer, "base {}", dag.base().number()),
+        "end" => writeln!(answer, "end {}", dag.end()),
+        "laws" => {
+            laws(dag);
+            answer.push_str("laws\n")
+        }
+        _ => answer.push_str("bad word\n"),
+    }
+}
+
+// The calls that do nothing: what holds of the DAG, and the laws of all.
+fn laws(dag: &Dag) {
+    dag.limits_hold();
+    answers_as_admission();
+    reach_stays();
+    reach_stays_above();
+}
+
+fn round_look(dag: &Dag, name: &str, round: Round, answer: &mut String) -> Told {
+    match name {
+        "count" => writeln!(answer, "count {}", dag.count(round)),
+        "stake" => writeln!(answer, "stake {}", dag.stake_at(round)),
+        "low" => writeln!(answer, "low {}", dag.is_low(round)),
+        "authors" => write_set(answer, name, &dag.authors_at(round)),
+        "unmarked" => write_set(answer, name, &dag.unmarked_at(round)),
+        _ => answer.push_str("bad word\n"),
+    }
+}
+
+fn slot_look(dag: &Dag, name: &str, round: Round, author: Author, answer: &mut String) -> Told {
+    match name {
+        "held" => writeln!(answer, "held {}", dag.get(round, author).is_some()),
+        "marked" => writeln!(answer, "marked {}", dag.is_marked(round, author)),
+        "supporters" => supporters(dag, round, author, answer),
+        "parents" => parents(dag, round, author, answer),
+        _ => answer.push_str("bad word\n"),
+    }
+}
+
+fn supporters(dag: &Dag, round: Round, author: Author, answer: &mut String) -> Told {
+    if round.number() < dag.base().number() {
+        return answer.push_str("below the base\n");
+    }
+    write_set(answer, "supporters", &dag.supporters(round, author))
+}
+
+fn parents(dag: &Dag, round: Round, author: Author, answer: &mut String) -> Told {
+    if round.number() <= dag.base().number() {
+        return answer.push_str("not above the base\n");
+    }
+    write_set(answer, "parents", &dag.parents(round, author))
+}
+
+fn reached(dag: &Dag, round: Round, author: Author, below: Round, answer: &mut String) -> Told {
+    if below.number() < dag.base().number() {
+        return answer.push_str("below the base\n");
+    }
+    if round.number() <= below.number() {
+        return answer.push_str("not lower\n");
+    }
+    write_set(answer, "reached", &dag.reached(round, author, below))
+}
+
+fn parent(
+    dag: &Dag,
+    reads: &mut Reads,
+    round: u64,
+    author: u64,
+    place: u64,
+    answer: &mut String,
+) -> Told {
+    if reads.number() >= 1000 {
+        return answer.push_str("too many\n");
+    }
+    let (round, author) = (round_of(round), author_of(author));
+    match dag.parent(round, author, place as usize, reads) {
+        Some((parent, digest)) => {
+            let below = round_of(round.number().saturating_sub(1));
+            let is_held = dag.digest(below, parent) == Some(&digest);
+            writeln!(
+                answer,
+                "parent {} held {is_held} reads {}",
+                parent.0,
+                reads.number()
+            )
+        }
+        None => writeln!(answer, "parent none reads {}", reads.number()),
+    }
+}

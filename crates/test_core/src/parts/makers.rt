@@ -1,0 +1,40 @@
+//! Makers of batches.
+
+use crate::parts::words::{Told, author_of, list, show};
+use batchmaker::BatchMaker;
+use std::alloc::Global;
+use wire::Batch;
+
+/// A maker for the worker of this number, of the author of this number.
+pub fn make(alloc: Global, author: u64, worker: u64, maker: &mut Option<BatchMaker>) -> Told {
+    *maker = Some(BatchMaker::new(alloc, author_of(author), author_of(worker).0)?);
+    Ok(())
+}
+
+/// Pushes a transaction, and tells the batch that is given, or the refusal.
+pub fn push(maker: &mut Option<BatchMaker>, transaction: &[u8], answer: &mut String) -> Told {
+    match maker {
+        Some(maker) => match maker.push(transaction) {
+            Ok(given) => tell(given, answer),
+            Err(error) => writeln!(answer, "{error}"),
+        },
+        None => answer.push_str("no maker\n"),
+    }
+}
+
+/// Seals the open batch, and tells it.
+pub fn seal(maker: &mut Option<BatchMaker>, answer: &mut String) -> Told {
+    match maker {
+        Some(maker) => tell(maker.seal()?, answer),
+        None => answer.push_str("no maker\n"),
+    }
+}
+
+fn tell(given: Option<Batch>, answer: &mut String) -> Told {
+    let Some(batch) = given else {
+        return answer.push_str("none\n");
+    };
+    let (author, worker, len) = (batch.author().0, batch.worker(), batch.len());
+    list("batch", &[author as u64, worker as u64, len as u64], answer)?;
+    show(batch.body(), answer)
+}

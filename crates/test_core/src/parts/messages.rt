@@ -1,0 +1,164 @@
+//! Messages, and what a validator gives out.
+
+use crate::parts::words::{Told, digest_of, list, show, tell};
+use std::alloc::{AllocError, Global};
+use wire::{
+    Author, Batch, Certificate, Digest, HeaderBody, MAX_TRANSACTION_BYTES, Message, OpenBatch,
+    OrderDigests, Output, WireError, batch_digest, certificate_digest, encode, encode_onto,
+    encode_output, encoded_len, header_digest,
+};
+use wire_read::decode;
+
+/// Reads a message, and says nothing of it.
+pub fn read(alloc: Global, bytes: &[u8]) -> Result<Message, WireError> {
+    decode(alloc, bytes)
+}
+
+/// Writes a message, and says nothing of its bytes.
+pub fn written(alloc: Global, message: &Message) -> Result<Vec<u8>, AllocError> {
+    encode(alloc, message)
+}
+
+/// Whether these bytes spell the message, as many as are foretold, and spell it behind others too.
+pub fn is_spelled(alloc: Global, message: &Message, bytes: &[u8]) -> Result<bool, AllocError> {
+    let mut twice = written(alloc, message)?;
+    let is_spelled = twice.as_slice() == bytes && encoded_len(message) == bytes.len();
+    encode_onto(&mut twice, message)?;
+    Ok(is_spelled && twice.get(bytes.len()..).unwrap_or(&[]) == bytes)
+}
+
+/// Reads a message and writes it again.
+pub fn spelled_again(alloc: Global, bytes: &[u8]) -> Result<&'static str, WireError> {
+    let message = read(alloc, bytes)?;
+    let is_same = is_spelled(alloc, &message, bytes)?;
+    Ok(if is_same { "Ok" } else { "other bytes" })
+}
+
+/// Tells how many proper beginnings are refused as Short, and what the others are.
+pub fn beginnings(alloc: Global, bytes: &[u8], answer: &mut String) -> Told {
+    let mut short: u64 = 0;
+    for len in 0..bytes.len() {
+        match spelled_again(alloc, bytes.get(..len).unwrap_or(&[])) {
+            Err(WireError::Short) => short = short.saturating_add(1),
+            other => tell(other, answer)?,
+        }
+    }
+    list("short", &[short], answer)
+}
+
+/// Tells the fields of a message, whether its lists may go on with this number, and its output: of an acknowledgement
+/// to the author of this number.
+pub fn message(alloc: Global, number: u64, bytes: &[u8], answer: &mut String) -> Told {
+    let number = number.min(255) as u8;
+    let message = match read(alloc, bytes) {
+        Ok(message) => message,
+        Err(error) => return writeln!(answer, "{error}"),
+    };
+    tell_fields(&message, number, answer)?;
+    let to = Author(number as u16);
+    let output = match message {
+        Message::Batch(batch) => Output::Batch(batch.share()?),
+        Message::BatchAck(ack) => Output::Ack { to, ack },
+        Message::Header(header) => Output::Header(header.try_clone()?),
+        Message::Vote(vote) => Output::Vote(vote),
+        Message::Certificate(certificate) => Output::Certificate(certificate.try_clone()?),
+        Message::Coin(_) => return Ok(()),
+    };
+    tell_output(alloc, &output, answer)
+}
+
+fn tell_output(alloc: Global, output: &Output, answer: &mut String) -> Told {
+    show(&encode_output(alloc, output)?, answer)
+}
+
+fn tell_fields(message: &Message, number: u8, answer: &mut String) -> Told {
+    match message {
+        Message::Batch(batch) => tell_batch(batch, answer),
+        Message::BatchAck(ack) => list("acknowledgement", &[ack.author.0 as u64], answer),
+        Message::Header(header) => tell_body(&header.body.try_clone()?, number, answer),
+        Message::Vote(vote) => {
+            let (round, author, voter) = (vote.round.number(), vote.author.0, vote.voter.0);
+            list("vote", &[round, author as u64, voter as u64], answer)
+        }
+        Message::Certificate(certificate) => tell_certificate(certificate, number, answer),
+        Message::Coin(coin) => list("coin", &[coin.wave.number(), coin.value], answer),
+    }
+}
+
+fn tell_batch(batch: &Batch, answer: &mut String) -> Told {
+    let (author, worker, len) = (batch.author().0, batch.worker(), batch.len());
+    list("batch", &[author as u64, worker as u64, len as u64], answer)?;
+    show(&batch_digest(batch).0, answer)
+}
+
+/// Tells a header's fields, its digest and its certificate's.
+pub fn tell_body(body: &HeaderBody, number: u8, answer: &mut String) -> Told {
+    let (author, round) = (body.author.0, body.round.number());
+    list("header", &[author as u64, round], answer)?;
+    let batches = &body.batches;
+    let (is_empty, follows) = (
+        batches.is_empty(),
+        batches.may_follow(&Digest([number; 32])),
+    );
+    entries("batches", batches.len(), is_empty, follows, answer)?;
+    let parents = &body.parents;
+    let (is_empty, follows) = (
+        parents.is_empty(),
+        parents.may_follow(Author(number as u16)),
+    );
+    entries("parents", parents.len(), is_empty, follows, answer)?;
+    let header = header_digest(body);
+    show(&header.0, answer)?;
+    let certificate = certificate_digest(&header, body.round, body.author);
+    show(&certificate.0, answer)
+}
+
+fn tell_certificate(certificate: &Certificate, number: u8, answer: &mut String) -> Told {
+    tell_body(&certificate.header, number, answer)?;
+    let votes = &certificate.votes;
+    let (is_empty, follows) = (votes.is_empty(), votes.may_follow(Author(number as u16)));
+    entries("votes", votes.len(), is_empty, follows, answer)
+}
+
+fn entries(name: &str, len: usize, is_empty: bool, follows: bool, answer: &mut String) -> Told {
+    list(name, &[len as u64, is_empty as u64, follows as u64], answer)
+}
+
+/// Adds so many of these bytes for each length, as far as the batch has room, tells the batch and gives its message.
+pub fn fill(
+    mut open: OpenBatch,
+    lens: &[u64],
+    bytes: &[u8],
+    answer: &mut String,
+) -> Result<Message, AllocError> {
+    for len in lens {
+        push(&mut open, bytes.get(..*len as usize).unwrap_or(&[]), answer)?;
+    }
+    let batch = open.close()?;
+    tell_batch(&batch, answer)?;
+    Ok(Message::Batch(batch))
+}
+
+fn push(open: &mut OpenBatch, bytes: &[u8], answer: &mut String) -> Told {
+    let (is_empty, has_room) = (open.is_empty(), open.has_room(bytes.len()));
+    list("room", &[is_empty as u64, has_room as u64], answer)?;
+    if has_room && bytes.len() <= MAX_TRANSACTION_BYTES {
+        open.push(bytes)?;
+    }
+    Ok(())
+}
+
+/// Tells the piece of the order of the digests that these bytes are, as far as it has room.
+pub fn order(alloc: Global, start: u64, bytes: &[u8], answer: &mut String) -> Told {
+    let mut digests = OrderDigests::new(alloc);
+    for digest in bytes.chunks_exact(32) {
+        if !digests.has_room() {
+            answer.push_str("no room\n")?;
+            break;
+        }
+        digests.push(digest_of(digest))?;
+    }
+    let (len, is_empty) = (digests.len(), digests.is_empty());
+    list("order", &[len as u64, is_empty as u64], answer)?;
+    tell_output(alloc, &Output::Order { start, digests }, answer)
+}

@@ -1,0 +1,67 @@
+//! The genesis, the laws, and the vote book.
+
+use crate::parts::messages::{tell_body, written};
+use crate::parts::words::{Told, author_of, digest_of, round_of, show};
+use committee::{
+    CommitteeError, equal_stakes, honest_are_quorum, quorum_meets_support, quorums_overlap,
+    quorums_share_honest, some_if_weighs, support_has_honest, support_is_honest,
+    tolerated_leave_quorum,
+};
+use header::{CheckError, ones_are_counted, passed_have_quorums};
+use std::alloc::Global;
+use votebook::VoteBook;
+use wire::{Certificate, Message, WireError, genesis_digest};
+use wire_read::{
+    beginnings_are_short, faults_stay, one_spelling, one_split, what_follows_is_trailing,
+};
+
+/// Tells the digest of an author's genesis, and the fields and the bytes of its certificate.
+pub fn genesis(alloc: Global, author: u64, answer: &mut String) -> Told {
+    show(&genesis_digest(author_of(author)).0, answer)?;
+    let certificate = Certificate::genesis(alloc, author_of(author));
+    tell_body(&certificate.header, 0, answer)?;
+    show(&written(alloc, &Message::Certificate(certificate))?, answer)
+}
+
+/// Calls each law, and tells the refusals that no case has.
+pub fn laws(answer: &mut String) -> Told {
+    one_spelling();
+    beginnings_are_short();
+    what_follows_is_trailing();
+    faults_stay();
+    one_split();
+    quorums_overlap();
+    quorum_meets_support();
+    some_if_weighs();
+    support_is_honest();
+    tolerated_leave_quorum();
+    honest_are_quorum();
+    quorums_share_honest();
+    support_has_honest();
+    equal_stakes();
+    passed_have_quorums();
+    ones_are_counted();
+    writeln!(answer, "{}", WireError::Memory)?;
+    writeln!(answer, "{}", CommitteeError::Memory)?;
+    writeln!(answer, "{}", CheckError::Memory)
+}
+
+/// Asks for a vote.
+pub fn vote(
+    book: &mut VoteBook,
+    author: u64,
+    round: u64,
+    header: &[u8],
+    answer: &mut String,
+) -> Told {
+    let voted = book.vote(author_of(author), round_of(round), digest_of(header))?;
+    writeln!(answer, "{voted:?}")
+}
+
+/// Tells who has the vote.
+pub fn voted(book: &VoteBook, author: u64, round: u64, answer: &mut String) -> Told {
+    match book.voted(author_of(author), round_of(round)) {
+        Some(header) => show(&header.0, answer),
+        None => answer.push_str("none\n"),
+    }
+}

@@ -1,0 +1,75 @@
+//! What comes before an order, and what is ordered: votes, batches, a DAG, and certificates and coins as they come.
+
+use crate::parts::committees::committee_of;
+use crate::parts::graphs::graph;
+use crate::parts::playing::play_words;
+use crate::parts::stores::store;
+use crate::parts::votes::assemble;
+use crate::parts::words::{Told, numbers_in};
+use committee::Committee;
+use std::alloc::Global;
+
+/// The committee of a case.
+#[derive(Drop)]
+pub struct Ordering {
+    alloc: Global,
+    committee: Option<Committee>,
+}
+
+impl Ordering {
+    /// No committee.
+    pub fn new(alloc: Global) -> Ordering {
+        Ordering {
+            alloc,
+            committee: None,
+        }
+    }
+
+    fn read(&mut self, words: &str, answer: &mut String) -> Told {
+        let (words, line) = words.split_once('|').unwrap_or((words, ""));
+        let stakes = numbers_in(self.alloc, words)?;
+        match committee_of(self.alloc, &stakes, line)? {
+            Ok(committee) => {
+                self.committee = Some(committee);
+                Ok(())
+            }
+            Err(error) => writeln!(answer, "{error}"),
+        }
+    }
+
+    /// Begins a case.
+    pub fn begin(&mut self) {
+        self.committee = None;
+    }
+
+    /// `committee` with its stakes, and behind a line what its file has beside them, or what is asked of one: `quorum`, or a
+    /// word of one of the tables, with what is done to that table.
+    pub fn obey(&mut self, name: &str, words: &str, answer: &mut String) -> Told {
+        if name == "committee" {
+            return self.read(words, answer);
+        }
+        match &self.committee {
+            Some(committee) => ask(self.alloc, committee, name, words, answer),
+            None => answer.push_str("no committee\n"),
+        }
+    }
+}
+
+/// Whether a command of this name is one of these.
+pub fn is_ordering(name: &str) -> bool {
+    match name {
+        "committee" | "quorum" | "assemble" | "store" | "dag" | "play" => true,
+        _ => false,
+    }
+}
+
+fn ask(alloc: Global, committee: &Committee, name: &str, words: &str, answer: &mut String) -> Told {
+    match name {
+        "quorum" => writeln!(answer, "quorum {}", committee.quorum()),
+        "assemble" => assemble(alloc, committee, words, answer),
+        "store" => store(alloc, committee, words, answer),
+        "dag" => graph(alloc, committee, words, answer),
+        "play" => play_words(alloc, committee, words, answer),
+        _ => answer.push_str("bad command\n"),
+    }
+}

@@ -1,0 +1,235 @@
+//! Certificates and coins in the order in which they come, and what they commit.
+
+ghost use Rattle.std.specs.Prelude.{◌≡◌, ◌<◌, length};
+ghost use Rattle.wire.specs.Digests.{header_digest_of, certificate_digest_of};
+
+use crate::parts::certificates::{certificate_of, digest_of};
+use crate::parts::words::{Told, numbers_in, round_of, write_slot};
+use committee::Committee;
+use dag::{Added, Dag};
+use flatten::{Lengthening, mark, segment};
+use std::alloc::{AllocError, Global};
+use tusk::Coins;
+use wire::{Author, Certificate, Digest, Round};
+
+// What a node keeps to order by.
+#[derive(Drop)]
+struct Playing<'a> {
+    alloc: Global,
+    committee: &'a Committee,
+    dag: Dag<'a>,
+    coins: Coins,
+    last: Option<u64>,
+    previous: Option<(Round, Author)>,
+}
+
+/// Plays these words from the genesis on, and tells what each answers.
+pub fn play_words(alloc: Global, committee: &Committee, words: &str, answer: &mut String) -> Told {
+    let mut playing = Playing {
+        alloc,
+        committee,
+        dag: Dag::new(alloc, committee)?,
+        coins: Coins::new(alloc),
+        last: None,
+        previous: None,
+    };
+    for word in words.split_whitespace() {
+        playing.play(word, answer)?;
+    }
+    Ok(())
+}
+
+impl<'a> Playing<'a> {
+    fn play(&mut self, word: &str, answer: &mut String) -> Told {
+        let (name, rest) = word.split_once('-').unwrap_or((word, ""));
+        let numbers = numbers_in(self.alloc, rest)?;
+        match (name, numbers.as_slice()) {
+            ("add", [round, author, parents @ ..]) => self.add(*round, *author, parents, answer),
+            ("coin", [value]) => self.coin(*value, answer),
+            ("leaders", _) => self.tell_leaders(answer),
+            _ => answer.push_str("bad word\n"),
+        }
+    }
+
+    fn add(&mut self, round: u64, author: u64, parents: &[u64], answer: &mut String) -> Told {
+        let certificate = certificate_of(self.alloc, &self.dag, round, author, parents)?;
+        if certificate.header.author.0 >= self.dag.committee().size()
+            || certificate.header.parents.as_slice().is_empty()
+        {
+            return answer.push_str("no member or no parent\n");
+        }
+        let digest = digest_of(&certificate);
+        match self.dag.answer(&certificate, &digest) {
+            Ok(Added::New) => self.add_new(certificate, digest, answer),
+            Ok(Added::Known) => answer.push_str("Known\n"),
+            Err(refusal) => writeln!(answer, "{refusal}"),
+        }
+    }
+
+    // Adds a certificate that is new, and commits what it commits.
+    fn add_new(&mut self, certificate: Certificate, digest: Digest, answer: &mut String) -> Told
+        requires member { certificate.header.author.0 < length self.old.dag.charter.keys }
+        requires named { 0 < length certificate.header.parents }
+        requires digested { digest.0 ≡ certificate_digest_of (header_digest_of certificate.header) certificate.header.round certificate.header.author.0 }
+    {
+        answer.push_str("New\n")?;
+        let chain = self
+            .coins
+            .committed_by(self.alloc, &self.dag, &certificate, self.last)?;
+        let made = self.lengthen(&chain)?;
+        let _ = self.dag.add_digested(certificate, digest);
+        self.commit(&chain, &made, answer)
+    }
+
+    fn coin(&mut self, value: u64, answer: &mut String) -> Told {
+        let chain = self
+            .coins
+            .committed_with(self.alloc, &self.dag, value, self.last)?;
+        self.coins.push(value)?;
+        writeln!(answer, "coin {}", self.coins.count())?;
+        let made = self.lengthen(&chain)?;
+        self.commit(&chain, &made, answer)
+    }
+
+    // What these leaders order, and before that what each beginning of them does.
+    fn lengthen(&self, chain: &[(Round, Author)]) -> Result<Vec<Lengthening>, AllocError> {
+        let mut made = Vec::new(self.alloc);
+        for count in 1..chain.len() + 1 {
+            made.push(Lengthening::new(self.alloc, &self.dag, &chain[..count])?)?;
+        }
+        Ok(made)
+    }
+
+    // Looks for these leaders in the DAG as it is now, tells what each orders, and takes the last one as committed.
+    fn commit(
+        &mut self,
+        chain: &[(Round, Author)],
+        made: &[Lengthening],
+        answer: &mut String,
+    ) -> Told {
+        if !self.is_found(chain)? || !self.is_alike(chain, made)? {
+            answer.push_str("otherwise\n")?;
+        }
+        let Some(last) = chain.last() else {
+            return Ok(());
+        };
+        tell_chain(chain, answer)?;
+        self.tell_orders(made, answer)?;
+        self.take(last.0, made.last());
+        writeln!(
+            answer,
+            "top {} floor {}",
+            self.last.unwrap_or(0),
+            self.dag.floor().number()
+        )
+    }
+
+    // Whether these are the leaders that the DAG commits as it is now.
+    fn is_found(&self, chain: &[(Round, Author)]) -> Result<bool, AllocError> {
+        let again = self.coins.chain_from(self.alloc, &self.dag, self.last)?;
+        Ok(again.as_slice() == chain)
+    }
+
+    // Takes the leader of a round as committed, with all that is ordered up to it.
+    fn take(&mut self, round: Round, all: Option<&Lengthening>) {
+        if let Some(all) = all {
+            mark(&mut self.dag, all);
+            self.previous = Some(all.last());
+        }
+        self.last = self.coins.top(&self.dag);
+        self.dag.commit_to(round);
+        let floor = round_of(round.number().saturating_sub(self.committee.depth()));
+        if floor.number() < self.dag.base().number() {
+            self.dag.drop_below(floor);
+        }
+    }
+
+    // Whether each of these leaders orders, asked alone behind the one before it, what its beginning has behind that one's.
+    fn is_alike(
+        &self,
+        chain: &[(Round, Author)],
+        made: &[Lengthening],
+    ) -> Result<bool, AllocError> {
+        let mut previous = self.previous;
+        let mut place: usize = 0;
+        let mut told = 0;
+        for one in made {
+            let Some(leader) = chain.get(place) else {
+                return Ok(false);
+            };
+            if !self.orders(*leader, previous, one.digests().get(told..))? {
+                return Ok(false);
+            }
+            previous = Some(*leader);
+            place = place.saturating_add(1);
+            told = one.digests().len();
+        }
+        Ok(place == chain.len())
+    }
+
+    // Whether a leader orders these behind the one before it.
+    fn orders(
+        &self,
+        leader: (Round, Author),
+        previous: Option<(Round, Author)>,
+        digests: Option<&[Digest]>,
+    ) -> Result<bool, AllocError> {
+        let alone = segment(self.alloc, &self.dag, leader, previous)?;
+        Ok(digests == Some(alone.as_slice()))
+    }
+
+    // What each leader orders: what its beginning has behind that of the one before.
+    fn tell_orders(&self, made: &[Lengthening], answer: &mut String) -> Told {
+        let mut told = 0;
+        for one in made {
+            let digests = one.digests();
+            answer.push_str("orders")?;
+            for digest in digests.get(told..).unwrap_or_default() {
+                self.tell_digest(digest, answer)?;
+            }
+            answer.push_str("\n")?;
+            told = digests.len();
+        }
+        Ok(())
+    }
+
+    // The slot of a certificate of this digest.
+    fn tell_digest(&self, digest: &Digest, answer: &mut String) -> Told {
+        for number in self.dag.floor().number()..self.dag.end() {
+            for author in 0..self.dag.committee().size() {
+                let slot = (round_of(number), Author(author));
+                if self.dag.digest(slot.0, slot.1) == Some(digest) {
+                    write_slot(answer, &slot)?;
+                }
+            }
+        }
+        Ok(())
+    }
+
+    // The leaders of the waves from the floor on.
+    fn tell_leaders(&self, answer: &mut String) -> Told {
+        answer.push_str("leaders")?;
+        for wave in 1..self.coins.count() as u64 + 1 {
+            if 2 * wave > self.dag.floor().number() {
+                self.tell_leader(wave, answer)?;
+            }
+        }
+        answer.push_str("\n")
+    }
+
+    fn tell_leader(&self, wave: u64, answer: &mut String) -> Told {
+        write!(answer, " {wave}:")?;
+        match self.coins.leader(&self.dag, wave) {
+            Some((round, author)) => write!(answer, "{}.{}", round.number(), author.0),
+            None => answer.push_str("none"),
+        }
+    }
+}
+
+fn tell_chain(chain: &[(Round, Author)], answer: &mut String) -> Told {
+    answer.push_str("chain")?;
+    for leader in chain {
+        write_slot(answer, leader)?;
+    }
+    answer.push_str("\n")
+}

@@ -1,0 +1,67 @@
+//! The stakes of the members, and what sets of them weigh.
+
+use crate::parts::words::{Told, author_of, list};
+use committee::{Committee, MAX_MEMBERS, MemberSet};
+
+/// Tells the stake of all members, and how much of it is tolerated.
+pub fn show_total(committee: &Option<Committee>, answer: &mut String) -> Told {
+    match committee {
+        Some(committee) => list("total", &[committee.total(), committee.tolerated()], answer),
+        None => answer.push_str("no committee\n"),
+    }
+}
+
+/// Tells the stake of a member.
+pub fn show_stake(committee: &Option<Committee>, member: u64, answer: &mut String) -> Told {
+    match committee {
+        Some(committee) => match committee.stake(author_of(member)) {
+            Some(stake) => list("stake", &[stake], answer),
+            None => answer.push_str("none\n"),
+        },
+        None => answer.push_str("no committee\n"),
+    }
+}
+
+/// Tells what the members of these numbers weigh.
+pub fn weigh(committee: &Option<Committee>, members: &[u64], answer: &mut String) -> Told {
+    match committee {
+        Some(committee) => list("weight", &[committee.weight(&set_of(members))], answer),
+        None => answer.push_str("no committee\n"),
+    }
+}
+
+/// Tells whether a number is in the set of the members of these numbers.
+pub fn is_among(number: u64, members: &[u64], answer: &mut String) -> Told {
+    let is_among = set_of(members).contains(author_of(number));
+    list("among", &[is_among as u64], answer)
+}
+
+/// Tells whether a number is in the union of two sets, in what both have, and in the first one without the other. The first
+/// has so many of these members.
+pub fn is_in_both(number: u64, count: u64, members: &[u64], answer: &mut String) -> Told {
+    let (some, others) = members.split_at(members.len().min(count as usize));
+    let others = set_of(others);
+    let (mut united, mut common, mut rest) = (set_of(some), set_of(some), set_of(some));
+    united.unite(&others);
+    common.retain(&others);
+    rest.remove_all(&others);
+    let author = author_of(number);
+    let found = [
+        united.contains(author),
+        common.contains(author),
+        rest.contains(author),
+    ];
+    list("in", &found.map(|is_in| is_in as u64), answer)
+}
+
+// The set of the members of these numbers, without those that no member can have.
+fn set_of(members: &[u64]) -> MemberSet {
+    let mut set = MemberSet::none();
+    for member in members {
+        let author = author_of(*member);
+        if author.0 < MAX_MEMBERS {
+            set.insert(author);
+        }
+    }
+    set
+}

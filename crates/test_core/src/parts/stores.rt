@@ -1,0 +1,136 @@
+//! A store of batches that is put to words one after the other.
+
+use crate::parts::words::{Told, author_of, numbers_in};
+use batchstore::BatchStore;
+use committee::Committee;
+use std::alloc::{AllocError, Global};
+use wire::{Author, Batch, BatchReference, Digest, OpenBatch, batch_digest};
+
+// A batch of an author and worker with one transaction, the byte of this number. None where there is no room, which never is.
+fn batch_of(
+    alloc: Global,
+    author: Author,
+    worker: u16,
+    byte: u8,
+) -> Result<Option<Batch>, AllocError> {
+    let mut open = OpenBatch::new(alloc, author, worker)?;
+    if open.has_room(1) {
+        open.push(&[byte])?;
+    }
+    Ok(open.close().ok())
+}
+
+/// Puts a store of a member to these words, and tells what it answers.
+pub fn store(alloc: Global, committee: &Committee, words: &str, answer: &mut String) -> Told {
+    let (own, words) = words.split_once(':').unwrap_or((words, ""));
+    let own = Author(own.trim().parse::<u16>().unwrap_or(0));
+    if own.0 >= committee.size() {
+        return answer.push_str("no member\n");
+    }
+    let mut store = BatchStore::new(alloc, committee, own);
+    let mut digests = Vec::new(alloc);
+    for word in words.split_whitespace() {
+        obey(alloc, &mut store, &mut digests, word, answer)?;
+    }
+    Ok(())
+}
+
+fn obey(
+    alloc: Global,
+    store: &mut BatchStore,
+    digests: &mut Vec<Digest>,
+    word: &str,
+    answer: &mut String,
+) -> Told {
+    let (name, rest) = word.split_once('-').unwrap_or((word, ""));
+    let numbers = numbers_in(alloc, rest)?;
+    match numbers.as_slice() {
+        [author, worker, byte] if name == "put" => {
+            let (author, worker) = (author_of(*author), (*worker).min(65_535) as u16);
+            let batch = batch_of(alloc, author, worker, (*byte).min(255) as u8)?;
+            put(store, digests, batch, answer)
+        }
+        [place, member] if name == "ack" => {
+            let digest = digest_at(digests, *place);
+            ack(store, digest, author_of(*member), answer)
+        }
+        [place] => ask(store, name, digest_at(digests, *place), answer),
+        _ if name == "least" => least(alloc, store, digests, answer),
+        _ => answer.push_str("bad word\n"),
+    }
+}
+
+fn digest_at(digests: &[Digest], place: u64) -> Digest {
+    digests
+        .get(place as usize)
+        .copied()
+        .unwrap_or(Digest([0; 32]))
+}
+
+fn put(
+    store: &mut BatchStore,
+    digests: &mut Vec<Digest>,
+    batch: Option<Batch>,
+    answer: &mut String,
+) -> Told {
+    let Some(batch) = batch else {
+        return Err(AllocError);
+    };
+    digests.push(batch_digest(&batch))?;
+    match store.put(batch) {
+        Ok(put) => write!(answer, "{put:?}")?,
+        Err(refusal) => write!(answer, "{refusal}")?,
+    }
+    let len = store.len();
+    writeln!(answer, " of {len}")
+}
+
+fn ack(store: &mut BatchStore, digest: Digest, member: Author, answer: &mut String) -> Told {
+    if member.0 >= store.committee().size() {
+        return answer.push_str("no member\n");
+    }
+    match store.ack(member, &digest) {
+        Ok(acked) => writeln!(answer, "{acked:?}"),
+        Err(refusal) => writeln!(answer, "{refusal}"),
+    }
+}
+
+// Of the batch of a digest: whether it is held with a worker, whose it is, whether it is available, and whether named; or
+// that a header names it.
+fn ask(store: &mut BatchStore, name: &str, digest: Digest, answer: &mut String) -> Told {
+    match name {
+        "get" => get(store, &digest, answer),
+        "available" => writeln!(answer, "{}", store.available(&digest)),
+        "named" => writeln!(answer, "{}", store.named(&digest)),
+        "name" => {
+            store.name(&[BatchReference { digest, worker: 0 }]);
+            answer.push_str("named\n")
+        }
+        _ => answer.push_str("bad word\n"),
+    }
+}
+
+fn get(store: &BatchStore, digest: &Digest, answer: &mut String) -> Told {
+    match store.get(digest) {
+        Some(batch) => {
+            let (author, worker) = (batch.author().0, batch.worker());
+            let (one, other) = (store.holds(digest, worker), store.holds(digest, worker ^ 1));
+            writeln!(answer, "of {author} {worker} {one} {other}")
+        }
+        None => answer.push_str("none\n"),
+    }
+}
+
+// The batches that may be named: of each the place in which it was put first, and its worker.
+fn least(alloc: Global, store: &BatchStore, digests: &[Digest], answer: &mut String) -> Told {
+    answer.push_str("least")?;
+    for reference in store.least_nameable(alloc)? {
+        let place = digests
+            .iter()
+            .position(|digest| *digest == reference.digest)
+            .unwrap_or(0);
+        let worker = reference.worker;
+        write!(answer, " {place}/{worker}")?;
+    }
+    answer.push_str("\n")
+}

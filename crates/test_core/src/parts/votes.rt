@@ -1,0 +1,141 @@
+//! An assembly that is given votes one after the other.
+
+ghost use Rattle.std.specs.Prelude.{◌≡◌, ◌<◌, length};
+ghost use Rattle.wire.specs.Digests.{header_digest_of};
+
+use crate::parts::words::Told;
+use certify::{Added, Assembly};
+use committee::Committee;
+use std::alloc::{AllocError, Global};
+use wire::{
+    Author, BatchReferences, Certificate, Digest, Header, HeaderBody, ParentReferences, Round,
+    Signature, Vote, header_digest,
+};
+
+fn header_of(alloc: Global, author: Author) -> Header {
+    Header {
+        body: HeaderBody {
+            author,
+            round: Round::genesis(),
+            batches: BatchReferences::new(alloc),
+            parents: ParentReferences::new(alloc),
+        },
+        signature: Signature([author.0.min(255) as u8; 64]),
+    }
+}
+
+// A vote on the header of this body, its signature of 64 such bytes.
+fn vote_on(body: &HeaderBody, voter: Author, byte: u8) -> Vote
+    ensures digest { result.header.0 ≡ header_digest_of body.now }
+    ensures round { result.round ≡ body.now.round }
+    ensures author { result.author ≡ body.now.author }
+    ensures voter { result.voter ≡ voter }
+{
+    Vote {
+        header: header_digest(body),
+        round: body.round,
+        author: body.author,
+        voter,
+        signature: Signature([byte; 64]),
+    }
+}
+
+// A vote as a word says it: the voter's number, and behind it `h`, `r` or `a` where the vote names another header, round or
+// author than the one of this body.
+fn vote_of(body: &HeaderBody, word: &str, byte: u8) -> Vote {
+    let number = word.trim_end_matches(|c| c == 'h' || c == 'r' || c == 'a');
+    let voter = Author(number.parse::<u16>().unwrap_or(0));
+    let vote = vote_on(body, voter, byte);
+    if word.ends_with('h') {
+        return Vote {
+            header: Digest([byte; 32]),
+            ..vote
+        };
+    }
+    if word.ends_with('r') {
+        return Vote {
+            round: Round::new(2).unwrap_or(Round::genesis()),
+            ..vote
+        };
+    }
+    if word.ends_with('a') {
+        return Vote {
+            author: Author(body.author.0 ^ 1),
+            ..vote
+        };
+    }
+    vote
+}
+
+/// Tells what an assembly of a member's header answers each vote, and what it is then.
+pub fn assemble(alloc: Global, committee: &Committee, words: &str, answer: &mut String) -> Told {
+    let (own, votes) = words.split_once(':').unwrap_or((words, ""));
+    let own = Author(own.trim().parse::<u16>().unwrap_or(0));
+    if own.0 >= committee.size() {
+        return answer.push_str("no member\n");
+    }
+    let header = header_of(alloc, own);
+    let body = header.body.try_clone()?;
+    let vote = vote_on(&header.body, own, 0);
+    let mut assembly = Assembly::start(alloc, committee, header, vote)?;
+    let mut byte: u8 = 0;
+    for word in votes.split_whitespace() {
+        byte = byte.saturating_add(1);
+        let vote = vote_of(&body, word, byte);
+        give(committee, &mut assembly, vote, byte % 2 == 1, answer)?;
+    }
+    tell_assembly(&assembly, committee.size(), answer)
+}
+
+// Gives an assembly a vote, at once or in two steps, unless no member has cast it.
+fn give(
+    committee: &Committee,
+    assembly: &mut Assembly,
+    vote: Vote,
+    at_once: bool,
+    answer: &mut String,
+) -> Told
+    requires { assembly.old.charter ≡ committee.now }
+    ensures { assembly.new.charter ≡ committee.now }
+{
+    if vote.voter.0 >= committee.size() {
+        return Ok(());
+    }
+    if at_once {
+        return tell_added(&assembly.add(vote)?, answer);
+    }
+    let added = assembly.answer(&vote)?;
+    tell_added(&added, answer)?;
+    assembly.count(&added, vote);
+    Ok(())
+}
+
+fn tell_added(added: &Added, answer: &mut String) -> Told {
+    match added {
+        Added::Counted => answer.push_str("counted\n"),
+        Added::Again => answer.push_str("again\n"),
+        Added::NotOurs => answer.push_str("not ours\n"),
+        Added::Complete(certificate) => tell_certificate(certificate, answer),
+    }
+}
+
+// The header's author, and of each vote the voter and the first byte of the signature.
+fn tell_certificate(certificate: &Certificate, answer: &mut String) -> Told {
+    write!(answer, "complete {} :", certificate.header.author.0)?;
+    for vote in certificate.votes.as_slice() {
+        let (voter, byte) = (vote.voter.0, vote.signature.0[0]);
+        write!(answer, " {voter}/{byte}")?;
+    }
+    answer.push_str("\n")
+}
+
+fn tell_assembly(assembly: &Assembly, members: u16, answer: &mut String) -> Told {
+    let (author, complete) = (assembly.header().body.author.0, assembly.is_complete());
+    write!(answer, "of {author} complete {complete} voted")?;
+    for member in 0..members {
+        if assembly.voted(Author(member)) {
+            write!(answer, " {member}")?;
+        }
+    }
+    answer.push_str("\n")
+}

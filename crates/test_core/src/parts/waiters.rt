@@ -1,0 +1,158 @@
+//! The waiter, over certificates of a committee of four.
+
+use crate::parts::members::add_members;
+use crate::parts::words::{Told, bad, list};
+use committee::Committee;
+use header::{Checked, recheck};
+use std::alloc::{AllocError, Global};
+use waiter::Waiter;
+use wire::{Author, CERTIFICATE_TAG, HEADER_TAG, Message};
+use wire_read::decode;
+
+/// A committee, and what waits.
+#[derive(Drop)]
+pub struct Waiting {
+    committee: Committee,
+    waiter: Waiter,
+}
+
+/// A waiter of nothing, of a committee of four.
+pub fn open(alloc: Global, waiting: &mut Option<Waiting>, answer: &mut String) -> Told {
+    let mut text = String::new(alloc);
+    add_members(&mut text, 4)?;
+    text.push_str("]\n")?;
+    match Committee::read(alloc, &text) {
+        Ok(committee) => {
+            let waiter = Waiter::new(alloc);
+            *waiting = Some(Waiting { committee, waiter });
+            Ok(())
+        }
+        Err(error) => writeln!(answer, "{error}"),
+    }
+}
+
+/// Offers the certificate of a round and author with the votes of three members from this one on.
+pub fn offer(
+    alloc: Global,
+    waiting: &mut Option<Waiting>,
+    slot: (u64, u64),
+    voter: u64,
+    answer: &mut String,
+) -> Told {
+    let bytes = certificate(alloc, slot, voter)?;
+    put(alloc, waiting, &bytes, answer)
+}
+
+/// Offers the header of a round and of member 0.
+pub fn offer_header(
+    alloc: Global,
+    waiting: &mut Option<Waiting>,
+    round: u64,
+    answer: &mut String,
+) -> Told {
+    let mut bytes = Vec::new(alloc);
+    bytes.push(HEADER_TAG)?;
+    add_body(&mut bytes, (round, 0))?;
+    bytes.extend_from_slice(&[0; 64])?;
+    put(alloc, waiting, &bytes, answer)
+}
+
+/// Offers the certificates of member 0 of these rounds, and tells how many may wait.
+pub fn offer_rounds(
+    alloc: Global,
+    waiting: &mut Option<Waiting>,
+    first: u64,
+    end: u64,
+    answer: &mut String,
+) -> Told {
+    let Some(waiting) = waiting else {
+        return bad(answer);
+    };
+    let mut taken: u64 = 0;
+    for round in first..end {
+        let bytes = certificate(alloc, (round, 0), 0)?;
+        if let Some(checked) = checked(alloc, &waiting.committee, &bytes) {
+            taken = taken.saturating_add(waiting.waiter.offer(checked).is_ok() as u64);
+        }
+    }
+    list("taken", &[taken], answer)
+}
+
+/// Takes the next that is of this author, or of any; tells how many were asked of, and the round and author.
+pub fn next(waiting: &mut Option<Waiting>, author: Option<u64>, answer: &mut String) -> Told {
+    let Some(waiting) = waiting else {
+        return bad(answer);
+    };
+    let mut asked: u64 = 0;
+    let ready = waiting.waiter.next_ready(|checked| {
+        asked = asked.saturating_add(1);
+        is_of(checked, author)
+    });
+    list("asked", &[asked], answer)?;
+    match &ready {
+        Some(checked) => tell_slot(checked.message(), answer),
+        None => answer.push_str("none\n"),
+    }
+}
+
+fn tell_slot(message: &Message, answer: &mut String) -> Told {
+    match message {
+        Message::Certificate(certificate) => {
+            let (round, author) = (certificate.header.round, certificate.header.author);
+            list("certificate", &[round.number(), author.0 as u64], answer)
+        }
+        _ => answer.push_str("another message\n"),
+    }
+}
+
+fn is_of(checked: &Checked, author: Option<u64>) -> bool {
+    match (checked.message(), author) {
+        (Message::Certificate(certificate), Some(author)) => {
+            certificate.header.author.0 as u64 == author
+        }
+        (_, wanted) => wanted.is_none(),
+    }
+}
+
+fn put(alloc: Global, waiting: &mut Option<Waiting>, bytes: &[u8], answer: &mut String) -> Told {
+    let Some(waiting) = waiting else {
+        return bad(answer);
+    };
+    let Some(checked) = checked(alloc, &waiting.committee, bytes) else {
+        return answer.push_str("no message\n");
+    };
+    match waiting.waiter.offer(checked) {
+        Ok(()) => answer.push_str("Ok\n"),
+        Err(refusal) => writeln!(answer, "{refusal}"),
+    }
+}
+
+fn checked(alloc: Global, committee: &Committee, bytes: &[u8]) -> Option<Checked> {
+    let message = decode(alloc, bytes).ok()?;
+    recheck(committee, Author(0), message).ok()
+}
+
+// A header's body with no batches and the parents 0, 1 and 2.
+fn add_body(bytes: &mut Vec<u8>, slot: (u64, u64)) -> Told {
+    bytes.extend_from_slice(&(slot.1.min(3) as u16).to_be_bytes())?;
+    bytes.extend_from_slice(&slot.0.to_be_bytes())?;
+    bytes.extend_from_slice(&[0, 0, 0, 3])?;
+    for parent in 0..3u8 {
+        bytes.extend_from_slice(&[0, parent])?;
+        bytes.extend_from_slice(&[7; 32])?;
+    }
+    Ok(())
+}
+
+// With votes of three members.
+fn certificate(alloc: Global, slot: (u64, u64), voter: u64) -> Result<Vec<u8>, AllocError> {
+    let mut bytes = Vec::new(alloc);
+    bytes.push(CERTIFICATE_TAG)?;
+    add_body(&mut bytes, slot)?;
+    bytes.extend_from_slice(&[0, 3])?;
+    for place in 0..3u8 {
+        bytes.extend_from_slice(&[0, place.saturating_add(voter.min(1) as u8)])?;
+        bytes.extend_from_slice(&[0; 64])?;
+    }
+    Ok(bytes)
+}

@@ -1,0 +1,67 @@
+//! The script of a case.
+
+use crate::live::words::add_word;
+use std::alloc::{AllocError, Global};
+
+/// A script, and how it is read and its lines are taken.
+#[derive(Drop)]
+pub struct Script {
+    alloc: Global,
+    pub bytes: Vec<u8>,
+    pub is_typed: bool,
+    pub is_broken: bool,
+    /// Bytes of output that can be written.
+    pub room: usize,
+}
+
+impl Script {
+    /// No lines, from a file, with room for all output.
+    pub fn new(alloc: Global) -> Script {
+        Script {
+            alloc,
+            bytes: Vec::new(alloc),
+            is_typed: false,
+            is_broken: false,
+            room: usize::MAX,
+        }
+    }
+
+    /// Adds a line so many times.
+    pub fn add_lines(&mut self, times: u32, line: &str) -> Result<(), AllocError> {
+        for _ in 0..times {
+            self.bytes.extend_from_slice(line.as_bytes())?;
+            self.bytes.push(b'\n')?;
+        }
+        Ok(())
+    }
+
+    /// Changes the script, how it is read or how its lines are taken; says whether the words are ones for that.
+    pub fn change(&mut self, name: &str, rest: &str) -> Result<bool, AllocError> {
+        match name {
+            "bytes" => add_word(self.alloc, rest, &mut self.bytes),
+            "repeat" => self.repeat(rest),
+            _ => Ok(self.set(name, rest.parse().ok())),
+        }
+    }
+
+    fn repeat(&mut self, rest: &str) -> Result<bool, AllocError> {
+        let Some((times, line)) = rest.split_once(' ') else {
+            return Ok(false);
+        };
+        let Ok(times) = times.parse() else {
+            return Ok(false);
+        };
+        self.add_lines(times, line)?;
+        Ok(true)
+    }
+
+    fn set(&mut self, name: &str, number: Option<usize>) -> bool {
+        match (name, number) {
+            ("typed", None) => self.is_typed = true,
+            ("broken", None) => self.is_broken = true,
+            ("room", Some(room)) => self.room = room,
+            _ => return false,
+        }
+        true
+    }
+}

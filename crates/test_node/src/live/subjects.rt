@@ -1,0 +1,77 @@
+//! What a case is about.
+
+use crate::live::folder::Folder;
+use crate::live::runs::Runs;
+use crate::live::scripts::Script;
+use crate::live::threads::obey_threads;
+use crate::live::trial::obey_script;
+use crate::live::words::Told;
+use std::alloc::Global;
+use std::fs::File;
+use std::rt::Files;
+use std::sync::Wait;
+use std::thread::Threads;
+
+// What the commands of a case are put to.
+#[derive(Drop)]
+enum Subject {
+    // Each command is a test of its own. A case begins so too, since its first command says what it is about.
+    Threads,
+    Folder(Folder),
+    Script(Script),
+    Runs(Runs),
+}
+
+/// The case that is played.
+#[derive(Drop)]
+pub struct Case {
+    alloc: Global,
+    subject: Subject,
+}
+
+impl Case {
+    /// A case without commands.
+    pub fn new(alloc: Global) -> Case {
+        Case {
+            alloc,
+            subject: Subject::Threads,
+        }
+    }
+
+    /// Begins a new case.
+    pub fn begin(&mut self) {
+        self.subject = Subject::Threads;
+    }
+
+    /// Carries out a command, and adds the lines that it answers.
+    pub fn obey<R>(&mut self, rt: &R, command: &str, answer: &mut String) -> Told
+    where
+        R: Files<File = File> + AllocGlobal + Threads + Wait + Sync,
+    {
+        let (name, words) = command.split_once(' ').unwrap_or((command, ""));
+        self.choose(name);
+        match &mut self.subject {
+            Subject::Threads => obey_threads(rt, self.alloc, name, words, answer),
+            Subject::Folder(folder) => folder.obey(rt, name, words, answer),
+            Subject::Script(script) => obey_script(rt, self.alloc, script, name, words, answer),
+            Subject::Runs(runs) => runs.obey(rt, name, words, answer),
+        }
+    }
+
+    // What the case is about, where no command before this one says so.
+    fn choose(&mut self, name: &str) {
+        if let Subject::Threads = self.subject {
+            self.subject = subject_of(self.alloc, name);
+        }
+    }
+}
+
+// What a case is about whose first command has this name.
+fn subject_of(alloc: Global, name: &str) -> Subject {
+    match name {
+        "hold" | "crowd" | "down" | "fail" => Subject::Threads,
+        "remove" | "open" | "folder" => Subject::Folder(Folder::new(alloc)),
+        "text" | "files" => Subject::Runs(Runs::new(alloc)),
+        _ => Subject::Script(Script::new(alloc)),
+    }
+}

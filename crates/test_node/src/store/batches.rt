@@ -1,0 +1,30 @@
+//! Batches of one transaction each, of which so many come in that they fill a group.
+
+use crate::store::scripts::Line;
+use crate::store::words::Told;
+use std::alloc::{AllocError, Global};
+use wire::{Author, BATCH_TAG};
+
+/// Who makes them.
+const AUTHOR: u8 = 2;
+
+/// So many come in, each with a transaction of so many bytes: its number in four, and then zeros.
+pub fn come_in(alloc: Global, lines: &mut Vec<Line>, count: u32, len: u32) -> Told {
+    for number in 0..count {
+        let sender = Author(u16::from(AUTHOR));
+        let message = message(alloc, number, len)?;
+        lines.push(Line::Event { sender, message })?;
+    }
+    Ok(())
+}
+
+/// The message of such a batch: its author, worker 0, and one transaction.
+fn message(alloc: Global, number: u32, len: u32) -> Result<Vec<u8>, AllocError> {
+    let mut bytes = vec![in alloc; BATCH_TAG, 0, AUTHOR, 0, 0, 0, 0, 0, 1]?;
+    bytes.extend_from_slice(&len.to_be_bytes())?;
+    bytes.extend_from_slice(&number.to_be_bytes())?;
+    for _ in 4..len {
+        bytes.push(0)?;
+    }
+    Ok(bytes)
+}

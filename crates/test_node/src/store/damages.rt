@@ -1,0 +1,97 @@
+//! Openings of a node on a file that is cut or changed at each of some places.
+
+use crate::store::openings::told;
+use crate::store::words::Told;
+use sigface::HashSign;
+use std::alloc::{AllocError, Global};
+use std::ops::RangeInclusive;
+use validator::Config;
+
+/// Opens the beginnings of a file, of each of these lengths. A line is told wherever the answer becomes another one.
+pub fn lengths(
+    alloc: Global,
+    config: &Config<HashSign>,
+    file: &[u8],
+    lengths: RangeInclusive<u64>,
+    answer: &mut String,
+) -> Told {
+    let mut before = String::new(alloc);
+    for length in lengths {
+        if let Some(bytes) = file.get(..length as usize) {
+            let text = told(alloc, config, bytes)?;
+            if text.as_str() != before.as_str() {
+                let _ = writeln!(answer, "{length}: {text}");
+            }
+            before = text;
+        }
+    }
+    Ok(())
+}
+
+/// How often an answer came.
+#[derive(Drop)]
+struct Count {
+    text: String,
+    times: u64,
+}
+
+/// Opens a file with each of these places changed to so many other values, which are as far from each other. Tells how
+/// often each answer came.
+pub fn changes(
+    alloc: Global,
+    config: &Config<HashSign>,
+    file: &[u8],
+    places: RangeInclusive<u64>,
+    values: u64,
+    answer: &mut String,
+) -> Told {
+    let mut counts = Vec::new(alloc);
+    let step = 256 / values.clamp(1, 255).saturating_add(1);
+    for place in places {
+        for turn in 1..=values {
+            let more = (turn.wrapping_mul(step) % 256) as u8;
+            let text = told_changed(alloc, config, file, place, more)?;
+            add_one(&mut counts, text)?;
+        }
+    }
+    tell_counts(&counts, answer);
+    Ok(())
+}
+
+fn tell_counts(counts: &[Count], answer: &mut String) {
+    for Count { text, times } in counts {
+        let _ = writeln!(answer, "{times} {text}");
+    }
+}
+
+/// What is told of a file with so much more in a place.
+fn told_changed(
+    alloc: Global,
+    config: &Config<HashSign>,
+    file: &[u8],
+    place: u64,
+    more: u8,
+) -> Result<String, AllocError> {
+    let bytes = changed(alloc, file, place, more)?;
+    told(alloc, config, &bytes)
+}
+
+/// A file with so much more in a place.
+fn changed(alloc: Global, file: &[u8], place: u64, more: u8) -> Result<Vec<u8>, AllocError> {
+    let mut bytes = file.to_vec(alloc)?;
+    if let Some(byte) = bytes.get_mut(place as usize) {
+        *byte = byte.wrapping_add(more);
+    }
+    Ok(bytes)
+}
+
+fn add_one(counts: &mut Vec<Count>, text: String) -> Told {
+    for one in counts.iter_mut() {
+        if one.text.as_str() == text.as_str() {
+            one.times = one.times.saturating_add(1);
+            return Ok(());
+        }
+    }
+    counts.push(Count { text, times: 1 })?;
+    Ok(())
+}

@@ -1,0 +1,134 @@
+//! Commands to the disk in memory.
+
+use crate::store::stores::Store;
+use crate::store::words::{Told, bad, put, put_bytes, put_number, told_bad};
+use diskmodel::{Call, Disk, DiskFault, MemDisk, StopDisk};
+
+impl Store<'_> {
+    /// Commands with no word.
+    pub fn obey_disk(&mut self, name: &str, answer: &mut String) -> Told {
+        match name {
+            "sync" => tell(answer, self.disk.sync()),
+            "stop" => self.disk.stop(),
+            "tell" => tell_disk(&mut self.disk, answer),
+            "calls" => tell_calls(self.disk.calls(), answer),
+            _ => return self.obey_journal(name, answer),
+        }
+        Ok(())
+    }
+
+    /// Cuts the disk to a length that it has.
+    pub fn cut(&mut self, place: u64, answer: &mut String) -> Told {
+        if place <= self.disk.bytes().len() as u64 {
+            tell(answer, self.disk.cut(place));
+        } else {
+            bad(answer);
+        }
+        Ok(())
+    }
+
+    /// Writes bytes in a place that the disk has.
+    pub fn write(&mut self, place: u64, bytes: &[u8], answer: &mut String) -> Told {
+        if place <= self.disk.bytes().len() as u64 {
+            tell(answer, self.disk.write_at(place, bytes));
+        } else {
+            bad(answer);
+        }
+        Ok(())
+    }
+
+    /// Tells whether a stop may leave these bytes.
+    pub fn tell_can(&self, bytes: &[u8], answer: &mut String) -> Told {
+        tell_if(answer, self.disk.can_leave(bytes));
+        Ok(())
+    }
+
+    /// Takes another disk, which has these bytes.
+    pub fn renew(&mut self, bytes: &[u8]) -> Told {
+        self.disk = MemDisk::new(self.alloc, bytes.to_vec(self.alloc)?)?;
+        Ok(())
+    }
+
+    /// Chooses what the next stop leaves.
+    pub fn choose(&mut self, bytes: &[u8]) -> Told {
+        self.disk.choose(bytes.to_vec(self.alloc)?);
+        Ok(())
+    }
+
+    /// Tells so many bytes from a place on.
+    pub fn read(&mut self, place: u64, count: u64, answer: &mut String) -> Told {
+        let len = self.disk.bytes().len() as u64;
+        if place > len || count > len - place {
+            return told_bad(answer);
+        }
+        let mut buffer = vec![in self.alloc; 0; count as usize]?;
+        tell(answer, self.disk.read_at(place, &mut buffer));
+        put(answer, "read");
+        put_bytes(answer, &buffer);
+        put(answer, "\n");
+        Ok(())
+    }
+}
+
+fn tell(answer: &mut String, outcome: Result<(), DiskFault>) {
+    if let Err(fault) = outcome {
+        let _ = writeln!(answer, "{fault}");
+    }
+}
+
+/// Tells whether something holds.
+pub fn tell_if(answer: &mut String, holds: bool) {
+    put(answer, if holds { "yes\n" } else { "no\n" });
+}
+
+/// Tells what is left of a file on a disk: all of it, or the bytes.
+pub fn tell_left(text: &mut String, disk: &MemDisk, file: &[u8]) {
+    if disk.firm() != disk.bytes() {
+        put(text, ", not firm");
+    } else if disk.bytes() == file {
+        put(text, ", as it was");
+    } else {
+        put(text, ", left");
+        put_bytes(text, disk.bytes());
+    }
+}
+
+/// The length, what a read gives, the bytes of the last sync, and the places that were written since then.
+fn tell_disk(disk: &mut MemDisk, answer: &mut String) {
+    put(answer, "bytes");
+    if let Ok(len) = disk.len() {
+        put_number(answer, len);
+    }
+    put_bytes(answer, disk.bytes());
+    put(answer, " firm");
+    put_bytes(answer, disk.firm());
+    put(answer, " written");
+    for place in 0..=disk.bytes().len() as u64 {
+        if disk.is_written(place) {
+            put_number(answer, place);
+        }
+    }
+    put(answer, "\n");
+}
+
+fn tell_calls(calls: &[Call], answer: &mut String) {
+    for call in calls {
+        match call {
+            Call::Wrote { place, bytes } => {
+                put(answer, "wrote");
+                put_number(answer, *place);
+                put_bytes(answer, bytes.as_slice());
+            }
+            Call::Cut(len) => {
+                put(answer, "cut");
+                put_number(answer, *len);
+            }
+            Call::Synced => put(answer, "synced"),
+            Call::Stopped(bytes) => {
+                put(answer, "stopped");
+                put_bytes(answer, bytes.as_slice());
+            }
+        }
+        put(answer, "\n");
+    }
+}

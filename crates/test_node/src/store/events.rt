@@ -1,0 +1,77 @@
+//! The events of the lists, each with a number.
+
+use crate::store::committees::OWN;
+use crate::store::headers::{Named, body, header, vote};
+use std::alloc::{AllocError, Global};
+use wire::{Author, HeaderBody, Message, Round};
+
+/// The members who send events: 1 to 6 of seven.
+pub const SENDERS: u64 = 6;
+
+/// What each of them may send.
+pub const KINDS: u64 = 6;
+
+/// What a member sends.
+#[derive(Clone, Copy)]
+pub enum Kind {
+    /// A header of round 1 over the genesis of members 0 to 4.
+    First,
+    /// Another one of that round, over that of members 2 to 6.
+    Second,
+    /// A header of round 2, whose parents nobody holds.
+    Orphan,
+    /// A header of round 1 that names a batch, which nobody holds.
+    Batched,
+    /// A header of round 0.
+    Low,
+    /// A vote on a header of this node, which has none.
+    Vote,
+}
+
+/// Who sends the event of this number.
+pub fn sender_of(number: u64) -> Author {
+    Author((number % SENDERS) as u16 + 1)
+}
+
+/// What is sent as the event of this number.
+pub fn kind_of(number: u64) -> Kind {
+    match number / SENDERS {
+        0 => Kind::First,
+        1 => Kind::Second,
+        2 => Kind::Orphan,
+        3 => Kind::Batched,
+        4 => Kind::Low,
+        _ => Kind::Vote,
+    }
+}
+
+/// The message of this number.
+pub fn message_of(alloc: Global, number: u64) -> Result<Message, AllocError> {
+    let (author, kind) = (sender_of(number), kind_of(number));
+    if matches!(kind, Kind::Vote) {
+        return Ok(vote(author, OWN, round_of(kind)?));
+    }
+    Ok(header(body_of(alloc, author, kind)?))
+}
+
+/// The header of a member of this kind.
+pub fn body_of(alloc: Global, author: Author, kind: Kind) -> Result<HeaderBody, AllocError> {
+    let named = match kind {
+        Kind::Batched => Named::Batch,
+        _ => Named::Genesis,
+    };
+    let members = match kind {
+        Kind::Second => [2, 3, 4, 5, 6],
+        _ => [0, 1, 2, 3, 4],
+    };
+    body(alloc, named, author, round_of(kind)?, &members)
+}
+
+fn round_of(kind: Kind) -> Result<Round, AllocError> {
+    let number = match kind {
+        Kind::Orphan => 2,
+        Kind::Low => 0,
+        _ => 1,
+    };
+    Round::new(number).map_err(|_| AllocError)
+}

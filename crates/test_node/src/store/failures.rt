@@ -1,0 +1,110 @@
+//! An opening in which a call of the disk fails, and the openings on what a stop may leave behind it.
+
+use crate::store::openings::opened;
+use crate::store::words::{Told, put, put_once};
+use diskmodel::{CallKind, Disk, MemDisk, StopDisk};
+use sigface::HashSign;
+use std::alloc::{AllocError, Global};
+use validator::Config;
+
+/// A byte that no journal has.
+const OTHER: u8 = 0x99;
+
+/// The ways in which the written bytes of an outcome are filled.
+const FILLS: usize = 4;
+
+/// A node that is opened on a file, where the count-th call of this kind is told to fail.
+#[derive(Clone, Copy)]
+pub struct Trial<'a> {
+    pub alloc: Global,
+    pub config: &'a Config<HashSign>,
+    pub file: &'a [u8],
+    pub kind: CallKind,
+    pub count: u64,
+}
+
+impl Trial<'_> {
+    /// What the opening answers, and then what the openings on its outcomes do, each answer once.
+    pub fn tell(&self, answer: &mut String) -> Told {
+        let disk = self.play(answer)?;
+        put(answer, "\n");
+        let longest = disk.bytes().len().max(disk.firm().len());
+        for fill in 0..FILLS {
+            for length in 0..=longest {
+                if length % FILLS == fill || length == longest {
+                    self.tell_outcome(&disk, length, fill, answer)?;
+                }
+            }
+        }
+        Ok(())
+    }
+
+    /// Tells how a node is opened after a stop that leaves the bytes of this length and fill, if one may.
+    fn tell_outcome(
+        &self,
+        disk: &MemDisk,
+        length: usize,
+        fill: usize,
+        answer: &mut String,
+    ) -> Told {
+        let bytes = outcome(self.alloc, disk, length, fill)?;
+        if disk.can_leave(&bytes) {
+            self.tell_after(&bytes, answer)?;
+        }
+        Ok(())
+    }
+
+    /// The disk after the opening.
+    fn play(&self, text: &mut String) -> Result<MemDisk, AllocError> {
+        let mut disk = MemDisk::new(self.alloc, self.file.to_vec(self.alloc)?)?;
+        disk.fail(self.kind, self.count)?;
+        Ok(opened(self.alloc, self.config, disk, text))
+    }
+
+    /// Tells how a node is opened after a stop that leaves these bytes, unless that is told already.
+    fn tell_after(&self, outcome: &[u8], answer: &mut String) -> Told {
+        let mut text = String::new(self.alloc);
+        let mut disk = self.play(&mut text)?;
+        disk.choose(outcome.to_vec(self.alloc)?);
+        disk.stop();
+        text.clear();
+        put(
+            &mut text,
+            if disk.bytes() == outcome {
+                "then "
+            } else {
+                "other bytes, "
+            },
+        );
+        let _ = opened(self.alloc, self.config, disk, &mut text);
+        put(&mut text, "\n");
+        put_once(answer, text.as_str());
+        Ok(())
+    }
+}
+
+/// Bytes of this length that a stop may leave: where they were written they are as they are read, as the last sync left
+/// them, another byte, or one of these in turn.
+fn outcome(
+    alloc: Global,
+    disk: &MemDisk,
+    length: usize,
+    fill: usize,
+) -> Result<Vec<u8>, AllocError> {
+    let (read, firm) = (disk.bytes(), disk.firm());
+    let mut bytes = Vec::new(alloc);
+    for place in 0..length {
+        let was = firm.get(place).copied();
+        let is_free = disk.is_written(place as u64);
+        let byte = match (was, fill) {
+            (Some(byte), _) if !is_free => byte,
+            (_, 0) => read.get(place).copied().unwrap_or(OTHER),
+            (_, 1) => was.unwrap_or(0),
+            (_, 2) => OTHER,
+            _ if place % 2 == 0 => OTHER,
+            _ => read.get(place).copied().unwrap_or(0),
+        };
+        bytes.push(byte)?;
+    }
+    Ok(bytes)
+}

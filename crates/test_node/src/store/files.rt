@@ -1,0 +1,91 @@
+//! A file that is cut or changed at each of some places. A line is answered wherever the answer becomes another one.
+
+use crate::store::disks::tell_left;
+use crate::store::journals::{attempt, put_records};
+use crate::store::words::{Told, put, put_number};
+use diskmodel::MemDisk;
+use journal::Record;
+use std::alloc::{AllocError, Global};
+
+/// Opens the beginnings of a file, from the first of these lengths to the last.
+pub fn beginnings(alloc: Global, file: &[u8], from: u64, to: u64, answer: &mut String) -> Told {
+    for len in from..=to {
+        if let Some(bytes) = file.get(..len as usize) {
+            note(answer, &[len], opened(alloc, bytes, true)?);
+        }
+    }
+    Ok(())
+}
+
+/// Opens a file with each value at each of these places, and tells no more than the number of its records.
+pub fn changes(alloc: Global, file: &[u8], from: u64, to: u64, answer: &mut String) -> Told {
+    for place in from..=to {
+        for value in 0..=255 {
+            let mut bytes = file.to_vec(alloc)?;
+            if let Some(byte) = bytes.get_mut(place as usize) {
+                *byte = value;
+            }
+            note(
+                answer,
+                &[place, value as u64],
+                opened(alloc, &bytes, false)?,
+            );
+        }
+    }
+    Ok(())
+}
+
+/// Adds a line of this text, unless the last one has it.
+fn note(answer: &mut String, places: &[u64], text: String) {
+    if !answer.as_str().ends_with(text.as_str()) {
+        put(answer, "at");
+        for place in places {
+            put_number(answer, *place);
+        }
+        put(answer, text.as_str());
+    }
+}
+
+fn opened(alloc: Global, file: &[u8], in_full: bool) -> Result<String, AllocError> {
+    let mut text = String::new(alloc);
+    put(&mut text, ": ");
+    tell_opened(alloc, file, in_full, &mut text)?;
+    put(&mut text, "\n");
+    Ok(text)
+}
+
+/// How a file is opened, its records or how many they are, and what is left of it.
+fn tell_opened(alloc: Global, file: &[u8], in_full: bool, text: &mut String) -> Told {
+    let disk = MemDisk::new(alloc, file.to_vec(alloc)?)?;
+    let (disk, found) = attempt(alloc, disk, None, text)?;
+    put_records(text, &found, in_full);
+    tell_left(text, &disk, file);
+    open_again(alloc, disk, &found, text)
+}
+
+/// Opens a disk again, to the same.
+fn open_again(alloc: Global, disk: MemDisk, found: &[Record], text: &mut String) -> Told {
+    let len = disk.bytes().len();
+    let (disk, again) = attempt(alloc, disk, None, &mut String::new(alloc))?;
+    if !are_same(&again, found) || disk.bytes().len() != len {
+        put(text, ", and then otherwise");
+    }
+    Ok(())
+}
+
+fn are_same(records: &[Record], others: &[Record]) -> bool {
+    let mut same = records.len() == others.len();
+    for (place, record) in records.iter().enumerate() {
+        same = same && is_at(others, place, record);
+    }
+    same
+}
+
+fn is_at(records: &[Record], place: usize, record: &Record) -> bool {
+    match records.get(place) {
+        Some(other) => {
+            other.gate == record.gate && other.bytes.as_slice() == record.bytes.as_slice()
+        }
+        None => false,
+    }
+}

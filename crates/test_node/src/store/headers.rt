@@ -1,0 +1,171 @@
+//! The messages of the cases, and what a node puts out for them.
+
+ghost use Rattle.std.specs.Prelude.{◌≡◌, ◌≤◌, None, IfOk, IfSome, length};
+ghost use Rattle.header.specs.Checks.{fault_of, accepts_all};
+
+use crate::store::committees::OWN;
+use committee::Committee;
+use header::{CheckError, Checked, check, recheck};
+use sigface::HashVerify;
+use std::alloc::{AllocError, Global};
+use wire::{
+    Author, Batch, BatchReference, BatchReferences, Digest, Header, HeaderBody,
+    MAX_TRANSACTION_BYTES, Message, OpenBatch, Output, ParentReference, ParentReferences, Round,
+    Signature, Vote, WireError, genesis_digest,
+};
+use wire_read::decode;
+
+/// The digest of what nobody holds.
+pub const FOREIGN: Digest = Digest([7; 32]);
+
+/// The bytes of a batch's record around its one transaction: the kind, the sender, the tag, and the body's eight bytes
+/// and the transaction's length.
+const AROUND: usize = 16;
+
+/// What a header of the cases names.
+#[derive(Clone, Copy)]
+pub enum Named {
+    /// The genesis certificates of its parents' authors.
+    Genesis,
+    /// These, and a batch that nobody holds.
+    Batch,
+    /// Certificates that nobody holds.
+    Foreign,
+}
+
+/// A header over certificates of these members, so many as may stand in one.
+pub fn body(
+    alloc: Global,
+    named: Named,
+    author: Author,
+    round: Round,
+    members: &[u8],
+) -> Result<HeaderBody, AllocError> {
+    let mut batches = BatchReferences::new(alloc);
+    if matches!(named, Named::Batch) && batches.is_empty() && batches.may_follow(&FOREIGN) {
+        let (digest, worker) = (FOREIGN, 0);
+        batches.push(BatchReference { digest, worker })?;
+    }
+    let parents = parents(alloc, named, members)?;
+    Ok(HeaderBody {
+        author,
+        round,
+        batches,
+        parents,
+    })
+}
+
+fn parents(alloc: Global, named: Named, members: &[u8]) -> Result<ParentReferences, AllocError> {
+    let mut parents = ParentReferences::new(alloc);
+    for member in members {
+        let author = Author(u16::from(*member));
+        let certificate = match named {
+            Named::Foreign => FOREIGN,
+            _ => genesis_digest(author),
+        };
+        if parents.len() < 31 && parents.may_follow(author) {
+            parents.push(ParentReference {
+                author,
+                certificate,
+            })?;
+        }
+    }
+    Ok(parents)
+}
+
+/// The message of a header, with a signature of zeros.
+pub fn header(body: HeaderBody) -> Message {
+    let signature = Signature([0; 64]);
+    Message::Header(Header { body, signature })
+}
+
+/// The vote of a member for a header of an author that nobody holds, with a signature of zeros.
+pub fn vote(voter: Author, author: Author, round: Round) -> Message {
+    let signature = Signature([0; 64]);
+    Message::Vote(Vote {
+        header: FOREIGN,
+        round,
+        author,
+        voter,
+        signature,
+    })
+}
+
+/// The batch of a member with one transaction, which begins with this number, and with a record of this length. None
+/// where the record is too short or too long for that.
+pub fn batch(
+    alloc: Global,
+    author: Author,
+    number: u64,
+    len: usize,
+) -> Result<Option<Batch>, AllocError> {
+    if len < AROUND + 8 || len > MAX_TRANSACTION_BYTES {
+        return Ok(None);
+    }
+    let transaction = transaction(alloc, number, len - AROUND)?;
+    let mut batch = OpenBatch::new(alloc, author, 0)?;
+    if !batch.has_room(transaction.len()) {
+        return Ok(None);
+    }
+    batch.push(&transaction)?;
+    Ok(Some(batch.close()?))
+}
+
+/// A transaction of this length, which begins with a number.
+fn transaction(alloc: Global, number: u64, len: usize) -> Result<Vec<u8>, AllocError>
+    requires { 8 ≤ len }
+    ensures { IfOk result (λ bytes. length bytes.items ≡ len) }
+{
+    let mut bytes = vec![in alloc; 0; len]?;
+    bytes[..8].copy_from_slice(&number.to_be_bytes());
+    Ok(bytes)
+}
+
+/// The message that these bytes are, if they are one.
+pub fn message_in(alloc: Global, bytes: &[u8]) -> Result<Option<Message>, AllocError> {
+    match decode(alloc, bytes) {
+        Ok(message) => Ok(Some(message)),
+        Err(WireError::Memory) => Err(AllocError),
+        Err(_) => Ok(None),
+    }
+}
+
+/// The message as an event from its sender, if it passes the checks, its signature not tested.
+pub fn event(committee: &Committee, sender: Author, message: Message) -> Option<Checked>
+    ensures { IfSome result (λ event. fault_of committee.now accepts_all event ≡ None) }
+{
+    recheck(committee, sender, message).ok()
+}
+
+/// Tells what is put out: an acknowledgement, an own header, or a vote of member 0, whether it passes the checks, and
+/// whether it does with another signature.
+pub fn tell_output(committee: &Committee, answer: &mut String, output: &Output) {
+    match output {
+        Output::Vote(vote) => tell_vote(committee, answer, vote),
+        Output::Ack { to, .. } => {
+            let _ = writeln!(answer, "acknowledgement for {}", to.0);
+        }
+        Output::Header(header) => {
+            let _ = writeln!(answer, "header of round {}", header.body.round.number());
+        }
+        _ => {
+            let _ = writeln!(answer, "another output");
+        }
+    }
+}
+
+fn tell_vote(committee: &Committee, answer: &mut String, vote: &Vote) {
+    let (round, author) = (vote.round.number(), vote.author.0);
+    let mut changed = *vote;
+    changed.signature.0[63] ^= 1;
+    let (own, other) = (refusal(committee, *vote), refusal(committee, changed));
+    let _ = writeln!(
+        answer,
+        "vote for {author} in {round}: {own:?}, changed {other:?}"
+    );
+}
+
+/// Why a vote of member 0 is refused, if it is.
+fn refusal(committee: &Committee, vote: Vote) -> Option<CheckError> {
+    check(committee, &HashVerify, OWN, Message::Vote(vote)).err()
+}

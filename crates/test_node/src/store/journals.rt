@@ -1,0 +1,203 @@
+//! Commands to a journal on the disk, which is opened for each of them.
+
+ghost use Rattle.journal.specs.Journal.{IsAlive};
+
+use crate::store::spelling::group_in;
+use crate::store::stores::Store;
+use crate::store::words::{Told, Word, put, put_bytes, put_number};
+use diskmodel::{Disk, MemDisk};
+use journal::JournalError::{ConfigMismatch, Damaged, Device, Full, Memory};
+use journal::{Group, Journal, JournalError, Record, stands};
+use std::alloc::{AllocError, Global};
+use std::mem;
+
+/// Each error of a journal.
+const ERRORS: [JournalError; 5] = [Memory, Device, Damaged(15), ConfigMismatch, Full];
+
+impl Store<'_> {
+    /// Commands with no word.
+    pub fn obey_journal(&mut self, name: &str, answer: &mut String) -> Told {
+        match name {
+            "open" => self.attempt(None, answer),
+            "stands" => tell_stands(self.alloc, self.disk.bytes(), answer),
+            "errors" => tell_errors(answer),
+            _ => self.obey_book(name, answer),
+        }
+    }
+
+    /// Opens the journal, and appends the records of these words.
+    pub fn append(&mut self, words: &[Word], answer: &mut String) -> Told {
+        let records = listed(self.alloc, words)?;
+        self.attempt(records, answer)
+    }
+
+    /// Opens the journal, and appends so many records of zeros, each of this length.
+    pub fn append_alike(&mut self, count: u64, len: usize, answer: &mut String) -> Told {
+        let records = alike(self.alloc, count, len)?;
+        self.attempt(Some(records), answer)
+    }
+
+    /// Takes the disk, and leaves an empty one.
+    pub fn taken(&mut self) -> Result<MemDisk, AllocError> {
+        let empty = MemDisk::new(self.alloc, Vec::new(self.alloc))?;
+        Ok(mem::replace(&mut self.disk, empty))
+    }
+
+    /// Opens the journal, and appends the group that these bytes are, of so many records.
+    pub fn append_written(&mut self, count: u64, bytes: &[u8], answer: &mut String) -> Told {
+        let disk = self.taken()?;
+        self.disk = append_written(self.alloc, disk, count, bytes, answer)?;
+        put(answer, "\n");
+        Ok(())
+    }
+
+    fn attempt(&mut self, records: Option<Vec<Vec<u8>>>, answer: &mut String) -> Told {
+        let disk = self.taken()?;
+        let (disk, found) = attempt(self.alloc, disk, records, answer)?;
+        self.disk = disk;
+        put_records(answer, &found, true);
+        put(answer, "\n");
+        Ok(())
+    }
+}
+
+/// The records of these words, or `None` without any, or with a word that is no bytes.
+pub fn listed(alloc: Global, words: &[Word]) -> Result<Option<Vec<Vec<u8>>>, AllocError> {
+    let mut records = Vec::new(alloc);
+    for word in words {
+        if let Word::Bytes(bytes) = word {
+            records.push(bytes.to_vec(alloc)?)?;
+        }
+    }
+    let is_whole = !words.is_empty() && records.len() == words.len();
+    Ok(is_whole.then_some(records))
+}
+
+fn alike(alloc: Global, count: u64, len: usize) -> Result<Vec<Vec<u8>>, AllocError> {
+    let mut records = Vec::new(alloc);
+    for _ in 0..count {
+        records.push(vec![in alloc; 0; len]?)?;
+    }
+    Ok(records)
+}
+
+/// Opens the journal on a disk, and puts a group of these records behind those that it gives, which are none where it
+/// does not open. Gives the disk back.
+pub fn attempt(
+    alloc: Global,
+    disk: MemDisk,
+    records: Option<Vec<Vec<u8>>>,
+    text: &mut String,
+) -> Result<(MemDisk, Vec<Record>), AllocError> {
+    match Journal::open(alloc, disk) {
+        Ok((mut journal, found)) => {
+            put(text, "opened");
+            if let Some(records) = records {
+                append(alloc, &mut journal, records, text)?;
+            }
+            Ok((journal.into_disk(), found))
+        }
+        Err(failed) => {
+            put_error(text, failed.error);
+            Ok((failed.disk, Vec::new(alloc)))
+        }
+    }
+}
+
+/// Opens the journal on a disk, and puts the group that these bytes are, of so many records, behind those that stand
+/// there. Gives the disk back.
+fn append_written(
+    alloc: Global,
+    disk: MemDisk,
+    count: u64,
+    bytes: &[u8],
+    text: &mut String,
+) -> Result<MemDisk, AllocError> {
+    match Journal::open(alloc, disk) {
+        Ok((mut journal, _)) => {
+            put(text, "opened");
+            let group = group_in(alloc, bytes, count)?;
+            append_group(&mut journal, group, text);
+            Ok(journal.into_disk())
+        }
+        Err(failed) => {
+            put_error(text, failed.error);
+            Ok(failed.disk)
+        }
+    }
+}
+
+fn append(
+    alloc: Global,
+    journal: &mut Journal<MemDisk>,
+    records: Vec<Vec<u8>>,
+    text: &mut String,
+) -> Told
+    requires { IsAlive ⟦<MemDisk as Disk>⟧.content ⟦<MemDisk as Disk>⟧.outcome journal.old }
+{
+    let group = Group::new(alloc, records)?;
+    append_group(journal, group, text);
+    Ok(())
+}
+
+fn append_group(journal: &mut Journal<MemDisk>, group: Option<Group>, text: &mut String)
+    requires { IsAlive ⟦<MemDisk as Disk>⟧.content ⟦<MemDisk as Disk>⟧.outcome journal.old }
+{
+    let Some(group) = group else {
+        return put(text, ", no group");
+    };
+    put(text, ", a group of");
+    put_number(text, group.records_count());
+    match journal.append(group) {
+        Ok(synced) => {
+            put(text, " synced");
+            put_number(text, synced.records());
+        }
+        Err(error) => {
+            put(text, ", ");
+            put_error(text, error);
+        }
+    }
+}
+
+/// Puts how many records there are, and in full each of them behind the place of its gate.
+pub fn put_records(text: &mut String, records: &[Record], in_full: bool) {
+    put(text, ", records");
+    put_number(text, records.len() as u64);
+    if in_full {
+        for record in records {
+            put(text, ",");
+            put_number(text, record.gate);
+            put_bytes(text, record.bytes.as_slice());
+        }
+    }
+}
+
+fn tell_errors(answer: &mut String) -> Told {
+    for error in &ERRORS {
+        put_error(answer, *error);
+        put(answer, "\n");
+    }
+    Ok(())
+}
+
+/// Puts an error, and where damage is.
+pub fn put_error(text: &mut String, error: JournalError) {
+    let _ = write!(text, "{error}");
+    if let Damaged(gate) = error {
+        put(text, " at");
+        put_number(text, gate);
+    }
+}
+
+fn tell_stands(alloc: Global, bytes: &[u8], answer: &mut String) -> Told {
+    match stands(alloc, bytes) {
+        Ok(records) => {
+            put(answer, "stands");
+            put_records(answer, &records, true);
+        }
+        Err(error) => put_error(answer, error),
+    }
+    put(answer, "\n");
+    Ok(())
+}

@@ -1,0 +1,71 @@
+//! Openings of a node, and what is told of them.
+
+use crate::store::disks::tell_left;
+use crate::store::journals::put_error;
+use crate::store::words::{Told, put, put_bytes};
+use diskmodel::MemDisk;
+use recovery::reopen;
+use sigface::HashSign;
+use std::alloc::{AllocError, Global};
+use validator::{Config, Validator};
+use wire::{Author, Round};
+
+/// How many bytes of a digest are told.
+const SHOWN: usize = 4;
+
+/// Opens a node on a file, and tells what is left of the file. What is left is opened again, which has to be the same.
+pub fn open(alloc: Global, config: &Config<HashSign>, file: &[u8], answer: &mut String) -> Told {
+    let disk = MemDisk::new(alloc, file.to_vec(alloc)?)?;
+    let mut text = String::new(alloc);
+    let disk = opened(alloc, config, disk, &mut text);
+    put(answer, text.as_str());
+    tell_left(answer, &disk, file);
+    if told(alloc, config, disk.bytes())?.as_str() != text.as_str() {
+        put(answer, ", and then otherwise");
+    }
+    put(answer, "\n");
+    Ok(())
+}
+
+/// What the opening of a node on a file is told as.
+pub fn told(alloc: Global, config: &Config<HashSign>, file: &[u8]) -> Result<String, AllocError> {
+    let disk = MemDisk::new(alloc, file.to_vec(alloc)?)?;
+    let mut text = String::new(alloc);
+    let _ = opened(alloc, config, disk, &mut text);
+    Ok(text)
+}
+
+/// Opens a node on a disk, and tells what comes of it. Gives the disk back.
+pub fn opened(
+    alloc: Global,
+    config: &Config<HashSign>,
+    disk: MemDisk,
+    text: &mut String,
+) -> MemDisk {
+    match reopen(alloc, config, disk) {
+        Ok((validator, journal)) => {
+            tell_node(&validator, text);
+            journal.into_disk()
+        }
+        Err(failed) => {
+            put_error(text, failed.error);
+            failed.disk
+        }
+    }
+}
+
+/// The round, the length of the order, and the votes of the first rounds, by author and round.
+fn tell_node(validator: &Validator<'_, HashSign>, text: &mut String) {
+    let (round, ordered) = (validator.round(), validator.order().len());
+    let _ = write!(text, "opened, round {round}, order {ordered}");
+    for author in 0..4 {
+        for number in 1..=4 {
+            if let Ok(round) = Round::new(number)
+                && let Some(digest) = validator.voted(Author(author), round)
+            {
+                let _ = write!(text, ", vote {author}.{number}");
+                put_bytes(text, &digest.0[..SHOWN]);
+            }
+        }
+    }
+}

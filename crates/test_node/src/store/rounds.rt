@@ -1,0 +1,133 @@
+//! How groups of the book come to the disk.
+
+ghost use Rattle.std.specs.Prelude.{◌≡◌, ◌∷◌, []};
+ghost use Rattle.journal.specs.Journal.{IsAlive};
+ghost use Rattle.validator.specs.Setting.{node_of};
+ghost use Rattle.book.specs.OnTheWay.{AreOnTheWay};
+
+use crate::store::words::{bad, put, put_number};
+use book::OwnBook;
+use diskmodel::{Disk, MemDisk};
+use journal::{Group, Journal, Synced};
+use sigface::{HashSign, Sign};
+use std::alloc::Global;
+
+/// What is done with the groups of a book.
+#[derive(Clone, Copy)]
+pub enum Putting {
+    /// One is taken and written, and not settled.
+    Written,
+    /// One is taken, written and settled.
+    Settled,
+    /// Two are taken and written, and then settled in turn.
+    Two,
+}
+
+/// Opens the journal on a disk, and puts groups of the book there. Gives the disk back.
+pub fn put_groups(
+    alloc: Global,
+    own: &mut OwnBook<'_, HashSign>,
+    disk: MemDisk,
+    putting: Putting,
+    answer: &mut String,
+) -> MemDisk {
+    match Journal::open(alloc, disk) {
+        Ok((mut journal, _)) => {
+            match putting {
+                Putting::Written => write(own, &mut journal, answer),
+                Putting::Settled => flush(own, &mut journal, answer),
+                Putting::Two => write_two(own, &mut journal, answer),
+            }
+            put(answer, "\n");
+            journal.into_disk()
+        }
+        Err(failed) => {
+            bad(answer);
+            failed.disk
+        }
+    }
+}
+
+/// Takes a group and writes it. It stays on the way.
+fn write(own: &mut OwnBook<'_, HashSign>, journal: &mut Journal<MemDisk>, answer: &mut String)
+    requires { IsAlive ⟦<MemDisk as Disk>⟧.content ⟦<MemDisk as Disk>⟧.outcome journal.old }
+{
+    match own.take() {
+        Ok(Some(group)) => {
+            put(answer, "a group of");
+            put_number(answer, group.records_count());
+            match journal.append(group) {
+                Ok(synced) => put_number(answer, synced.records()),
+                Err(_) => bad(answer),
+            }
+        }
+        Ok(None) => put(answer, "no group"),
+        Err(_) => bad(answer),
+    }
+}
+
+/// One round of the book.
+fn flush(own: &mut OwnBook<'_, HashSign>, journal: &mut Journal<MemDisk>, answer: &mut String)
+    requires { IsAlive ⟦<MemDisk as Disk>⟧.content ⟦<MemDisk as Disk>⟧.outcome journal.old }
+{
+    match own.flush(journal) {
+        Ok(0) => put(answer, "no group"),
+        Ok(count) => {
+            put(answer, "a group of");
+            put_number(answer, count);
+        }
+        Err(error) => {
+            let _ = write!(answer, "{error}");
+        }
+    }
+}
+
+/// Takes two groups and writes each, and settles them in turn.
+fn write_two(own: &mut OwnBook<'_, HashSign>, journal: &mut Journal<MemDisk>, answer: &mut String)
+    requires { IsAlive ⟦<MemDisk as Disk>⟧.content ⟦<MemDisk as Disk>⟧.outcome journal.old }
+{
+    if !own.is_settled() {
+        return put(answer, "a group is on the way");
+    }
+    let Ok(Some(group)) = own.take() else {
+        return put(answer, "no group");
+    };
+    put(answer, "groups of");
+    put_number(answer, group.records_count());
+    match journal.append(group) {
+        Ok(synced) => write_second(own, journal, synced, answer),
+        Err(_) => bad(answer),
+    }
+}
+
+/// Takes a second group and writes it, and settles it behind the first.
+fn write_second(
+    own: &mut OwnBook<'_, HashSign>,
+    journal: &mut Journal<MemDisk>,
+    first: Synced,
+    answer: &mut String,
+)
+    requires alive { IsAlive ⟦<MemDisk as Disk>⟧.content ⟦<MemDisk as Disk>⟧.outcome journal.old }
+    requires way { AreOnTheWay (node_of ⟦<HashSign as Sign>⟧.own_key ⟦<HashSign as Sign>⟧.signature_of own.old.validator.setting) own.old (first ∷ []) }
+{
+    let Ok(Some(group)) = own.take() else {
+        put(answer, ", no second");
+        return put_number(answer, first.records());
+    };
+    put_number(answer, group.records_count());
+    match journal.append(group) {
+        Ok(second) => settle_two(own, first, second),
+        Err(_) => {
+            bad(answer);
+            put_number(answer, first.records());
+        }
+    }
+}
+
+/// Settles two groups, of which the first was taken before the second.
+fn settle_two(own: &mut OwnBook<'_, HashSign>, first: Synced, second: Synced)
+    requires { AreOnTheWay (node_of ⟦<HashSign as Sign>⟧.own_key ⟦<HashSign as Sign>⟧.signature_of own.old.validator.setting) own.old (first ∷ second ∷ []) }
+{
+    own.settle(first);
+    own.settle(second);
+}

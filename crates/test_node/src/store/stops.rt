@@ -1,0 +1,157 @@
+//! A stop of the machine at a call of the disk that fails, with each of its outcomes.
+
+use crate::store::journals::{attempt, listed, put_records};
+use crate::store::stores::Store;
+use crate::store::words::{Told, Word, put, put_number, put_once, told_bad};
+use diskmodel::{CallKind, Disk, MemDisk, StopDisk};
+use std::alloc::{AllocError, Global};
+
+/// A byte that no case writes.
+const OTHER: u8 = 0x99;
+
+/// A file that is opened, the records that are then appended, and a call of the disk that is told to fail, none at 0.
+#[derive(Clone, Copy)]
+struct Trial<'a> {
+    alloc: Global,
+    file: &'a [u8],
+    records: &'a [Word],
+    kind: CallKind,
+    count: u64,
+}
+
+impl Store<'_> {
+    /// `stops CALL COUNT RECORD ..` opens the file and appends the records, where the count-th of these calls fails.
+    pub fn tell_stops(&mut self, words: &[Word], answer: &mut String) -> Told {
+        let [Word::Call(kind), Word::Number(count), records @ ..] = words else {
+            return told_bad(answer);
+        };
+        let (alloc, file, kind, count) = (self.alloc, self.disk.bytes(), *kind, *count);
+        let trial = Trial {
+            alloc,
+            file,
+            records,
+            kind,
+            count,
+        };
+        trial.tell(answer)
+    }
+}
+
+impl Trial<'_> {
+    /// What the calls answer, how many outcomes a stop has, and to what these are opened, each once.
+    fn tell(&self, answer: &mut String) -> Told {
+        let found = outcomes(self.alloc, &self.play(answer)?)?;
+        put(answer, ", outcomes");
+        put_number(answer, found.len() as u64);
+        put(answer, "\n");
+        for outcome in &found {
+            put_once(answer, self.after_stop(outcome)?.as_str());
+        }
+        Ok(())
+    }
+
+    /// The disk after the calls. None of its calls is told to fail any more.
+    fn play(&self, text: &mut String) -> Result<MemDisk, AllocError> {
+        let records = listed(self.alloc, self.records)?;
+        let (mut disk, _) = attempt(self.alloc, self.disk()?, records, text)?;
+        if self.count > 0 && !text.as_str().ends_with("2 Device") && !fails(&mut disk, self.kind) {
+            put(text, ", and none failed");
+        }
+        Ok(disk)
+    }
+
+    fn disk(&self) -> Result<MemDisk, AllocError> {
+        let mut disk = MemDisk::new(self.alloc, self.file.to_vec(self.alloc)?)?;
+        disk.fail(self.kind, self.count)?;
+        Ok(disk)
+    }
+
+    /// To what the disk is opened after a stop that leaves these bytes.
+    fn after_stop(&self, outcome: &[u8]) -> Result<String, AllocError> {
+        let mut text = String::new(self.alloc);
+        let mut disk = self.play(&mut text)?;
+        text.clear();
+        disk.choose(outcome.to_vec(self.alloc)?);
+        disk.stop();
+        if disk.bytes() != outcome {
+            put(&mut text, "other bytes, ");
+        }
+        let (_, found) = attempt(self.alloc, disk, None, &mut text)?;
+        put_records(&mut text, &found, true);
+        put(&mut text, "\n");
+        Ok(text)
+    }
+}
+
+/// Whether a call of this kind fails, of which neither bytes nor length become other ones.
+pub fn fails(disk: &mut MemDisk, kind: CallKind) -> bool {
+    let len = disk.bytes().len() as u64;
+    let outcome = match kind {
+        CallKind::Read => disk.read_at(0, &mut []),
+        CallKind::Write => disk.write_at(len, &[]),
+        CallKind::Cut => disk.cut(len),
+        CallKind::Sync => disk.sync(),
+    };
+    outcome.is_err()
+}
+
+/// What a stop may leave, of each length. Of each byte three values are tried: as the last sync left it, as it is
+/// read, and another.
+fn outcomes(alloc: Global, disk: &MemDisk) -> Result<Vec<Vec<u8>>, AllocError> {
+    let mut found = Vec::new(alloc);
+    let mut fronts = vec![in alloc; Vec::new(alloc)]?;
+    for _ in 0..=disk.bytes().len().max(disk.firm().len()) {
+        let next = longer(alloc, disk, &fronts)?;
+        for front in fronts {
+            if disk.can_leave(&front) {
+                found.push(front)?;
+            }
+        }
+        fronts = next;
+    }
+    Ok(found)
+}
+
+/// The fronts of outcomes that are one byte longer.
+fn longer(alloc: Global, disk: &MemDisk, fronts: &[Vec<u8>]) -> Result<Vec<Vec<u8>>, AllocError> {
+    let mut found = Vec::new(alloc);
+    for front in fronts {
+        lengthen(alloc, disk, front, &mut found)?;
+    }
+    Ok(found)
+}
+
+fn lengthen(alloc: Global, disk: &MemDisk, front: &[u8], found: &mut Vec<Vec<u8>>) -> Told {
+    for value in values_at(alloc, disk, front.len())? {
+        let mut longer = front.to_vec(alloc)?;
+        longer.push(value)?;
+        if may_begin(alloc, disk, &longer)? {
+            found.push(longer)?;
+        }
+    }
+    Ok(())
+}
+
+fn values_at(alloc: Global, disk: &MemDisk, place: usize) -> Result<Vec<u8>, AllocError> {
+    let mut values = Vec::new(alloc);
+    add_value(&mut values, disk.firm().get(place))?;
+    add_value(&mut values, disk.bytes().get(place))?;
+    add_value(&mut values, Some(&OTHER))?;
+    Ok(values)
+}
+
+fn add_value(values: &mut Vec<u8>, value: Option<&u8>) -> Told {
+    match value {
+        Some(value) if !values.contains(value) => Ok(values.push(*value)?),
+        _ => Ok(()),
+    }
+}
+
+/// Whether a stop may leave a file with this front, behind which the bytes are as they are read.
+fn may_begin(alloc: Global, disk: &MemDisk, front: &[u8]) -> Result<bool, AllocError> {
+    let mut bytes = front.to_vec(alloc)?;
+    if let Some(rest) = disk.bytes().get(front.len()..) {
+        bytes.extend_from_slice(rest)?;
+    }
+    Ok(disk.can_leave(&bytes))
+}

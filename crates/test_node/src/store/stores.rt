@@ -1,0 +1,128 @@
+//! A disk, a journal on it, and a book.
+
+use crate::store::books::own_book;
+use crate::store::files::{beginnings, changes};
+use crate::store::words::{Told, Word, told_bad};
+use book::OwnBook;
+use diskmodel::{CallKind, MemDisk};
+use sigface::HashSign;
+use std::alloc::{AllocError, Global};
+use validator::Config;
+
+/// A disk and a book, which are new in each case.
+#[derive(Drop)]
+pub struct Store<'a> {
+    pub alloc: Global,
+    pub config: &'a Config<HashSign>,
+    pub disk: MemDisk,
+    pub book: OwnBook<'a, HashSign>,
+}
+
+impl<'a> Store<'a> {
+    /// Before the first case.
+    pub fn new(alloc: Global, config: &'a Config<HashSign>) -> Result<Store<'a>, AllocError> {
+        let disk = MemDisk::new(alloc, Vec::new(alloc))?;
+        let book = own_book(alloc, config)?;
+        Ok(Store {
+            alloc,
+            config,
+            disk,
+            book,
+        })
+    }
+
+    /// An empty disk, and a book that has accepted nothing.
+    pub fn begin(&mut self) -> Told {
+        self.disk = MemDisk::new(self.alloc, Vec::new(self.alloc))?;
+        self.book = own_book(self.alloc, self.config)?;
+        Ok(())
+    }
+
+    /// Carries out a command. Two have a list of words. The others are told apart by how many words they have and of
+    /// what kind these are, and then by their names.
+    pub fn obey(&mut self, name: &str, words: &[Word], answer: &mut String) -> Told {
+        match name {
+            "append" => self.append(words, answer),
+            "stops" => self.tell_stops(words, answer),
+            _ => self.obey_few(name, words, answer),
+        }
+    }
+
+    fn obey_few(&mut self, name: &str, words: &[Word], answer: &mut String) -> Told {
+        match words {
+            [] => self.obey_disk(name, answer),
+            [Word::Number(place)] => self.obey_place(name, *place, answer),
+            [Word::Bytes(bytes)] => self.obey_bytes(name, bytes, answer),
+            _ => self.obey_more(name, words, answer),
+        }
+    }
+
+    fn obey_more(&mut self, name: &str, words: &[Word], answer: &mut String) -> Told {
+        match words {
+            [Word::Number(first), Word::Number(second)] => {
+                self.obey_numbers(name, *first, *second, answer)
+            }
+            [Word::Number(first), Word::Bytes(bytes)] => {
+                self.obey_number_bytes(name, *first, bytes, answer)
+            }
+            [Word::Call(call), Word::Number(count)] => {
+                self.obey_call(name, *call, *count, answer)
+            }
+            [
+                Word::Number(author),
+                Word::Number(round),
+                Word::Bytes(members),
+            ] => self.take_header(name, *author, *round, members, answer),
+            _ => told_bad(answer),
+        }
+    }
+
+    fn obey_place(&mut self, name: &str, place: u64, answer: &mut String) -> Told {
+        match name {
+            "cut" => self.cut(place, answer),
+            _ => told_bad(answer),
+        }
+    }
+
+    fn obey_bytes(&mut self, name: &str, bytes: &[u8], answer: &mut String) -> Told {
+        match name {
+            "disk" => self.renew(bytes),
+            "choose" => self.choose(bytes),
+            "can" => self.tell_can(bytes, answer),
+            _ => told_bad(answer),
+        }
+    }
+
+    fn obey_numbers(&mut self, name: &str, first: u64, second: u64, answer: &mut String) -> Told {
+        match name {
+            "read" => self.read(first, second, answer),
+            "group" => self.append_alike(first, second as usize, answer),
+            "beginnings" => beginnings(self.alloc, self.disk.bytes(), first, second, answer),
+            "changes" => changes(self.alloc, self.disk.bytes(), first, second, answer),
+            "fill" => self.fill(first, second as usize, answer),
+            "vote" => self.take_vote(first, second, answer),
+            _ => told_bad(answer),
+        }
+    }
+
+    fn obey_number_bytes(
+        &mut self,
+        name: &str,
+        number: u64,
+        bytes: &[u8],
+        answer: &mut String,
+    ) -> Told {
+        match name {
+            "write" => self.write(number, bytes, answer),
+            "written" => self.append_written(number, bytes, answer),
+            _ => told_bad(answer),
+        }
+    }
+
+    fn obey_call(&mut self, name: &str, call: CallKind, count: u64, answer: &mut String) -> Told {
+        match name {
+            "fail" => self.disk.fail(call, count),
+            _ => told_bad(answer),
+        }
+    }
+}

@@ -1,0 +1,196 @@
+//! How many steps and stops of each kind there were.
+
+use crate::store::words::{put, put_number};
+use book::Receipt;
+use book::Refusal::{self, Down, Equivocation, MissingBatch, MissingParents, NotOurs, TooOld};
+
+/// The moment of a stop.
+#[derive(Clone, Copy)]
+pub enum Moment {
+    /// Nothing was taken that isn't settled.
+    Idle,
+    /// A group was taken.
+    Taken,
+    /// It was written, and not synced.
+    Written,
+    /// It was synced, its gate closed.
+    Synced,
+    /// Its gate was opened, and not synced.
+    Opened,
+    /// Its gate is synced, and it isn't settled.
+    Firm,
+}
+
+/// What a stop leaves.
+#[derive(Clone, Copy)]
+pub enum Leaves {
+    /// What a read gives.
+    Read,
+    /// The bytes of the last sync.
+    Lost,
+    /// Any length and any bytes that the disk allows.
+    Torn,
+}
+
+/// Counts of steps and of stops.
+#[derive(Clone, Copy)]
+pub struct Tally {
+    pub new: u64,
+    pub known: u64,
+    pub refused: [u64; 6],
+    pub released: u64,
+    pub held_back: u64,
+    pub taken: u64,
+    pub settled: u64,
+    pub failed: u64,
+    pub stops: [u64; 6],
+    // Outcomes of stops with the group or its gate written and not synced: what a read gives, what the last sync had, torn.
+    left: [u64; 3],
+    /// Stops with the group's gate written and not synced that left it open, or closed.
+    pub gates: [u64; 2],
+    pub opened: u64,
+    // Openings that failed: at the first sync, the read, the write, the cut, the second sync.
+    faults: [u64; 5],
+}
+
+// The names of the counts of each kind of refusal, of stop, of outcome and of opening.
+const REFUSED: [&str; 6] = [
+    "down",
+    "too old",
+    "missing parents",
+    "missing batch",
+    "equivocation",
+    "not ours",
+];
+
+const STOPPED: [&str; 6] = [
+    "stopped idle",
+    "taken",
+    "written",
+    "synced",
+    "opened",
+    "firm",
+];
+
+const LEFT: [&str; 5] = [
+    "left as read",
+    "as synced",
+    "torn",
+    "the gate open",
+    "closed",
+];
+
+const OPENED: [&str; 6] = [
+    "opened",
+    "failed at the first sync",
+    "read",
+    "write",
+    "cut",
+    "second sync",
+];
+
+/// Counts one more.
+pub fn count(place: &mut u64) {
+    *place = place.saturating_add(1);
+}
+
+impl Tally {
+    /// All of them 0.
+    pub fn new() -> Tally {
+        Tally {
+            new: 0,
+            known: 0,
+            refused: [0; 6],
+            released: 0,
+            held_back: 0,
+            taken: 0,
+            settled: 0,
+            failed: 0,
+            stops: [0; 6],
+            left: [0; 3],
+            gates: [0; 2],
+            opened: 0,
+            faults: [0; 5],
+        }
+    }
+
+    /// An event was answered.
+    pub fn add_answer(&mut self, answer: Result<Receipt, Refusal>) {
+        let place = match answer {
+            Ok(Receipt { new: true, .. }) => return count(&mut self.new),
+            Ok(_) => return count(&mut self.known),
+            Err(Down) => 0,
+            Err(TooOld) => 1,
+            Err(MissingParents) => 2,
+            Err(MissingBatch) => 3,
+            Err(Equivocation) => 4,
+            Err(NotOurs) => 5,
+            Err(_) => return,
+        };
+        count(&mut self.refused[place]);
+    }
+
+    /// An output went out, or was held back.
+    pub fn add_release(&mut self, went: bool) {
+        if went {
+            count(&mut self.released);
+        } else {
+            count(&mut self.held_back);
+        }
+    }
+
+    /// The machine stopped.
+    pub fn add_stop(&mut self, moment: Moment) {
+        count(&mut self.stops[moment as usize]);
+    }
+
+    /// A stop left an outcome, of a group with its gate open or closed.
+    pub fn add_outcome(&mut self, moment: Moment, leaves: Leaves, open: bool) {
+        match moment {
+            Moment::Written => count(&mut self.left[leaves as usize]),
+            Moment::Opened => {
+                count(&mut self.left[leaves as usize]);
+                count(&mut self.gates[if open { 0 } else { 1 }]);
+            }
+            _ => {}
+        }
+    }
+
+    /// An opening failed at this of its calls.
+    pub fn add_fault(&mut self, call: usize) {
+        if call < 5 {
+            count(&mut self.faults[call]);
+        }
+    }
+
+    /// Tells the counts, in lines.
+    pub fn tell(&self, answer: &mut String) {
+        tell_line(answer, &["new", "known"], &[self.new, self.known]);
+        tell_line(answer, &REFUSED, &self.refused);
+        let moved = [self.released, self.held_back];
+        tell_line(answer, &["released", "held back"], &moved);
+        let groups = [self.taken, self.settled, self.failed];
+        tell_line(answer, &["groups", "settled", "failed"], &groups);
+        tell_line(answer, &STOPPED, &self.stops);
+        let [read, lost, torn] = self.left;
+        let [open, closed] = self.gates;
+        tell_line(answer, &LEFT, &[read, lost, torn, open, closed]);
+        let [first, read, write, cut, second] = self.faults;
+        let openings = [self.opened, first, read, write, cut, second];
+        tell_line(answer, &OPENED, &openings);
+    }
+}
+
+/// Tells counts, each behind its name.
+fn tell_line(answer: &mut String, names: &[&str], counts: &[u64]) {
+    for (place, count) in counts.iter().enumerate() {
+        if place > 0 {
+            put(answer, ", ");
+        }
+        if let Some(name) = names.get(place) {
+            put(answer, name);
+        }
+        put_number(answer, *count);
+    }
+    put(answer, "\n");
+}

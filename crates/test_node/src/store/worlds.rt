@@ -1,0 +1,59 @@
+//! Lists of runs: random steps and stops of the running code, made beside a plain world.
+
+use crate::store::committees::{SEVEN, own_config};
+use crate::store::lists::Lists;
+use crate::store::words::{Told, Word, put, told_bad};
+use std::alloc::Global;
+
+/// What the lists came to.
+#[derive(Drop)]
+pub struct Worlds {
+    alloc: Global,
+    /// Each command with its answer.
+    report: String,
+}
+
+impl Worlds {
+    /// Before the first list.
+    pub fn new(alloc: Global) -> Worlds {
+        let report = String::new(alloc);
+        Worlds { alloc, report }
+    }
+
+    /// What is printed of them.
+    pub fn report(&self) -> &[u8] {
+        self.report.as_bytes()
+    }
+
+    /// `lists COUNT STEPS START` makes so many lists of so many steps each, drawn from a start value.
+    pub fn obey(&mut self, words: &[Word], answer: &mut String) -> Told {
+        match words {
+            [
+                Word::Number(count),
+                Word::Number(steps),
+                Word::Number(start),
+            ] => self.play(*count, *steps, *start, answer),
+            _ => told_bad(answer),
+        }
+    }
+
+    fn play(&mut self, count: u64, steps: u64, start: u64, answer: &mut String) -> Told {
+        let config = own_config(self.alloc, &SEVEN)?;
+        let lists = Lists::new(self.alloc, &config, start)?;
+        play(lists, count, steps, answer)?;
+        let _ = writeln!(
+            self.report,
+            "{count} lists of {steps} steps, drawn from {start}"
+        );
+        put(&mut self.report, answer.as_str());
+        Ok(())
+    }
+}
+
+/// Makes so many lists of so many steps each, and tells what they come to.
+fn play(mut lists: Lists<'_>, count: u64, steps: u64, answer: &mut String) -> Told {
+    for _ in 0..count {
+        lists.play(steps)?;
+    }
+    lists.tell(answer)
+}
