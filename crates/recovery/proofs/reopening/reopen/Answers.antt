@@ -1,4 +1,5 @@
-use Rattle.std.proofs.Common.{◌≡◌, List, ℕ, sym, ◌∙◌, subst, drop}
+use Rattle.std.proofs.Common.{rules, ◌≡◌, List, ℕ, sym, ◌∙◌, subst, drop}
+use borrow.Author.Rules.{in_lives}
 use Rattle.std.specs.Prelude.{All}
 use Rattle.std.proofs.lemmas.Result.{err_from_is_err_and}
 use Rattle.journal.specs.Journal.{disk_of, StandsAsOneOf}
@@ -108,3 +109,6 @@ returns-clause-never_refused g c = λ is.
     let error = c.in-Err.error in
     let found = c.outcomes_are_told.ensures file is in
     no_refusal error found.0 (told node file) found.1 (λ other. tells_same error (told node mid) (told node file) (told_same node mid file c.in_ok-journal.ensures.same) (c.in-Err.ensures.err other))
+
+pub from_residual-requires : goal.from_residual-requires
+from_residual-requires g c κs = λ h. simp in_lives (search rules)

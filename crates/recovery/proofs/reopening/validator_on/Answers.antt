@@ -1,4 +1,5 @@
-use Rattle.std.proofs.Common.{◌≡◌, ℕ, List, [], Result, Ok, Err, ap, sym, ◌∙◌, length}
+use Rattle.std.proofs.Common.{rules, ◌≡◌, ℕ, List, [], Result, Ok, Err, ap, sym, ◌∙◌, length}
+use borrow.Author.Rules.{in_lives}
 use Rattle.std.proofs.lemmas.Bool.{eqb-true, eqb-false}
 use Rattle.std.proofs.lemmas.List.{nil_from_length}
 use Rattle.std.proofs.lemmas.Result.{err_from_is_err_and}
@@ -93,3 +94,12 @@ returns-clause-configured g c =
           rw w.journal-is
           (λ none. eqb-false (length c.args.records.now) 0 (sym c.is_empty.ensures ∙ w.if-is_empty.false) (ap length_read (sym c.requires.records ∙ none)))
     ]
+
+pub branch-validator-requires : goal.branch-validator-requires
+branch-validator-requires g c κs = λ h. simp (in_lives, h) (search rules)
+
+pub from_residual-requires : goal.from_residual-requires
+from_residual-requires g c κs = λ h. simp (in_lives, h) (search rules)
+
+pub from_residual-requires-in_err-write_configuration : goal.from_residual-requires-in_err-write_configuration
+from_residual-requires-in_err-write_configuration g c κs = λ h. simp (in_lives, h) (search rules)

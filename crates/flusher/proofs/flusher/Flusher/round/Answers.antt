@@ -1,6 +1,10 @@
-use Rattle.std.proofs.Common.{rules, ◌≡◌, inr, ℕ, ◌+◌, List, length, sym, ap, ◌∙◌}
-use Rattle.seats.proofs.Beginnings.{begins_trans}
-use Rattle.shared.specs.Home.{taken_by}
+use Rattle.std.proofs.Common.{rules, ◌≡◌, inr, ℕ, ◌+◌, List, length, sym, ap, ◌∙◌, subst}
+use Rattle.validator.specs.Setting.{node_of}
+use Rattle.laws.specs.Laws.{Begins}
+use Rattle.seats.proofs.Beginnings.{begins_same, begins_trans}
+use Rattle.shared.specs.Home.{IsFlushOf, taken_by}
+use Rattle.world.specs.World.{Holds}
+use Rattle.flusher.specs.Rounds.{IsFlusherOf, from_start}
 use Rattle.flusher.proofs.Taking.{rests_at, takes_none, takes_some, size_some, takes_as, of_some, is_none}
 use Rattle.flusher.proofs.flusher.Flusher.round.Goals as goal
 use Rattle.flusher.proofs.flusher.Flusher.round.Goals.{in-Some+in_ok-count-in-Some, in-None}
@@ -56,3 +60,31 @@ returns-clause-settles g c =
             told.firm ∙ firm ∙ sym taken,
           )
     ]
+
+pub returns-clause-more : goal.returns-clause-more
+returns-clause-more g c = begins_trans _ _ _ c.in-Ok.ensures.more c.tell_settled.ensures.seen
+
+pub returns-in_err-count-in-Some-clause-more_firm : goal.returns-in_err-count-in-Some-clause-more_firm
+returns-in_err-count-in-Some-clause-more_firm g c = subst (λ f. Begins c.args.seat.now.view.firm f) (sym c.in-Ok.ensures.firm) (begins_same _)
+
+pub tell_settled-requires-clause-flush : goal.tell_settled-requires-clause-flush
+tell_settled-requires-clause-flush g c = elim c.match-found.branch [
+  | in-Some+in_ok-count-in-Some w ↦ subst (λ f. IsFlushOf c.args.node.now f.seat) (sym w.self-is) w.in_ok-count-in-Some.ensures.flusher.seat
+  | in-None w ↦ subst (λ f. IsFlushOf c.args.node.now f.seat) (sym w.self-is) c.in-Ok.ensures.flush
+]
+
+pub returns-clause-flusher : goal.returns-clause-flusher
+returns-clause-flusher g c =
+    let of = node_of g.S.Sign.own_key g.S.Sign.signature_of in
+    let had = c.requires.flusher in
+    let is : IsFlusherOf of g.D.Disk.content g.D.Disk.outcome c.args.node.now c.match-found.self = elim c.match-found.branch [
+      | in-Some+in_ok-count-in-Some w ↦ subst (λ f. IsFlusherOf of g.D.Disk.content g.D.Disk.outcome c.args.node.now f) (sym w.self-is) w.in_ok-count-in-Some.ensures.flusher
+      | in-None w ↦
+          subst (λ f. IsFlusherOf of g.D.Disk.content g.D.Disk.outcome c.args.node.now f) (sym w.self-is) (record {
+            seat = c.in-Ok.ensures.flush;
+            rests = λ up. (c.in-Ok.ensures.none (is_none _ w.in-None.is)).0 ∙ had.rests up ∙ sym c.in-Ok.ensures.flush_firm.1;
+            alive = had.alive;
+            holds = λ up. subst (λ f. Holds (of c.args.node.now.setting) (g.D.Disk.content c.args.self.now.journal.disk) (from_start c.args.node.now f)) (sym c.in-Ok.ensures.flush_firm.0) (had.holds up);
+          })
+    ] in
+    subst (λ f. IsFlusherOf of g.D.Disk.content g.D.Disk.outcome c.args.node.now (record { journal = c.match-found.self.journal; seat = f; down = c.match-found.self.down })) (sym c.tell_settled.ensures.flush) is

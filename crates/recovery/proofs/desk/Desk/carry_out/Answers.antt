@@ -1,4 +1,5 @@
-use Rattle.std.proofs.Common.{ap, sym, ◌∙◌, subst}
+use Rattle.std.proofs.Common.{rules, ap, sym, ◌∙◌, subst}
+use borrow.Author.Rules.{in_lives}
 use Rattle.std.proofs.KnownBytes.{Keeps-refl}
 use Rattle.std.specs.Io.KnownBytes.{Appends}
 use Rattle.std.proofs.lemmas.Result.{err_from_is_err_and}
@@ -59,3 +60,9 @@ returns-in-Err-clause-device g c = λ device. absurd (not_device c.in-Err.error 
 
 pub returns-in-Err-clause-no_fault_err : goal.returns-in-Err-clause-no_fault_err
 returns-in-Err-clause-no_fault_err g c = λ other. ap g.D.Disk.faults (c.fail.ensures.disk ∙ ap disk_of c.write_due.ensures.same) ∙ c.in_ok-desk.ensures.no_fault
+
+pub branch-desk-requires : goal.branch-desk-requires
+branch-desk-requires g c κs = λ h. simp (in_lives, h.0.0, h.1.0, h.1.1.0, h.1.1.1.0) (search rules)
+
+pub from_residual-requires : goal.from_residual-requires
+from_residual-requires g c κs = λ h. simp (in_lives, h.0.0, h.1.0, h.1.1.0, h.1.1.1.0, h.1.1.1.1.0) (search rules)

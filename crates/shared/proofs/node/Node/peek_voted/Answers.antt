@@ -1,4 +1,5 @@
 use Rattle.std.proofs.Common.{rules, ◌≡◌, subst}
+use borrow.Author.Rules.{in_lives}
 use Rattle.model.specs.Histories.{History}
 use Rattle.validator.specs.Setting.{node_of}
 use Rattle.shared.specs.Home.{IsAtHome}
@@ -18,3 +19,9 @@ returns-clause-voted g c =
     → c.voted-voted.result ≡ unless_low (floor_of (node_of g.S.Sign.own_key g.S.Sign.signature_of v.setting) history) c.args.round (voted_digest history c.args.round c.args.author.0)) c.validator.ensures c.voted-voted.ensures.history in
     seen_of c.args.self.now (node_of g.S.Sign.own_key g.S.Sign.signature_of) c.see_all.new.locked.seat c.see_all.new.seat c.see_all.new.locked.book now c.see_all.ensures.of.start
     (λ node history. c.voted-voted.result ≡ unless_low (floor_of node history) c.args.round (voted_digest history c.args.round c.args.author.0)) seen (λ run stands. told (history_in run) stands.at)
+
+pub acquire-turn-requires : goal.acquire-turn-requires
+acquire-turn-requires g c κs = λ h. simp (in_lives, h.0, h.1.0, h.1.1.0, h.1.1.1) (search rules)
+
+pub deref_mut-locked-requires : goal.deref_mut-locked-requires
+deref_mut-locked-requires g c κs = λ h. simp (in_lives, h) (search rules)

@@ -1,4 +1,5 @@
 use Rattle.std.proofs.Common.{rules, ◌≡◌}
+use borrow.Author.Rules.{in_lives}
 use Rattle.validator.specs.Setting.{node_of}
 use Rattle.shared.specs.Home.{IsAtHome}
 use Rattle.shared.proofs.Readings.{proposed}
@@ -11,3 +12,9 @@ returns-clause-header g c =
     let seen : c.see_all.new.seat.view.seen ≡ c.see_all.new.locked.seat.view.seen = search rules in
     proposed c.args.self.now (node_of g.S.Sign.own_key g.S.Sign.signature_of) c.see_all.new.locked.seat c.see_all.new.seat c.see_all.new.locked.book now c.see_all.ensures.of.start
     seen c.propose-header.result c.validator.result.now c.validator.ensures c.propose-header.ensures.history
+
+pub acquire-turn-requires : goal.acquire-turn-requires
+acquire-turn-requires g c κs = λ h. simp (in_lives, h.0, h.1.0, h.1.1.0, h.1.1.1) (search rules)
+
+pub deref_mut-locked-requires : goal.deref_mut-locked-requires
+deref_mut-locked-requires g c κs = λ h. simp (in_lives, h) (search rules)

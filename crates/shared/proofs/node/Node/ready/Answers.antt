@@ -1,4 +1,5 @@
 use Rattle.std.proofs.Common.{rules, ◌≡◌, subst}
+use borrow.Author.Rules.{in_lives}
 use Rattle.std.specs.Prelude.{not}
 use Rattle.model.specs.Histories.{History}
 use Rattle.validator.specs.Setting.{node_of}
@@ -21,3 +22,9 @@ returns-clause-ready g c =
     → c.ready-ready.result ≡ not (is_missing_parents (admit (node_of g.S.Sign.own_key g.S.Sign.signature_of v.setting) history c.args.event.now))) c.validator.ensures c.ready-ready.ensures.history in
     seen_of c.args.self.now (node_of g.S.Sign.own_key g.S.Sign.signature_of) c.see_all.new.locked.seat c.see_all.new.seat c.see_all.new.locked.book now c.see_all.ensures.of.start
     (λ node history. c.ready-ready.result ≡ not (is_missing_parents (admit node history c.args.event.now))) seen (λ run stands. told (history_in run) stands.legal stands.at)
+
+pub acquire-turn-requires : goal.acquire-turn-requires
+acquire-turn-requires g c κs = λ h. simp (in_lives, h.0, h.1.0, h.1.1.0, h.1.1.1) (search rules)
+
+pub deref_mut-locked-requires : goal.deref_mut-locked-requires
+deref_mut-locked-requires g c κs = λ h. simp (in_lives, h) (search rules)

@@ -1,4 +1,5 @@
-use Rattle.std.proofs.Common.{◌∙◌}
+use Rattle.std.proofs.Common.{rules, ◌∙◌}
+use borrow.Author.Rules.{in_lives}
 use Rattle.seats.proofs.Beginnings.{begins_trans}
 use Rattle.seats.proofs.Same.{same_then}
 use Rattle.shared.proofs.node.Node.settle.Goals as goal
@@ -15,3 +16,9 @@ loop-preserved g c =
       begins_trans c.args.flush.now.seat.view.firm c.loop.flush.seat.view.firm c.tie.new.flush.seat.view.firm until.5 tied.firm,
       begins_trans c.args.flush.now.seat.view.seen c.loop.flush.seat.view.seen c.tie.new.flush.seat.view.seen until.6 tied.seen,
     )
+
+pub acquire-turn-requires : goal.acquire-turn-requires
+acquire-turn-requires g c κs = λ h. simp (in_lives, h.0, h.1.0, h.1.1.0, h.1.1.1) (search rules)
+
+pub deref_mut-locked-requires : goal.deref_mut-locked-requires
+deref_mut-locked-requires g c κs = λ h. simp (in_lives, h) (search rules)

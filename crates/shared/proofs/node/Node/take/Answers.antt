@@ -1,4 +1,5 @@
-use Rattle.std.proofs.Common.{sym, ap, ◌∙◌, subst, refl}
+use Rattle.std.proofs.Common.{rules, sym, ap, ◌∙◌, subst, refl}
+use borrow.Author.Rules.{in_lives}
 use Rattle.laws.specs.Laws.{Begins}
 use Rattle.seats.specs.Views.{IsSame}
 use Rattle.seats.proofs.Beginnings.{begins_trans}
@@ -46,3 +47,9 @@ loop-preserved g c =
       begins_trans c.meet.new.second.view.firm c.loop.flush.seat.view.firm c.tie.new.flush.seat.view.firm until.6 tied.firm,
       begins_trans c.meet.new.second.view.seen c.loop.flush.seat.view.seen c.tie.new.flush.seat.view.seen until.7 tied.seen,
     )
+
+pub acquire-turn-requires : goal.acquire-turn-requires
+acquire-turn-requires g c κs = λ h. simp (in_lives, h.0, h.1.0, h.1.1.0, h.1.1.1) (search rules)
+
+pub deref_mut-locked-requires : goal.deref_mut-locked-requires
+deref_mut-locked-requires g c κs = λ h. simp (in_lives, h) (search rules)

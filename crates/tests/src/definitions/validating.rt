@@ -1,0 +1,79 @@
+//! The lines of a case, which are played once all are there.
+
+mod beside;
+mod playing;
+mod same;
+mod sum;
+mod tally;
+
+use crate::definitions::looking::number;
+use crate::definitions::weighing::committee_of;
+use model::Node;
+use playing::play_lines;
+use script::{BATCHES, DEPTH, FormError, OWN, signer};
+use std::alloc::{AllocError, Global};
+
+/// The lines of a case.
+#[derive(Drop)]
+pub struct Gathered {
+    alloc: Global,
+    depth: u64,
+    batches: u64,
+    stakes: String,
+    lines: String,
+}
+
+impl Gathered {
+    /// No lines.
+    pub fn new(alloc: Global) -> Gathered {
+        Gathered {
+            alloc,
+            depth: DEPTH,
+            batches: BATCHES,
+            stakes: String::new(alloc),
+            lines: String::new(alloc),
+        }
+    }
+
+    /// Plays what was gathered, from the genesis on, so many events beside the plain program.
+    fn play(&self, most: u64, answer: &mut String) -> Result<(), FormError> {
+        let stakes = self.stakes.as_str();
+        let node = Node {
+            own: OWN,
+            committee: committee_of(self.alloc, stakes, self.depth, self.batches)?,
+            signer: signer(OWN),
+        };
+        let committee = committee_of(self.alloc, stakes, self.depth, self.batches)?;
+        let lines = self.lines.as_str();
+        play_lines(self.alloc, node, committee, lines, most, answer)
+    }
+
+    /// Begins a case.
+    pub fn begin(&mut self) -> Result<(), AllocError> {
+        *self = Gathered::new(self.alloc);
+        self.stakes.push_str("1,1,1,1")
+    }
+
+    /// `depth`, `batches` and `stakes` set up the committee, `play` plays the lines; any
+    /// other line is one of them.
+    pub fn obey(&mut self, command: &str, answer: &mut String) -> Result<(), AllocError> {
+        match command.split_once(' ') {
+            Some(("depth", depth)) => self.depth = number(depth),
+            Some(("batches", batches)) => self.batches = number(batches),
+            Some(("stakes", stakes)) => {
+                self.stakes.clear();
+                self.stakes.push_str(stakes)?;
+            }
+            Some(("play", most)) => match self.play(number(most), answer) {
+                Ok(()) => {}
+                Err(FormError::Memory) => return Err(AllocError),
+                Err(_) => answer.push_str("bad case\n")?,
+            },
+            _ => {
+                self.lines.push_str(command)?;
+                self.lines.push_str("\n")?;
+            }
+        }
+        Ok(())
+    }
+}

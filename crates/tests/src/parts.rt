@@ -1,0 +1,58 @@
+//! The tests of the messages, of the committee, of what tests and counts messages, of what makes batches and lets
+//! certificates wait, and of what a validator orders by: votes, batches, the DAG, the commit rule and the segments.
+
+mod certificates;
+mod committees;
+mod frames;
+mod graphs;
+mod looks;
+mod makers;
+mod members;
+mod messages;
+mod numbers;
+mod ordering;
+mod playing;
+mod stakes;
+mod stores;
+mod tables;
+mod votes;
+mod waiters;
+mod words;
+
+use ordering::{Ordering, is_ordering};
+use std::alloc::Global;
+use tables::Tables;
+use words::Told;
+
+/// What the commands are put to.
+#[derive(Drop)]
+pub struct Parts {
+    tables: Tables,
+    ordering: Ordering,
+}
+
+impl Parts {
+    /// As before the first case.
+    pub fn new(alloc: Global) -> Parts {
+        Parts {
+            tables: Tables::new(alloc),
+            ordering: Ordering::new(alloc),
+        }
+    }
+
+    /// Begins a case.
+    pub fn begin(&mut self) {
+        self.tables.begin();
+        self.ordering.begin();
+    }
+
+    /// Carries out a command, and adds the lines that it answers.
+    pub fn obey(&mut self, command: &str, answer: &mut String) -> Told {
+        let (name, words) = command.split_once(' ').unwrap_or((command, ""));
+        if is_ordering(name) {
+            self.ordering.obey(name, words, answer)
+        } else {
+            self.tables.obey(command, answer)
+        }
+    }
+}

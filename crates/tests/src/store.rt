@@ -1,0 +1,111 @@
+//! The tests of the disk in memory, of the journal and the book, of openings and scripts of a node, and of lists of random
+//! steps.
+
+mod batches;
+mod books;
+mod committees;
+mod damages;
+mod disks;
+mod draws;
+mod events;
+mod failures;
+mod files;
+mod headers;
+mod journals;
+mod listed;
+mod lists;
+mod nodes;
+mod openings;
+mod rounds;
+mod running;
+mod scripts;
+mod spelling;
+mod stops;
+mod stores;
+mod takers;
+mod tally;
+mod texts;
+mod words;
+mod worlds;
+
+pub use committees::{FOUR, own_config};
+use nodes::Node;
+use sigface::HashSign;
+use std::alloc::{AllocError, Global};
+use stores::Store;
+use validator::Config;
+use words::{Told, Word, words_of};
+use worlds::Worlds;
+
+/// What the cases are put to, new in each case.
+#[derive(Drop)]
+pub struct StoreCases<'a> {
+    alloc: Global,
+    store: Store<'a>,
+    node: Node,
+    worlds: Worlds,
+    /// The case is one of the node, and not of the store.
+    has_node: bool,
+}
+
+impl<'a> StoreCases<'a> {
+    /// As before the first case.
+    pub fn new(alloc: Global, config: &'a Config<HashSign>) -> Result<StoreCases<'a>, AllocError> {
+        Ok(StoreCases {
+            alloc,
+            store: Store::new(alloc, config)?,
+            node: Node::new(alloc)?,
+            worlds: Worlds::new(alloc),
+            has_node: false,
+        })
+    }
+
+    /// Begins a case.
+    pub fn begin(&mut self) -> Told {
+        self.has_node = false;
+        self.store.begin()?;
+        self.node.begin()
+    }
+
+    /// Carries out a command, and adds the lines that it answers.
+    pub fn obey(&mut self, command: &str, answer: &mut String) -> Told {
+        let (name, rest) = command.split_once(' ').unwrap_or((command, ""));
+        let words = words_of(self.alloc, rest)?;
+        self.obey_words(name, words.as_slice(), answer)
+    }
+
+    /// What is printed of the lists.
+    pub fn report(&self) -> &[u8] {
+        self.worlds.report()
+    }
+
+    /// `node` or `file` makes the case one of the node: its commands have names that the store's have too.
+    fn obey_words(&mut self, name: &str, words: &[Word], answer: &mut String) -> Told {
+        if name == "lists" {
+            return self.worlds.obey(words, answer);
+        }
+        if name == "node" || name == "file" {
+            self.has_node = true;
+        }
+        if self.has_node {
+            self.node.obey(name, words, answer)
+        } else {
+            self.store.obey(name, words, answer)
+        }
+    }
+}
+
+/// Each law of the libraries below, which has no condition.
+pub fn laws_hold() {
+    journal::written_groups_stand();
+    records::one_record();
+    records::no_configuration();
+    world::never_takes_back();
+    world::runs_begin();
+    world::runs_go_on();
+    world::groups_settle();
+    world::stops_are_possible();
+    recovery::told_stands_for();
+    recovery::what_stands_is_told();
+    recovery::worlds_are_told();
+}

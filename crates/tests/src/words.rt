@@ -1,0 +1,28 @@
+//! What the commands of all cases have in common. An answer is cut short where memory is refused, and then isn't as expected.
+
+use diskmodel::CallKind;
+use std::alloc::AllocError;
+
+/// That a command was carried out, unless memory was refused.
+pub type Told = Result<(), AllocError>;
+
+/// The kind of call of this name.
+pub fn call_of(name: &str) -> Option<CallKind> {
+    match name {
+        "read" => Some(CallKind::Read),
+        "write" => Some(CallKind::Write),
+        "cut" => Some(CallKind::Cut),
+        "sync" => Some(CallKind::Sync),
+        _ => None,
+    }
+}
+
+/// Adds a part.
+pub fn put(answer: &mut String, part: &str) {
+    let _ = answer.push_str(part);
+}
+
+/// Says that a command is none.
+pub fn bad(answer: &mut String) {
+    put(answer, "bad case\n");
+}
