@@ -8,8 +8,8 @@ START is the value that all is drawn from, DEPTH the committee's depth, EVENTS h
 STAKES, as 3,1,1,1, has a stake for each member; without it there are four members with the stake 1. Member 0 is the
 node. Each event stands with the answer and the outputs that the rules of docs/FORMATS.md give, as this program computes
 them: it shares nothing with the code of the repository. See docs/FORMATS.md for the language. With --play the events stand
-alone, behind a line `validator` in place of `definitions`, and behind them how often each answer comes and what there is at
-the end: that is for the tests of the validator.
+alone, behind a line `validator`, and behind them how often each answer comes and what there is at the end: that is for
+the tests of the validator.
 There each 50 events end with a line `sum N`, a running sum over all that was answered and put out, and over what is held
 and proposed behind each event. BESIDE is how many of the events are compared with the plain program too.
 """
@@ -608,7 +608,6 @@ def history(start, depth, events, committee):
 
 def tell_all(drawn, depth, words):
     """The case of the definitions: each event with what it is answered."""
-    print('definitions')
     print('set depth %d' % depth)
     for word in words:
         print('stakes ' + word)

@@ -1,5 +1,5 @@
 #!/usr/bin/env python3
-"""Writes cases for the end of the parts in crates/tests/stdin: certificates and coins in the order in which they come to a node, and what they commit.
+"""Writes cases for the end of the parts in crates/test_core/stdin: certificates and coins in the order in which they come to a node, and what they commit.
 
     tools/orders.py [--segments] > CASES
 

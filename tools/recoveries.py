@@ -4,7 +4,7 @@ computed without the node's code.
 
     tools/recoveries.py
 
-prints a part of crates/tests/stdin: the cases from the comment that names this file to the one that names tools/worlds.py.
+prints a part of crates/test_node/stdin: the cases from the comment that names this file to the one that names tools/worlds.py.
 The formats are those of docs/FORMATS.md, and what events are answered is taken from tools/histories.py, which reads an order
 afresh for each answer.
 """

@@ -1,10 +1,10 @@
 #!/usr/bin/env python3
-"""What the lists of steps of crates/tests come to, computed without the node's code.
+"""What the lists of steps of crates/test_node come to, computed without the node's code.
 
     tools/worlds.py COUNT STEPS START
 
 prints the case of lists in that crate's file `stdin`: the command, and the counts that are expected of it. The draws, the kinds of
-event and the order of steps are those of crates/tests; bytes are counted and not made, but for the gate of a group on its way.
+event and the order of steps are those of crates/test_node; bytes are counted and not made, but for the gate of a group on its way.
 """
 import collections
 import sys

@@ -4,7 +4,7 @@ use committee::MemberSet;
 use wire::Batch;
 
 /// A batch, the other members who acknowledged it, and whether an own header named it.
-#[derive(Debug, Drop)]
+#[derive(Drop)]
 pub struct Held {
     pub(crate) batch: Batch,
     pub(crate) acknowledged: MemberSet,

@@ -9,7 +9,7 @@ use std::collections::VecDeque;
 use wire::Output;
 
 /// The outputs of an event, oldest first. They go out once so many records are settled as the ticket says.
-#[derive(Debug, Drop)]
+#[derive(Drop)]
 pub struct Queued {
     pub ticket: u64,
     pub outputs: VecDeque<Output>,

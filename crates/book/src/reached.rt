@@ -7,7 +7,7 @@ ghost use Rattle.book.specs.Queue.{length_at};
 use std::collections::VecDeque;
 
 /// From so many records on the order has this length.
-#[derive(Clone, Copy, Debug, PartialEq, Eq)]
+#[derive(Clone, Copy, PartialEq, Eq)]
 pub struct Reached {
     pub ticket: u64,
     pub length: u64,

@@ -13,7 +13,7 @@ use std::alloc::{AllocError, Global};
 pub const CALL_AND_STOP: usize = 2;
 
 /// The smallest and the greatest length since the last sync, in bytes.
-#[derive(Clone, Copy, Debug, PartialEq, Eq)]
+#[derive(Clone, Copy, PartialEq, Eq)]
 pub struct Lengths {
     pub smallest: usize,
     pub greatest: usize,

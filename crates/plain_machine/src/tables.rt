@@ -13,7 +13,7 @@ use std::alloc::{AllocError, Global};
 use wire::{Author, Batch, BatchAck, Certificate, Digest, Header, Round, Vote};
 
 /// The digest that has the vote for an author and round.
-#[derive(Clone, Copy, Debug, PartialEq, Eq)]
+#[derive(Clone, Copy, PartialEq, Eq)]
 pub struct SlotVote {
     /// The round.
     pub round: Round,
@@ -24,7 +24,7 @@ pub struct SlotVote {
 }
 
 /// What a node keeps, in lists. Where more than one in a list fits, the first one counts.
-#[derive(Debug, Drop)]
+#[derive(Drop)]
 pub struct Tables {
     /// The batches, in the order of acceptance.
     pub batches: Vec<Batch>,

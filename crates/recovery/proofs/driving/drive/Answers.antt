@@ -1,4 +1,5 @@
 use Rattle.std.proofs.Common.{◌≡◌, ◌+◌, List, length, drop, inl, inr, sym, ap, ◌∙◌, subst, arith, rules, map-id}
+use borrow.Author.Rules.{in_lives}
 use Rattle.std.proofs.KnownBytes.{Keeps-refl}
 use Rattle.std.proofs.lemmas.Iterator.Consumers.{YieldsList-so_far, YieldsList-turn, YieldsList-end}
 use Rattle.std.proofs.lemmas.Iterator.Adapters.{YieldsList-from_vec}
@@ -114,3 +115,9 @@ returns-clause-ok g c =
 
 pub returns-clause-no_fault : goal.returns-clause-no_fault
 returns-clause-no_fault g c = ap g.D.Disk.faults c.into_disk.ensures ∙ c.loop-command.invariant.no_fault
+
+pub branch-desk-requires : goal.branch-desk-requires
+branch-desk-requires g c κs = λ h. simp (in_lives, h.0.0, h.1.0, h.1.1.0, h.1.1.1.0) (search rules)
+
+pub branch-desk-requires-in-loop-command : goal.branch-desk-requires-in-loop-command
+branch-desk-requires-in-loop-command g c κs = λ h. simp (in_lives, h.0.0, h.1.0, h.1.1.0, h.1.1.1.0) (search rules)

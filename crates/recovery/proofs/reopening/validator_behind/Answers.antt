@@ -1,4 +1,5 @@
 use Rattle.std.proofs.Common.{◌≡◌, true, false, None, ap, ◌∙◌, rules}
+use borrow.Author.Rules.{in_lives}
 use Rattle.std.specs.Str.{bytes_eq}
 use Rattle.journal.specs.declared.error.JournalError.TheVariants.{Damaged, ConfigMismatch}
 use Rattle.records.specs.Records.{configuration_of}
@@ -61,3 +62,6 @@ returns-clause-err g c =
     fault_none node first events c.has_shape.result c.has_ones.result c.in_ok-is_own.field-0 c.has_shape.ensures shaped (c.has_ones.ensures ∙ ap has_ones c.committee.ensures) on
     (c.in_ok-is_own.ensures ∙ ap (λ b. bytes_eq b (configuration_of node.charter node.own)) c.as_slice.ensures) own in
     err_weaker c.replay.result _ _ (λ e fails. fails_behind node first events e free fails) c.replay.ensures.err
+
+pub from_residual-requires : goal.from_residual-requires
+from_residual-requires g c κs = λ h. simp (in_lives, h) (search rules)

@@ -1,0 +1,11 @@
+//! Case files of the tests: commands, the answers that are expected of them, and a report of those that came out
+//! otherwise.
+#![tactic(auto)]
+
+mod hex;
+mod playing;
+mod words;
+
+pub use hex::{bytes_of, write_hex};
+pub use playing::{Ending, Player};
+pub use words::{Told, bad, put};

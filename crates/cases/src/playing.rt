@@ -1,0 +1,161 @@
+//! A case file, line by line. A line `== TITLE` begins a case, a line `> TEXT` is an expected line of the answer of the command
+//! above it, a line that begins with `#` and an empty one are passed over, and any other line is a command.
+
+use std::alloc::{AllocError, AllocFailed, Global};
+use std::io::{self, BufRead, Write};
+
+/// Why a case file wasn't played to its end.
+#[derive(Drop)]
+pub enum Ending {
+    /// Memory was refused.
+    Memory,
+    /// A read of the file or a write of the report failed.
+    InputOutput,
+}
+
+impl From<AllocError> for Ending {
+    fn from(_: AllocError) -> Ending {
+        Ending::Memory
+    }
+}
+
+impl<T: Drop> From<AllocFailed<T>> for Ending {
+    fn from(_: AllocFailed<T>) -> Ending {
+        Ending::Memory
+    }
+}
+
+impl From<io::Error> for Ending {
+    fn from(_: io::Error) -> Ending {
+        Ending::InputOutput
+    }
+}
+
+/// How far a case file was played.
+#[derive(Drop)]
+struct Score {
+    /// What the last command answered.
+    answer: String,
+    /// What was expected of it.
+    expected: String,
+    /// The line of the last command.
+    last: u64,
+    commands: u64,
+    wrong: u64,
+}
+
+/// Compares the answer of the last command with what was expected of it.
+fn close<W: Write>(writer: &mut W, score: &mut Score) -> Result<(), Ending> {
+    let (answer, expected, last) = (score.answer.as_str(), score.expected.as_str(), score.last);
+    if answer != expected {
+        writeln!(
+            writer,
+            "line {last}: expected\n{expected}and it was\n{answer}"
+        )?;
+        score.wrong = score.wrong.saturating_add(1);
+    }
+    score.answer.clear();
+    score.expected.clear();
+    Ok(())
+}
+
+/// A case file that is played, and the report of the answers that came out otherwise than expected.
+pub struct Player<R: BufRead + Drop, W: Write + Drop> {
+    reader: R,
+    writer: W,
+    line: String,
+    number: u64,
+    score: Score,
+}
+
+impl<R: BufRead + Drop, W: Write + Drop> Drop for Player<R, W> {
+    fn drop(self) {
+        let Player {
+            reader: _,
+            writer: _,
+            line: _,
+            number: _,
+            score: _,
+        } = self;
+    }
+}
+
+impl<R: BufRead + Drop, W: Write + Drop> Player<R, W> {
+    /// Before the first line.
+    pub fn new(alloc: Global, reader: R, writer: W) -> Player<R, W> {
+        Player {
+            reader,
+            writer,
+            line: String::new(alloc),
+            number: 0,
+            score: Score {
+                answer: String::new(alloc),
+                expected: String::new(alloc),
+                last: 0,
+                commands: 0,
+                wrong: 0,
+            },
+        }
+    }
+
+    /// Goes on to the next title or command, if there is one, and compares the answer of the command before it.
+    pub fn advance(&mut self) -> Result<bool, Ending> {
+        for _ in 1..u64::MAX {
+            self.line.clear();
+            if self.reader.read_line(&mut self.line)? == 0 {
+                break;
+            }
+            self.number = self.number.saturating_add(1);
+            if self.has_turn()? {
+                return Ok(true);
+            }
+        }
+        close(&mut self.writer, &mut self.score)?;
+        Ok(false)
+    }
+
+    // Whether the line is a title or a command. An expected line is kept.
+    fn has_turn(&mut self) -> Result<bool, Ending> {
+        let line = self.line.trim_end_matches('\n');
+        if line.is_empty() || line.starts_with('#') {
+            return Ok(false);
+        }
+        if let Some(expected) = line.strip_prefix("> ") {
+            self.score.expected.push_str(expected)?;
+            self.score.expected.push_str("\n")?;
+            return Ok(false);
+        }
+        close(&mut self.writer, &mut self.score)?;
+        if line.strip_prefix("== ").is_none() {
+            self.score.commands = self.score.commands.saturating_add(1);
+            self.score.last = self.number;
+        }
+        Ok(true)
+    }
+
+    /// Whether a case begins, and not a command.
+    pub fn is_title(&self) -> bool {
+        self.line.starts_with("== ")
+    }
+
+    /// The command.
+    pub fn command(&self) -> &str {
+        self.line.trim_end_matches('\n')
+    }
+
+    /// Takes the lines that the command answers.
+    pub fn answered(&mut self, answer: &str) -> Result<(), Ending> {
+        self.score.answer.push_str(answer)?;
+        Ok(())
+    }
+
+    /// Prints how many commands there were; says whether all was as expected.
+    pub fn end(mut self) -> Result<bool, Ending> {
+        let (commands, wrong) = (self.score.commands, self.score.wrong);
+        writeln!(
+            self.writer,
+            "{commands} commands, {wrong} answers were not as expected"
+        )?;
+        Ok(wrong == 0)
+    }
+}

@@ -1,0 +1,16 @@
+use Rattle.std.proofs.Common.{arith}
+use Rattle.journal.proofs.journal.Journal.append.Goals as goal
+
+pub returns-clause-alive : goal.returns-clause-alive
+returns-clause-alive g c =
+    let met = c.in_default.ensures in
+    record { ends_closed = met.ends_closed; len = omega (arith, met.len, c.requires.len, c.written_len-added.ensures); firm = met.firm }
+
+pub returns-clause-records : goal.returns-clause-records
+returns-clause-records g c = c.in_default.ensures.records
+
+pub returns-clause-content : goal.returns-clause-content
+returns-clause-content g c = c.in_default.ensures.content
+
+pub returns-clause-any_moment : goal.returns-clause-any_moment
+returns-clause-any_moment g c = c.in_default.ensures.any_moment
