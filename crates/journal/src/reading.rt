@@ -7,7 +7,7 @@ ghost use Rattle.journal.specs.Format.{stands, scan, walk, records_of, group_of,
 use crate::error::JournalError;
 use crate::layout::{CLOSED, LENGTH_BYTES, MAX_GROUP_BYTES, MAX_GROUP_RECORDS};
 use crate::record::Record;
-use bytes::Bytes;
+use diskmodel::Bytes;
 use std::alloc::{AllocError, Global};
 
 /// What the bytes of a journal stand for: the records of the groups whose gates are open, from the
@@ -104,11 +104,20 @@ fn records_of(alloc: Global, body: &[u8], gate: u64) -> Result<Option<Vec<Record
         let Some((record, after)) = split_record(rest) else {
             return Ok(None);
         };
-        let bytes = Bytes::copy_from_slice(alloc, record)?;
+        let bytes = copy_of(alloc, record)?;
         records.push(Record { bytes, gate })?;
         rest = after;
     }
     Ok(Some(records))
+}
+
+// The same bytes once more.
+fn copy_of(alloc: Global, bytes: &[u8]) -> Result<Bytes, AllocError>
+    ensures { IfOk result (λ copy. copy ≡ bytes.now) }
+{
+    let mut copy = Vec::with_capacity(alloc, bytes.len())?;
+    copy.extend_from_slice(bytes)?;
+    Ok(Bytes::from_vec(copy))
 }
 
 // The record at the front of the bytes, and the bytes behind it, if it is whole.

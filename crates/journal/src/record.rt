@@ -1,6 +1,6 @@
 //! Records as a journal keeps them.
 
-use bytes::Bytes;
+use diskmodel::Bytes;
 
 /// A record of a group that counts.
 #[derive(Debug, Drop)]

@@ -7,7 +7,7 @@ ghost use Rattle.wire.specs.Batches.{batch_body, body_len, has_room, IsBatch};
 use crate::keys::Author;
 use crate::limits::MAX_BATCH_BYTES;
 use crate::numbers::{four_bytes, two_bytes};
-use bytes::Bytes;
+use crate::shared_bytes::SharedBytes;
 use std::alloc::{AllocError, AllocFailed, Global};
 use std::marker::Model;
 
@@ -27,7 +27,7 @@ pub struct Batch {
     author: Author,
     worker: u16,
     count: u32,
-    body: Bytes,
+    body: SharedBytes,
 }
 
 impl Drop for Batch {
@@ -82,7 +82,7 @@ impl Batch {
             author: self.author,
             worker: self.worker,
             count: self.count,
-            body: self.body.clone()?,
+            body: self.body.share()?,
         })
     }
 
@@ -175,7 +175,7 @@ impl OpenBatch {
             mut body,
         } = self;
         body[COUNT_PLACE..HEAD_BYTES].copy_from_slice(&four_bytes(count));
-        match Bytes::from_vec(body) {
+        match SharedBytes::from_vec(body) {
             Ok(body) => Ok(Batch {
                 author,
                 worker,

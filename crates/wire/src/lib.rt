@@ -15,6 +15,7 @@ mod output;
 mod output_bytes;
 mod references;
 mod round;
+mod shared_bytes;
 mod votes;
 
 pub use batch::{Batch, OpenBatch};
