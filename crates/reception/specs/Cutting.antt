@@ -56,3 +56,8 @@ pub record ReadsAndCuts {I : Type 0} (remaining : I → Option (List ℕ)) (befo
   pub piece : List ℕ
   pub read : Consumes (remaining before.reader) (remaining later.reader) piece
   pub cut : Cuts before.held piece bodies later.held later.end
+
+-- nothing of the stream was taken: no byte was read, and of the next frame the same is held
+pub record TakesNothing {I : Type 0} (remaining : I → Option (List ℕ)) (before later : Stream I) : Type 0 where
+  pub read : Consumes (remaining before.reader) (remaining later.reader) []
+  pub held : later.held ≡ before.held

@@ -4,7 +4,7 @@ ghost use Rattle.std.specs.Prelude.{◌≡◌, ◌≢◌, ◌⊎◌, ◌++◌, �
 ghost use Rattle.std.specs.Io.KnownBytes.{IsAtEnd};
 ghost use Rattle.std.specs.declared.alloc.Global.{Global};
 ghost use Rattle.wire_read.specs.Frames.{bodies_bytes};
-ghost use Rattle.reception.specs.Cutting.{Takes, BreaksWith, Cuts, ReadsAndCuts, end_behind};
+ghost use Rattle.reception.specs.Cutting.{Takes, BreaksWith, Cuts, ReadsAndCuts, TakesNothing, end_behind};
 
 use std::alloc::{AllocError, Global};
 use std::io::{ErrorKind, Read};
@@ -79,6 +79,7 @@ impl<I: Read + Drop> Input<I> {
         ensures again { (end : End) → self.old.end ≡ Some end → (result ≡ Err end) × (self.new ≡ self.old) }
         ensures ok { IfOk result (λ bodies. ReadsAndCuts I.remaining self.old self.new (bodies_bytes bodies.items)) }
         ensures err { IfErr result (λ end. self.new.end ≡ Some end) }
+        ensures nothing { OnErr result (self.old.end ≡ None → TakesNothing I.remaining self.old self.new) }
         ensures whole { IsErrOf result End.Whole → self.old.end ≡ None → IsAtEnd (I.remaining self.new.reader) × (self.old.held ≡ []) }
     {
         if let Some(end) = self.end {
@@ -95,6 +96,7 @@ impl<I: Read + Drop> Input<I> {
     fn read(&mut self) -> Result<Vec<Vec<u8>>, End>
         requires { self.old.end ≡ None }
         ensures ok { IfOk result (λ bodies. ReadsAndCuts I.remaining self.old self.new (bodies_bytes bodies.items)) }
+        ensures nothing { OnErr result (TakesNothing I.remaining self.old self.new) }
         ensures whole { IsErrOf result End.Whole → IsAtEnd (I.remaining self.new.reader) × (self.old.held ≡ []) }
     {
         match self.reader.read(&mut self.piece) {
