@@ -1,16 +1,13 @@
 -- One batch among those that are held.
-use Rattle.std.proofs.Common.{◌≡◌, ◌≢◌, ℕ, zero, suc, Bool, true, false, cond, List, [], ◌∷◌, ◌++◌, length, Some, None, refl, sym, ap, ◌∙◌, arith, take, drop, slice_get}
+use Rattle.std.proofs.Common.{◌≡◌, ◌≢◌, ℕ, zero, suc, Bool, true, false, cond, List, [], ◌∷◌, ◌++◌, length, Some, None, refl, sym, ap, ◌∙◌, arith, take, drop, slice_get, slice_set}
 use Rattle.std.specs.Prelude.{map, find, All, AllPairs}
 use Rattle.std.specs.List.{AllByRecursion}
-use Rattle.std.specs.Map.{lookup, values_of}
 use Rattle.std.specs.Str.{bytes_eq}
 use Rattle.std.proofs.lemmas.Bool.{false_from_ne_true}
 use Rattle.std.proofs.lemmas.List.Elements.{recursion_from_All, All-from_recursion}
 use Rattle.std.proofs.lemmas.Slice.Eq.{bytes_eq-Decides}
-use Rattle.indexmap.specs.IndexMap.{set_value_at}
 use Rattle.wire.specs.declared.keys.Digest.{Digest}
 use Rattle.batchstore.specs.Stock.{digest_of}
-use Rattle.batchstore.specs.Kept.{IsUnderItsDigest}
 use Rattle.batchstore.specs.declared.held.Held.{Held}
 
 -- the digest of what is held of a batch
@@ -30,39 +27,11 @@ one_digest one other same = ap (λ (l : List ℕ). record { 0 = l }) ((bytes_eq-
 pub apart : (one other : Digest) → one ≢ other → bytes_eq one.0 other.0 ≡ false
 apart one other differ = false_from_ne_true (bytes_eq one.0 other.0) (λ same. differ (one_digest one other same))
 
--- ---- the map's entries, each under its digest
-
-abbrev pub Keyed : List (Digest × Held) → Type 0
-Keyed entries = AllByRecursion IsUnderItsDigest entries
-
--- what the map finds is what is held
-pub lookup-find : (digest : Digest) (entries : List (Digest × Held)) → Keyed entries → lookup (λ (k : Digest). bytes_eq digest.0 k.0) entries ≡ find (is_of digest) (values_of entries)
-lookup-find digest [] keyed = refl
-lookup-find digest (e ∷ rest) keyed =
-    ap (λ (k : Digest). cond (bytes_eq digest.0 k.0) (Some e.1) (lookup (λ (k : Digest). bytes_eq digest.0 k.0) rest)) keyed.0
-    ∙ ap (cond (is_of digest e.1) (Some e.1)) (lookup-find digest rest keyed.1)
-
--- the value at a place stands where its entry does
-pub value_at : (entries : List (Digest × Held)) (place : ℕ) (e : Digest × Held) → slice_get entries place ≡ Some e → slice_get (values_of entries) place ≡ Some e.1
-value_at [] place e at = absurd cc
-value_at (first ∷ rest) zero e at = let same : first ≡ e = cc in ap (λ (f : Digest × Held). Some f.1) same
-value_at (first ∷ rest) (suc place) e at = value_at rest place e at
-
--- the values with another one at a place
-pub values-set : (entries : List (Digest × Held)) (place : ℕ) (old new : Held) → slice_get (values_of entries) place ≡ Some old
-    → values_of (set_value_at entries place new) ≡ take place (values_of entries) ++ new ∷ drop (suc place) (values_of entries)
-values-set [] place old new at = absurd cc
-values-set (first ∷ rest) zero old new at = refl
-values-set (first ∷ rest) (suc place) old new at = ap (λ l. first.1 ∷ l) (values-set rest place old new at)
-
--- each is still under its digest with another value of that digest at a place
-pub keyed-set : (entries : List (Digest × Held)) (place : ℕ) (old new : Held) → slice_get (values_of entries) place ≡ Some old → digest_in new ≡ digest_in old → Keyed entries
-    → Keyed (set_value_at entries place new)
-keyed-set [] place old new at same keyed = absurd cc
-keyed-set (first ∷ rest) zero old new at same keyed =
-    let here : first.1 ≡ old = cc in
-    (keyed.0 ∙ ap digest_in here ∙ sym same, keyed.1)
-keyed-set (first ∷ rest) (suc place) old new at same keyed = (keyed.0, keyed-set rest place old new at same keyed.1)
+-- another batch at a place
+pub set_parted : (batches : List Held) (place : ℕ) (old new : Held) → slice_get batches place ≡ Some old → slice_set batches place new ≡ take place batches ++ new ∷ drop (suc place) batches
+set_parted [] place old new at = absurd cc
+set_parted (first ∷ rest) zero old new at = refl
+set_parted (first ∷ rest) (suc place) old new at = ap (λ l. first ∷ l) (set_parted rest place old new at)
 
 -- ---- no other batch has the digest
 
@@ -170,10 +139,6 @@ none-digests digest (h ∷ rest) none =
 pub map-push : (batches : List Held) (held : Held) → map digest_in (batches ++ held ∷ []) ≡ map digest_in batches ++ digest_in held ∷ []
 map-push [] held = refl
 map-push (h ∷ rest) held = ap (λ l. digest_in h ∷ l) (map-push rest held)
-
-pub values-push : (entries : List (Digest × Held)) (digest : Digest) (held : Held) → values_of (entries ++ (digest, held) ∷ []) ≡ values_of entries ++ held ∷ []
-values-push [] digest held = refl
-values-push (e ∷ rest) digest held = ap (λ l. e.1 ∷ l) (values-push rest digest held)
 
 pub others_differ : (digest : Digest) (batches : List Held) → None_of digest batches → All (λ other. other ≢ digest) (map digest_in batches)
 others_differ digest batches none = All-from_recursion (λ other. other ≢ digest) (map digest_in batches) (none-digests digest batches none)

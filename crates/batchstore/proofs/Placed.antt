@@ -2,8 +2,7 @@
 use Rattle.std.proofs.Common.{◌≡◌, ℕ, Bool, true, false, cond, List, [], ◌∷◌, ◌++◌, refl, sym, ap, ◌∙◌}
 use Rattle.std.proofs.Common.{Ordering, Less, Equal, Greater}
 use Rattle.std.specs.Prelude.{fold, map}
-use Rattle.std.specs.Ordering.{is_lt, is_eq, nat_cmp, ordering_reverse, match_ordering}
-use Rattle.std.specs.Cmp.Lexicographic.{slice_cmp}
+use Rattle.std.specs.Ordering.{is_lt, is_eq, ordering_reverse, match_ordering}
 use Rattle.std.specs.List.{AllByRecursion}
 use Rattle.std.specs.Str.{bytes_eq}
 use Rattle.std.specs.Map.{remove_entry}
@@ -15,11 +14,7 @@ use Rattle.std.proofs.lemmas.Map.Text.{is_eq-slice_cmp}
 use Rattle.wire.specs.References.{digest_before, placed}
 use Rattle.wire.specs.declared.keys.Digest.{Digest}
 use Rattle.wire.specs.declared.references.BatchReference.{BatchReference}
-use Rattle.batchstore.specs.Kept.{reference_of}
-
--- how two digests compare
-abbrev pub compared : Digest → Digest → Ordering
-compared one other = slice_cmp nat_cmp one.0 other.0
+use Rattle.batchstore.specs.Kept.{compared, reference_of}
 
 turned : (one other : Digest) (o : Ordering) → compared one other ≡ o → compared other one ≡ ordering_reverse o
 turned one other o is = nat_list_cmp_total.antisymm other.0 one.0 ∙ ap ordering_reverse is

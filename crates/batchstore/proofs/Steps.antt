@@ -1,8 +1,8 @@
 -- What a store keeps behind each of its steps.
-use Rattle.std.proofs.Common.{◌≡◌, ◌≢◌, ℕ, suc, ◌<◌, Bool, true, false, cond, List, [], ◌∷◌, ◌++◌, length, Option, Some, None, refl, sym, ap, subst, ◌∙◌, inl, inr, arith, take, drop, slice_get, length-append}
-use Rattle.std.specs.Prelude.{◌&&◌, ◌||◌, ◌==◌, ◌⊎◌, not, map, find, All, AllPairs}
+use Rattle.std.proofs.Common.{◌≡◌, ◌≢◌, ℕ, suc, ◌<◌, Bool, true, false, cond, List, [], ◌∷◌, ◌++◌, length, Option, Some, None, refl, sym, ap, subst, ◌∙◌, inl, inr, arith, take, drop, slice_get, slice_set, length-append}
+use Rattle.std.specs.Prelude.{◌&&◌, ◌||◌, ◌==◌, ◌⊎◌, not, map, find, AllPairs}
 use Rattle.std.specs.List.{AllByRecursion, list_any}
-use Rattle.std.specs.Map.{values_of, remove_entry}
+use Rattle.std.specs.Map.{remove_entry}
 use Rattle.std.specs.BTreeMap.{insert_entry, is_at}
 use Rattle.std.specs.Str.{bytes_eq}
 use Rattle.std.proofs.Math.Bool.{or-false, and-false}
@@ -10,7 +10,6 @@ use Rattle.std.proofs.lemmas.Bool.{eqb-true, eq-eqb, leb-true, le-leb, lt-leb, a
 use Rattle.std.proofs.lemmas.List.Folds.{list_any-append}
 use Rattle.std.proofs.lemmas.List.Elements.{recursion_from_All, All-from_recursion, All-push}
 use Rattle.std.proofs.lemmas.List.Quantifiers.{all_pairs_push}
-use Rattle.indexmap.specs.IndexMap.{set_value_at}
 use Rattle.wire.specs.References.{placed}
 use Rattle.wire.specs.declared.keys.Digest.{Digest}
 use Rattle.wire.specs.declared.references.BatchReference.{BatchReference}
@@ -21,16 +20,16 @@ use Rattle.committee.proofs.Weights.{weight-same, weight-one, weight-within}
 use Rattle.std.specs.Option.{option_map_or}
 use Rattle.batchstore.specs.Stock.{Stock, IsHeld, held_at, has_own, has_acked, holds, as_reference, holders, is_quorate, may_be_named}
 use Rattle.batchstore.specs.Answer.{with_member, acked_by, named_by}
-use Rattle.batchstore.specs.Kept.{IsKept, IsUnderItsDigest, reference_of}
+use Rattle.batchstore.specs.Kept.{IsKept, compared, reference_of}
 use Rattle.batchstore.specs.declared.held.Held.{Held}
-use Rattle.batchstore.proofs.Among.{digest_in, is_of, None_of, Distinct, same_digest, values-set, keyed-set, parted, others, found_is, none_found, map-others, map-one, all-one, digests-one, length-one, map-push, values-push, others_differ}
-use Rattle.batchstore.proofs.Placed.{Absent, compared, inserted, removed, without}
+use Rattle.batchstore.proofs.Among.{digest_in, is_of, None_of, Distinct, same_digest, set_parted, parted, others, found_is, none_found, map-others, map-one, all-one, digests-one, length-one, map-push, others_differ}
+use Rattle.batchstore.proofs.Placed.{Absent, inserted, removed, without}
 use Rattle.batchstore.proofs.Listing.{listing, to_name-none, to_name-some, unlisted, gains, stays, loses, push-none}
 use Rattle.batchstore.proofs.Members.{more_is}
 
--- the store of these entries
-abbrev pub stock_in : Charter → ℕ → List (Digest × Held) → Stock
-stock_in charter own entries = record { charter = charter; own = own; held = values_of entries }
+-- the store of these batches
+abbrev pub stock_in : Charter → ℕ → List Held → Stock
+stock_in charter own batches = record { charter = charter; own = own; held = batches }
 
 -- a batch of this digest stands at a place, and no other has it
 pub record Stands (batches : List Held) (digest : Digest) (place : ℕ) (held : Held) : Type 0 where
@@ -54,30 +53,29 @@ stands batches digest place held distinct found at =
     }
 
 -- what is kept, with another value at a place
-pub changed : (charter : Charter) (own : ℕ) (entries : List (Digest × Held)) (listed after : List (Digest × ℕ)) (digest : Digest) (place : ℕ) (old new : Held)
-    → IsKept (stock_in charter own entries) entries listed → Stands (values_of entries) digest place old → digest_in new ≡ digest_in old
+pub changed : (charter : Charter) (own : ℕ) (batches : List Held) (listed after : List (Digest × ℕ)) (digest : Digest) (place : ℕ) (old new : Held)
+    → IsKept (stock_in charter own batches) listed → Stands batches digest place old → digest_in new ≡ digest_in old
     → (IsHeld charter own old → IsHeld charter own new)
-    → map reference_of after ≡ listing charter own (take place (values_of entries) ++ new ∷ drop (suc place) (values_of entries))
-    → IsKept (stock_in charter own (set_value_at entries place new)) (set_value_at entries place new) after
-changed charter own entries listed after digest place old new kept there same goes names =
-    let front = take place (values_of entries) in
-    let back = drop (suc place) (values_of entries) in
-    let is : values_of (set_value_at entries place new) ≡ front ++ new ∷ back = values-set entries place old new there.at in
-    let digests : map digest_in (values_of (set_value_at entries place new)) ≡ map digest_in (values_of entries) =
+    → map reference_of after ≡ listing charter own (take place batches ++ new ∷ drop (suc place) batches)
+    → IsKept (stock_in charter own (slice_set batches place new)) after
+changed charter own batches listed after digest place old new kept there same goes names =
+    let front = take place batches in
+    let back = drop (suc place) batches in
+    let is : slice_set batches place new ≡ front ++ new ∷ back = set_parted batches place old new there.at in
+    let digests : map digest_in (slice_set batches place new) ≡ map digest_in batches =
     ap (map digest_in) is ∙ digests-one front old new back same ∙ ap (map digest_in) (sym there.stood) in
-    let long : length (values_of (set_value_at entries place new)) ≡ length (values_of entries) = ap length is ∙ length-one front old new back ∙ ap length (sym there.stood) in
+    let long : length (slice_set batches place new) ≡ length batches = ap length is ∙ length-one front old new back ∙ ap length (sym there.stood) in
     let each : AllByRecursion (IsHeld charter own) (front ++ old ∷ back) =
-    subst (AllByRecursion (IsHeld charter own)) there.stood (recursion_from_All (IsHeld charter own) (values_of entries) kept.valid.each) in
+    subst (AllByRecursion (IsHeld charter own)) there.stood (recursion_from_All (IsHeld charter own) batches kept.valid.each) in
     record {
       valid = record {
         charter = kept.valid.charter;
         own = kept.valid.own;
         distinct = subst (λ l. AllPairs (λ one other. one ≢ other) l) (sym digests) kept.valid.distinct;
         few = omega (arith, long, kept.valid.few);
-        each = All-from_recursion (IsHeld charter own) (values_of (set_value_at entries place new))
+        each = All-from_recursion (IsHeld charter own) (slice_set batches place new)
             (subst (AllByRecursion (IsHeld charter own)) (sym is) (all-one (IsHeld charter own) front old new back goes each));
       };
-      keyed = All-from_recursion IsUnderItsDigest (set_value_at entries place new) (keyed-set entries place old new there.at same (recursion_from_All IsUnderItsDigest entries kept.keyed));
       named = names ∙ ap (listing charter own) (sym is);
     }
 
@@ -90,15 +88,12 @@ alone charter own held is mine none =
     let shared = is.shared own 0 (omega (arith, is.staked)) in
     lt-leb (quorum_of charter) (weight charter (holders own held)) (omega (arith, same, weight-one charter own mine, shared))
 
-pub pushed : (charter : Charter) (own : ℕ) (entries : List (Digest × Held)) (listed : List (Digest × ℕ)) (digest : Digest) (new : Held)
-    → IsKept (stock_in charter own entries) entries listed → digest ≡ digest_in new → find (is_of digest) (values_of entries) ≡ None → length (values_of entries) < charter.batches
+pub pushed : (charter : Charter) (own : ℕ) (batches : List Held) (listed : List (Digest × ℕ)) (digest : Digest) (new : Held)
+    → IsKept (stock_in charter own batches) listed → digest ≡ digest_in new → find (is_of digest) batches ≡ None → length batches < charter.batches
     → ((member : ℕ) → has new.acknowledged member ≡ false) → new.named ≡ false
-    → IsKept (stock_in charter own (entries ++ (digest, new) ∷ [])) (entries ++ (digest, new) ∷ []) listed
-pushed charter own entries listed digest new kept is none room empty unnamed =
-    let batches = values_of entries in
-    let values : values_of (entries ++ (digest, new) ∷ []) ≡ batches ++ new ∷ [] = values-push entries digest new in
+    → IsKept (stock_in charter own (batches ++ new ∷ [])) listed
+pushed charter own batches listed digest new kept is none room empty unnamed =
     let apart : None_of (digest_in new) batches = subst (λ d. None_of d batches) is (none_found digest batches none) in
-    let digests : map digest_in (values_of (entries ++ (digest, new) ∷ [])) ≡ map digest_in batches ++ digest_in new ∷ [] = ap (map digest_in) values ∙ map-push batches new in
     let may : may_be_named charter own new ≡ false = ap (λ b. (new.batch.author.0 == own) && (b && not new.named)) (alone charter own new kept.valid.charter kept.valid.own empty) ∙ and-false (new.batch.author.0 == own) in
     let fresh : IsHeld charter own new = record {
       acknowledged = λ m there_is. (let there_isnt = empty m in absurd cc);
@@ -108,22 +103,21 @@ pushed charter own entries listed digest new kept is none room empty unnamed =
       valid = record {
         charter = kept.valid.charter;
         own = kept.valid.own;
-        distinct = subst (AllPairs (λ one other. one ≢ other)) (sym digests)
+        distinct = subst (AllPairs (λ one other. one ≢ other)) (sym (map-push batches new))
             (all_pairs_push (λ one other. one ≢ other) (map digest_in batches) (digest_in new) kept.valid.distinct (others_differ (digest_in new) batches apart));
-        few = omega (arith, ap length values, length-append batches (new ∷ []), room);
-        each = subst (All (IsHeld charter own)) (sym values) (All-push (IsHeld charter own) batches new kept.valid.each fresh);
+        few = omega (arith, length-append batches (new ∷ []), room);
+        each = All-push (IsHeld charter own) batches new kept.valid.each fresh;
       };
-      keyed = All-push IsUnderItsDigest entries (digest, new) kept.keyed is;
-      named = kept.named ∙ sym (push-none charter own batches new (to_name-none charter own new may)) ∙ ap (listing charter own) (sym values);
+      named = kept.named ∙ sym (push-none charter own batches new (to_name-none charter own new may));
     }
 
 -- ---- the list beside it
 
 -- it lists those that may be named, the one at a place among them
-listed_around : (charter : Charter) (own : ℕ) (entries : List (Digest × Held)) (listed : List (Digest × ℕ)) (digest : Digest) (place : ℕ) (old : Held)
-    → IsKept (stock_in charter own entries) entries listed → Stands (values_of entries) digest place old
-    → map reference_of listed ≡ listing charter own (take place (values_of entries) ++ old ∷ drop (suc place) (values_of entries))
-listed_around charter own entries listed digest place old kept there = kept.named ∙ ap (listing charter own) there.stood
+listed_around : (charter : Charter) (own : ℕ) (batches : List Held) (listed : List (Digest × ℕ)) (digest : Digest) (place : ℕ) (old : Held)
+    → IsKept (stock_in charter own batches) listed → Stands batches digest place old
+    → map reference_of listed ≡ listing charter own (take place batches ++ old ∷ drop (suc place) batches)
+listed_around charter own batches listed digest place old kept there = kept.named ∙ ap (listing charter own) there.stood
 
 -- a change of the one batch of a digest
 pub at_place : (change : Held → Held) (batches : List Held) (digest : Digest) (place : ℕ) (old new : Held) → ((held : Held) → is_of digest held ≡ false → change held ≡ held) → change old ≡ new
@@ -173,13 +167,13 @@ still_held charter own old member members ours inside other more is = record {
   named = is.named;
 }
 
-pub acked_new : (charter : Charter) (own : ℕ) (entries : List (Digest × Held)) (listed : List (Digest × ℕ)) (digest : Digest) (place : ℕ) (old : Held) (member : ℕ) (members : MemberSet)
-    → IsKept (stock_in charter own entries) entries listed → Stands (values_of entries) digest place old → old.batch.author.0 ≡ own → member < length charter.keys → member ≢ own
+pub acked_new : (charter : Charter) (own : ℕ) (batches : List Held) (listed : List (Digest × ℕ)) (digest : Digest) (place : ℕ) (old : Held) (member : ℕ) (members : MemberSet)
+    → IsKept (stock_in charter own batches) listed → Stands batches digest place old → old.batch.author.0 ≡ own → member < length charter.keys → member ≢ own
     → ((other : ℕ) → has members other ≡ (has old.acknowledged other || (other == member))) → begins charter own old members ≡ true
-    → IsKept (stock_in charter own (set_value_at entries place (with_acks old members))) (set_value_at entries place (with_acks old members)) (insert_entry compared listed digest old.batch.worker)
-acked_new charter own entries listed digest place old member members kept there ours inside other more begin =
-    let front = take place (values_of entries) in
-    let back = drop (suc place) (values_of entries) in
+    → IsKept (stock_in charter own (slice_set batches place (with_acks old members))) (insert_entry compared listed digest old.batch.worker)
+acked_new charter own batches listed digest place old member members kept there ours inside other more begin =
+    let front = take place batches in
+    let back = drop (suc place) batches in
     let new = with_acks old members in
     let parts = and_parts (not old.named) (not (is_quorate charter own old) && is_quorate charter own new) begin in
     let quorums = and_parts (not (is_quorate charter own old)) (is_quorate charter own new) parts.1 in
@@ -190,40 +184,40 @@ acked_new charter own entries listed digest place old member members kept there 
     ap (λ b. b && (is_quorate charter own new && not old.named)) mine ∙ ap (λ b. b && not old.named) quorums.1 ∙ parts.0 in
     let before : None_of (digest_in old) front = subst (λ d. None_of d front) (sym there.is) there.before in
     let behind : None_of (digest_in old) back = subst (λ d. None_of d back) (sym there.is) there.behind in
-    let around = listed_around charter own entries listed digest place old kept there in
+    let around = listed_around charter own batches listed digest place old kept there in
     let absent : Absent digest (map reference_of listed) =
     subst (Absent digest) (sym around) (subst (λ d. Absent d (listing charter own (front ++ old ∷ back))) there.is (unlisted charter own front old back (to_name-none charter own old may_not) before behind)) in
     let reference : ◌≡◌ {A = BatchReference} (reference_of (digest, old.batch.worker)) (as_reference old.batch) = ap (λ (d : Digest). record { digest = d; worker = old.batch.worker }) (sym there.is) in
-    changed charter own entries listed (insert_entry compared listed digest old.batch.worker) digest place old new kept there refl
+    changed charter own batches listed (insert_entry compared listed digest old.batch.worker) digest place old new kept there refl
     (still_held charter own old member members ours inside other more)
     (inserted listed digest old.batch.worker absent ∙ ap (λ l. placed l (reference_of (digest, old.batch.worker))) around ∙ ap (placed (listing charter own (front ++ old ∷ back))) reference
     ∙ sym (gains charter own front old new back (to_name-none charter own old may_not) (to_name-some charter own new may) behind))
 
-pub acked_same : (charter : Charter) (own : ℕ) (entries : List (Digest × Held)) (listed : List (Digest × ℕ)) (digest : Digest) (place : ℕ) (old : Held) (member : ℕ) (members : MemberSet)
-    → IsKept (stock_in charter own entries) entries listed → Stands (values_of entries) digest place old → old.batch.author.0 ≡ own → member < length charter.keys → member ≢ own
+pub acked_same : (charter : Charter) (own : ℕ) (batches : List Held) (listed : List (Digest × ℕ)) (digest : Digest) (place : ℕ) (old : Held) (member : ℕ) (members : MemberSet)
+    → IsKept (stock_in charter own batches) listed → Stands batches digest place old → old.batch.author.0 ≡ own → member < length charter.keys → member ≢ own
     → ((other : ℕ) → has members other ≡ (has old.acknowledged other || (other == member))) → begins charter own old members ≡ false
-    → IsKept (stock_in charter own (set_value_at entries place (with_acks old members))) (set_value_at entries place (with_acks old members)) listed
-acked_same charter own entries listed digest place old member members kept there ours inside other more begin =
-    let front = take place (values_of entries) in
-    let back = drop (suc place) (values_of entries) in
+    → IsKept (stock_in charter own (slice_set batches place (with_acks old members))) listed
+acked_same charter own batches listed digest place old member members kept there ours inside other more begin =
+    let front = take place batches in
+    let back = drop (suc place) batches in
     let new = with_acks old members in
     let may : may_be_named charter own new ≡ may_be_named charter own old =
     ap (λ b. (old.batch.author.0 == own) && b) (same_may old.named (is_quorate charter own old) (is_quorate charter own new) (more_quorate charter own old new member more) begin) in
-    changed charter own entries listed listed digest place old new kept there refl
+    changed charter own batches listed listed digest place old new kept there refl
     (still_held charter own old member members ours inside other more)
-    (listed_around charter own entries listed digest place old kept there
+    (listed_around charter own batches listed digest place old kept there
     ∙ sym (stays charter own front old new back (ap (λ b. cond b (Some (as_reference old.batch)) None) may)))
 
 -- the store then has what the answer says
-pub acked_view : (entries : List (Digest × Held)) (digest : Digest) (place : ℕ) (old : Held) (member : ℕ) (members : MemberSet) → Stands (values_of entries) digest place old
+pub acked_view : (batches : List Held) (digest : Digest) (place : ℕ) (old : Held) (member : ℕ) (members : MemberSet) → Stands batches digest place old
     → ((other : ℕ) → has members other ≡ (has old.acknowledged other || (other == member)))
-    → values_of (set_value_at entries place (with_acks old members)) ≡ map (acked_by digest member) (values_of entries)
-acked_view entries digest place old member members there more =
+    → slice_set batches place (with_acks old members) ≡ map (acked_by digest member) batches
+acked_view batches digest place old member members there more =
     let here : is_of digest old ≡ true = ap (λ (d : Digest). bytes_eq digest.0 d.0) there.is ∙ same_digest digest in
     let is : acked_by digest member old ≡ with_acks old members =
     ap (λ b. cond b (with_acks old (with_member old.acknowledged member)) old) here ∙ ap (with_acks old) (sym (more_is old.acknowledged members member more)) in
-    values-set entries place old (with_acks old members) there.at
-    ∙ sym (at_place (acked_by digest member) (values_of entries) digest place old (with_acks old members)
+    set_parted batches place old (with_acks old members) there.at
+    ∙ sym (at_place (acked_by digest member) batches digest place old (with_acks old members)
     (λ h there_isnt. ap (λ b. cond b (with_acks h (with_member h.acknowledged member)) h) there_isnt) is there)
 
 -- ---- an own header names a batch
@@ -232,19 +226,19 @@ acked_view entries digest place old member members there more =
 abbrev pub with_mark : Held → Held
 with_mark held = record held { named = true }
 
-pub marked : (charter : Charter) (own : ℕ) (entries : List (Digest × Held)) (listed : List (Digest × ℕ)) (digest : Digest) (place : ℕ) (old : Held)
-    → IsKept (stock_in charter own entries) entries listed → Stands (values_of entries) digest place old → old.batch.author.0 ≡ own
-    → IsKept (stock_in charter own (set_value_at entries place (with_mark old))) (set_value_at entries place (with_mark old)) (remove_entry (is_at (compared digest)) listed)
-marked charter own entries listed digest place old kept there ours =
-    let front = take place (values_of entries) in
-    let back = drop (suc place) (values_of entries) in
+pub marked : (charter : Charter) (own : ℕ) (batches : List Held) (listed : List (Digest × ℕ)) (digest : Digest) (place : ℕ) (old : Held)
+    → IsKept (stock_in charter own batches) listed → Stands batches digest place old → old.batch.author.0 ≡ own
+    → IsKept (stock_in charter own (slice_set batches place (with_mark old))) (remove_entry (is_at (compared digest)) listed)
+marked charter own batches listed digest place old kept there ours =
+    let front = take place batches in
+    let back = drop (suc place) batches in
     let may_not : may_be_named charter own (with_mark old) ≡ false =
     ap (λ b. (old.batch.author.0 == own) && b) (and-false (is_quorate charter own old)) ∙ and-false (old.batch.author.0 == own) in
     let before : None_of (digest_in old) front = subst (λ d. None_of d front) (sym there.is) there.before in
     let behind : None_of (digest_in old) back = subst (λ d. None_of d back) (sym there.is) there.behind in
-    changed charter own entries listed (remove_entry (is_at (compared digest)) listed) digest place old (with_mark old) kept there refl
+    changed charter own batches listed (remove_entry (is_at (compared digest)) listed) digest place old (with_mark old) kept there refl
     (λ is. record { acknowledged = λ m there_is. (let may = is.acknowledged m there_is in record { ours = ours; inside = may.inside; other = may.other }); named = λ there_is. ours })
-    (removed listed digest ∙ ap (without digest) (listed_around charter own entries listed digest place old kept there)
+    (removed listed digest ∙ ap (without digest) (listed_around charter own batches listed digest place old kept there)
     ∙ ap (λ d. without d (listing charter own (front ++ old ∷ back))) (sym there.is)
     ∙ loses charter own front old (with_mark old) back (to_name-none charter own (with_mark old) may_not) before behind)
 
@@ -253,14 +247,14 @@ named_others own reference held there_isnt =
     ap (λ b. cond ((held.batch.author.0 == own) && (b || false)) (with_mark held) held) there_isnt ∙ ap (λ b. cond b (with_mark held) held) (and-false (held.batch.author.0 == own))
 
 -- the store then has what the answer says
-pub marked_view : (own : ℕ) (entries : List (Digest × Held)) (reference : BatchReference) (place : ℕ) (old : Held) → Stands (values_of entries) reference.digest place old → old.batch.author.0 ≡ own
-    → values_of (set_value_at entries place (with_mark old)) ≡ map (named_by own (reference ∷ [])) (values_of entries)
-marked_view own entries reference place old there ours =
+pub marked_view : (own : ℕ) (batches : List Held) (reference : BatchReference) (place : ℕ) (old : Held) → Stands batches reference.digest place old → old.batch.author.0 ≡ own
+    → slice_set batches place (with_mark old) ≡ map (named_by own (reference ∷ [])) batches
+marked_view own batches reference place old there ours =
     let here : is_of reference.digest old ≡ true = ap (λ (d : Digest). bytes_eq reference.digest.0 d.0) there.is ∙ same_digest reference.digest in
     let is : named_by own (reference ∷ []) old ≡ with_mark old =
     ap (λ b. cond (b && (is_of reference.digest old || false)) (with_mark old) old) (eq-eqb old.batch.author.0 own ours) ∙ ap (λ b. cond (b || false) (with_mark old) old) here in
-    values-set entries place old (with_mark old) there.at
-    ∙ sym (at_place (named_by own (reference ∷ [])) (values_of entries) reference.digest place old (with_mark old) (named_others own reference) is there)
+    set_parted batches place old (with_mark old) there.at
+    ∙ sym (at_place (named_by own (reference ∷ [])) batches reference.digest place old (with_mark old) (named_others own reference) is there)
 
 -- where the batch isn't an own one, or none is held, nothing changes
 pub unmarked : (own : ℕ) (batches : List Held) (reference : BatchReference) (place : ℕ) (old : Held) → Stands batches reference.digest place old → (old.batch.author.0 == own) ≡ false

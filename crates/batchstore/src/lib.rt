@@ -7,6 +7,7 @@ mod held;
 mod laws;
 mod refusal;
 mod store;
+mod table;
 
 pub use answers::{Acked, Put};
 pub use laws::{acknowledgements_add_up, nobody_acknowledged};

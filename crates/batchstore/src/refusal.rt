@@ -3,7 +3,7 @@
 ghost use Rattle.std.specs.Prelude.{◌≡◌};
 ghost use Rattle.batchstore.specs.declared.refusal.StoreRefusal.TheVariants.{Memory};
 
-use std::alloc::AllocFailed;
+use std::alloc::{AllocError, AllocFailed};
 use thiserror::Error;
 
 /// Why a store refuses a batch or an acknowledgement. Printed as its number and its name.
@@ -27,6 +27,14 @@ impl<T: Drop> From<AllocFailed<T>> for StoreRefusal {
     ghost from_gives = { λ _ e. e ≡ Memory };
 
     fn from(_: AllocFailed<T>) -> StoreRefusal {
+        StoreRefusal::Memory
+    }
+}
+
+impl From<AllocError> for StoreRefusal {
+    ghost from_gives = { λ _ e. e ≡ Memory };
+
+    fn from(_: AllocError) -> StoreRefusal {
         StoreRefusal::Memory
     }
 }

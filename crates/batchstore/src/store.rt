@@ -5,7 +5,6 @@ ghost use Rattle.wire.specs.declared.limits.TheConstants.{MAX_BATCHES};
 ghost use Rattle.committee.specs.Charter.{weight, quorum_of};
 ghost use Rattle.committee.specs.Sets.{has};
 ghost use Rattle.committee.specs.declared.members.TheConstants.{MAX_MEMBERS};
-ghost use Rattle.indexmap.specs.IndexMap.{values, set_value_at};
 ghost use Rattle.batchstore.specs.declared.held.Held.{Held};
 ghost use Rattle.batchstore.specs.Kept.{reference_of};
 ghost use Rattle.batchstore.specs.Stock.{is_quorate, Stock, IsStock, digest_of, held_at, batch_in, has_with, has_own, holds, is_available, was_named, nameable};
@@ -14,8 +13,8 @@ ghost use Rattle.batchstore.specs.Answer.{is_known, is_clash, is_new, is_full, w
 use crate::answers::{Acked, Put};
 use crate::held::Held;
 use crate::refusal::StoreRefusal;
+use crate::table::Table;
 use committee::{Committee, MemberSet};
-use indexmap::IndexMap;
 use std::alloc::{AllocError, Global};
 use std::collections::BTreeMap;
 use std::marker::Model;
@@ -26,8 +25,7 @@ use wire::{Author, Batch, BatchReference, Digest, MAX_BATCHES, batch_digest};
 pub struct BatchStore<'a> {
     committee: &'a Committee,
     own: Author,
-    // By the batch digest, in the order of acceptance.
-    held: IndexMap<Digest, Held>,
+    held: Table,
     // The workers of the batches that may be named, by the batch digest.
     nameable: BTreeMap<Digest, u16>,
 }
@@ -44,15 +42,14 @@ impl<'a> Drop for BatchStore<'a> {
 }
 
 impl<'a> Model for BatchStore<'a> {
-    ghost use Rattle.indexmap.specs.IndexMap.{values};
     ghost use Rattle.batchstore.specs.Stock.{Stock};
     ghost use Rattle.batchstore.specs.Kept.{IsKept};
 
     ghost Value = { Stock };
 
-    ghost view = { λ s. record { charter = s.committee.now; own = s.own.0; held = values s.held } };
+    ghost view = { λ s. record { charter = s.committee.now; own = s.own.0; held = s.held } };
 
-    ghost invariant = { λ s. IsKept (record { charter = s.committee.now; own = s.own.0; held = values s.held }) s.held.entries s.nameable.entries };
+    ghost invariant = { λ s. IsKept (record { charter = s.committee.now; own = s.own.0; held = s.held }) s.nameable.entries };
 }
 
 // Whether the own member and these others make a quorum.
@@ -97,24 +94,6 @@ fn first_references(
         .collect(alloc)
 }
 
-// Gives the batch at this place these members.
-fn set_members(held: &mut IndexMap<Digest, Held>, place: usize, members: MemberSet)
-    ensures { (before : Held) → slice_get (values held.old) place ≡ Some before → held.new.entries ≡ set_value_at held.old.entries place (record before { acknowledged = members }) }
-{
-    if let Some(held) = held.get_index_mut(place) {
-        held.acknowledged = members;
-    }
-}
-
-// Gives the batch at this place the mark.
-fn set_mark(held: &mut IndexMap<Digest, Held>, place: usize)
-    ensures { (before : Held) → slice_get (values held.old) place ≡ Some before → held.new.entries ≡ set_value_at held.old.entries place (record before { named = true }) }
-{
-    if let Some(held) = held.get_index_mut(place) {
-        held.named = true;
-    }
-}
-
 impl<'a> BatchStore<'a> {
     /// A store without a batch, of the member of this number.
     pub fn new(alloc: Global, committee: &'a Committee, own: Author) -> BatchStore<'a>
@@ -125,7 +104,7 @@ impl<'a> BatchStore<'a> {
         BatchStore {
             committee,
             own,
-            held: IndexMap::new(alloc),
+            held: Table::new(alloc),
             nameable: BTreeMap::new(alloc),
         }
     }
@@ -197,7 +176,7 @@ impl<'a> BatchStore<'a> {
             acknowledged: MemberSet::none(),
             named: false,
         };
-        self.held.insert(digest, held)?;
+        self.held.push(digest, held)?;
         Ok(())
     }
 
@@ -205,7 +184,10 @@ impl<'a> BatchStore<'a> {
     fn at(&self, digest: &Digest) -> Option<&Held>
         ensures { option_copied result ≡ held_at self.now digest.now }
     {
-        self.held.get(digest)
+        match self.find(digest) {
+            Some((_, held)) => Some(held),
+            None => None,
+        }
     }
 
     // The same, with its place.
@@ -213,10 +195,7 @@ impl<'a> BatchStore<'a> {
         ensures held { option_map (λ found. found.1.now) result ≡ held_at self.now digest.now }
         ensures place { IfSome result (λ found. slice_get self.now.held found.0 ≡ Some found.1.now) }
     {
-        match self.held.get_full(digest) {
-            Some((place, _, held)) => Some((place, held)),
-            None => None,
-        }
+        self.held.find(digest)
     }
 
     /// Whether the batch of this digest is held, with this worker.
@@ -291,7 +270,7 @@ impl<'a> BatchStore<'a> {
         if becomes_nameable(self.committee, self.own, held, &acknowledged) {
             self.nameable.insert(*digest, worker)?;
         }
-        set_members(&mut self.held, place, acknowledged);
+        self.held.set_members(place, acknowledged);
         Ok(())
     }
 
@@ -329,7 +308,7 @@ impl<'a> BatchStore<'a> {
             return;
         }
         self.nameable.remove(&reference.digest);
-        set_mark(&mut self.held, place);
+        self.held.set_mark(place);
     }
 
     /// Whether an own header has named the batch of this digest.

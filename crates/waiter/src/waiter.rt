@@ -2,15 +2,14 @@
 
 ghost use Rattle.std.specs.Prelude.{◌≡◌, ◌≢◌, ◌<◌, ◌≤◌, ◌++◌, [], ◌∷◌, ◌↔◌, Some, None, Ok, true, length, take, slice_get, IfSome, IfNone, OnOk, OnErr, IsErrOf};
 ghost use Rattle.std.specs.Fn.{CalledAt};
+ghost use Rattle.std.specs.List.{list_any};
 ghost use Rattle.wire.specs.Events.{Event};
 ghost use Rattle.header.specs.Digested.{certificate_digest_in};
-ghost use Rattle.indexmap.specs.IndexMap.{values};
 ghost use Rattle.waiter.specs.declared.waiter.TheConstants.{MAX_WAITING};
-ghost use Rattle.waiter.specs.Waiting.{Waits, AnswersNo, IsFirstReady};
+ghost use Rattle.waiter.specs.Waiting.{has_digest, Waits, AnswersNo, IsFirstReady};
 
 use crate::refusal::WaitRefusal;
 use header::Checked;
-use indexmap::IndexMap;
 use std::alloc::Global;
 use std::marker::Model;
 use wire::Digest;
@@ -25,8 +24,7 @@ pub fn limits_in_numbers()
 
 /// Certificates that wait for their parents. Contracts see them with their senders, in the order of offering.
 pub struct Waiter {
-    // By the certificate digest.
-    waiting: IndexMap<Digest, Checked>,
+    waiting: Vec<Checked>,
 }
 
 impl Drop for Waiter {
@@ -38,15 +36,31 @@ impl Drop for Waiter {
 impl Model for Waiter {
     ghost use Rattle.std.specs.Prelude.{List, length, ◌≤◌, All};
     ghost use Rattle.wire.specs.Events.{Event};
-    ghost use Rattle.indexmap.specs.IndexMap.{values};
     ghost use Rattle.waiter.specs.declared.waiter.TheConstants.{MAX_WAITING};
-    ghost use Rattle.waiter.specs.Keyed.{IsUnderItsDigest};
+    ghost use Rattle.waiter.specs.Waiting.{IsCertificate};
 
     ghost Value = { List Event };
 
-    ghost view = { λ w. values w.waiting };
+    ghost view = { λ w. w.waiting.items };
 
-    ghost invariant = { λ w. All IsUnderItsDigest w.waiting.entries × (length w.waiting.entries ≤ MAX_WAITING) };
+    ghost invariant = { λ w. All IsCertificate w.waiting.items × (length w.waiting.items ≤ MAX_WAITING) };
+}
+
+// Whether it is the certificate of this digest.
+fn has_digest(checked: &Checked, digest: &Digest) -> bool
+    ensures { result ≡ has_digest digest.now checked.now }
+{
+    match checked.certificate_digest() {
+        Some(other) => *other == *digest,
+        None => false,
+    }
+}
+
+// Whether the certificate of this digest waits.
+fn is_among(waiting: &[Checked], digest: &Digest) -> bool
+    ensures { result ≡ list_any (has_digest digest.now) waiting.now }
+{
+    waiting.iter().any(|checked| has_digest(checked, digest))
 }
 
 impl Waiter {
@@ -55,7 +69,7 @@ impl Waiter {
         ensures { result ≡ [] }
     {
         Waiter {
-            waiting: IndexMap::new(alloc),
+            waiting: Vec::new(alloc),
         }
     }
 
@@ -73,13 +87,13 @@ impl Waiter {
         let Some(digest) = checked.certificate_digest().copied() else {
             return Err(WaitRefusal::NotACertificate);
         };
-        if self.waiting.contains_key(&digest) {
+        if is_among(&self.waiting, &digest) {
             return Ok(());
         }
         if count >= MAX_WAITING {
             return Err(WaitRefusal::Full);
         }
-        self.waiting.insert(digest, checked)?;
+        self.waiting.push(checked)?;
         Ok(())
     }
 
@@ -91,8 +105,7 @@ impl Waiter {
         ensures none { IfNone result (self.new ≡ self.old) }
     {
         let place = self.first_ready(ready)?;
-        let (_, checked) = self.waiting.shift_remove_index(place)?;
-        Some(checked)
+        Some(self.waiting.remove(place))
     }
 
     // The place of the first of which the answer is yes.
@@ -102,10 +115,8 @@ impl Waiter {
         ensures none { IfNone result ((last : F) × AnswersNo F.FnMut ready self.now last) }
     {
         for place in 0..self.waiting.len() {
-            if let Some((_, checked)) = self.waiting.get_index(place) {
-                if ready(checked) {
-                    return Some(place);
-                }
+            if ready(&self.waiting[place]) {
+                return Some(place);
             }
         }
         None

@@ -1,9 +1,7 @@
 use Rattle.std.proofs.Common.{◌≡◌, List, ◌∷◌, [], Some, None, false, ap, sym, subst, ◌∙◌, slice_get}
 use Rattle.std.specs.Prelude.{◌==◌, find}
-use Rattle.std.specs.Map.{values_of}
 use Rattle.std.proofs.lemmas.Bool.{eqb-true, not-true, not-false}
 use Rattle.wire.specs.declared.keys.Author.{Author}
-use Rattle.wire.specs.declared.keys.Digest.{Digest}
 use Rattle.batchstore.specs.Stock.{Stock, IsStock, held_at}
 use Rattle.batchstore.specs.Answer.{with_names}
 use Rattle.batchstore.specs.declared.held.Held.{Held}
@@ -32,32 +30,32 @@ returns-then-ne c =
 pub invariant_of-self : goal.invariant_of-self
 invariant_of-self c =
     let inside = c.self.inside in
-    let entries = inside.held.entries in
+    let batches = inside.held in
     let place = c.in-Some.found.0 in
     let old = c.in-Some.found.1.now in
     let digest = c.args.reference.now.digest in
     let now_at : held_at c.args.self.now digest ≡ Some old = sym c.in-Some.ensures.held in
-    let found : find (is_of digest) (values_of entries) ≡ Some old = rw (← c.self.view_is) at now_at in
-    let at : slice_get (values_of entries) place ≡ Some old = rw (← c.self.view_is) at c.in-Some.ensures.place in
-    let there : Stands (values_of entries) digest place old = stands (values_of entries) digest place old c.self.invariant.valid.distinct found at in
+    let found : find (is_of digest) batches ≡ Some old = rw (← c.self.view_is) at now_at in
+    let at : slice_get batches place ≡ Some old = rw (← c.self.view_is) at c.in-Some.ensures.place in
+    let there : Stands batches digest place old = stands batches digest place old c.self.invariant.valid.distinct found at in
     let ours : old.batch.author.0 ≡ inside.own.0 =
     ap (λ (a : Author). a.0) (sym c.author.ensures) ∙ eqb-true c.author.result.0 inside.own.0 (not-false (c.author.result.0 == inside.own.0) (sym c.ne.ensures ∙ c.if-ne.false)) in
     rw (c.set_mark.ensures old at, c.remove.ensures.entries)
-    (marked inside.committee.now inside.own.0 entries inside.nameable.entries digest place old c.self.invariant there ours)
+    (marked inside.committee.now inside.own.0 batches inside.nameable.entries digest place old c.self.invariant there ours)
 
 pub returns : goal.returns
 returns c =
     let inside = c.self.inside in
-    let entries = inside.held.entries in
+    let batches = inside.held in
     let place = c.in-Some.found.0 in
     let old = c.in-Some.found.1.now in
     let digest = c.args.reference.now.digest in
     let now_at : held_at c.args.self.now digest ≡ Some old = sym c.in-Some.ensures.held in
-    let found : find (is_of digest) (values_of entries) ≡ Some old = rw (← c.self.view_is) at now_at in
-    let at : slice_get (values_of entries) place ≡ Some old = rw (← c.self.view_is) at c.in-Some.ensures.place in
-    let there : Stands (values_of entries) digest place old = stands (values_of entries) digest place old c.self.invariant.valid.distinct found at in
+    let found : find (is_of digest) batches ≡ Some old = rw (← c.self.view_is) at now_at in
+    let at : slice_get batches place ≡ Some old = rw (← c.self.view_is) at c.in-Some.ensures.place in
+    let there : Stands batches digest place old = stands batches digest place old c.self.invariant.valid.distinct found at in
     let ours : old.batch.author.0 ≡ inside.own.0 =
     ap (λ (a : Author). a.0) (sym c.author.ensures) ∙ eqb-true c.author.result.0 inside.own.0 (not-false (c.author.result.0 == inside.own.0) (sym c.ne.ensures ∙ c.if-ne.false)) in
     let store : List Held → Stock = λ l. record { charter = inside.committee.now; own = inside.own.0; held = l } in
-    ap (λ (es : List (Digest × Held)). store (values_of es)) (c.set_mark.ensures old at) ∙ ap store (marked_view inside.own.0 entries c.args.reference.now place old there ours)
+    ap store (c.set_mark.ensures old at) ∙ ap store (marked_view inside.own.0 batches c.args.reference.now place old there ours)
     ∙ ap (λ (s : Stock). with_names s (c.args.reference.now ∷ [])) c.self.view_is
