@@ -42,13 +42,14 @@ impl<'a, S: Sign> Model for OwnBook<'a, S> {
 }
 
 impl<'a, S: Sign> OwnBook<'a, S> {
-    ghost use Rattle.std.specs.Prelude.{◌≡◌, ◌≢◌, ◌⊎◌, ◌↔◌, ◌<◌, drop, ◌++◌, ◌∷◌, [], List, ℕ, length, true, None, Ok, IfOk, IfErr, IfSome, OnOk, OnErr, IsErrOf, IsTrue};
+    ghost use Rattle.std.specs.Prelude.{◌≡◌, ◌≢◌, ◌⊎◌, ◌↔◌, ◌+◌, ◌<◌, ◌==◌, drop, false, is_some, if◌then◌else◌, IsNone, ◌++◌, ◌∷◌, [], List, ℕ, length, true, None, Ok, IfOk, IfErr, IfSome, OnOk, OnErr, IsErrOf, IsTrue};
     ghost use Rattle.header.specs.Checks.{fault_of, accepts_all};
     ghost use Rattle.journal.specs.Journal.{disk_of, IsAlive};
     ghost use Rattle.validator.specs.Setting.{node_of};
-    ghost use Rattle.book.specs.Book.{Run, Stands, SettlesNext, history_in, settled_in};
+    ghost use Rattle.book.specs.Book.{Run, Stands, SettlesNext, TakesNew, TakesKnown, MayRefuse, GoesOutSettled, releasable, history_in, settled_in};
     ghost use Rattle.model.specs.Holdings.{order as order_of, round as round_of};
-    ghost use Rattle.book.specs.OnTheWay.{AreOnTheWay, StandsAtLegal};
+    ghost use Rattle.book.specs.OnTheWay.{AreOnTheWay, Flushes, StandsAtLegal};
+    ghost use Rattle.book.specs.Pending.{IsLongestBeginning};
 
     /// A book that has accepted nothing, over a validator that stands at a history.
     pub fn new(alloc: Global, validator: Validator<'a, S>) -> OwnBook<'a, S>
@@ -63,6 +64,13 @@ impl<'a, S: Sign> OwnBook<'a, S> {
     /// Takes an event, which passed the checks under the book's committee, as the book does.
     pub fn accept(&mut self, event: Checked) -> Result<Receipt, Refusal>
         requires passed { fault_of self.old.validator.setting.charter accepts_all event ≡ None }
+        ensures down { IsErrOf result Refusal.Down ↔ IsTrue self.old.down }
+        ensures new { IfOk result (λ receipt. receipt.new ≡ true → TakesNew (node_of S.own_key S.signature_of self.old.validator.setting) self.old self.new event) }
+        ensures known { IfOk result (λ receipt. receipt.new ≡ false → TakesKnown (node_of S.own_key S.signature_of self.old.validator.setting) self.old self.new event) }
+        ensures ticket { IfOk result (λ receipt. receipt.ticket ≡ self.new.accepted) }
+        ensures refused { IfErr result (λ refusal. (run : Run) → Stands (node_of S.own_key S.signature_of self.old.validator.setting) run self.old
+            → MayRefuse (node_of S.own_key S.signature_of self.old.validator.setting) run self.old event refusal) }
+        ensures err { OnErr result (self.new ≡ self.old) }
         ensures way { (groups : List (List (List ℕ))) → AreOnTheWay (node_of S.own_key S.signature_of self.old.validator.setting) self.old groups
             → AreOnTheWay (node_of S.own_key S.signature_of self.old.validator.setting) self.new groups }
         ensures setting { self.new.validator.setting ≡ self.old.validator.setting }
@@ -73,6 +81,11 @@ impl<'a, S: Sign> OwnBook<'a, S> {
     /// Takes the longest beginning of the pending records that fits a group, which is then the last on the way; `None` where
     /// nothing is pending. `AllocError` where a growth was refused: nothing was taken then.
     pub fn take(&mut self) -> Result<Option<Group>, AllocError>
+        ensures none { IfOk result (λ taken. IsNone taken ↔ (self.old.pending ≡ [])) }
+        ensures group { IfOk result (λ taken. IfSome taken (λ group. IsLongestBeginning self.old.pending group self.new.pending)) }
+        ensures taken { IfOk result (λ taken. IfSome taken (λ group. self.new ≡ record self.old { pending = self.new.pending; taken = self.old.taken + length group })) }
+        ensures nothing { IfOk result (λ taken. IsNone taken → self.new ≡ self.old) }
+        ensures err { OnErr result (self.new ≡ self.old) }
         ensures way { IfOk result (λ taken. IfSome taken (λ group. (groups : List (List (List ℕ))) → AreOnTheWay (node_of S.own_key S.signature_of self.old.validator.setting) self.old groups
             → AreOnTheWay (node_of S.own_key S.signature_of self.old.validator.setting) self.new (groups ++ group ∷ []))) }
         ensures setting { self.new.validator.setting ≡ self.old.validator.setting }
@@ -83,6 +96,8 @@ impl<'a, S: Sign> OwnBook<'a, S> {
     /// Settles the first group on the way.
     pub fn settle(&mut self, synced: Synced)
         requires { SettlesNext (node_of S.own_key S.signature_of self.old.validator.setting) self.old synced }
+        ensures settled { self.new.settled ≡ self.old.settled + length synced }
+        ensures rest { self.new ≡ record self.old { settled = self.new.settled; ordered = self.new.ordered; reached = self.new.reached } }
         ensures way { (groups : List (List (List ℕ))) → AreOnTheWay (node_of S.own_key S.signature_of self.old.validator.setting) self.old (synced ∷ groups)
             → AreOnTheWay (node_of S.own_key S.signature_of self.old.validator.setting) self.new groups }
         ensures setting { self.new.validator.setting ≡ self.old.validator.setting }
@@ -92,13 +107,18 @@ impl<'a, S: Sign> OwnBook<'a, S> {
 
     /// Whether no group is on the way.
     pub fn is_settled(&self) -> bool
-        ensures { IsTrue result → AreOnTheWay (node_of S.own_key S.signature_of self.now.validator.setting) self.now [] }
+        ensures value { result ≡ (self.now.taken == self.now.settled) }
+        ensures way { IsTrue result → AreOnTheWay (node_of S.own_key S.signature_of self.now.validator.setting) self.now [] }
     {
         self.book.taken() == self.book.settled()
     }
 
     /// The next output that may go out.
     pub fn release(&mut self) -> Option<Output>
+        ensures output { result ≡ releasable self.old }
+        ensures queue { self.new ≡ (if is_some result then record self.old { queue = drop 1 self.old.queue } else self.old) }
+        ensures goes_out { IfSome result (λ output. (run : Run) → Stands (node_of S.own_key S.signature_of self.old.validator.setting) run self.old
+            → GoesOutSettled (node_of S.own_key S.signature_of self.old.validator.setting) run output) }
         ensures way { (groups : List (List (List ℕ))) → AreOnTheWay (node_of S.own_key S.signature_of self.old.validator.setting) self.old groups
             → AreOnTheWay (node_of S.own_key S.signature_of self.old.validator.setting) self.new groups }
         ensures setting { self.new.validator.setting ≡ self.old.validator.setting }
@@ -108,6 +128,7 @@ impl<'a, S: Sign> OwnBook<'a, S> {
 
     /// Takes the book down. From now on nothing is accepted or released.
     pub fn fail(&mut self)
+        ensures down { self.new ≡ record self.old { down = true } }
         ensures setting { self.new.validator.setting ≡ self.old.validator.setting }
     {
         self.book.fail();
@@ -117,6 +138,13 @@ impl<'a, S: Sign> OwnBook<'a, S> {
     /// pending.
     pub fn flush<D: Disk>(&mut self, journal: &mut Journal<D>) -> Result<u64, FlushError>
         requires { IsAlive D.content D.outcome journal.old }
+        // It takes the longest beginning of the pending records, which is then on the disk and settled.
+        ensures idle { OnOk result (self.old.pending ≡ [] → (result ≡ Ok 0) × (self.new ≡ self.old) × (journal.new ≡ journal.old)) }
+        ensures flushed { IfOk result (λ count. self.old.pending ≢ [] → Flushes self.old self.new (D.content (disk_of journal.old)) (D.content (disk_of journal.new)) count) }
+        // A book that is down, and one with a group on the way, is left as it was, and so is one where memory is refused.
+        ensures down { IsErrOf result FlushError.Down ↔ (IsTrue self.old.down ⊎ (self.old.taken ≢ self.old.settled)) }
+        ensures unchanged { IfErr result (λ error. (error ≡ FlushError.Down) ⊎ (error ≡ FlushError.Memory) → (self.new ≡ self.old) × (journal.new ≡ journal.old)) }
+        ensures fails { IfErr result (λ error. (error ≡ FlushError.Full) ⊎ (error ≡ FlushError.Device) → self.new.down ≡ true) }
         ensures alive { (IsErrOf result FlushError.Device) ⊎ IsAlive D.content D.outcome journal.new }
         // It answers Device exactly where the disk has failed.
         ensures device { IsErrOf result FlushError.Device → D.faults (disk_of journal.old) < D.faults (disk_of journal.new) }

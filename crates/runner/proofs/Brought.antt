@@ -1,15 +1,28 @@
 -- What comes of a message, by what the caller made of it.
-use Rattle.std.proofs.Common.{◌≡◌, Bool, true, false, List, Option, Result, Ok, Err, refl, sym, ap, ◌∙◌}
-use Rattle.std.specs.Prelude.{◌≢◌, OnOk, OnErr}
+use Rattle.std.proofs.Common.{◌≡◌, Bool, true, false, cond, List, Option, Some, None, Result, Ok, Err, inl, inr, refl, sym, ap, ◌∙◌}
+use Rattle.std.specs.Prelude.{◌≢◌, IfErr, OnOk, OnErr, is_some}
+use Rattle.book.specs.declared.book.Receipt.{Receipt}
+use Rattle.header.specs.Digested.{certificate_digest_in}
 use Rattle.header.specs.declared.error.CheckError.{CheckError}
 use Rattle.model.specs.Nodes.{Node}
 use Rattle.model.specs.Words.{Event}
+use Rattle.model.specs.declared.refusal.Refusal.{Refusal}
 use Rattle.reception.specs.declared.told.Told.{Told}
+use Rattle.reception.specs.declared.told.Told.TheVariants.{Unchecked}
 use Rattle.startup.specs.Callers.{Calling}
-use Rattle.runner.specs.Bringing.{Brings, Enters}
-use Rattle.runner.specs.Taking.{Handles}
+use Rattle.runner.specs.Bringing.{Brings, CantWait, Enters}
+use Rattle.runner.specs.Taking.{Handles, told_as}
 use Rattle.runner.specs.declared.caller.Taken.{Taken}
 use Rattle.runner.specs.declared.caller.Taken.TheVariants.{New, Known, Waits}
+
+either_way : (certificate : Event) (new : Bool) → ◌≡◌ {A = Result Taken Told} (Ok (cond new New Known)) (Ok (Waits certificate)) → ⊥
+either_way certificate true is = absurd cc
+either_way certificate false is = absurd cc
+
+-- what was submitted doesn't wait
+never_waits : (certificate : Event) (answer : Result Receipt Refusal) → told_as answer ≡ Ok (Waits certificate) → ⊥
+never_waits certificate (Ok receipt) is = either_way certificate receipt.new is
+never_waits certificate (Err why) is = absurd cc
 
 module _ {S : Type 0} (node : Node) (fault : Option CheckError) (event : Event) (before later : Calling S) (old new : List Event) (told : Result Taken Told) (handles : Handles node fault event before later told) where
   pub brings_new : told ≡ Ok New → new ≡ old → Brings node fault event before old new (Ok true)
@@ -48,9 +61,9 @@ module _ {S : Type 0} (node : Node) (fault : Option CheckError) (event : Event) 
         (ap Err one, same);
   }
 
-  pub brings_waiting : (certificate : Event) (result : Result Bool Told) → told ≡ Ok (Waits certificate) → result ≢ Ok true → OnOk result (Enters certificate old new) → OnErr result (new ≡ old)
+  pub brings_waiting : (certificate : Event) (result : Result Bool Told) → told ≡ Ok (Waits certificate) → result ≢ Ok true → OnOk result (Enters certificate old new) → OnErr result (new ≡ old) → IfErr result (CantWait certificate old)
       → Brings node fault event before old new result
-  brings_waiting certificate (Ok found) is never enters same = record {
+  brings_waiting certificate (Ok found) is never enters same why = record {
     told = told;
     later = later;
     handles = handles;
@@ -59,15 +72,33 @@ module _ {S : Type 0} (node : Node) (fault : Option CheckError) (event : Event) 
     waits = λ another other.
         let both : Ok (Waits certificate) ≡ Ok (Waits another) = sym is ∙ other in
         let one : certificate ≡ another = cc in
-        (never, λ _. rw (← one) enters, tt);
+        (never, λ _. rw (← one) enters, tt, tt);
     refused = λ why other. let bad : Ok (Waits certificate) ≡ Err why = sym is ∙ other in absurd cc;
   }
-  brings_waiting certificate (Err told_so) is never enters same = record {
+  brings_waiting certificate (Err told_so) is never enters same why = record {
     told = told;
     later = later;
     handles = handles;
     is_new = λ other. let bad : Ok (Waits certificate) ≡ Ok New = sym is ∙ other in absurd cc;
     is_known = λ other. let bad : Ok (Waits certificate) ≡ Ok Known = sym is ∙ other in absurd cc;
-    waits = λ another other. (never, λ fine. let bad : Err told_so ≡ Ok false = fine in absurd cc, same);
+    waits = λ another other.
+        let both : Ok (Waits certificate) ≡ Ok (Waits another) = sym is ∙ other in
+        let one : certificate ≡ another = cc in
+        (never, λ fine. let bad : Err told_so ≡ Ok false = fine in absurd cc, same, rw (← one) why);
     refused = λ why other. let bad : Ok (Waits certificate) ≡ Err why = sym is ∙ other in absurd cc;
   }
+
+  waits_by : (certificate : Event) (found : Option CheckError) → fault ≡ found → told ≡ Ok (Waits certificate) → certificate_digest_in certificate.message ≢ None
+  waits_by certificate (Some error) faulty is = let bad : Ok (Waits certificate) ≡ Err (Unchecked error) = sym is ∙ (handles.unchecked error faulty).0 in absurd cc
+  waits_by certificate None sound is =
+      elim (handles.checked sound) [
+        | inl lacks ↦
+            let both : Ok (Waits event) ≡ Ok (Waits certificate) = sym lacks.2 ∙ is in
+            let one : event ≡ certificate = cc in
+            λ none. let bad : false ≡ true = ap is_some (sym (ap (λ (e : Event). certificate_digest_in e.message) one ∙ none)) ∙ lacks.0.certificate in absurd cc
+        | inr goes ↦ absurd (never_waits certificate goes.1.answer (sym goes.1.is ∙ is))
+      ]
+
+  -- what has to wait is a certificate
+  pub waits_certificate : (certificate : Event) → told ≡ Ok (Waits certificate) → certificate_digest_in certificate.message ≢ None
+  waits_certificate certificate is = waits_by certificate fault refl is

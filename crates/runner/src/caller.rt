@@ -141,7 +141,8 @@ impl<'n, 'a, S: Sign> Caller<'n, 'a, S> {
 
     /// `Down` where the node is down.
     pub(crate) fn test_up<R: Wait>(&mut self, rt: &R) -> Result<(), Told>
-        ensures { StaysWith self.old self.new }
+        ensures stays { StaysWith self.old self.new }
+        ensures down { OnErr result (result ≡ Err (Refused Refusal.Down)) }
     {
         // There is no such place in the order, so nothing is copied.
         match self.node.order(rt, u64::MAX) {

@@ -1,12 +1,13 @@
 //! What is done with the frames.
 
-ghost use Rattle.std.specs.Prelude.{◌≡◌, ◌≢◌, true, false, None, Ok, IfOk, IfSome, OnOk, OnErr};
+ghost use Rattle.std.specs.Prelude.{◌≡◌, ◌≢◌, true, false, None, Ok, IfOk, IfErr, IfSome, OnOk, OnErr};
 ghost use Rattle.header.specs.Checks.{fault_of};
+ghost use Rattle.header.specs.Digested.{certificate_digest_in};
 ghost use Rattle.reception.specs.Makers.{fresh_makers};
 ghost use Rattle.sigface.specs.Pair.{is_pair_signature};
 ghost use Rattle.startup.specs.Callers.{StaysWith};
 ghost use Rattle.validator.specs.Setting.{node_of};
-ghost use Rattle.runner.specs.Bringing.{Brings, Enters, own_batch};
+ghost use Rattle.runner.specs.Bringing.{Brings, CantWait, Enters, own_batch};
 ghost use Rattle.runner.specs.Ends.{told_of_wait};
 
 use crate::bell::Bell;
@@ -139,11 +140,13 @@ impl<'n, 'a, S: Sign> Intake<'n, 'a, S> {
 
     // Lets a certificate wait. That is no new record.
     fn offer<R: Wait>(&mut self, rt: &R, event: Checked) -> Result<bool, Told>
+        requires { certificate_digest_in event.message ≢ None }
         ensures makers { self.new.makers ≡ self.old.makers }
         ensures stays { StaysWith self.old.caller self.new.caller }
         ensures never_new { result ≢ Ok true }
         ensures ok { OnOk result (Enters event self.old.waiter self.new.waiter) }
         ensures err { OnErr result (self.new.waiter ≡ self.old.waiter) }
+        ensures why { IfErr result (CantWait event self.old.waiter) }
     {
         if let Err(told) = self.caller.test_up(rt) {
             return Err(told);

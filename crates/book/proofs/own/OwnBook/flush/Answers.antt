@@ -13,7 +13,7 @@ settle-requires g c =
     let later : Shown g.row.S.Denot = c.take.new.self in
     let group : List (List ℕ) = c.in-Some.group in
     let node : Node = node_of g.S.Sign.own_key g.S.Sign.signature_of before.validator.setting in
-    let none : AreOnTheWay node before [] = c.is_settled.ensures (search rules) in
+    let none : AreOnTheWay node before [] = c.is_settled.ensures.way (search rules) in
     let way : AreOnTheWay node later (group ∷ []) =
     subst (λ (o : Option (List (List ℕ))). IfSome o (λ group. (groups : List (List (List ℕ))) → AreOnTheWay node before groups → AreOnTheWay node later (groups ++ group ∷ []))) c.in-Some.is c.in_ok-group.ensures.way [] none in
     subst (λ (s : Setting g.row.S.Denot). SettlesNext (node_of g.S.Sign.own_key g.S.Sign.signature_of s) later c.in-Ok.synced) (sym c.take.ensures.setting)

@@ -1,5 +1,5 @@
-use Rattle.std.proofs.Common.{Ok, refl, ap, ◌∙◌}
-use Rattle.runner.proofs.Brought.{brings_new, brings_known, brings_refusal, brings_waiting}
+use Rattle.std.proofs.Common.{[], Ok, refl, ap, ◌∙◌}
+use Rattle.runner.proofs.Brought.{brings_new, brings_known, brings_refusal, brings_waiting, waits_certificate}
 use Rattle.runner.proofs.intake.Intake.submit.Goals as goal
 
 pub returns-in-Ok-New-clause-brings : goal.returns-in-Ok-New-clause-brings
@@ -13,8 +13,11 @@ returns-in-Ok-Known-clause-brings g c =
 pub returns-in-Ok-Waits-clause-brings : goal.returns-in-Ok-Waits-clause-brings
 returns-in-Ok-Waits-clause-brings g c =
     brings_waiting _ _ _ _ c.take.new.self _ _ c.take.result c.take.ensures.handles c.in-Ok-Waits.event c.offer.result (c.in-Ok-Waits.is ∙ ap Ok c.in-Ok-Waits.field-0-is)
-    c.offer.ensures.never_new c.offer.ensures.ok c.offer.ensures.err
+    c.offer.ensures.never_new c.offer.ensures.ok c.offer.ensures.err c.offer.ensures.why
 
 pub returns-in-Err-clause-brings : goal.returns-in-Err-clause-brings
 returns-in-Err-clause-brings g c =
     brings_refusal _ _ _ _ c.take.new.self _ _ c.take.result c.take.ensures.handles c.in-Err.told c.in-Err.is refl
+
+pub offer-requires : goal.offer-requires
+offer-requires g c = waits_certificate _ _ _ _ c.take.new.self [] [] c.take.result c.take.ensures.handles c.in-Ok-Waits.event (c.in-Ok-Waits.is ∙ ap Ok c.in-Ok-Waits.field-0-is)
