@@ -7,7 +7,8 @@ use Rattle.std.specs.Str.{bytes_eq}
 use Rattle.std.proofs.lemmas.Bool.{cases_Bool}
 use Rattle.std.proofs.lemmas.Map.Text.{is_eq-slice_cmp}
 use Rattle.wire.specs.declared.keys.Digest.{Digest}
-use Rattle.batchstore.specs.Kept.{ArePlaces, compared, found, place_of}
+use Rattle.batchstore.specs.Stock.{found}
+use Rattle.batchstore.specs.Kept.{ArePlaces, compared, place_of}
 use Rattle.batchstore.specs.declared.held.Held.{Held}
 use Rattle.batchstore.proofs.Among.{apart, digest_in, is_of, one_digest, same_digest}
 

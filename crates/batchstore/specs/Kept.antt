@@ -1,5 +1,5 @@
 -- How a store keeps its batches.
-use Rattle.std.specs.Prelude.{◌≡◌, ℕ, suc, List, [], ◌∷◌, map, find, Option, Some, None, option_map, if◌then◌else◌}
+use Rattle.std.specs.Prelude.{◌≡◌, ℕ, suc, List, [], ◌∷◌, map, Option, Some, None, option_map, if◌then◌else◌}
 use Rattle.std.specs.Cmp.Lexicographic.{slice_cmp}
 use Rattle.std.specs.BTreeMap.{is_at}
 use Rattle.std.specs.Map.{lookup}
@@ -14,10 +14,6 @@ use Rattle.batchstore.specs.declared.held.Held.{Held}
 -- how two digests compare
 abbrev pub compared : Digest → Digest → Ordering
 compared one other = slice_cmp nat_cmp one.0 other.0
-
--- the batch of a digest
-abbrev pub found : Digest → List Held → Option Held
-found digest batches = find (λ held. bytes_eq digest.0 (digest_of held.batch).0) batches
 
 -- where the batch of a digest stands
 abbrev pub place_of : Digest → List Held → Option ℕ

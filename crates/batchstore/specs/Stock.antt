@@ -23,9 +23,12 @@ pub record Stock : Type 0 where
 abbrev pub digest_of : Contents → Digest
 digest_of batch = record { 0 = batch_digest_of batch }
 
--- what is held of the batch of a digest
+-- what is held of the batch of a digest, among these and in a store
+abbrev pub found : Digest → List Held → Option Held
+found digest batches = find (λ held. bytes_eq digest.0 (digest_of held.batch).0) batches
+
 abbrev pub held_at : Stock → Digest → Option Held
-held_at stock digest = find (λ held. bytes_eq digest.0 (digest_of held.batch).0) stock.held
+held_at stock digest = found digest stock.held
 
 -- the batch of a digest, if it is held
 abbrev pub batch_in : Stock → Digest → Option Contents

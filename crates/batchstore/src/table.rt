@@ -1,8 +1,7 @@
 //! The batches of a store, found by their digests.
 
 ghost use Rattle.std.specs.Prelude.{◌≡◌, ◌<◌, [], ◌∷◌, ◌++◌, true, None, Some, IfSome, OnOk, OnErr, length, option_map, slice_get, slice_set};
-ghost use Rattle.batchstore.specs.Kept.{found};
-ghost use Rattle.batchstore.specs.Stock.{digest_of};
+ghost use Rattle.batchstore.specs.Stock.{digest_of, found};
 ghost use Rattle.batchstore.specs.declared.held.Held.{Held};
 
 use crate::held::Held;

@@ -1,6 +1,5 @@
 -- What comes of an event.
-use Rattle.std.proofs.Common.{◌≡◌, ◌≢◌, ◌⊎◌, ℕ, ◌+◌, ◌≤◌, ◌<◌, List, [], ◌∷◌, ◌++◌, length, true, false, inl, inr, refl, sym, ap, ◌∙◌, subst, arith}
-use Rattle.std.specs.Prelude.{Result, Ok, Err}
+use Rattle.std.proofs.Common.{◌≡◌, ◌≢◌, ◌⊎◌, ℕ, ◌+◌, ◌≤◌, List, [], ◌∷◌, ◌++◌, length, inl, inr, refl, sym, ap, ◌∙◌, subst, arith}
 use Rattle.std.proofs.lemmas.Bool.{true≢false}
 use Rattle.laws.specs.Laws.{OutputsGiven}
 use Rattle.machine.specs.Machine.{answered}
@@ -20,7 +19,7 @@ use Rattle.world.specs.World.{Waiting}
 use Rattle.world.specs.Steps.{ticketed}
 use Rattle.validator.specs.Standing.{AreAtSound, GoesOn}
 use Rattle.book.specs.declared.book.TheConstants.{MAX_ACCEPTED}
-use Rattle.book.specs.Book.{Shown, Run, Stands, history_in, TakesNew, TakesKnown, MayRefuse, IsFull, HasPlace}
+use Rattle.book.specs.Book.{Shown, Run, history_in, TakesNew, TakesKnown, MayRefuse, HasPlace}
 use Rattle.book.proofs.Accepting.{IsNoted, stands_new, stands_known}
 
 -- what is answered at each legal history at which the validator stands

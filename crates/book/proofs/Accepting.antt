@@ -1,9 +1,9 @@
 -- A book goes on standing when it takes an event.
-use Rattle.std.proofs.Common.{◌≡◌, ◌≢◌, ◌⊎◌, ℕ, ◌+◌, ◌≤◌, ◌<◌, List, [], ◌∷◌, ◌++◌, length, take, drop, map, inl, inr, refl, sym, ap, ◌∙◌, subst, arith, append_assoc}
+use Rattle.std.proofs.Common.{◌≡◌, ◌≢◌, ℕ, ◌+◌, ◌≤◌, ◌<◌, List, [], ◌∷◌, ◌++◌, length, drop, map, inl, inr, sym, ap, ◌∙◌, subst, arith, append_assoc}
 use Rattle.std.specs.Prelude.{All}
 use Rattle.std.proofs.lemmas.List.{length_push, drop-append-le, map-append}
 use Rattle.std.proofs.lemmas.List.Elements.{All-weaker, All-append, All-cons, All-nil}
-use Rattle.laws.specs.Laws.{Begins, OutputsGiven}
+use Rattle.laws.specs.Laws.{OutputsGiven}
 use Rattle.model.specs.Admitting.{admit, IsLegal}
 use Rattle.model.specs.Giving.{kept}
 use Rattle.model.specs.Holdings.{order}

@@ -9,15 +9,13 @@ use Rattle.model.specs.Giving.{kept}
 use Rattle.model.specs.Histories.{History}
 use Rattle.model.specs.Holdings.{order}
 use Rattle.model.specs.Nodes.{Node}
-use Rattle.model.specs.Words.{Event}
 use Rattle.records.specs.Records.{record_of}
 use Rattle.world.specs.World.{Waiting, put_out}
 use Rattle.world.specs.Promise.{GoesOut}
 use Rattle.validator.specs.Standing.{AreAtSound}
-use Rattle.book.specs.declared.reached.Reached.{Reached}
 use Rattle.book.specs.Queue.{length_at, TicketsRise}
 use Rattle.book.specs.Pending.{IsLongestBeginning}
-use Rattle.book.specs.Book.{Shown, Run, IsDue, Stands, run_on, history_in, history_to, settled_in, with_taken, with_settled}
+use Rattle.book.specs.Book.{Shown, Run, IsDue, Stands, run_on, with_taken, with_settled}
 use Rattle.book.proofs.Due.{begins_length}
 use Rattle.book.proofs.Lengths.{UpTo}
 

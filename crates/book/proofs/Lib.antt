@@ -1,4 +1,5 @@
 pub mod OnTheWay
+pub mod Options
 mod Drafts
 mod Due
 mod Lengths

@@ -1,5 +1,5 @@
 -- What becomes of the groups on the way.
-use Rattle.std.proofs.Common.{◌≡◌, ℕ, ◌+◌, ◌≤◌, List, [], ◌∷◌, ◌++◌, length, take, drop, map, Bool, true, false, Ok, Err, refl, sym, ap, ◌∙◌, subst, arith, drop-drop, append-nil}
+use Rattle.std.proofs.Common.{◌≡◌, ℕ, ◌+◌, ◌≤◌, List, [], ◌∷◌, ◌++◌, length, take, drop, map, Bool, true, false, Ok, Err, inl, inr, ⊎_elim, refl, sym, ap, ◌∙◌, subst, arith, drop-drop, append-nil}
 use Rattle.std.specs.Prelude.{Result, IfOk, OnErr, Option, Some, None, IfSome, IsNone}
 use Rattle.std.specs.declared.alloc.AllocError.{AllocError}
 use Rattle.std.proofs.lemmas.List.{nil_from_length, take_all, take-take, drop_at, take-append-le, take-append-drop, length-take-le, drop-append-le, drop-map, map-append, length-append, length-map, length-drop}
@@ -11,9 +11,13 @@ use Rattle.model.specs.Words.{Event}
 use Rattle.model.specs.declared.refusal.Refusal.{Refusal}
 use Rattle.records.specs.Records.{record_of}
 use Rattle.book.specs.Book.{Shown, Run, Stands, run_on, with_accepted, with_taken, with_settled, TakesNew, TakesKnown, SettlesNext}
-use Rattle.book.specs.OnTheWay.{AreOnTheWay, StandsSomewhere}
-use Rattle.book.specs.Pending.{all_records}
+use Rattle.journal.specs.Format as file
+use Rattle.journal.specs.Format.{file_with}
+use Rattle.journal.specs.Journal.{IsBeforeOrAfter, stands_with}
+use Rattle.book.specs.OnTheWay.{AreOnTheWay, StandsSomewhere, HasRoomFor, Flushes, GoesDown, IsWithOrWithout}
+use Rattle.book.specs.Pending.{IsLongestBeginning, all_records}
 use Rattle.book.specs.declared.book.Receipt.{Receipt}
+use Rattle.book.proofs.Flushing.{stands_taken, records_taken}
 
 begins_length : {X : Type 0} (one other : List X) → Begins one other → length one ≤ length other
 begins_length one other begins = omega (arith, ap length begins.parts, length-append one begins.rest)
@@ -111,6 +115,42 @@ module _ {S : Type 0} (node : Node) where
   pub way_somewhere : (book : Shown S) (groups : List (List (List ℕ))) → AreOnTheWay node book groups → StandsSomewhere node book
   way_somewhere book groups way = (way.run, way.stands)
 
+  module _ (before middle : Shown S) (group : List (List ℕ))
+      (longest : IsLongestBeginning before.pending group middle.pending) (taken : middle ≡ record before { pending = middle.pending; taken = before.taken + length group }) where
+    -- a round that settles what it took where none was on the way
+    pub flushes : (later : Shown S) (old new : List ℕ) (count : ℕ) → before.taken ≡ before.settled
+        → later ≡ record middle { settled = later.settled; ordered = later.ordered; reached = later.reached } → later.settled ≡ middle.settled + length group
+        → ((run : Run) → Stands node run middle → Begins group (map record_of (drop (length run.settled) run.taken)) → Stands node (with_settled run (length group)) later)
+        → HasRoomFor group old → new ≡ file_with old group → file.stands new ≡ stands_with old group → count ≡ length group → Flushes node before later old new count
+    flushes later old new count none rest settled stands room written records counts =
+        let pending : middle.pending ≡ later.pending = sym (ap (λ (s : Shown S). s.pending) rest) in
+        record {
+          group = group;
+          takes = subst (IsLongestBeginning before.pending group) pending longest;
+          room = room;
+          written = written;
+          records = records;
+          counts = counts;
+          is = rest ∙ (λ i. record (taken i) { pending = pending i; settled = (settled ∙ ap (λ (s : Shown S). s.settled + length group) taken) i; ordered = later.ordered; reached = later.reached });
+          stands = λ run at.
+              stands (with_taken run (length group)) (stands_taken node run before middle at group longest taken) (record {
+                rest = [];
+                parts = ap (λ n. map record_of (drop n (with_taken run (length group)).taken)) (omega (arith, at.taken, at.settled, none))
+                    ∙ sym (records_taken node run before middle at group longest) ∙ sym (append-nil group);
+              });
+        }
+
+    -- and one that goes down with it on the way
+    abbrev pub goes_down : (later : Shown S) → later ≡ record middle { down = true } → AreOnTheWay node later (group ∷ []) → GoesDown node before later
+    goes_down later down way =
+        let pending : middle.pending ≡ later.pending = sym (ap (λ (s : Shown S). s.pending) down) in
+        record {
+          group = group;
+          takes = subst (IsLongestBeginning before.pending group) pending longest;
+          is = down ∙ (λ i. record (taken i) { pending = pending i; down = true });
+          way = way;
+        }
+
   module _ (before later : Shown S) (r : Result (Option (List (List ℕ))) AllocError)
       (stands : IfOk r (λ group. IfSome group (λ group. (run : Run) → Stands node run before → Stands node (with_taken run (length group)) later)))
       (records : IfOk r (λ group. IfSome group (λ group. (run : Run) → Stands node run before → group ≡ map record_of (drop (length run.taken) (with_taken run (length group)).taken)))) where
@@ -136,6 +176,10 @@ module _ {S : Type 0} (node : Node) where
         by_result (Ok (Some group)) stands nothing same = (with_taken some.0 (length group), stands some.0 some.1)
         by_result (Ok None) stands nothing same = subst (StandsSomewhere node) (sym (nothing refl)) some
         by_result (Err error) stands nothing same = subst (StandsSomewhere node) (sym same) some
+
+-- what a stop leaves of a file, with a group or without, is so with the longest beginning of what was pending
+pub with_or_without : (pending group rest : List (List ℕ)) → IsLongestBeginning pending group rest → (file left : List ℕ) → IsBeforeOrAfter file group left → IsWithOrWithout pending file left
+with_or_without pending group rest longest file left = ⊎_elim (λ without. inl without) (λ with. inr (group, rest, longest, with))
 
 -- a call that takes leaves what the validator is set up with
 pub setting_stays : {S : Type 0} (before later : Shown S) (r : Result (Option (List (List ℕ))) AllocError)

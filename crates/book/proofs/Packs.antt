@@ -4,7 +4,7 @@ use Rattle.std.specs.Prelude.{get_or, drop, ◌<◌, Bool, IsTrue, ◌↔◌, Re
 use Rattle.std.proofs.Math.Dec.{eqb}
 use Rattle.std.proofs.lemmas.Bool.{eqb-true, eq-eqb}
 use Rattle.std.proofs.lemmas.List.{nil_from_length}
-use Rattle.journal.specs.Format.{FitsGroup, body_len}
+use Rattle.journal.specs.Format.{FitsGroup}
 use Rattle.std.proofs.lemmas.List.Sums.{sum_by-append}
 use Rattle.book.specs.Pending.{ArePacked, IsFullBefore, IsLongestBeginning, all_records, HasRoom, HasNoRoom}
 

@@ -2,19 +2,16 @@
 use Rattle.std.proofs.Common.{◌≡◌, ◌⊎◌, ℕ, ◌+◌, ◌≤◌, List, [], ◌∷◌, ◌++◌, length, take, drop, map, inl, inr, Bool, true, false, refl, sym, ap, ◌∙◌, subst, arith}
 use Rattle.std.specs.Prelude.{Option, Some, None, All, Contains, nat_le, if◌then◌else◌}
 use Rattle.std.proofs.lemmas.Bool.{cases_Bool, leb-true}
-use Rattle.std.proofs.lemmas.List.{take_all, length-map, length-drop, length-take-le}
+use Rattle.std.proofs.lemmas.List.{take_all, length-map, length-drop}
 use Rattle.std.proofs.lemmas.List.Elements.{All-append, All-weaker, All-head, All-tail, All-contains_itself, Contains-append_left, Contains-append_right}
 use Rattle.journal.specs.Format.{FitsGroup}
-use Rattle.model.specs.Admitting.{admit}
 use Rattle.model.specs.Histories.{History}
 use Rattle.model.specs.Nodes.{Node}
 use Rattle.model.specs.Words.{Event, Output}
-use Rattle.model.specs.declared.admission.Admission.{Admission}
-use Rattle.model.specs.declared.admission.Admission.TheVariants.{New, Known}
 use Rattle.records.specs.Records.{record_of}
 use Rattle.world.specs.World.{World, Waiting, no_group, group_taken, gate_synced, group_in, put_out}
-use Rattle.world.specs.Steps.{Move, accept, take_to, settle, release, ticketed, with_new, with_known, with_given, IsAnswered, IsStep}
-use Rattle.book.specs.Book.{Shown, Run, Stands, with_accepted, with_taken, with_settled, TakesNew, TakesKnown, releasable}
+use Rattle.world.specs.Steps.{accept, take_to, settle, release, ticketed, with_new, with_known, with_given, IsAnswered}
+use Rattle.book.specs.Book.{Shown, Stands, with_settled, TakesNew, TakesKnown, releasable}
 use Rattle.book.specs.Queue.{settled_head}
 use Rattle.book.specs.Pending.{IsLongestBeginning}
 use Rattle.book.specs.Steps.{run_of, IsOf, Moves, AcceptIsAStep, TakeIsAStep, SettleIsAStep, ReleaseIsAStep}

@@ -1,5 +1,5 @@
 -- The book: what a run accepted, what of it was taken and settled, and what may go out.
-use Rattle.std.specs.Prelude.{◌≡◌, ◌⊎◌, ⊤, ℕ, ◌+◌, ◌≤◌, List, [], ◌∷◌, ◌++◌, length, map, take, drop, Option, Some, None, Bool, true, false, nat_le, IsTrue, ◌<◌, All, if◌then◌else◌}
+use Rattle.std.specs.Prelude.{◌≡◌, ◌⊎◌, ⊤, ℕ, ◌+◌, ◌≤◌, List, [], ◌∷◌, ◌++◌, length, map, take, drop, Option, None, Bool, true, false, IsTrue, ◌<◌, All, if◌then◌else◌}
 use Rattle.laws.specs.Laws.{Begins}
 use Rattle.model.specs.Admitting.{admit, is_new, IsLegal, IsTaken}
 use Rattle.model.specs.Giving.{kept, MayGive}

@@ -1,14 +1,16 @@
 -- The groups that a book handed over and that aren't settled yet.
-use Rattle.std.specs.Prelude.{◌≡◌, ℕ, ◌+◌, List, length, map, drop}
+use Rattle.std.specs.Prelude.{◌≡◌, ◌⊎◌, ℕ, ◌+◌, ◌≤◌, true, List, [], ◌∷◌, length, map, drop}
 use Rattle.model.specs.Admitting.{IsLegal}
 use Rattle.model.specs.Giving.{kept}
 use Rattle.model.specs.Histories.{History}
 use Rattle.model.specs.Nodes.{Node}
 use Rattle.records.specs.Records.{record_of}
-use Rattle.journal.specs.Format.{file_with}
+use Rattle.journal.specs.Format.{file_with, group_bytes, stands}
+use Rattle.journal.specs.Journal.{stands_with}
+use Rattle.journal.specs.declared.layout.TheConstants.{MAX_JOURNAL_BYTES}
 use Rattle.admission.specs.declared.tables.Tables.{Tables}
 use Rattle.validator.specs.Standing.{AreAtSound}
-use Rattle.book.specs.Book.{Shown, Run, Stands}
+use Rattle.book.specs.Book.{Shown, Run, Stands, with_taken, with_settled}
 use Rattle.book.specs.Pending.{IsLongestBeginning, all_records}
 
 -- at a run at which the book stands these groups, oldest first, have the records that were taken and aren't settled
@@ -27,10 +29,39 @@ pub record StandsAtLegal (node : Node) (tables : Tables) : Type 0 where
   pub legal : IsLegal node history
   pub at : AreAtSound node tables (kept node history)
 
--- The longest beginning of the pending records that fits a group is taken, is written behind what a disk has, and is settled.
-pub record Flushes {S : Type 0} (before later : Shown S) (old new : List ℕ) (count : ℕ) : Type 0 where
+-- a group has room behind these bytes of a disk
+abbrev pub HasRoomFor : List (List ℕ) → List ℕ → Type 0
+HasRoomFor group old = length old + length (group_bytes group) ≤ MAX_JOURNAL_BYTES
+
+-- The longest beginning of the pending records that fits a group is taken, has room behind what a disk has, is written there, and is
+-- settled: the book stands at each run at which it stood, with these taken and settled. So many records they are.
+pub record Flushes {S : Type 0} (node : Node) (before later : Shown S) (old new : List ℕ) (count : ℕ) : Type 0 where
   pub group : List (List ℕ)
   pub takes : IsLongestBeginning before.pending group later.pending
+  pub room : HasRoomFor group old
   pub written : new ≡ file_with old group
+  pub records : stands new ≡ stands_with old group
   pub counts : count ≡ length group
   pub is : later ≡ record before { pending = later.pending; taken = before.taken + length group; settled = before.settled + length group; ordered = later.ordered; reached = later.reached }
+  pub stands : (run : Run) → Stands node run before → Stands node (with_settled (with_taken run (length group)) (length group)) later
+
+-- that beginning is taken and stays on the way, alone, and the book is down
+pub record GoesDown {S : Type 0} (node : Node) (before later : Shown S) : Type 0 where
+  pub group : List (List ℕ)
+  pub takes : IsLongestBeginning before.pending group later.pending
+  pub is : later ≡ record before { pending = later.pending; taken = before.taken + length group; down = true }
+  pub way : AreOnTheWay node later (group ∷ [])
+
+-- so it goes down, and there was no room behind these bytes for what it took, or there was
+abbrev pub FindsNoRoom : {S : Type 0} → Node → Shown S → Shown S → List ℕ → Type 0
+FindsNoRoom node before later old = (down : GoesDown node before later) × (HasRoomFor down.group old → ⊥)
+
+abbrev pub FailsWithRoom : {S : Type 0} → Node → Shown S → Shown S → List ℕ → Type 0
+FailsWithRoom node before later old = (down : GoesDown node before later) × HasRoomFor down.group old
+
+-- what a stop leaves stands for the records of this file, or for these and the longest beginning of what was pending
+abbrev pub IsWithOrWithout : List (List ℕ) → List ℕ → List ℕ → Type 0
+IsWithOrWithout pending file left = (stands left ≡ stands file) ⊎ IsWith
+  where
+    IsWith : Type 0
+    IsWith = (group : List (List ℕ)) × (rest : List (List ℕ)) × IsLongestBeginning pending group rest × (stands left ≡ stands_with file group)

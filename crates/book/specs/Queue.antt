@@ -1,5 +1,5 @@
 -- The outputs that wait, each with its ticket, and how long the order is at which ticket.
-use Rattle.std.specs.Prelude.{◌≡◌, ◌≢◌, ◌≤◌, ⊤, ℕ, nat_le, All, Option, Some, None, List, [], ◌∷◌, flat_map, if◌then◌else◌}
+use Rattle.std.specs.Prelude.{◌≢◌, ◌≤◌, ⊤, ℕ, nat_le, All, Option, Some, None, List, [], ◌∷◌, flat_map, if◌then◌else◌}
 use Rattle.model.specs.Words.{Output}
 use Rattle.world.specs.World.{Waiting}
 use Rattle.world.specs.Steps.{ticketed}

@@ -42,19 +42,33 @@ impl<'a, S: Sign> Model for OwnBook<'a, S> {
 }
 
 impl<'a, S: Sign> OwnBook<'a, S> {
-    ghost use Rattle.std.specs.Prelude.{◌≡◌, ◌≢◌, ◌⊎◌, ◌↔◌, ◌+◌, ◌<◌, ◌==◌, drop, false, is_some, if◌then◌else◌, IsNone, ◌++◌, ◌∷◌, [], List, ℕ, length, true, None, Ok, IfOk, IfErr, IfSome, OnOk, OnErr, IsErrOf, IsTrue};
+    ghost use Rattle.std.specs.Prelude.{◌≡◌, ◌≢◌, ◌⊎◌, ◌↔◌, ◌+◌, ◌<◌, ◌≤◌, ◌==◌, drop, map, false, is_some, if◌then◌else◌, IsNone, ◌++◌, ◌∷◌, [], List, ℕ, length, true, None, Ok, IfOk, IfErr, IfSome, OnOk, OnErr, IsErrOf, IsTrue};
+    ghost use Rattle.diskmodel.specs.Disk.{AtEachMoment};
     ghost use Rattle.header.specs.Checks.{fault_of, accepts_all};
+    ghost use Rattle.laws.specs.Laws.{Begins};
     ghost use Rattle.journal.specs.Journal.{disk_of, IsAlive};
+    ghost use Rattle.records.specs.Records.{record_of};
     ghost use Rattle.validator.specs.Setting.{node_of};
-    ghost use Rattle.book.specs.Book.{Run, Stands, SettlesNext, TakesNew, TakesKnown, MayRefuse, GoesOutSettled, releasable, history_in, settled_in};
+    ghost use Rattle.validator.specs.Standing.{AreAtSound};
+    ghost use Rattle.book.specs.Book.{Run, Stands, run_on, with_settled, SettlesNext, TakesNew, TakesKnown, MayRefuse, GoesOutSettled, releasable, history_in, settled_in};
+    ghost use Rattle.book.specs.declared.book.TheConstants.{MAX_ACCEPTED};
+    ghost use Rattle.model.specs.Admitting.{IsLegal};
+    ghost use Rattle.model.specs.Giving.{kept};
+    ghost use Rattle.model.specs.Histories.{History};
     ghost use Rattle.model.specs.Holdings.{order as order_of, round as round_of};
-    ghost use Rattle.book.specs.OnTheWay.{AreOnTheWay, Flushes, StandsAtLegal};
+    ghost use Rattle.book.specs.OnTheWay.{AreOnTheWay, Flushes, FindsNoRoom, FailsWithRoom, IsWithOrWithout, StandsAtLegal};
     ghost use Rattle.book.specs.Pending.{IsLongestBeginning};
 
     /// A book that has accepted nothing, over a validator that stands at a history.
     pub fn new(alloc: Global, validator: Validator<'a, S>) -> OwnBook<'a, S>
         requires { StandsAtLegal (node_of S.own_key S.signature_of validator.setting) validator.tables }
-        ensures { result.validator ≡ validator.entry }
+        ensures stands { (began : History) → IsLegal (node_of S.own_key S.signature_of validator.entry.setting) began
+            → AreAtSound (node_of S.own_key S.signature_of validator.entry.setting) validator.entry.tables (kept (node_of S.own_key S.signature_of validator.entry.setting) began)
+            → Stands (node_of S.own_key S.signature_of validator.entry.setting) (run_on began) result }
+        ensures validator { result.validator ≡ validator.entry }
+        ensures pending { result.pending ≡ [] }
+        ensures queue { result.queue ≡ [] }
+        ensures up { result.down ≡ false }
     {
         OwnBook {
             book: Book::new(alloc, validator),
@@ -68,6 +82,7 @@ impl<'a, S: Sign> OwnBook<'a, S> {
         ensures new { IfOk result (λ receipt. receipt.new ≡ true → TakesNew (node_of S.own_key S.signature_of self.old.validator.setting) self.old self.new event) }
         ensures known { IfOk result (λ receipt. receipt.new ≡ false → TakesKnown (node_of S.own_key S.signature_of self.old.validator.setting) self.old self.new event) }
         ensures ticket { IfOk result (λ receipt. receipt.ticket ≡ self.new.accepted) }
+        ensures limit { IfOk result (λ receipt. receipt.ticket ≤ MAX_ACCEPTED) }
         ensures refused { IfErr result (λ refusal. (run : Run) → Stands (node_of S.own_key S.signature_of self.old.validator.setting) run self.old
             → MayRefuse (node_of S.own_key S.signature_of self.old.validator.setting) run self.old event refusal) }
         ensures err { OnErr result (self.new ≡ self.old) }
@@ -96,6 +111,9 @@ impl<'a, S: Sign> OwnBook<'a, S> {
     /// Settles the first group on the way.
     pub fn settle(&mut self, synced: Synced)
         requires { SettlesNext (node_of S.own_key S.signature_of self.old.validator.setting) self.old synced }
+        ensures stands { (run : Run) → Stands (node_of S.own_key S.signature_of self.old.validator.setting) run self.old
+            → Begins synced (map record_of (drop (length run.settled) run.taken))
+            → Stands (node_of S.own_key S.signature_of self.old.validator.setting) (with_settled run (length synced)) self.new }
         ensures settled { self.new.settled ≡ self.old.settled + length synced }
         ensures rest { self.new ≡ record self.old { settled = self.new.settled; ordered = self.new.ordered; reached = self.new.reached } }
         ensures way { (groups : List (List (List ℕ))) → AreOnTheWay (node_of S.own_key S.signature_of self.old.validator.setting) self.old (synced ∷ groups)
@@ -129,6 +147,8 @@ impl<'a, S: Sign> OwnBook<'a, S> {
     /// Takes the book down. From now on nothing is accepted or released.
     pub fn fail(&mut self)
         ensures down { self.new ≡ record self.old { down = true } }
+        ensures way { (groups : List (List (List ℕ))) → AreOnTheWay (node_of S.own_key S.signature_of self.old.validator.setting) self.old groups
+            → AreOnTheWay (node_of S.own_key S.signature_of self.old.validator.setting) self.new groups }
         ensures setting { self.new.validator.setting ≡ self.old.validator.setting }
     {
         self.book.fail();
@@ -136,16 +156,27 @@ impl<'a, S: Sign> OwnBook<'a, S> {
 
     /// One round: takes a group, adds it to the journal and settles it. Answers how many records it has; 0 where nothing is
     /// pending.
+    ///
+    /// # Errors
+    /// Each of them, as told there.
     pub fn flush<D: Disk>(&mut self, journal: &mut Journal<D>) -> Result<u64, FlushError>
         requires { IsAlive D.content D.outcome journal.old }
         // It takes the longest beginning of the pending records, which is then on the disk and settled.
         ensures idle { OnOk result (self.old.pending ≡ [] → (result ≡ Ok 0) × (self.new ≡ self.old) × (journal.new ≡ journal.old)) }
-        ensures flushed { IfOk result (λ count. self.old.pending ≢ [] → Flushes self.old self.new (D.content (disk_of journal.old)) (D.content (disk_of journal.new)) count) }
+        ensures flushed { IfOk result (λ count. self.old.pending ≢ [] → Flushes (node_of S.own_key S.signature_of self.old.validator.setting) self.old self.new (D.content (disk_of journal.old)) (D.content (disk_of journal.new)) count) }
+        ensures way { OnOk result (AreOnTheWay (node_of S.own_key S.signature_of self.old.validator.setting) self.new []) }
         // A book that is down, and one with a group on the way, is left as it was, and so is one where memory is refused.
         ensures down { IsErrOf result FlushError.Down ↔ (IsTrue self.old.down ⊎ (self.old.taken ≢ self.old.settled)) }
         ensures unchanged { IfErr result (λ error. (error ≡ FlushError.Down) ⊎ (error ≡ FlushError.Memory) → (self.new ≡ self.old) × (journal.new ≡ journal.old)) }
-        ensures fails { IfErr result (λ error. (error ≡ FlushError.Full) ⊎ (error ≡ FlushError.Device) → self.new.down ≡ true) }
+        // Where the journal has no room for it and where the disk fails, what it took stays on the way, and the book is down.
+        ensures full { IsErrOf result FlushError.Full → FindsNoRoom (node_of S.own_key S.signature_of self.old.validator.setting) self.old self.new (D.content (disk_of journal.old)) }
+        ensures full_same { IsErrOf result FlushError.Full → journal.new ≡ journal.old }
+        ensures fails { IsErrOf result FlushError.Device → FailsWithRoom (node_of S.own_key S.signature_of self.old.validator.setting) self.old self.new (D.content (disk_of journal.old)) }
+        // A stop at any moment leaves the records from before it, with all that it takes or without.
+        ensures any_moment { AtEachMoment D.clock D.outcome_since (disk_of journal.old) (disk_of journal.new) (IsWithOrWithout self.old.pending (D.content (disk_of journal.old))) }
+        // The journal is alive exactly where it doesn't answer Device.
         ensures alive { (IsErrOf result FlushError.Device) ⊎ IsAlive D.content D.outcome journal.new }
+        ensures dead { IsErrOf result FlushError.Device → ¬ IsAlive D.content D.outcome journal.new }
         // It answers Device exactly where the disk has failed.
         ensures device { IsErrOf result FlushError.Device → D.faults (disk_of journal.old) < D.faults (disk_of journal.new) }
         ensures no_fault { OnOk result (D.faults (disk_of journal.new) ≡ D.faults (disk_of journal.old)) }
@@ -155,7 +186,7 @@ impl<'a, S: Sign> OwnBook<'a, S> {
         if self.is_down() {
             return Err(FlushError::Down);
         }
-        // A group of a round that failed stays on the way.
+        // A group that the owner took himself may be on the way.
         if !self.is_settled() {
             return Err(FlushError::Down);
         }

@@ -1,4 +1,5 @@
 pub mod Calls
+pub mod Clock
 pub mod Effects
 pub mod Kept
 pub mod Moments

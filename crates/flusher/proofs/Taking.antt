@@ -1,6 +1,6 @@
 -- What a flush seat has taken, and what that comes to on a disk.
 use Rattle.std.proofs.Common.{◌≡◌, ◌⊎◌, inl, inr, ℕ, ◌+◌, ◌<◌, ◌≤◌, List, ◌++◌, length, map, take, drop, refl, sym, ap, ◌∙◌, subst, arith}
-use Rattle.std.specs.Prelude.{All, Option, Some, None, IfSome, IsNone}
+use Rattle.std.specs.Prelude.{All, Option, None, IsNone}
 use Rattle.std.proofs.lemmas.List.{take_at, take-map, drop_at, length-map, length-take-le}
 use Rattle.std.proofs.lemmas.List.Elements.{All-drop, All-take}
 use Rattle.journal.specs.Format.{group_bytes}
@@ -93,9 +93,6 @@ pub takes_as : (seen settled other taken later : List Marked) → settled ≡ ot
 takes_as seen settled other taken later same also takes =
     subst (λ (l : List Marked). TakesLongest seen other l) also (subst (λ (l : List Marked). TakesLongest seen l taken) same takes)
 
--- what is told of an option that is some, and of one that is none
-pub of_some : {X : Type 0} (P : X → Type 0) (o : Option X) (x : X) → o ≡ Some x → IfSome o P → P x
-of_some {X = X} P o x is has = subst (λ (p : Option X). IfSome p P) is has
-
+-- what is told of an option that is none
 pub is_none : {X : Type 0} (o : Option X) → o ≡ None → IsNone o
 is_none {X = X} o is = subst (λ (p : Option X). IsNone p) (sym is) refl

@@ -1,35 +1,9 @@
--- How a run of calls of a disk goes on.
-use Rattle.std.proofs.Common.{inl, inr, ⊎_elim, ℕ, List, arith, subst}
-use Rattle.diskmodel.specs.Disk.{GoesOn, AtEachMoment, ComesBy, LeavesOnly}
-
-module _ {D : Type 0} (clock : D → ℕ) (outcome_since : D → ℕ → List ℕ → Type 0) where
-  -- before the first call
-  pub started : (old : D) (P : List ℕ → Type 0) → ((c : List ℕ) → outcome_since old (clock old) c → P c) → AtEachMoment clock outcome_since old old P
-  started old P here = record { later = omega arith; each = here; before = λ t c le left. inl left }
-
-  -- a run of calls more, of which each outcome has P too
-  pub joins : (old mid new : D) (P Q : List ℕ → Type 0) → AtEachMoment clock outcome_since old mid P → AtEachMoment clock outcome_since mid new Q → ((c : List ℕ) → Q c → P c) → AtEachMoment clock outcome_since old new P
-  joins old mid new P Q first second weaker = record {
-    later = omega (arith, first.later, second.later);
-    each = λ c left. ⊎_elim (λ before. first.each c before) (λ now. weaker c now) (second.before (clock old) c first.later left);
-    before = λ t c le left. ⊎_elim (λ before. first.before t c le before) (λ now. inr (weaker c now)) (second.before t c (omega (arith, le, first.later)) left);
-  }
-
-  -- one call more, after which each outcome has P
-  pub goes_on : (old mid new : D) (P outcome : List ℕ → Type 0) → AtEachMoment clock outcome_since old mid P → GoesOn (clock mid) (clock new) (outcome_since mid) (outcome_since new) outcome
-      → ((c : List ℕ) → outcome c → P c) → AtEachMoment clock outcome_since old new P
-  goes_on old mid new P outcome so_far time here = record {
-    later = omega (arith, so_far.later, time.later);
-    each = λ c left. ⊎_elim (λ before. so_far.each c before) (λ now. here c now) (time.nothing_else (clock old) c so_far.later left);
-    before = λ t c le left. ⊎_elim (λ before. so_far.before t c le before) (λ now. inr (here c now)) (time.nothing_else t c (omega (arith, le, so_far.later)) left);
-  }
+-- What holds of all that a stop may leave behind a call.
+use Rattle.std.proofs.Common.{List, ℕ, subst}
+use Rattle.diskmodel.specs.Disk.{ComesBy, LeavesOnly}
 
 -- what comes by a change of the only content there was
 pub from_only : (change : List ℕ → List ℕ → Type 0) (file : List ℕ) (old new : List ℕ → Type 0) (P : List ℕ → Type 0) → LeavesOnly file old → ComesBy change old new → ((c : List ℕ) → change file c → P c) → (c : List ℕ) → new c → P c
 from_only change file old new P only comes here c left =
     let from = comes c left in
     here c (subst (λ (d : List ℕ). change d c) (only from.0 from.1) from.2)
-
--- what is no new outcome has what each outcome had
-pub none_new : (old new : List ℕ → Type 0) (P : List ℕ → Type 0) → ((c : List ℕ) → old c → P c) → ((c : List ℕ) → new c → old c) → (c : List ℕ) → new c → P c
-none_new old new P here none c left = here c (none c left)

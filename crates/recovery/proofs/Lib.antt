@@ -1,6 +1,5 @@
 pub mod Configured
 pub mod Telling
-pub mod Moments
 pub mod Empty
 pub mod Appending
 pub mod Scripts

@@ -1,6 +1,5 @@
 -- Groups that a flush seat takes and settles.
 use Rattle.std.proofs.Common.{◌≡◌, ℕ, ◌+◌, ◌-◌, ◌≤◌, List, [], length, map, take, drop, refl, sym, ap, ◌∙◌, subst, arith}
-use Rattle.std.specs.Prelude.{Option, Some, IfSome}
 use Rattle.std.proofs.lemmas.List.{take_at, take-append-le, take-map, take_all, length-map, length-drop}
 use Rattle.laws.specs.Laws.{Begins}
 use Rattle.model.specs.Histories.{History}
@@ -127,7 +126,3 @@ module _ {S : Type 0} (shared : Shared S) (node_of : Setting S → Node) (seat :
         home.setting stands run home.stands begins in
         at_home shared node_of behind later (with_settled run (length synced)) (setting ∙ home.setting) (of_same shared seat behind home.of_node same) there (sym same.start)
         (ap events (sym seen)) (all_of_it ∙ ap events (sym firm))
-
--- what is told of an option that is some
-pub of_some : {X : Type 0} (P : X → Type 0) (o : Option X) (x : X) → o ≡ Some x → IfSome o P → P x
-of_some {X = X} P o x is has = subst (λ (p : Option X). IfSome p P) is has

@@ -112,6 +112,7 @@ impl<'a, S: Sign> Node<'a, S> {
         ensures same { IsSame seat.old seat.new }
         ensures more { Begins seat.old.view.firm seat.new.view.firm }
         ensures seen { Begins seat.old.view.seen seat.new.view.seen }
+        ensures within { Begins seat.new.view.firm seat.new.view.seen }
         ensures goes_out { IfSome result (λ output. MayGive (node_of S.own_key S.signature_of self.now.setting) (firm_by seat.new) output) }
         ensures put_out { IfSome result (λ output. IsPutOutBy (node_of S.own_key S.signature_of self.now.setting) seat.new.view output) }
     {
@@ -131,6 +132,7 @@ impl<'a, S: Sign> Node<'a, S> {
         ensures same { IsSame seat.old seat.new }
         ensures more { Begins seat.old.view.firm seat.new.view.firm }
         ensures seen { Begins seat.old.view.seen seat.new.view.seen }
+        ensures within { Begins seat.new.view.firm seat.new.view.seen }
         ensures goes_out { IfSome result (λ output. MayGive (node_of S.own_key S.signature_of self.now.setting) (firm_by seat.new) output) }
         ensures put_out { IfSome result (λ output. IsPutOutBy (node_of S.own_key S.signature_of self.now.setting) seat.new.view output) }
         // It is the book's next one, which the book then lets go of.
@@ -152,6 +154,7 @@ impl<'a, S: Sign> Node<'a, S> {
         ensures same { IsSame seat.old seat.new }
         ensures more { Begins seat.old.view.firm seat.new.view.firm }
         ensures seen { Begins seat.old.view.seen seat.new.view.seen }
+        ensures within { Begins seat.new.view.firm seat.new.view.seen }
         ensures order { IfOk result (λ digests. digests.items ≡ drop from (order_of (node_of S.own_key S.signature_of self.now.setting) (firm_by seat.new))) }
         ensures errors { IfErr result (λ refusal. (refusal ≡ Refusal.Down) ⊎ (refusal ≡ Refusal.Memory)) }
     {

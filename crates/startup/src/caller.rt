@@ -98,6 +98,7 @@ impl<'n, 'a, S: Sign> Caller<'n, 'a, S> {
         ensures same { IsSame self.old.seat self.new.seat }
         ensures more { Begins self.old.seat.view.firm self.new.seat.view.firm }
         ensures seen { Begins self.old.seat.view.seen self.new.seat.view.seen }
+        ensures within { Begins self.new.seat.view.firm self.new.seat.view.seen }
         ensures goes_out { IfSome result (λ output. MayGive (node_of S.own_key S.signature_of self.old.node.setting) (firm_by self.new.seat) output) }
         ensures put_out { IfSome result (λ output. IsPutOutBy (node_of S.own_key S.signature_of self.old.node.setting) self.new.seat.view output) }
     {
@@ -110,6 +111,7 @@ impl<'n, 'a, S: Sign> Caller<'n, 'a, S> {
         ensures same { IsSame self.old.seat self.new.seat }
         ensures more { Begins self.old.seat.view.firm self.new.seat.view.firm }
         ensures seen { Begins self.old.seat.view.seen self.new.seat.view.seen }
+        ensures within { Begins self.new.seat.view.firm self.new.seat.view.seen }
         ensures order { IfOk result (λ digests. digests.items ≡ drop from (order_of (node_of S.own_key S.signature_of self.old.node.setting) (firm_by self.new.seat))) }
         ensures errors { IfErr result (λ refusal. (refusal ≡ Refusal.Down) ⊎ (refusal ≡ Refusal.Memory)) }
     {

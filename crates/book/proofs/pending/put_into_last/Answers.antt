@@ -1,5 +1,5 @@
-use Rattle.std.proofs.Common.{◌≡◌, List, ℕ, ◌++◌, ◌∷◌, [], ap, sym, ◌∙◌, subst, refl}
-use Rattle.std.specs.Prelude.{OnOk, OnErr, Result, Ok, Err}
+use Rattle.std.proofs.Common.{◌≡◌, List, ℕ, ◌++◌, ◌∷◌, [], ap, sym, ◌∙◌, subst}
+use Rattle.std.specs.Prelude.{OnOk, Result, Ok, Err}
 use Rattle.journal.specs.Format.{FitsGroup}
 use Rattle.records.specs.Records.{record_of}
 use Rattle.book.proofs.Drafts.{push_same}

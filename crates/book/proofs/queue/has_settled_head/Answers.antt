@@ -1,4 +1,4 @@
-use Rattle.std.proofs.Common.{◌≡◌, ◌<◌, [], refl, ap, sym, ◌∙◌, length, subst, arith}
+use Rattle.std.proofs.Common.{refl, sym}
 use Rattle.std.proofs.lemmas.Bool.{true≢false}
 use Rattle.book.proofs.Queueing.{settled_first, nothing_first}
 use Rattle.book.proofs.queue.has_settled_head.Goals as goal

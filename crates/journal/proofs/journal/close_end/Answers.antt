@@ -1,7 +1,8 @@
 use Rattle.std.proofs.Common.{◌≡◌, ◌+◌, ◌<◌, ◌≤◌, ap, ◌∙◌, List, ℕ, length, arith}
 use Rattle.diskmodel.specs.Disk.{IsTorn, IsCut}
 use Rattle.journal.specs.Format.{stands}
-use Rattle.journal.proofs.Moments.{started, goes_on, from_only}
+use Rattle.diskmodel.proofs.Clock.{started, goes_on}
+use Rattle.journal.proofs.Moments.{from_only}
 use Rattle.journal.proofs.Stops.{torn_short, repaired_short, cut_keeps, repaired_cut, repaired_whole}
 use Rattle.journal.proofs.journal.close_end.Goals as goal
 

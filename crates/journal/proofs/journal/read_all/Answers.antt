@@ -1,6 +1,6 @@
 use Rattle.std.proofs.Common.{◌∙◌, List, ℕ}
 use Rattle.journal.proofs.Bytes.{read_whole}
-use Rattle.journal.proofs.Moments.{started, goes_on}
+use Rattle.diskmodel.proofs.Clock.{started, goes_on}
 use Rattle.journal.proofs.journal.read_all.Goals as goal
 
 pub returns-in_err-len-clause-any_moment : goal.returns-in_err-len-clause-any_moment

@@ -2,7 +2,7 @@ use Rattle.std.proofs.Common.{◌≡◌, ◌+◌, ◌<◌, refl, ap, ◌∙◌, 
 use Rattle.journal.specs.declared.error.JournalError.TheVariants as errors
 use Rattle.journal.specs.Format.{stands, scan}
 use Rattle.journal.specs.Journal.{StandsAsOneOf}
-use Rattle.journal.proofs.Moments.{started, goes_on, joins}
+use Rattle.diskmodel.proofs.Clock.{started, goes_on, joins}
 use Rattle.journal.proofs.Stops.{gate_fits, scan_ok, scan_err, damaged_at}
 use Rattle.std.proofs.lemmas.Result.{err_from_is_err_and}
 use Rattle.journal.proofs.journal.repair.Goals as goal

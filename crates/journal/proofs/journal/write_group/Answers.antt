@@ -3,7 +3,8 @@ use Rattle.diskmodel.specs.Disk.{IsTorn, LeavesOnly}
 use Rattle.journal.specs.Format.{FitsGroup, group_bytes, stands}
 use Rattle.journal.specs.Journal.{IsBeforeOrAfter}
 use Rattle.journal.proofs.Parts.{length-group}
-use Rattle.journal.proofs.Moments.{started, goes_on, from_only}
+use Rattle.diskmodel.proofs.Clock.{started, goes_on}
+use Rattle.journal.proofs.Moments.{from_only}
 use Rattle.journal.proofs.Stops.{torn_behind, staged_by, torn_gate, added}
 use Rattle.journal.proofs.journal.write_group.Goals as goal
 

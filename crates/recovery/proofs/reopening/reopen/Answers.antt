@@ -5,7 +5,7 @@ use Rattle.std.proofs.lemmas.Result.{err_from_is_err_and}
 use Rattle.journal.specs.Journal.{disk_of, StandsAsOneOf}
 use Rattle.validator.specs.Setting.{node_of}
 use Rattle.recovery.specs.Told.{IsText, told, IsToldAsOneOf}
-use Rattle.recovery.proofs.Moments.{weaker, joins}
+use Rattle.diskmodel.proofs.Clock.{weaker, joins}
 use Rattle.recovery.proofs.Telling.{told_same, tells_same, stands_same, opening_fails, as_one_of}
 use Rattle.recovery.proofs.Opened.{stands_for_at, holds_at, no_refusal}
 use Rattle.recovery.proofs.reopening.reopen.Goals as goal

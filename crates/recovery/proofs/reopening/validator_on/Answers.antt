@@ -8,7 +8,7 @@ use Rattle.journal.specs.Journal.{disk_of}
 use Rattle.validator.specs.Setting.{node_of}
 use Rattle.recovery.specs.Told.{told, read_journal}
 use Rattle.recovery.proofs.Opened.{same_texts}
-use Rattle.recovery.proofs.Moments.{started}
+use Rattle.diskmodel.proofs.Clock.{started}
 use Rattle.recovery.proofs.Telling.{told_same, told_records, tells_same, stands_same, ones_from}
 use Rattle.recovery.proofs.reopening.validator_on.Goals as goal
 use Rattle.recovery.proofs.reopening.validator_on.Goals.{then-is_empty+in_ok-write_configuration, else-is_empty}

@@ -7,7 +7,7 @@ use Rattle.journal.specs.Journal.{disk_of, IsBeforeOrAfter, stands_with}
 use Rattle.records.specs.Records.{configuration_of}
 use Rattle.validator.specs.Setting.{node_of}
 use Rattle.recovery.specs.Told.{is_configuration, told}
-use Rattle.recovery.proofs.Moments.{started, weaker}
+use Rattle.diskmodel.proofs.Clock.{started, weaker}
 use Rattle.recovery.proofs.Empty.{never_full}
 use Rattle.recovery.proofs.Opened.{one_text}
 use Rattle.recovery.proofs.Telling.{told_same, told_before_or_after}

@@ -2,7 +2,8 @@ use Rattle.std.proofs.Common.{◌≡◌, refl, Some, None, ap, sym, ◌∙◌, a
 use Rattle.std.specs.Prelude.{option_and_then, option_map}
 use Rattle.std.proofs.lemmas.Bool.{ltb-true, ltb-false}
 use Rattle.std.proofs.lemmas.Option.{slice_get_past, slice_get_read}
-use Rattle.batchstore.specs.Kept.{found, place_of}
+use Rattle.batchstore.specs.Stock.{found}
+use Rattle.batchstore.specs.Kept.{place_of}
 use Rattle.batchstore.proofs.Places.{found_there}
 use Rattle.batchstore.proofs.table.Table.find.Goals as goal
 

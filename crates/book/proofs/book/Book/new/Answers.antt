@@ -1,4 +1,4 @@
-use Rattle.std.proofs.Common.{◌≡◌, length, false, refl, ap, ◌∙◌}
+use Rattle.std.proofs.Common.{length, false, refl, ap}
 use Rattle.std.specs.Prelude.{List}
 use Rattle.model.specs.Nodes.{Node}
 use Rattle.model.specs.Words.{Digest}

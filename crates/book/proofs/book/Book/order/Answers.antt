@@ -1,4 +1,4 @@
-use Rattle.std.proofs.Common.{◌≡◌, ℕ, List, length, drop, sym, ◌∙◌, ap, subst, arith}
+use Rattle.std.proofs.Common.{◌≡◌, List, drop, ◌∙◌, subst}
 use Rattle.model.specs.Holdings.{order}
 use Rattle.model.specs.Words.{Digest}
 use Rattle.model.specs.Nodes.{Node}

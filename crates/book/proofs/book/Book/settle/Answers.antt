@@ -1,4 +1,4 @@
-use Rattle.std.proofs.Common.{◌≡◌, ◌+◌, ◌≤◌, ℕ, List, length, drop, map, refl, subst, ap, sym, ◌∙◌}
+use Rattle.std.proofs.Common.{◌+◌, ℕ, List, length, drop, map, refl, subst, ap}
 use Rattle.laws.specs.Laws.{Begins}
 use Rattle.model.specs.Nodes.{Node}
 use Rattle.records.specs.Records.{record_of}

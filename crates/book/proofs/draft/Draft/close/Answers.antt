@@ -1,7 +1,6 @@
-use Rattle.std.proofs.Common.{◌≡◌, ◌-◌, take, drop, ◌++◌, ◌∷◌, [], List, ℕ, length, ap, sym, subst, ◌∙◌, arith}
+use Rattle.std.proofs.Common.{◌≡◌, ◌-◌, drop, ◌++◌, ◌∷◌, [], length, ap, sym, subst, ◌∙◌, arith}
 use Rattle.journal.specs.Format.{FitsGroup, body_len}
 use Rattle.std.specs.Int.{w32, to_be_bytes}
-use Rattle.book.specs.Pending.{IsDraft}
 use Rattle.book.specs.OneDraft.{records_of_draft}
 use Rattle.book.proofs.Drafts.{length_draft, closes}
 use Rattle.book.proofs.draft.Draft.close.Goals as goal

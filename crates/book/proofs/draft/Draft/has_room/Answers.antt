@@ -1,6 +1,6 @@
-use Rattle.std.proofs.Common.{◌≡◌, ◌<◌, length, subst, sym, ap, ◌∙◌, arith}
+use Rattle.std.proofs.Common.{◌≡◌, ◌<◌, length, subst, ap, arith}
 use Rattle.std.proofs.lemmas.Bool.{leb-true, le-leb}
-use Rattle.std.proofs.Common.{ℕ, List, IsTrue, ◌+◌, ◌∷◌, ◌++◌, []}
+use Rattle.std.proofs.Common.{IsTrue, ◌+◌, ◌∷◌, ◌++◌, []}
 use Rattle.std.specs.Prelude.{nat_le}
 use Rattle.journal.specs.Format.{FitsGroup}
 use Rattle.book.proofs.Drafts.{length_draft, put_fits, fits_put}

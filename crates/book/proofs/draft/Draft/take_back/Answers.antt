@@ -1,5 +1,4 @@
-use Rattle.std.proofs.Common.{◌≡◌, List, ℕ, ◌-◌, ◌+◌, length, take, ap, sym, ◌∙◌, arith}
-use Rattle.std.proofs.lemmas.List.Sums.{sum_by-append}
+use Rattle.std.proofs.Common.{◌≡◌, ◌-◌, ◌+◌, length, take, ap, sym, ◌∙◌, arith}
 use Rattle.book.specs.OneDraft.{records_of_draft}
 use Rattle.book.proofs.Drafts.{push_same, written_back, fewer_fit}
 use Rattle.book.proofs.draft.Draft.take_back.Goals as goal

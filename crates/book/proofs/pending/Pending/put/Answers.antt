@@ -1,4 +1,4 @@
-use Rattle.std.proofs.Common.{◌≡◌, ℕ, length, subst, sym, ap, ◌+◌, ◌≤◌, arith}
+use Rattle.std.proofs.Common.{subst, arith}
 use Rattle.records.specs.Records.{record_of}
 use Rattle.book.specs.Pending.{HasRoom, HasNoRoom}
 use Rattle.book.proofs.Packs.{packed_in_last, packed_behind, one_fits}

@@ -1,5 +1,5 @@
 use Rattle.std.proofs.Common.{ap, length, sym, ◌∙◌, arith}
-use Rattle.book.proofs.Packs.{first_is_longest, others_packed, none_packed}
+use Rattle.book.proofs.Packs.{none_packed}
 use Rattle.book.proofs.pending.Pending.take.Goals as goal
 
 pub returns-in-Ok-clause-none : goal.returns-in-Ok-clause-none

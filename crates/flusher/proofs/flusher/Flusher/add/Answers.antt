@@ -7,7 +7,7 @@ use Rattle.validator.specs.Setting.{node_of}
 use Rattle.shared.specs.Home.{taken_by}
 use Rattle.flusher.specs.Rounds.{from_start, HoldsEither}
 use Rattle.flusher.proofs.Adding.{holds_taken, holds_either}
-use Rattle.flusher.proofs.Moments.{weaker}
+use Rattle.diskmodel.proofs.Clock.{weaker}
 use Rattle.flusher.proofs.Taking.{settled_begins, group_behind, taken_events}
 use Rattle.flusher.proofs.flusher.Flusher.add.Goals as goal
 

@@ -5,7 +5,8 @@ use Rattle.seats.proofs.Beginnings.{begins_same, begins_trans}
 use Rattle.shared.specs.Home.{IsFlushOf, taken_by}
 use Rattle.world.specs.World.{Holds}
 use Rattle.flusher.specs.Rounds.{IsFlusherOf, from_start}
-use Rattle.flusher.proofs.Taking.{rests_at, takes_none, takes_some, size_some, takes_as, of_some, is_none}
+use Rattle.book.proofs.Options.{of_some}
+use Rattle.flusher.proofs.Taking.{rests_at, takes_none, takes_some, size_some, takes_as, is_none}
 use Rattle.flusher.proofs.flusher.Flusher.round.Goals as goal
 use Rattle.flusher.proofs.flusher.Flusher.round.Goals.{in-Some+in_ok-count-in-Some, in-None}
 

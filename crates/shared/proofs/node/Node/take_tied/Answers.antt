@@ -1,5 +1,6 @@
 use Rattle.validator.specs.Setting.{node_of}
-use Rattle.shared.proofs.Groups.{home_taken, takes_next, of_some}
+use Rattle.book.proofs.Options.{of_some}
+use Rattle.shared.proofs.Groups.{home_taken, takes_next}
 use Rattle.shared.proofs.node.Node.take_tied.Goals as goal
 
 pub returns-clause-home : goal.returns-clause-home

@@ -1,6 +1,6 @@
--- How a run of calls of a disk goes on.
+-- What holds of all that a stop may leave since an earlier moment, over several calls of a disk.
 use Rattle.std.proofs.Common.{inl, inr, ⊎_elim, ℕ, List, arith}
-use Rattle.diskmodel.specs.Disk.{AtEachMoment}
+use Rattle.diskmodel.specs.Disk.{GoesOn, AtEachMoment}
 
 module _ {D : Type 0} (clock : D → ℕ) (outcome_since : D → ℕ → List ℕ → Type 0) where
   -- before the first call
@@ -21,4 +21,13 @@ module _ {D : Type 0} (clock : D → ℕ) (outcome_since : D → ℕ → List �
     later = omega (arith, first.later, second.later);
     each = λ c left. ⊎_elim (λ before. first.each c before) (λ now. less c now) (second.before (clock old) c first.later left);
     before = λ t c le left. ⊎_elim (λ before. first.before t c le before) (λ now. inr (less c now)) (second.before t c (omega (arith, le, first.later)) left);
+  }
+
+  -- one call more, after which each outcome has P
+  pub goes_on : (old mid new : D) (P outcome : List ℕ → Type 0) → AtEachMoment clock outcome_since old mid P → GoesOn (clock mid) (clock new) (outcome_since mid) (outcome_since new) outcome
+      → ((c : List ℕ) → outcome c → P c) → AtEachMoment clock outcome_since old new P
+  goes_on old mid new P outcome so_far time here = record {
+    later = omega (arith, so_far.later, time.later);
+    each = λ c left. ⊎_elim (λ before. so_far.each c before) (λ now. here c now) (time.nothing_else (clock old) c so_far.later left);
+    before = λ t c le left. ⊎_elim (λ before. so_far.before t c le before) (λ now. inr (here c now)) (time.nothing_else t c (omega (arith, le, so_far.later)) left);
   }
