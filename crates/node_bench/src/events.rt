@@ -1,80 +1,177 @@
-//! The events of full rounds, one behind the other.
+//! The events of rounds, one behind the other.
 
 ghost use Rattle.std.specs.Prelude.{◌≡◌, None, IfOk};
 ghost use Rattle.header.specs.Checks.{fault_of, accepts_all};
 
 use crate::ending::Ending;
-use crate::rounds::Rounds;
+use crate::messages::{PEER, batch};
+use crate::rounds::{Rounds, UNSIGNED};
 use committee::Committee;
 use header::{Checked, recheck};
 use script::OWN;
 use std::alloc::{AllocError, Global};
-use wire::{Author, Message};
+use wire::{Author, Digest, Message, Vote};
 
-/// Rounds of events, with a coin a wave.
+/// What comes in a round before its certificates.
+#[derive(Clone, Copy)]
+pub enum Front {
+    Nothing,
+    /// The headers of the others.
+    Headers,
+    /// The own header, and as many votes on it as make its certificate, which doesn't come then.
+    Votes,
+    /// Another member's batches, whose bodies have so many bytes. They don't end.
+    Batches(u64),
+}
+
+/// What stands for the digest of an event that isn't tested, or has none.
+const STAND_IN: Digest = Digest([7; 32]);
+
+/// Rounds of events.
 #[derive(Drop)]
 pub struct Events {
     rounds: Rounds,
-    // How many headers of others come before the certificates of a round.
-    headers: u16,
-    // How many events of the round there were.
+    front: Front,
+    // Whether each wave has a coin.
+    has_coins: bool,
+    // How many events come before the certificates, and how many come in all but for the coin.
+    front_len: u16,
+    len: u16,
+    // How many of the round there were.
     place: u16,
+    // How many batches there were.
+    batches: u64,
+    // The digest of the last header, on which votes are.
+    header: Digest,
+}
+
+/// The digest that a test computed last, or a stand-in where there is none.
+pub fn digest_in(event: &Checked) -> Digest {
+    let digest = match event.message() {
+        Message::Batch(_) => event.batch_digest(),
+        Message::Header(_) => event.header_digest(),
+        _ => event.certificate_digest(),
+    };
+    digest.copied().unwrap_or(STAND_IN)
 }
 
 impl Events {
-    /// Those of certificates and coins.
-    pub fn certificates(alloc: Global, committee: &Committee) -> Result<Events, AllocError> {
+    /// Those from the first round on.
+    pub fn new(
+        alloc: Global,
+        committee: &Committee,
+        front: Front,
+        has_coins: bool,
+    ) -> Result<Events, AllocError> {
+        let rounds = Rounds::new(alloc, committee, false)?;
+        let (front_len, certificates) = match front {
+            Front::Nothing | Front::Batches(_) => (0, rounds.members),
+            Front::Headers => (rounds.members.saturating_sub(1), rounds.members),
+            // The own vote is among the voters'.
+            Front::Votes => (rounds.voters, rounds.members.saturating_sub(1)),
+        };
         Ok(Events {
-            rounds: Rounds::new(alloc, committee)?,
-            headers: 0,
+            rounds,
+            front,
+            has_coins,
+            front_len,
+            len: front_len.saturating_add(certificates),
             place: 0,
+            batches: 0,
+            header: STAND_IN,
         })
     }
 
-    /// Those of the headers of all others, certificates and coins.
-    pub fn all(alloc: Global, committee: &Committee) -> Result<Events, AllocError> {
-        Ok(Events {
-            rounds: Rounds::new(alloc, committee)?,
-            headers: committee.size() - 1,
-            place: 0,
-        })
+    /// Whether a round came to its end, and so many or more did.
+    pub fn are_over(&self, rounds: u64) -> bool {
+        self.place >= self.len && self.rounds.number >= rounds
     }
 
-    /// The next event.
-    pub fn next(&mut self, committee: &Committee) -> Result<Checked, Ending>
+    /// The next one, tested without signatures.
+    pub fn tested(&mut self, committee: &Committee) -> Result<Checked, Ending>
         ensures { IfOk result (λ event. fault_of committee.now accepts_all event ≡ None) }
     {
-        if self.place >= self.headers.saturating_add(self.rounds.members()) {
+        let (sender, message) = self.next()?;
+        let event = recheck(committee, sender, message)?;
+        self.note(event.message(), digest_in(&event))?;
+        Ok(event)
+    }
+
+    /// The next one, untested.
+    pub fn made(&mut self) -> Result<Message, Ending> {
+        let (_, message) = self.next()?;
+        self.note(&message, STAND_IN)?;
+        Ok(message)
+    }
+
+    // The next one, with its sender.
+    fn next(&mut self) -> Result<(Author, Message), Ending> {
+        if let Front::Batches(size) = self.front {
+            return self.batch(size);
+        }
+        if self.place >= self.len {
             self.place = 0;
             self.rounds.end();
-            if let Some(coin) = self.rounds.coin()? {
-                return Ok(recheck(committee, OWN, Message::Coin(coin))?);
+            if self.has_coins
+                && let Some(coin) = self.rounds.coin()?
+            {
+                return Ok((OWN, Message::Coin(coin)));
             }
         }
         let place = self.place;
         self.place = place.saturating_add(1);
-        if place < self.headers {
-            self.header(committee, Author(place.saturating_add(1)))
-        } else {
-            self.certificate(committee, Author(place - self.headers))
+        match place.checked_sub(self.front_len) {
+            None => self.front_event(place),
+            Some(before) => self.certificate(before),
         }
     }
 
-    fn header(&self, committee: &Committee, author: Author) -> Result<Checked, Ending>
-        ensures { IfOk result (λ event. fault_of committee.now accepts_all event ≡ None) }
-    {
-        let header = self.rounds.header(author)?;
-        Ok(recheck(committee, author, Message::Header(header))?)
+    fn batch(&mut self, size: u64) -> Result<(Author, Message), Ending> {
+        let batch = batch(self.rounds.alloc, PEER, self.batches, size)?;
+        self.batches = self.batches.saturating_add(1);
+        Ok((PEER, Message::Batch(batch)))
     }
 
-    fn certificate(&mut self, committee: &Committee, author: Author) -> Result<Checked, Ending>
-        ensures { IfOk result (λ event. fault_of committee.now accepts_all event ≡ None) }
-    {
+    // The certificate before which so many come in the round.
+    fn certificate(&self, before: u16) -> Result<(Author, Message), Ending> {
+        let author = match self.front {
+            Front::Votes => Author(before.saturating_add(1)),
+            _ => Author(before),
+        };
         let certificate = self.rounds.certificate(author)?;
-        let event = recheck(committee, author, Message::Certificate(certificate))?;
-        if let Some(digest) = event.certificate_digest() {
-            self.rounds.note(author, *digest)?;
+        Ok((author, Message::Certificate(certificate)))
+    }
+
+    // What comes at this place before the certificates.
+    fn front_event(&self, place: u16) -> Result<(Author, Message), Ending> {
+        let sender = match (self.front, place) {
+            (Front::Votes, 0) => OWN,
+            (Front::Votes, _) => return self.vote(Author(place)),
+            _ => Author(place.saturating_add(1)),
+        };
+        Ok((sender, Message::Header(self.rounds.header(sender)?)))
+    }
+
+    fn vote(&self, voter: Author) -> Result<(Author, Message), Ending> {
+        let vote = Vote {
+            header: self.header,
+            round: self.rounds.round()?,
+            author: OWN,
+            voter,
+            signature: UNSIGNED,
+        };
+        Ok((voter, Message::Vote(vote)))
+    }
+
+    // Keeps the digest of the event that came last for those that name it.
+    fn note(&mut self, message: &Message, digest: Digest) -> Result<(), AllocError> {
+        match message {
+            Message::Header(_) => self.header = digest,
+            Message::Certificate(certificate) => {
+                self.rounds.note(certificate.header.author, digest)?;
+            }
+            _ => {}
         }
-        Ok(event)
+        Ok(())
     }
 }

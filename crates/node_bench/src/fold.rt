@@ -1,6 +1,5 @@
 //! What the results of a run come to.
 
-use header::Checked;
 use sha2::{Digest as _, Sha256};
 use validator::Step;
 use wire::{Digest, HeaderBody, Message, Output};
@@ -58,18 +57,6 @@ impl Fold {
                 self.add(certificate.votes.len() as u64);
             }
             Message::Coin(coin) => self.add(coin.value),
-        }
-    }
-
-    /// Adds the digest that a test computed last, if there is one.
-    pub fn add_event(&mut self, event: &Checked) {
-        let digest = match event.message() {
-            Message::Batch(_) => event.batch_digest(),
-            Message::Header(_) => event.header_digest(),
-            _ => event.certificate_digest(),
-        };
-        if let Some(digest) = digest {
-            self.add_digest(digest);
         }
     }
 

@@ -21,39 +21,12 @@ use std::process::ExitCode;
 use std::rt::Env;
 use std::sync::Wait;
 use std::thread::Threads;
-use task::{Kind, Task, sized, task_of};
+use task::{Kind, Step, Task, WORKS, sized, task_of};
 
 /// What is told where the words ask for nothing.
 const USAGE: &str = "usage: narwhal-bench [prepare-]WORK COUNT [SIZE]
 WORK is hash, decode-FORM, encode-FORM, check-FORM, recheck-FORM, frames, step-header, step-vote,
 step-certificate, step-batch, order, append, book, reopen or node; FORM is header, certificate or batch";
-
-/// What is done where no words are given: a little of each kind.
-const LITTLE: [(&str, u64); 23] = [
-    ("hash", 1_000),
-    ("decode-header", 20),
-    ("decode-certificate", 20),
-    ("decode-batch", 3),
-    ("encode-header", 20),
-    ("encode-certificate", 20),
-    ("encode-batch", 3),
-    ("check-header", 20),
-    ("check-certificate", 20),
-    ("check-batch", 3),
-    ("recheck-header", 20),
-    ("recheck-certificate", 20),
-    ("recheck-batch", 3),
-    ("frames", 100),
-    ("step-header", 60),
-    ("step-vote", 40),
-    ("step-certificate", 80),
-    ("step-batch", 3),
-    ("order", 70),
-    ("append", 2),
-    ("book", 1_500),
-    ("reopen", 1_500),
-    ("node", 500),
-];
 
 fn main(rt: HostRuntime) -> ExitCode {
     match run(&rt) {
@@ -71,30 +44,31 @@ fn run<R: Env + AllocGlobal + Print + Threads + Wait + Sync>(rt: &R) -> Result<(
     let words: Vec<String> = env::args(rt)?.collect(rt.alloc())?;
     match words.as_slice() {
         [_, word, ..] => {
-            let task = task_of(rt.alloc(), &words[1..]).ok_or(Ending::Usage)?;
-            tell(rt, word.as_str(), task)
+            let (kind, task) = task_of(rt.alloc(), &words[1..]).ok_or(Ending::Usage)?;
+            tell(rt, word.as_str(), kind, task)
         }
         _ => run_little(rt),
     }
 }
 
+// A little of each kind of work.
 fn run_little<R: AllocGlobal + Print + Threads + Wait + Sync>(rt: &R) -> Result<(), Ending> {
-    for (word, count) in &LITTLE {
-        let task = sized(rt.alloc(), word, *count, None).ok_or(Ending::Usage)?;
-        tell(rt, word, task)?;
+    for (word, _, count, _) in &WORKS {
+        let (kind, task) = sized(rt.alloc(), word, *count, None).ok_or(Ending::Usage)?;
+        tell(rt, word, kind, task)?;
     }
     Ok(())
 }
 
 // Does a task, and prints what it comes to.
-fn tell<R>(rt: &R, word: &str, task: Task) -> Result<(), Ending>
+fn tell<R>(rt: &R, word: &str, kind: Kind, task: Task) -> Result<(), Ending>
 where
     R: AllocGlobal + Print + Threads + Wait + Sync,
 {
-    let digest = digest_of(rt, task)?;
+    let digest = digest_of(rt, kind, task)?;
     let count = task.count;
     let mut line = format!(in rt.alloc(); "{word} {count} ")?;
-    for byte in digest {
+    for byte in &digest {
         write!(line, "{byte:02x}")?;
     }
     rt.println(line.as_str())?;
@@ -102,14 +76,16 @@ where
 }
 
 // The digest over the results of a task.
-fn digest_of<R: Threads + Wait + Sync>(rt: &R, task: Task) -> Result<[u8; 32], Ending> {
-    let fold = match task.kind {
+fn digest_of<R: Threads + Wait + Sync>(rt: &R, kind: Kind, task: Task) -> Result<[u8; 32], Ending> {
+    let fold = match kind {
         Kind::Hash => return Ok(working::hash(task)),
         Kind::Message(act, form) => working::work_on(task, act, form)?,
         Kind::Frames => working::cut_frames(task)?,
         Kind::Steps(step) => stepping::stepped(task, step)?,
         Kind::Append => storing::append_groups(task)?,
-        Kind::Book => storing::keep_book(task)?,
+        Kind::Book if task.is_work => storing::keep_book(task)?,
+        // The same events through a validator alone.
+        Kind::Book => stepping::stepped(task, Step::Event)?,
         Kind::Reopen => storing::reopen_journal(task)?,
         Kind::Node => sharing::share_node(rt, task)?,
     };

@@ -1,7 +1,7 @@
 //! Messages that are made once, to be read and tested over and over.
 
 use crate::ending::Ending;
-use crate::rounds::{Rounds, place};
+use crate::rounds::Rounds;
 use crate::settings::config_of;
 use crate::task::{Form, Task};
 use sigface::HashSign;
@@ -56,15 +56,24 @@ pub fn batch(alloc: Global, author: Author, number: u64, size: u64) -> Result<Ba
     Ok(open.close()?)
 }
 
-/// Messages of one form, each another one, with their bytes, and who tests them.
+/// A message with who sends it and with its bytes.
+#[derive(Drop)]
+pub struct Made {
+    /// Who sends it.
+    pub sender: Author,
+    /// It is signed, if it has signatures.
+    pub message: Message,
+    /// As `encode` gives them.
+    pub bytes: Vec<u8>,
+}
+
+/// Messages of one form, each another one, and who tests them.
 #[derive(Drop)]
 pub struct Ring {
     /// Of the committee.
     pub config: Config<HashSign>,
-    /// Those that have signatures are signed.
-    pub messages: Vec<Message>,
-    /// The bytes of each.
-    pub bytes: Vec<Vec<u8>>,
+    /// The messages.
+    pub made: Vec<Made>,
 }
 
 impl Ring {
@@ -72,41 +81,38 @@ impl Ring {
     pub fn new(task: Task, form: Form) -> Result<Ring, Ending> {
         let mut ring = Ring {
             config: config_of(task)?,
-            messages: Vec::new(task.alloc),
-            bytes: Vec::new(task.alloc),
+            made: Vec::new(task.alloc),
         };
         ring.fill(task, form)?;
         Ok(ring)
     }
 
     fn fill(&mut self, task: Task, form: Form) -> Result<(), Ending> {
-        let mut rounds = Rounds::new(task.alloc, self.config.committee())?;
+        let mut rounds = Rounds::new(task.alloc, self.config.committee(), true)?;
         for number in 0..RING {
-            let message = message_of(task, form, &rounds, number)?;
-            self.bytes.push(encode(task.alloc, &message)?)?;
-            self.messages.push(message)?;
+            self.made.push(make(task, form, &rounds, number)?)?;
             rounds.raise();
         }
         Ok(())
     }
 }
 
-fn message_of(task: Task, form: Form, rounds: &Rounds, number: u64) -> Result<Message, Ending> {
-    let author = Author(place(number, rounds.members()));
-    Ok(match form {
-        Form::Header => Message::Header(rounds.signed_header(author)?),
-        Form::Certificate => Message::Certificate(rounds.signed_certificate(author)?),
-        Form::Batch => Message::Batch(batch(task.alloc, PEER, number, task.size)?),
+fn make(task: Task, form: Form, rounds: &Rounds, number: u64) -> Result<Made, Ending> {
+    let author = Author((number % u64::from(rounds.members.max(1))) as u16);
+    let (sender, message) = match form {
+        Form::Header => (author, Message::Header(rounds.header(author)?)),
+        Form::Certificate => (author, Message::Certificate(rounds.certificate(author)?)),
+        Form::Batch => (
+            PEER,
+            Message::Batch(batch(task.alloc, PEER, number, task.size)?),
+        ),
+    };
+    let bytes = encode(task.alloc, &message)?;
+    Ok(Made {
+        sender,
+        message,
+        bytes,
     })
-}
-
-/// Who sends a message of the ring.
-pub fn sender_of(message: &Message) -> Author {
-    match message {
-        Message::Header(header) => header.body.author,
-        Message::Certificate(certificate) => certificate.header.author,
-        _ => PEER,
-    }
 }
 
 /// A message once more.

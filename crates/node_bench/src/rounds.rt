@@ -18,23 +18,27 @@ pub const UNSIGNED: Signature = Signature([0; 64]);
 /// The round that is being made, over all that was made of the round before it.
 #[derive(Drop)]
 pub struct Rounds {
-    alloc: Global,
-    members: u16,
-    // Who votes on each header.
-    voters: u16,
-    round: u64,
+    /// What memory comes from.
+    pub alloc: Global,
+    // Whether what is made is signed.
+    is_signed: bool,
+    /// How many members there are.
+    pub members: u16,
+    /// How many vote on each header: those of the lowest numbers.
+    pub voters: u16,
+    /// The number of the round that is being made.
+    pub number: u64,
     parents: Vec<ParentReference>,
     made: Vec<ParentReference>,
 }
 
-/// The place of a piece in turns of so many.
-pub fn place(piece: u64, turn: u16) -> u16 {
-    (piece % u64::from(turn.max(1))) as u16
-}
-
 impl Rounds {
     /// The first round, over the genesis.
-    pub fn new(alloc: Global, committee: &Committee) -> Result<Rounds, AllocError> {
+    pub fn new(
+        alloc: Global,
+        committee: &Committee,
+        is_signed: bool,
+    ) -> Result<Rounds, AllocError> {
         let members = committee.size();
         let mut parents = Vec::new(alloc);
         for member in 0..members {
@@ -47,42 +51,28 @@ impl Rounds {
         }
         Ok(Rounds {
             alloc,
+            is_signed,
             members,
             voters: committee.quorum().min(u64::from(members)) as u16,
-            round: 1,
+            number: 1,
             parents,
             made: Vec::new(alloc),
         })
     }
 
-    /// How many members there are.
-    pub fn members(&self) -> u16 {
-        self.members
-    }
-
-    /// How many vote on each header.
-    pub fn voters(&self) -> u16 {
-        self.voters
-    }
-
-    /// The number of the round that is being made.
-    pub fn number(&self) -> u64 {
-        self.round
-    }
-
     /// The coin of the wave that ends with the round before, if one does. Its value is its number.
     pub fn coin(&self) -> Result<Option<Coin>, WireError> {
-        if self.round < 4 || self.round % 2 == 1 {
+        if self.number < 4 || self.number % 2 == 1 {
             return Ok(None);
         }
-        let wave = Wave::new(self.round / 2 - 1)?;
+        let wave = Wave::new(self.number / 2 - 1)?;
         let value = wave.number();
         Ok(Some(Coin { wave, value }))
     }
 
     /// The round that is being made.
-    pub fn round(&self) -> Result<Round, Ending> {
-        Ok(Round::new(self.round)?)
+    pub fn round(&self) -> Result<Round, WireError> {
+        Round::new(self.number)
     }
 
     // What an author proposes.
@@ -102,18 +92,13 @@ impl Rounds {
         })
     }
 
-    /// The header of an author, unsigned.
-    pub fn header(&self, author: Author) -> Result<Header, Ending> {
-        Ok(Header {
-            body: self.body(author)?,
-            signature: UNSIGNED,
-        })
-    }
-
     /// The header of an author.
-    pub fn signed_header(&self, author: Author) -> Result<Header, Ending> {
+    pub fn header(&self, author: Author) -> Result<Header, Ending> {
         let body = self.body(author)?;
-        let signature = signer(author).sign(&header_digest(&body));
+        let signature = match self.is_signed {
+            true => signer(author).sign(&header_digest(&body)),
+            false => UNSIGNED,
+        };
         Ok(Header { body, signature })
     }
 
@@ -134,19 +119,14 @@ impl Rounds {
         Ok(votes)
     }
 
-    /// The certificate of an author, its votes unsigned.
-    pub fn certificate(&self, author: Author) -> Result<Certificate, Ending> {
-        Ok(Certificate {
-            header: self.body(author)?,
-            votes: self.votes(None)?,
-        })
-    }
-
     /// The certificate of an author.
-    pub fn signed_certificate(&self, author: Author) -> Result<Certificate, Ending> {
+    pub fn certificate(&self, author: Author) -> Result<Certificate, Ending> {
         let header = self.body(author)?;
-        let digest = certificate_digest(&header_digest(&header), header.round, author);
-        let votes = self.votes(Some(digest))?;
+        let digest = match self.is_signed {
+            true => Some(certificate_digest(&header_digest(&header), header.round, author)),
+            false => None,
+        };
+        let votes = self.votes(digest)?;
         Ok(Certificate { header, votes })
     }
 
@@ -168,6 +148,6 @@ impl Rounds {
 
     /// Goes on to the next round, over the same certificates as this one.
     pub fn raise(&mut self) {
-        self.round = self.round.saturating_add(1);
+        self.number = self.number.saturating_add(1);
     }
 }

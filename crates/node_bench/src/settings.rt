@@ -12,7 +12,7 @@ use validator::Config;
 /// # Errors
 /// `Usage` where there is no committee of so many members.
 pub fn config_of(task: Task) -> Result<Config<HashSign>, Ending> {
-    let file = member_list(task.alloc, task.members())?;
+    let file = member_list(task.alloc, task.members)?;
     let committee = Committee::read(task.alloc, file.as_str())?;
     match Config::new(committee, OWN, signer(OWN)) {
         Some(config) => Ok(config),

@@ -1,6 +1,7 @@
 //! What a thread submits to a node.
 
 use crate::ending::Ending;
+use crate::events::digest_in;
 use crate::fold::Fold;
 use crate::messages::small_batch;
 use header::recheck;
@@ -28,7 +29,7 @@ impl<'n, 'a, S: Sign> Sharer<'n, 'a, S> {
     ) -> Result<u64, Ending> {
         let message = Message::Batch(small_batch(alloc, self.member, number)?);
         let event = recheck(self.node.config().committee(), self.member, message)?;
-        fold.add_event(&event);
+        fold.add_digest(&digest_in(&event));
         let receipt = self.node.submit(rt, event)?;
         match receipt.new {
             true => Ok(receipt.ticket),

@@ -4,6 +4,7 @@ ghost use Rattle.std.specs.Prelude.{◌≡◌};
 ghost use Rattle.std.specs.Thread.{IsSend, IsSync};
 
 use crate::ending::Ending;
+use crate::events::digest_in;
 use crate::fold::{Fold, Sum};
 use crate::messages::small_batch;
 use crate::settings::config_of;
@@ -55,8 +56,9 @@ fn sharers_of<'n, 'a, S: Sign, D: Disk>(
 {
     let mut first = rounds.caller(config)?;
     let mut sharers = Vec::new(task.alloc);
-    for member in MEMBERS {
+    for member in &MEMBERS {
         let node = first.split()?;
+        let member = *member;
         sharers.push(Sharer { node, member })?;
     }
     Ok(sharers)
@@ -150,8 +152,8 @@ fn flush<S: Sign, D: Disk, R: Wait>(
 
 fn step_all(task: Task, mut validator: Validator<'_, HashSign>) -> Result<Fold, Ending> {
     let mut all = Fold::new();
-    for sender in MEMBERS {
-        all.join(step_batches(task, &mut validator, sender)?);
+    for sender in &MEMBERS {
+        all.join(step_batches(task, &mut validator, *sender)?);
     }
     Ok(all)
 }
@@ -165,7 +167,7 @@ fn step_batches(
     for number in 0..task.count {
         let message = Message::Batch(small_batch(task.alloc, sender, number)?);
         let event = recheck(validator.committee(), sender, message)?;
-        fold.add_event(&event);
+        fold.add_digest(&digest_in(&event));
         validator.step(event)?;
     }
     Ok(fold)

@@ -1,217 +1,149 @@
 //! Work through a validator.
 
+ghost use Rattle.std.specs.Prelude.{◌≡◌, None};
+ghost use Rattle.header.specs.Checks.{fault_of, accepts_all};
+
 use crate::ending::Ending;
+use crate::events::{Events, Front, digest_in};
 use crate::fold::Fold;
-use crate::messages::{PEER, batch};
-use crate::rounds::{Rounds, UNSIGNED, place};
 use crate::settings::config_of;
 use crate::task::{Step, Task};
-use header::{Checked, recheck};
-use script::OWN;
+use committee::Committee;
+use header::Checked;
 use sigface::HashSign;
-use std::alloc::Global;
+use std::alloc::AllocError;
 use validator::{Config, Validator};
-use wire::{Author, Digest, Message, Vote};
-
-/// How far certificates and coins go.
-#[derive(Clone, Copy)]
-enum Reach {
-    /// They are made.
-    Made,
-    /// They are tested, too, without signatures.
-    Tested,
-    /// They are stepped, too.
-    Stepped,
-}
-
-/// What stands for the digest of an event that isn't tested, or has none.
-const STAND_IN: Digest = Digest([7; 32]);
+use wire::Message;
 
 /// Rounds that a validator is given without coins, before a new one takes its place: what a certificate costs rises with
 /// the rounds since the last commit, of which a node in use has few.
 const FEW: u64 = 8;
 
-/// A validator, the rounds that it is given, and what its answers come to.
+/// A validator, the events that it is given, and what its answers come to.
 #[derive(Drop)]
 struct Walk<'a> {
-    alloc: Global,
+    task: Task,
     config: &'a Config<HashSign>,
     validator: Validator<'a, HashSign>,
-    rounds: Rounds,
-    // The digest of the own header that is voted on.
-    header: Digest,
+    events: Events,
     fold: Fold,
 }
 
-/// Does the pieces of a kind of step.
+/// Does the pieces of a kind of step. Without the work a round's are only made, and all others only tested, but for those of
+/// `Event`, which are stepped, too.
 pub fn stepped(task: Task, step: Step) -> Result<Fold, Ending> {
     let config = config_of(task)?;
-    stepped_with(task, step, &config)
-}
-
-fn stepped_with(task: Task, step: Step, config: &Config<HashSign>) -> Result<Fold, Ending> {
-    let mut walk = Walk::new(task.alloc, config)?;
-    walk.run(task, step)?;
+    let mut walk = Walk::new(task, &config, step)?;
+    walk.take_events(step)?;
     Ok(walk.fold)
 }
 
-// The digest that a test computed last.
-fn digest_in(event: &Checked) -> Digest {
-    let digest = match event.message() {
-        Message::Batch(_) => event.batch_digest(),
-        Message::Header(_) => event.header_digest(),
-        _ => event.certificate_digest(),
+/// The events that a kind of step is given.
+pub fn events_of(task: Task, committee: &Committee, step: Step) -> Result<Events, AllocError> {
+    let (front, has_coins) = match step {
+        Step::Header | Step::Event => (Front::Headers, true),
+        Step::Vote => (Front::Votes, false),
+        Step::Certificate => (Front::Nothing, false),
+        Step::Batch => (Front::Batches(task.size), false),
+        Step::Round => (Front::Nothing, true),
     };
-    digest.copied().unwrap_or(STAND_IN)
+    Events::new(task.alloc, committee, front, has_coins)
+}
+
+impl Task {
+    // How many events are its pieces.
+    fn events(self, step: Step) -> u64 {
+        match step {
+            // Behind each odd round but the first a wave ends, with its coin.
+            Step::Round => {
+                let coins = (self.count.saturating_add(1) / 2).saturating_sub(1);
+                self.count
+                    .saturating_mul(u64::from(self.members))
+                    .saturating_add(coins)
+            }
+            _ => self.count,
+        }
+    }
+}
+
+impl Step {
+    // Whether a message is one of its pieces.
+    fn counts(self, message: &Message) -> bool {
+        match (self, message) {
+            (Step::Header, Message::Header(_)) => true,
+            (Step::Vote, Message::Vote(_)) => true,
+            (Step::Certificate, Message::Certificate(_)) => true,
+            (Step::Batch | Step::Round | Step::Event, _) => true,
+            _ => false,
+        }
+    }
 }
 
 impl<'a> Walk<'a> {
-    fn new(alloc: Global, config: &'a Config<HashSign>) -> Result<Walk<'a>, Ending> {
+    fn new(task: Task, config: &'a Config<HashSign>, step: Step) -> Result<Walk<'a>, Ending> {
         Ok(Walk {
-            alloc,
+            task,
             config,
-            rounds: Rounds::new(alloc, config.committee())?,
-            validator: Validator::new(alloc, config)?,
-            header: STAND_IN,
+            events: events_of(task, config.committee(), step)?,
+            validator: Validator::new(task.alloc, config)?,
             fold: Fold::new(),
         })
     }
 
-    // Begins with a new validator where this one was given a few rounds.
-    fn begin_anew(&mut self) -> Result<(), Ending> {
-        if self.rounds.number() > FEW {
-            self.rounds = Rounds::new(self.alloc, self.config.committee())?;
-            self.validator = Validator::new(self.alloc, self.config)?;
-        }
-        Ok(())
-    }
-
-    fn run(&mut self, task: Task, step: Step) -> Result<(), Ending> {
-        for piece in 0..task.count {
-            self.take_piece(task, step, piece)?;
-        }
-        Ok(())
-    }
-
-    fn take_piece(&mut self, task: Task, step: Step, piece: u64) -> Result<(), Ending> {
-        match step {
-            Step::Header => self.take_header(task.is_work, piece),
-            Step::Vote => self.take_vote(task.is_work, piece),
-            Step::Certificate => self.take_certificate(task.is_work, piece),
-            Step::Batch => self.take_batch(task, piece),
-            Step::Round => match task.is_work {
-                true => self.take_round(0, Reach::Stepped),
-                false => self.take_round(0, Reach::Made),
-            },
-        }
-    }
-
-    // Tests a message, and steps it where that is wanted.
-    fn take(&mut self, sender: Author, message: Message, steps: bool) -> Result<Digest, Ending> {
-        let event = recheck(self.validator.committee(), sender, message)?;
-        let digest = digest_in(&event);
-        self.fold.add_digest(&digest);
-        if steps {
-            let step = self.validator.step(event)?;
-            self.fold.add_step(&step);
-        }
-        Ok(digest)
-    }
-
-    // Takes a message as far as is wanted.
-    fn reach(&mut self, sender: Author, message: Message, reach: Reach) -> Result<Digest, Ending> {
-        match reach {
-            Reach::Made => {
-                self.fold.add_message(&message);
-                Ok(STAND_IN)
+    fn take_events(&mut self, step: Step) -> Result<(), Ending> {
+        let mut left = self.task.events(step);
+        for _ in 0..u64::MAX {
+            if left == 0 {
+                break;
             }
-            Reach::Tested => self.take(sender, message, false),
-            Reach::Stepped => self.take(sender, message, true),
-        }
-    }
-
-    // Makes the certificate of an author, and takes it as far as is wanted.
-    fn certify(&mut self, author: Author, reach: Reach) -> Result<(), Ending> {
-        let certificate = self.rounds.certificate(author)?;
-        let digest = self.reach(author, Message::Certificate(certificate), reach)?;
-        self.rounds.note(author, digest)?;
-        Ok(())
-    }
-
-    // The certificates of a round by the members from this one on.
-    fn certify_round(&mut self, first: u16, reach: Reach) -> Result<(), Ending> {
-        for author in first..self.rounds.members() {
-            self.certify(Author(author), reach)?;
-        }
-        self.rounds.end();
-        Ok(())
-    }
-
-    // A round, and the coin of the wave that ends with it, if one does.
-    fn take_round(&mut self, first: u16, reach: Reach) -> Result<(), Ending> {
-        self.certify_round(first, reach)?;
-        if let Some(coin) = self.rounds.coin()? {
-            self.reach(OWN, Message::Coin(coin), reach)?;
+            if self.take_next(step)? {
+                left -= 1;
+            }
         }
         Ok(())
     }
 
-    fn take_certificate(&mut self, is_work: bool, piece: u64) -> Result<(), Ending> {
-        let author = place(piece, self.rounds.members());
-        if author == 0 && piece > 0 {
-            self.rounds.end();
-            self.begin_anew()?;
+    // Takes the next event, and says whether it is a piece.
+    fn take_next(&mut self, step: Step) -> Result<bool, Ending> {
+        match step {
+            Step::Vote | Step::Certificate => self.begin_anew(step)?,
+            Step::Round if !self.task.is_work => return self.make_next(),
+            _ => {}
         }
-        match is_work {
-            true => self.certify(Author(author), Reach::Stepped),
-            false => self.certify(Author(author), Reach::Tested),
-        }
-    }
-
-    fn take_header(&mut self, is_work: bool, piece: u64) -> Result<(), Ending> {
-        let before = place(piece, self.rounds.members().saturating_sub(1));
-        if before == 0 && piece > 0 {
-            self.take_round(0, Reach::Stepped)?;
-        }
-        let author = Author(before.saturating_add(1));
-        let header = self.rounds.header(author)?;
-        self.take(author, Message::Header(header), is_work)?;
-        Ok(())
-    }
-
-    // The rounds are over the certificates of the others.
-    fn take_vote(&mut self, is_work: bool, piece: u64) -> Result<(), Ending> {
-        // The own vote is counted, too.
-        let before = place(piece, self.rounds.voters().saturating_sub(1));
-        if before == 0 {
-            self.begin(piece > 0)?;
-        }
-        let voter = Author(before.saturating_add(1));
-        let vote = Vote {
-            header: self.header,
-            round: self.rounds.round()?,
-            author: OWN,
-            voter,
-            signature: UNSIGNED,
+        let event = self.events.tested(self.validator.committee())?;
+        let is_piece = step.counts(event.message());
+        let steps = match step {
+            Step::Event => true,
+            _ => self.task.is_work || !is_piece,
         };
-        self.take(voter, Message::Vote(vote), is_work)?;
-        Ok(())
+        self.take(event, steps)?;
+        Ok(is_piece)
     }
 
-    // Steps the own header of the round, or of the next one.
-    fn begin(&mut self, goes_on: bool) -> Result<(), Ending> {
-        if goes_on {
-            self.certify_round(1, Reach::Stepped)?;
-            self.begin_anew()?;
+    // Takes an event that was tested, and steps it where that is wanted.
+    fn take(&mut self, event: Checked, steps: bool) -> Result<(), Ending>
+        requires { fault_of self.old.validator.setting.charter accepts_all event ≡ None }
+    {
+        self.fold.add_digest(&digest_in(&event));
+        if !steps {
+            return Ok(());
         }
-        let header = self.rounds.header(OWN)?;
-        self.header = self.take(OWN, Message::Header(header), true)?;
+        let step = self.validator.step(event)?;
+        self.fold.add_step(&step);
         Ok(())
     }
 
-    fn take_batch(&mut self, task: Task, piece: u64) -> Result<(), Ending> {
-        let batch = batch(self.alloc, PEER, piece, task.size)?;
-        self.take(PEER, Message::Batch(batch), task.is_work)?;
+    fn make_next(&mut self) -> Result<bool, Ending> {
+        self.fold.add_message(&self.events.made()?);
+        Ok(true)
+    }
+
+    // Begins with a new validator where this one was given a few rounds.
+    fn begin_anew(&mut self, step: Step) -> Result<(), Ending> {
+        if self.events.are_over(FEW) {
+            self.events = events_of(self.task, self.config.committee(), step)?;
+            self.validator = Validator::new(self.task.alloc, self.config)?;
+        }
         Ok(())
     }
 }

@@ -1,12 +1,14 @@
 //! Work on journals, in a book and at an opening.
 
+ghost use Rattle.std.specs.Prelude.{IfOk, OnOk};
 ghost use Rattle.journal.specs.Journal.{IsAlive};
 
 use crate::ending::Ending;
 use crate::events::Events;
 use crate::fold::Fold;
 use crate::settings::config_of;
-use crate::task::Task;
+use crate::stepping::events_of;
+use crate::task::{Step, Task};
 use book::OwnBook;
 use committee::Committee;
 use diskmodel::{Disk, MemDisk};
@@ -41,52 +43,56 @@ pub fn append_groups(task: Task) -> Result<Fold, Ending> {
 
 fn append_group(task: Task, piece: u64, fold: &mut Fold) -> Result<(), Ending> {
     let records = records_of(task, piece)?;
-    let (journal, _) = Journal::open(task.alloc, empty_disk(task.alloc)?)?;
+    let mut journal = empty_journal(task.alloc)?;
     if !task.is_work {
         fold.add(records.len() as u64);
         return Ok(());
     }
-    append_records(task.alloc, journal, records, fold)
-}
-
-fn append_records(
-    alloc: Global,
-    mut journal: Journal<MemDisk>,
-    records: Vec<Vec<u8>>,
-    fold: &mut Fold,
-) -> Result<(), Ending>
-    requires { IsAlive ⟦<MemDisk as Disk>⟧.content ⟦<MemDisk as Disk>⟧.outcome journal }
-{
-    let Some(group) = Group::new(alloc, records)? else {
-        return Err(Ending::Refused);
-    };
-    let synced = journal.append(group)?;
-    fold.add(synced.records());
+    fold.add(append(task.alloc, &mut journal, records)?);
     fold.add_bytes(journal.into_disk().bytes());
     Ok(())
 }
 
+// Adds a group of these records, and says how many it has.
+fn append(
+    alloc: Global,
+    journal: &mut Journal<MemDisk>,
+    records: Vec<Vec<u8>>,
+) -> Result<u64, Ending>
+    requires { IsAlive ⟦<MemDisk as Disk>⟧.content ⟦<MemDisk as Disk>⟧.outcome journal.old }
+    ensures { OnOk result (IsAlive ⟦<MemDisk as Disk>⟧.content ⟦<MemDisk as Disk>⟧.outcome journal.new) }
+{
+    match Group::new(alloc, records)? {
+        Some(group) => Ok(journal.append(group)?.records()),
+        None => Err(Ending::Refused),
+    }
+}
+
+// A journal on a disk of its own.
+fn empty_journal(alloc: Global) -> Result<Journal<MemDisk>, Ending>
+    ensures { IfOk result (λ journal. IsAlive ⟦<MemDisk as Disk>⟧.content ⟦<MemDisk as Disk>⟧.outcome journal) }
+{
+    let (journal, _) = Journal::open(alloc, empty_disk(alloc)?)?;
+    Ok(journal)
+}
+
 fn records_of(task: Task, piece: u64) -> Result<Vec<Vec<u8>>, AllocError> {
+    let mut record = [0; RECORD_BYTES];
+    record[..8].copy_from_slice(&piece.to_be_bytes());
     let mut records = Vec::new(task.alloc);
     for _ in 0..task.size {
-        let mut record = Vec::with_capacity(task.alloc, RECORD_BYTES)?;
-        record.extend_from_slice(&piece.to_be_bytes())?;
-        record.extend_from_slice(&[0; RECORD_BYTES - 8])?;
-        records.push(record)?;
+        records.push(record.to_vec(task.alloc)?)?;
     }
     Ok(records)
 }
 
-/// Events through a book, whose records are flushed as often as so many were accepted. Without that work, the same events
-/// through a validator.
+/// Events through a book, whose records are flushed as often as so many were accepted.
 pub fn keep_book(task: Task) -> Result<Fold, Ending> {
     let config = config_of(task)?;
-    let events = Events::all(task.alloc, config.committee())?;
-    if task.is_work {
-        accept_all(task, empty_book(task.alloc, &config)?, events)
-    } else {
-        step_all(task, Validator::new(task.alloc, &config)?, events)
-    }
+    let mut book = empty_book(task.alloc, &config)?;
+    let mut fold = Fold::new();
+    accept_all(task, &mut book, &mut fold)?;
+    Ok(fold)
 }
 
 fn empty_book<'a, S: Sign>(alloc: Global, config: &'a Config<S>) -> Result<OwnBook<'a, S>, Ending> {
@@ -96,42 +102,15 @@ fn empty_book<'a, S: Sign>(alloc: Global, config: &'a Config<S>) -> Result<OwnBo
     }
 }
 
-fn step_all(
-    task: Task,
-    mut validator: Validator<'_, HashSign>,
-    mut events: Events,
-) -> Result<Fold, Ending> {
-    let mut fold = Fold::new();
-    for _ in 0..task.count {
-        step_next(&mut validator, &mut events, &mut fold)?;
-    }
-    Ok(fold)
-}
-
-fn step_next(
-    validator: &mut Validator<'_, HashSign>,
-    events: &mut Events,
-    fold: &mut Fold,
-) -> Result<(), Ending> {
-    let event = events.next(validator.committee())?;
-    fold.add_step(&validator.step(event)?);
-    Ok(())
-}
-
-fn accept_all(
-    task: Task,
-    mut book: OwnBook<'_, HashSign>,
-    mut events: Events,
-) -> Result<Fold, Ending> {
-    let mut fold = Fold::new();
+fn accept_all(task: Task, book: &mut OwnBook<'_, HashSign>, fold: &mut Fold) -> Result<(), Ending> {
+    let mut events = events_of(task, book.committee(), Step::Event)?;
     for piece in 0..task.count {
         if piece % task.size.max(1) == 0 {
-            flush(task.alloc, &mut book, &mut fold)?;
+            flush(task.alloc, book, fold)?;
         }
-        accept_next(&mut book, &mut events, &mut fold)?;
+        accept_next(book, &mut events, fold)?;
     }
-    flush(task.alloc, &mut book, &mut fold)?;
-    Ok(fold)
+    flush(task.alloc, book, fold)
 }
 
 fn accept_next(
@@ -139,7 +118,7 @@ fn accept_next(
     events: &mut Events,
     fold: &mut Fold,
 ) -> Result<(), Ending> {
-    let event = events.next(book.committee())?;
+    let event = events.tested(book.committee())?;
     let receipt = book.accept(event)?;
     fold.add(receipt.ticket);
     Ok(())
@@ -148,22 +127,13 @@ fn accept_next(
 // Flushes all pending records, each group to a journal of its own, and releases what may go out.
 fn flush(alloc: Global, book: &mut OwnBook<'_, HashSign>, fold: &mut Fold) -> Result<(), Ending> {
     for _ in 0..u64::MAX {
-        flush_group(alloc, book, fold)?;
+        let mut journal = empty_journal(alloc)?;
+        fold.add(book.flush(&mut journal)?);
+        release_all(book, fold);
         if !book.has_pending() {
             break;
         }
     }
-    Ok(())
-}
-
-fn flush_group(
-    alloc: Global,
-    book: &mut OwnBook<'_, HashSign>,
-    fold: &mut Fold,
-) -> Result<(), Ending> {
-    let (mut journal, _) = Journal::open(alloc, empty_disk(alloc)?)?;
-    fold.add(book.flush(&mut journal)?);
-    release_all(book, fold);
     Ok(())
 }
 
@@ -179,13 +149,19 @@ fn release_all(book: &mut OwnBook<'_, HashSign>, fold: &mut Fold) {
 /// Opens a journal of so many certificates and coins.
 pub fn reopen_journal(task: Task) -> Result<Fold, Ending> {
     let config = config_of(task)?;
-    let disk = MemDisk::new(task.alloc, journal_of(task, &config)?)?;
+    let bytes = journal_of(task, &config)?;
+    open_bytes(task, &config, bytes)
+}
+
+fn open_bytes(task: Task, config: &Config<HashSign>, bytes: Vec<u8>) -> Result<Fold, Ending> {
+    let disk = MemDisk::new(task.alloc, bytes)?;
     let mut fold = Fold::new();
     fold.add_bytes(disk.bytes());
-    if task.is_work {
-        let (validator, _) = reopen(task.alloc, &config, disk)?;
-        look_at(&validator, &mut fold)?;
+    if !task.is_work {
+        return Ok(fold);
     }
+    let (validator, _) = reopen(task.alloc, config, disk)?;
+    look_at(&validator, &mut fold)?;
     Ok(fold)
 }
 
@@ -200,7 +176,7 @@ fn look_at(validator: &Validator<'_, HashSign>, fold: &mut Fold) -> Result<(), E
 // The bytes of a journal of so many certificates and coins, in groups as large as they may be.
 fn journal_of(task: Task, config: &Config<HashSign>) -> Result<Vec<u8>, Ending> {
     let mut bytes = first_group(task.alloc, config)?;
-    let mut events = Events::certificates(task.alloc, config.committee())?;
+    let mut events = events_of(task, config.committee(), Step::Round)?;
     put_groups(task, config.committee(), &mut events, &mut bytes)?;
     bytes.push(CLOSED)?;
     Ok(bytes)
@@ -217,7 +193,7 @@ fn put_groups(
         if piece % MAX_GROUP_RECORDS as u64 == 0 {
             put_group(bytes, &mut body)?;
         }
-        let event = events.next(committee)?;
+        let event = events.tested(committee)?;
         put_record(task.alloc, &mut body, &event)?;
     }
     put_group(bytes, &mut body)

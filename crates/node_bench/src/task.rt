@@ -34,6 +34,9 @@ pub enum Step {
     Batch,
     /// Rounds of all members' certificates, with a coin a wave.
     Round,
+    /// Events of such rounds, with the headers of the others before the certificates. They are stepped without the work, too:
+    /// that is what comes before a book's.
+    Event,
 }
 
 /// A kind of work.
@@ -57,32 +60,179 @@ pub enum Kind {
     Node,
 }
 
-/// What is to be done, how often, and how large. Without the work only that is done which has to come before it.
+/// How much of a kind of work is to be done. Without the work only that is done which has to come before it.
 #[derive(Clone, Copy)]
 pub struct Task {
     /// What memory comes from.
     pub alloc: Global,
-    /// The kind of work.
-    pub kind: Kind,
     /// Whether the work is done.
     pub is_work: bool,
     /// How many pieces.
     pub count: u64,
     /// What a size is of this kind.
     pub size: u64,
+    /// How many members the committee has: the size, or four where that is something else.
+    pub members: u16,
 }
 
 /// What stands before a kind of work of which only the preparation is done.
 const PREPARE: &str = "prepare-";
 
-/// Members where the size is something else.
-const FOUR: u16 = 4;
-
 /// Pieces, at most.
 const MOST: u64 = 1_000_000_000;
 
+/// Which sizes a kind of work may have, which it has where none is given, and how many members there are: None where that is
+/// the size.
+#[derive(Clone, Copy)]
+pub struct Sizes {
+    usual: u64,
+    least: u64,
+    most: u64,
+    members: Option<u16>,
+}
+
+/// There is none.
+const NO_SIZE: Sizes = Sizes {
+    usual: 0,
+    least: 1,
+    most: 0,
+    members: Some(4),
+};
+
+/// Members: four, seven, and so on.
+const MEMBERS: Sizes = Sizes {
+    usual: 4,
+    least: 4,
+    most: 31,
+    members: None,
+};
+
+/// Bytes of a batch's body.
+const BODY: Sizes = Sizes {
+    usual: 100_000,
+    least: 20,
+    most: 500_000,
+    members: Some(4),
+};
+
+/// Bytes of a piece of the stream.
+const STREAM: Sizes = Sizes {
+    usual: 4_096,
+    least: 1,
+    most: 1_048_576,
+    members: Some(4),
+};
+
+/// Records of a group.
+const GROUP: Sizes = Sizes {
+    usual: 1_024,
+    least: 1,
+    most: 1_024,
+    members: Some(4),
+};
+
+/// Events between two flushes.
+const FLUSH: Sizes = Sizes {
+    usual: 1_024,
+    least: 1,
+    most: 1_000_000,
+    members: Some(4),
+};
+
+/// The kinds of work: the word of each, how many pieces are done where no words are given, and its sizes.
+pub const WORKS: [(&str, Kind, u64, Sizes); 23] = [
+    ("hash", Kind::Hash, 1_000, NO_SIZE),
+    (
+        "decode-header",
+        Kind::Message(Act::Decode, Form::Header),
+        20,
+        MEMBERS,
+    ),
+    (
+        "decode-certificate",
+        Kind::Message(Act::Decode, Form::Certificate),
+        20,
+        MEMBERS,
+    ),
+    (
+        "decode-batch",
+        Kind::Message(Act::Decode, Form::Batch),
+        3,
+        BODY,
+    ),
+    (
+        "encode-header",
+        Kind::Message(Act::Encode, Form::Header),
+        20,
+        MEMBERS,
+    ),
+    (
+        "encode-certificate",
+        Kind::Message(Act::Encode, Form::Certificate),
+        20,
+        MEMBERS,
+    ),
+    (
+        "encode-batch",
+        Kind::Message(Act::Encode, Form::Batch),
+        3,
+        BODY,
+    ),
+    (
+        "check-header",
+        Kind::Message(Act::Check, Form::Header),
+        20,
+        MEMBERS,
+    ),
+    (
+        "check-certificate",
+        Kind::Message(Act::Check, Form::Certificate),
+        20,
+        MEMBERS,
+    ),
+    (
+        "check-batch",
+        Kind::Message(Act::Check, Form::Batch),
+        3,
+        BODY,
+    ),
+    (
+        "recheck-header",
+        Kind::Message(Act::Recheck, Form::Header),
+        20,
+        MEMBERS,
+    ),
+    (
+        "recheck-certificate",
+        Kind::Message(Act::Recheck, Form::Certificate),
+        20,
+        MEMBERS,
+    ),
+    (
+        "recheck-batch",
+        Kind::Message(Act::Recheck, Form::Batch),
+        3,
+        BODY,
+    ),
+    ("frames", Kind::Frames, 100, STREAM),
+    ("step-header", Kind::Steps(Step::Header), 60, MEMBERS),
+    ("step-vote", Kind::Steps(Step::Vote), 40, MEMBERS),
+    (
+        "step-certificate",
+        Kind::Steps(Step::Certificate),
+        80,
+        MEMBERS,
+    ),
+    ("step-batch", Kind::Steps(Step::Batch), 3, BODY),
+    ("order", Kind::Steps(Step::Round), 70, MEMBERS),
+    ("append", Kind::Append, 2, GROUP),
+    ("book", Kind::Book, 1_500, FLUSH),
+    ("reopen", Kind::Reopen, 1_500, MEMBERS),
+    ("node", Kind::Node, 500, FLUSH),
+];
+
 /// The task of these words, if it is one.
-pub fn task_of(alloc: Global, words: &[String]) -> Option<Task> {
+pub fn task_of(alloc: Global, words: &[String]) -> Option<(Kind, Task)> {
     match words {
         [word, count] => sized(alloc, word.as_str(), number(count.as_str())?, None),
         [word, count, size] => {
@@ -94,23 +244,35 @@ pub fn task_of(alloc: Global, words: &[String]) -> Option<Task> {
 }
 
 /// The task of so many pieces of a kind, of this size or of the kind's own.
-pub fn sized(alloc: Global, word: &str, count: u64, size: Option<u64>) -> Option<Task> {
+pub fn sized(alloc: Global, word: &str, count: u64, size: Option<u64>) -> Option<(Kind, Task)> {
     let (is_work, name) = match word.strip_prefix(PREPARE) {
         Some(name) => (false, name),
         None => (true, word),
     };
-    let kind = kind_of(name)?;
-    let sizes = sizes_of(kind);
+    let (kind, sizes) = work_of(name)?;
     if count > MOST || !size.is_none_or(|size| sizes.least <= size && size <= sizes.most) {
         return None;
     }
-    Some(Task {
+    let size = size.unwrap_or(sizes.usual);
+    let task = Task {
         alloc,
-        kind,
         is_work,
         count,
-        size: size.unwrap_or(sizes.usual),
-    })
+        size,
+        members: sizes
+            .members
+            .unwrap_or(size.min(u64::from(u16::MAX)) as u16),
+    };
+    Some((kind, task))
+}
+
+fn work_of(word: &str) -> Option<(Kind, Sizes)> {
+    for (name, kind, _, sizes) in &WORKS {
+        if *name == word {
+            return Some((*kind, *sizes));
+        }
+    }
+    None
 }
 
 // Decimal digits.
@@ -119,109 +281,4 @@ fn number(word: &str) -> Option<u64> {
         return None;
     }
     word.parse().ok()
-}
-
-fn kind_of(word: &str) -> Option<Kind> {
-    match word {
-        "hash" => Some(Kind::Hash),
-        "frames" => Some(Kind::Frames),
-        "append" => Some(Kind::Append),
-        "book" => Some(Kind::Book),
-        "reopen" => Some(Kind::Reopen),
-        "node" => Some(Kind::Node),
-        _ => match step_of(word) {
-            Some(step) => Some(Kind::Steps(step)),
-            None => kind_of_form(word),
-        },
-    }
-}
-
-// Each step by its word.
-const STEPS: [(&str, Step); 5] = [
-    ("step-header", Step::Header),
-    ("step-vote", Step::Vote),
-    ("step-certificate", Step::Certificate),
-    ("step-batch", Step::Batch),
-    ("order", Step::Round),
-];
-
-fn step_of(word: &str) -> Option<Step> {
-    for (name, step) in &STEPS {
-        if *name == word {
-            return Some(*step);
-        }
-    }
-    None
-}
-
-fn kind_of_form(word: &str) -> Option<Kind> {
-    let (act, noun) = word.split_once('-')?;
-    Some(Kind::Message(act_of(act)?, form_of(noun)?))
-}
-
-fn act_of(word: &str) -> Option<Act> {
-    match word {
-        "decode" => Some(Act::Decode),
-        "encode" => Some(Act::Encode),
-        "check" => Some(Act::Check),
-        "recheck" => Some(Act::Recheck),
-        _ => None,
-    }
-}
-
-fn form_of(word: &str) -> Option<Form> {
-    match word {
-        "header" => Some(Form::Header),
-        "certificate" => Some(Form::Certificate),
-        "batch" => Some(Form::Batch),
-        _ => None,
-    }
-}
-
-// Which sizes a kind of work may have, and which it has where none is given.
-#[derive(Clone, Copy)]
-struct Sizes {
-    usual: u64,
-    least: u64,
-    most: u64,
-}
-
-fn sizes_of(kind: Kind) -> Sizes {
-    match kind {
-        // It has none.
-        Kind::Hash => make_sizes(0, 1, 0),
-        // Bytes of a batch's body.
-        Kind::Steps(Step::Batch) | Kind::Message(_, Form::Batch) => {
-            make_sizes(100_000, 20, 500_000)
-        }
-        // Bytes of a piece of the stream.
-        Kind::Frames => make_sizes(4_096, 1, 1_048_576),
-        // Records of a group.
-        Kind::Append => make_sizes(1_024, 1, 1_024),
-        // Events between two flushes.
-        Kind::Book | Kind::Node => make_sizes(1_024, 1, 1_000_000),
-        // Members: four, seven, and so on.
-        _ => make_sizes(4, 4, 31),
-    }
-}
-
-impl Task {
-    /// How many members the committee has: the size, or four where that is something else.
-    pub fn members(self) -> u16 {
-        match self.kind {
-            Kind::Message(_, Form::Header | Form::Certificate) | Kind::Reopen =>
-                self.members_of_size(),
-            Kind::Steps(Step::Batch) => FOUR,
-            Kind::Steps(_) => self.members_of_size(),
-            _ => FOUR,
-        }
-    }
-
-    fn members_of_size(self) -> u16 {
-        self.size.min(u64::from(u16::MAX)) as u16
-    }
-}
-
-fn make_sizes(usual: u64, least: u64, most: u64) -> Sizes {
-    Sizes { usual, least, most }
 }

@@ -1,13 +1,15 @@
 //! Work on messages alone: hashing, reading, writing and testing.
 
 use crate::ending::Ending;
+use crate::events::digest_in;
 use crate::fold::Fold;
-use crate::messages::{RING, Ring, again, sender_of};
+use crate::messages::{Made, RING, Ring, again};
 use crate::task::{Act, Form, Task};
+use committee::Committee;
 use header::{check, recheck};
 use sha2::{Digest as _, Sha256};
 use sigface::HashVerify;
-use std::alloc::AllocError;
+use std::alloc::{AllocError, Global};
 use wire::{Message, encode};
 use wire_read::{FrameReader, decode};
 
@@ -41,59 +43,57 @@ fn go_round(task: Task, act: Act, ring: &Ring) -> Result<Fold, Ending> {
 
 // The work on one of the messages.
 fn work_once(task: Task, act: Act, ring: &Ring, place: u64, fold: &mut Fold) -> Result<(), Ending> {
-    let place = place as usize;
-    match (act, ring.messages.get(place), ring.bytes.get(place)) {
-        (Act::Decode, _, Some(bytes)) => decode_once(task, bytes, fold),
-        (Act::Encode, Some(message), _) => Ok(encode_once(task, message, fold)?),
-        (Act::Check, Some(message), _) => test_once(task, ring, again(message)?, true, fold),
-        (Act::Recheck, Some(message), _) => test_once(task, ring, again(message)?, false, fold),
-        _ => Err(Ending::Refused),
+    let Some(made) = ring.made.get(place as usize) else {
+        return Err(Ending::Refused);
+    };
+    match act {
+        Act::Decode if task.is_work => decode_once(task.alloc, &made.bytes, fold),
+        Act::Encode if task.is_work => Ok(encode_once(task.alloc, &made.message, fold)?),
+        Act::Check | Act::Recheck => test_once(task, act, ring.config.committee(), made, fold),
+        // Without the work.
+        Act::Decode | Act::Encode => {
+            fold.add_message(&made.message);
+            Ok(())
+        }
     }
 }
 
-fn decode_once(task: Task, bytes: &[u8], fold: &mut Fold) -> Result<(), Ending> {
-    if task.is_work {
-        fold.add_message(&decode(task.alloc, bytes)?);
-    } else {
-        fold.add_bytes(bytes);
-    }
+fn decode_once(alloc: Global, bytes: &[u8], fold: &mut Fold) -> Result<(), Ending> {
+    fold.add_message(&decode(alloc, bytes)?);
     Ok(())
 }
 
-fn encode_once(task: Task, message: &Message, fold: &mut Fold) -> Result<(), AllocError> {
-    if task.is_work {
-        let bytes = encode(task.alloc, message)?;
-        fold.add_bytes(&bytes);
-        fold.add_bytes(&bytes[bytes.len() / 2..]);
-    } else {
-        fold.add_message(message);
-    }
+fn encode_once(alloc: Global, message: &Message, fold: &mut Fold) -> Result<(), AllocError> {
+    let bytes = encode(alloc, message)?;
+    fold.add_bytes(&bytes);
+    fold.add_bytes(&bytes[bytes.len() / 2..]);
     Ok(())
 }
 
 fn test_once(
     task: Task,
-    ring: &Ring,
-    message: Message,
-    is_signed: bool,
+    act: Act,
+    committee: &Committee,
+    made: &Made,
     fold: &mut Fold,
 ) -> Result<(), Ending> {
+    let message = again(&made.message)?;
     if !task.is_work {
         fold.add_message(&message);
         return Ok(());
     }
-    let sender = sender_of(&message);
-    let tested = match is_signed {
-        true => check(ring.config.committee(), &HashVerify, sender, message),
-        false => recheck(ring.config.committee(), sender, message),
+    let tested = match act {
+        Act::Check => check(committee, &HashVerify, made.sender, message),
+        _ => recheck(committee, made.sender, message),
     };
-    fold.add_event(&tested?);
+    fold.add_digest(&digest_in(&tested?));
     Ok(())
 }
 
 /// Cuts a stream of frames, each of a sender and a header, into their bodies. It comes in pieces of a size.
 pub fn cut_frames(task: Task) -> Result<Fold, Ending> {
-    let stream = stream_of(task)?;
+    let ring = Ring::new(task, Form::Header)?;
+    let stream = stream_of(task, &ring)?;
     cut(task, &stream)
 }
 
@@ -122,16 +122,11 @@ fn feed(
     Ok(())
 }
 
-fn stream_of(task: Task) -> Result<Vec<u8>, Ending> {
-    let ring = Ring::new(task, Form::Header)?;
-    stream_over(task, &ring.bytes)
-}
-
-fn stream_over(task: Task, bytes: &[Vec<u8>]) -> Result<Vec<u8>, Ending> {
+fn stream_of(task: Task, ring: &Ring) -> Result<Vec<u8>, Ending> {
     let mut stream = Vec::new(task.alloc);
     for piece in 0..task.count {
-        if let Some(one) = bytes.get((piece % RING) as usize) {
-            put_frame(&mut stream, one)?;
+        if let Some(made) = ring.made.get((piece % RING) as usize) {
+            put_frame(&mut stream, &made.bytes)?;
         }
     }
     Ok(stream)
