@@ -73,7 +73,7 @@ impl Step {
             (Step::Header, Message::Header(_)) => true,
             (Step::Vote, Message::Vote(_)) => true,
             (Step::Certificate, Message::Certificate(_)) => true,
-            (Step::Batch | Step::Round | Step::Event, _) => true,
+            (Step::Batch | Step::Round, _) => true,
             _ => false,
         }
     }
@@ -108,15 +108,13 @@ impl<'a> Walk<'a> {
         match step {
             Step::Vote | Step::Certificate => self.begin_anew(step)?,
             Step::Round if !self.task.is_work => return self.make_next(),
+            Step::Event => return self.step_next(),
             _ => {}
         }
         let event = self.events.tested(self.validator.committee())?;
         let is_piece = step.counts(event.message());
-        let steps = match step {
-            Step::Event => true,
-            _ => self.task.is_work || !is_piece,
-        };
-        self.take(event, steps)?;
+        self.fold.add_digest(&digest_in(&event));
+        self.take(event, self.task.is_work || !is_piece)?;
         Ok(is_piece)
     }
 
@@ -124,13 +122,19 @@ impl<'a> Walk<'a> {
     fn take(&mut self, event: Checked, steps: bool) -> Result<(), Ending>
         requires { fault_of self.old.validator.setting.charter accepts_all event ≡ None }
     {
-        self.fold.add_digest(&digest_in(&event));
         if !steps {
             return Ok(());
         }
         let step = self.validator.step(event)?;
         self.fold.add_step(&step);
         Ok(())
+    }
+
+    // Its digest isn't added: a book's sum has none, either.
+    fn step_next(&mut self) -> Result<bool, Ending> {
+        let event = self.events.tested(self.validator.committee())?;
+        self.take(event, true)?;
+        Ok(true)
     }
 
     fn make_next(&mut self) -> Result<bool, Ending> {
