@@ -133,7 +133,8 @@ impl<'a> Walk<'a> {
     // Its digest isn't added: a book's sum has none, either.
     fn step_next(&mut self) -> Result<bool, Ending> {
         let event = self.events.tested(self.validator.committee())?;
-        self.take(event, true)?;
+        let step = self.validator.step(event)?;
+        self.fold.add_step(&step);
         Ok(true)
     }
 
