@@ -3,10 +3,13 @@ use Rattle.std.proofs.Common.{◌≡◌, ◌≢◌, ℕ, ◌+◌, ◌-◌, ◌<�
 use Rattle.std.specs.Option.{option_map, option_and_then, option_map_or}
 use Rattle.std.proofs.lemmas.Bool.{cases_eq, ne_eqb, cond-false}
 use Rattle.journal.specs.Format.{group_bytes, split_record, records_behind, records_of, group_of, body_at, kept_at, kept, with_front, walk, stands}
-use Rattle.journal.specs.Journal.{EndsClosed}
+use Rattle.journal.specs.Journal.{with_group, EndsClosed, IsBeforeOrAfter}
 use Rattle.journal.specs.declared.layout.TheConstants.{MAX_GROUP_RECORDS, MAX_JOURNAL_BYTES}
 use Rattle.journal.specs.declared.record.Record.{Record}
 use Rattle.journal.proofs.Walks.{walk_closed, body_stands}
+use Rattle.model.specs.Nodes.{Node}
+use Rattle.records.specs.Records.{configuration_of}
+use Rattle.recovery.specs.Told.{KeepsOrBegins}
 
 abbrev Found : Type 0
 Found = List Record × ℕ
@@ -100,3 +103,11 @@ group_length bytes = omega (arith, length-append (bytes ++ []) (0 ∷ []), lengt
 pub never_full : (file : List ℕ) (record_bytes : List ℕ) → EndsClosed file → stands file ≡ Ok [] → length record_bytes ≤ 1006 → MAX_JOURNAL_BYTES < length file + length (group_bytes (record_bytes ∷ [])) → ⊥
 never_full file record_bytes ends none short full =
     omega (arith, full, empty_length file ends none, group_length record_bytes, short)
+
+-- what a stop leaves while a first record is added to it
+pub begins_with : (node : Node) (file left : List ℕ) → EndsClosed file → stands file ≡ Ok [] → IsBeforeOrAfter file (configuration_of node.charter node.own ∷ []) left → KeepsOrBegins node file left
+begins_with node file left ends none (inl same) = inl same
+begins_with node file left ends none (inr with_it) =
+    let configuration = configuration_of node.charter node.own in
+    let gate : length file - 1 ≡ 0 = omega (arith, empty_length file ends none) in
+    inr (none, with_it ∙ ap (with_group (length file - 1) (configuration ∷ [])) none ∙ ap (λ (place : ℕ). Ok (kept_at place configuration ∷ [])) gate)

@@ -29,7 +29,7 @@ use Rattle.validator.specs.Standing.{AreAtSound}
 use Rattle.wire.specs.Reading.{Faults, message_of}
 use Rattle.wire.specs.declared.error.WireError.{WireError}
 use Rattle.wire.specs.declared.error.WireError.TheVariants as wire
-use Rattle.recovery.specs.Told.{checked_in, sender_in, event_in, with_new, read_event, go_on, read_events, or_damaged, unless, is_configuration, is_alone, has_ones, stakes_fault, first_fault, read_journal, told_by, told, Tells, StandsAt, IsOld, IsToldAsOneOf}
+use Rattle.recovery.specs.Told.{checked_in, sender_in, event_in, with_new, read_event, go_on, read_events, or_damaged, unless, is_configuration, is_alone, has_ones, stakes_fault, first_fault, read_journal, told_by, told, Tells, StandsAt, IsOld, IsToldAsOneOf, KeepsOrBegins, KeepsRecords}
 
 -- an error of which more is known
 pub err_weaker : {A E : Type 0} (r : Result A E) (P Q : E → Type 0) → ((e : E) → P e → Q e) → IfErr r P → IfErr r Q
@@ -362,6 +362,15 @@ opening_fails node bytes Full damaged full config device = absurd (full refl)
 
 pub as_one_of : (node : Node) (outcome : List ℕ → Type 0) (left : List ℕ) → StandsAsOneOf outcome left → IsToldAsOneOf node outcome left
 as_one_of node outcome left (first, possible, same) = (first, possible, told_same node left first same)
+
+-- an opening of the journal leaves the records of one outcome
+pub keeps_one : (node : Node) (outcome : List ℕ → Type 0) (left : List ℕ) → StandsAsOneOf outcome left → KeepsRecords node outcome left
+keeps_one node outcome left (first, possible, same) = (first, possible, inl same)
+
+-- and what is kept of bytes that stand for the same is kept of these
+pub keeps_same : (node : Node) (file mid left : List ℕ) → stands mid ≡ stands file → KeepsOrBegins node mid left → KeepsOrBegins node file left
+keeps_same node file mid left same (inl kept) = inl (kept ∙ same)
+keeps_same node file mid left same (inr (none, begun)) = inr (sym same ∙ none, begun)
 
 pub stands_same : (node : Node) (one other : Result History JournalError) (tables : Tables) → one ≡ other → StandsAt node one tables → StandsAt node other tables
 stands_same node one other tables same stands = subst (λ r. StandsAt node r tables) same stands

@@ -1,5 +1,5 @@
 -- What the bytes of a node's journal are told as: the events that they have, or why they are none of this node's.
-use Rattle.std.specs.Prelude.{◌≡◌, ◌≢◌, All, ℕ, ◌+◌, ◌*◌, ◌==◌, ◌&&◌, not, nat_lt, Bool, List, [], ◌∷◌, ◌++◌, length, drop, Option, Some, None, is_none, Result, Ok, Err, slice_index, if◌then◌else◌}
+use Rattle.std.specs.Prelude.{◌≡◌, ◌≢◌, ◌⊎◌, All, ℕ, ◌+◌, ◌*◌, ◌==◌, ◌&&◌, not, nat_lt, Bool, List, [], ◌∷◌, ◌++◌, length, drop, Option, Some, None, is_none, Result, Ok, Err, slice_index, if◌then◌else◌}
 use Rattle.std.specs.Int.{w16, from_be_bytes}
 use Rattle.std.specs.List.{list_all}
 use Rattle.std.specs.Option.{option_map_or}
@@ -9,7 +9,7 @@ use Rattle.admission.specs.declared.step.Step.TheVariants.{New, Known}
 use Rattle.committee.specs.Charter.{Charter}
 use Rattle.diskmodel.specs.Outcomes.{AreBytes}
 use Rattle.header.specs.Checks.{fault_of, accepts_all}
-use Rattle.journal.specs.Format.{stands}
+use Rattle.journal.specs.Format.{kept_at, stands}
 use Rattle.journal.specs.declared.error.JournalError.{JournalError}
 use Rattle.journal.specs.declared.error.JournalError.TheVariants.{Memory, Damaged, ConfigMismatch}
 use Rattle.journal.specs.declared.record.Record.{Record}
@@ -156,6 +156,14 @@ IsOld (Err refusal) = refusal ≢ refusals.Memory
 -- the records for which bytes stand have bytes, whatever the first one is
 abbrev pub HasTexts : List ℕ → Type 0
 HasTexts file = (records : List Record) → stands file ≡ Ok records → All IsText (drop 1 records)
+
+-- what is left of these bytes stands for their records, whoever's they are, or where they have none for the node's configuration alone
+abbrev pub KeepsOrBegins : Node → List ℕ → List ℕ → Type 0
+KeepsOrBegins node file left = (stands left ≡ stands file) ⊎ ((stands file ≡ Ok []) × (stands left ≡ Ok (kept_at 0 (configuration_of node.charter node.own) ∷ [])))
+
+-- so it is of one of these outcomes
+abbrev pub KeepsRecords : Node → (List ℕ → Type 0) → List ℕ → Type 0
+KeepsRecords node outcome left = (first : List ℕ) × outcome first × KeepsOrBegins node first left
 
 -- what a stop leaves is told as one of these outcomes is
 abbrev pub IsToldAsOneOf : Node → (List ℕ → Type 0) → List ℕ → Type 0

@@ -8,7 +8,7 @@ ghost use Rattle.journal.specs.Journal.{disk_of, IsAlive, IsClosedUp};
 ghost use Rattle.records.specs.Records.{configuration_of};
 ghost use Rattle.validator.specs.Setting.{node_of};
 ghost use Rattle.recovery.specs.Laws.{StandsForAt, HoldsAt, IsLeft, AreLeftTold, IsNoRefusal};
-ghost use Rattle.recovery.specs.Told.{IsText, HasTexts, is_configuration as told_configuration, is_alone as told_alone, has_ones as told_ones, read_journal, told, Tells, StandsAt, IsToldAsOneOf};
+ghost use Rattle.recovery.specs.Told.{IsText, HasTexts, is_configuration as told_configuration, is_alone as told_alone, has_ones as told_ones, read_journal, told, Tells, StandsAt, IsToldAsOneOf, KeepsOrBegins, KeepsRecords};
 
 use crate::configuration::{
     configuration, configuration_group, has_ones, is_configuration, keys_hold,
@@ -58,6 +58,9 @@ pub fn reopen<'a, S: Sign, D: Disk>(
     // A stop at any moment of the call leaves what is told as one outcome from before it is.
     ensures any_moment { IfOk result (λ opened. AtEachMoment D.clock D.outcome_since disk (disk_of opened.1) (IsToldAsOneOf (node_of S.own_key S.signature_of config.now) (D.outcome disk))) }
     ensures any_moment_err { IfErr result (λ failed. AtEachMoment D.clock D.outcome_since disk failed.disk (IsToldAsOneOf (node_of S.own_key S.signature_of config.now) (D.outcome disk))) }
+    // It leaves the records, whoever's they are and whatever it answers, or where there are none the configuration alone.
+    ensures keeps { IfOk result (λ opened. AtEachMoment D.clock D.outcome_since disk (disk_of opened.1) (KeepsRecords (node_of S.own_key S.signature_of config.now) (D.outcome disk))) }
+    ensures keeps_err { IfErr result (λ failed. AtEachMoment D.clock D.outcome_since disk failed.disk (KeepsRecords (node_of S.own_key S.signature_of config.now) (D.outcome disk))) }
 
     // What a stop leaves in a world of this node is never refused.
     ensures never_refused { IfErr result (λ failed. IsLeft (node_of S.own_key S.signature_of config.now) (D.content disk) → IsNoRefusal failed.error) }
@@ -104,6 +107,7 @@ fn validator_on<'a, S: Sign, D: Disk>(
     ensures never_full { IfErr result (λ error. error ≢ JournalError.Full) }
     ensures unchanged { IfErr result (λ error. error ≢ JournalError.Device → D.content (disk_of journal.new) ≡ D.content (disk_of journal.old)) }
     ensures any_moment { AtEachMoment D.clock D.outcome_since (disk_of journal.old) (disk_of journal.new) (λ left. told (node_of S.own_key S.signature_of config.now) left ≡ told (node_of S.own_key S.signature_of config.now) (D.content (disk_of journal.old))) }
+    ensures keeps { AtEachMoment D.clock D.outcome_since (disk_of journal.old) (disk_of journal.new) (KeepsOrBegins (node_of S.own_key S.signature_of config.now) (D.content (disk_of journal.old))) }
     ensures texts { OnOk result (All IsText (drop 1 records.now)) }
     ensures texts_left { OnOk result (HasTexts (D.content (disk_of journal.new))) }
 {
@@ -214,6 +218,7 @@ fn write_configuration<S: Sign, D: Disk>(
     ensures no_fault { OnOk result (D.faults (disk_of journal.new) ≡ D.faults (disk_of journal.old)) }
     ensures unchanged { IfErr result (λ error. error ≡ JournalError.Memory → journal.new ≡ journal.old) }
     ensures any_moment { AtEachMoment D.clock D.outcome_since (disk_of journal.old) (disk_of journal.new) (λ left. told (node_of S.own_key S.signature_of config.now) left ≡ told (node_of S.own_key S.signature_of config.now) (D.content (disk_of journal.old))) }
+    ensures keeps { AtEachMoment D.clock D.outcome_since (disk_of journal.old) (disk_of journal.new) (KeepsOrBegins (node_of S.own_key S.signature_of config.now) (D.content (disk_of journal.old))) }
 {
     let group = configuration_group(alloc, config.committee(), config.own())?;
     let _ = journal.append(group)?.records();

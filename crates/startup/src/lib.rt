@@ -4,15 +4,15 @@
 mod caller;
 mod rounds;
 
-ghost use Rattle.std.specs.Prelude.{◌≡◌, ◌≢◌, ◌<◌, [], false, Ok, IfOk, IfErr};
+ghost use Rattle.std.specs.Prelude.{◌≡◌, ◌≢◌, ◌⊎◌, ◌<◌, [], false, Ok, IfOk, IfErr};
 ghost use Rattle.diskmodel.specs.Disk.{AtEachMoment};
-ghost use Rattle.journal.specs.Journal.{disk_of, IsAlive};
+ghost use Rattle.journal.specs.Journal.{disk_of, IsAlive, IsClosedUp};
 ghost use Rattle.model.specs.Admitting.{IsLegal};
 ghost use Rattle.model.specs.Giving.{kept};
 ghost use Rattle.world.specs.World.{Holds};
 ghost use Rattle.validator.specs.Setting.{node_of};
 ghost use Rattle.validator.specs.Standing.{AreAtSound};
-ghost use Rattle.recovery.specs.Told.{told, Tells, IsToldAsOneOf};
+ghost use Rattle.recovery.specs.Told.{told, Tells, IsToldAsOneOf, KeepsRecords};
 ghost use Rattle.shared.specs.Home.{IsOf};
 ghost use Rattle.flusher.specs.Rounds.{journal_of, is_down, settled_in, taken_in, IsFlusherOf};
 
@@ -55,9 +55,16 @@ pub fn start<'a, S: Sign, D: Disk>(
     ensures no_fault { IfOk result (λ started. D.faults (disk_of (journal_of started.2)) ≡ D.faults disk) }
     ensures no_fault_err { IfErr result (λ failed. failed.error ≢ JournalError.Device → D.faults failed.disk ≡ D.faults disk) }
 
+    // Only a failure of the disk or of the memory leaves other bytes than there were, but for those behind the closed gate.
+    ensures unchanged { IfErr result (λ failed. failed.error ≢ JournalError.Device → failed.error ≢ JournalError.Memory → (D.content failed.disk ≡ D.content disk) ⊎ IsClosedUp (D.content disk) (D.content failed.disk)) }
+
     // A stop at any moment of the call leaves what is told as one outcome from before it is.
     ensures any_moment { IfOk result (λ started. AtEachMoment D.clock D.outcome_since disk (disk_of (journal_of started.2)) (IsToldAsOneOf (node_of S.own_key S.signature_of config.now) (D.outcome disk))) }
     ensures any_moment_err { IfErr result (λ failed. AtEachMoment D.clock D.outcome_since disk failed.disk (IsToldAsOneOf (node_of S.own_key S.signature_of config.now) (D.outcome disk))) }
+
+    // It leaves the records, whoever's they are and whatever it answers, or where there are none the configuration alone.
+    ensures keeps { IfOk result (λ started. AtEachMoment D.clock D.outcome_since disk (disk_of (journal_of started.2)) (KeepsRecords (node_of S.own_key S.signature_of config.now) (D.outcome disk))) }
+    ensures keeps_err { IfErr result (λ failed. AtEachMoment D.clock D.outcome_since disk failed.disk (KeepsRecords (node_of S.own_key S.signature_of config.now) (D.outcome disk))) }
 {
     let (validator, journal) = reopen(alloc, config, disk)?;
     begin::<Brand, S, D>(alloc, validator, journal)

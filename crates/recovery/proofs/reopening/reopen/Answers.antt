@@ -4,9 +4,9 @@ use Rattle.std.specs.Prelude.{All}
 use Rattle.std.proofs.lemmas.Result.{err_from_is_err_and}
 use Rattle.journal.specs.Journal.{disk_of, StandsAsOneOf}
 use Rattle.validator.specs.Setting.{node_of}
-use Rattle.recovery.specs.Told.{IsText, told, IsToldAsOneOf}
+use Rattle.recovery.specs.Told.{IsText, told, IsToldAsOneOf, KeepsOrBegins, KeepsRecords}
 use Rattle.diskmodel.proofs.Clock.{weaker, joins}
-use Rattle.recovery.proofs.Telling.{told_same, tells_same, stands_same, opening_fails, as_one_of}
+use Rattle.recovery.proofs.Telling.{told_same, tells_same, stands_same, opening_fails, as_one_of, keeps_one, keeps_same}
 use Rattle.recovery.proofs.Opened.{stands_for_at, holds_at, no_refusal}
 use Rattle.recovery.proofs.reopening.reopen.Goals as goal
 
@@ -112,3 +112,37 @@ returns-clause-never_refused g c = λ is.
 
 pub from_residual-requires : goal.from_residual-requires
 from_residual-requires g c κs = λ h. simp in_lives (search rules)
+
+pub returns-in_err-journal-clause-keeps_err : goal.returns-in_err-journal-clause-keeps_err
+returns-in_err-journal-clause-keeps_err g c =
+    let node = node_of g.S.Sign.own_key g.S.Sign.signature_of c.args.config.now in
+    let outcome = g.D.Disk.outcome c.args.disk in
+    let p = err_from_is_err_and c.from_residual.result c.from_residual.ensures.1 in
+    rw (p.1, p.2)
+    (weaker g.D.Disk.clock g.D.Disk.outcome_since c.args.disk c.in_err-journal.field-0.0.disk (KeepsRecords node outcome) (StandsAsOneOf outcome) c.in_err-journal.ensures.any_moment_err
+    (λ left is. keeps_one node outcome left is))
+
+pub returns-in-Ok-clause-keeps : goal.returns-in-Ok-clause-keeps
+returns-in-Ok-clause-keeps g c =
+    let node = node_of g.S.Sign.own_key g.S.Sign.signature_of c.args.config.now in
+    let outcome = g.D.Disk.outcome c.args.disk in
+    let file = g.D.Disk.content c.args.disk in
+    let middle = disk_of c.in_ok-journal.journal in
+    let mid = g.D.Disk.content middle in
+    let P : List ℕ → Type 0 = KeepsRecords node outcome in
+    let first = weaker g.D.Disk.clock g.D.Disk.outcome_since c.args.disk middle P (StandsAsOneOf outcome) c.in_ok-journal.ensures.any_moment (λ left is. keeps_one node outcome left is) in
+    joins g.D.Disk.clock g.D.Disk.outcome_since c.args.disk middle (disk_of c.validator_on.new.journal) P (KeepsOrBegins node mid) first c.validator_on.ensures.keeps
+    (λ left kept. (file, g.met.D.Disk.content_is_outcome c.args.disk, keeps_same node file mid left c.in_ok-journal.ensures.same kept))
+
+pub returns-clause-keeps_err : goal.returns-clause-keeps_err
+returns-clause-keeps_err g c =
+    let node = node_of g.S.Sign.own_key g.S.Sign.signature_of c.args.config.now in
+    let outcome = g.D.Disk.outcome c.args.disk in
+    let file = g.D.Disk.content c.args.disk in
+    let middle = disk_of c.in_ok-journal.journal in
+    let mid = g.D.Disk.content middle in
+    let P : List ℕ → Type 0 = KeepsRecords node outcome in
+    let first = weaker g.D.Disk.clock g.D.Disk.outcome_since c.args.disk middle P (StandsAsOneOf outcome) c.in_ok-journal.ensures.any_moment (λ left is. keeps_one node outcome left is) in
+    let whole = joins g.D.Disk.clock g.D.Disk.outcome_since c.args.disk middle (disk_of c.validator_on.new.journal) P (KeepsOrBegins node mid) first c.validator_on.ensures.keeps
+    (λ left kept. (file, g.met.D.Disk.content_is_outcome c.args.disk, keeps_same node file mid left c.in_ok-journal.ensures.same kept)) in
+    rw c.into_disk.ensures whole

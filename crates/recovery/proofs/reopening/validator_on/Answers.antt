@@ -1,4 +1,4 @@
-use Rattle.std.proofs.Common.{rules, ◌≡◌, ℕ, List, [], Result, Ok, Err, ap, sym, ◌∙◌, length}
+use Rattle.std.proofs.Common.{rules, ◌≡◌, ℕ, List, [], Result, Ok, Err, ap, sym, ◌∙◌, length, inl}
 use borrow.Author.Rules.{in_lives}
 use Rattle.std.proofs.lemmas.Bool.{eqb-true, eqb-false}
 use Rattle.std.proofs.lemmas.List.{nil_from_length}
@@ -6,7 +6,7 @@ use Rattle.std.proofs.lemmas.Result.{err_from_is_err_and}
 use Rattle.journal.specs.Format.{stands}
 use Rattle.journal.specs.Journal.{disk_of}
 use Rattle.validator.specs.Setting.{node_of}
-use Rattle.recovery.specs.Told.{told, read_journal}
+use Rattle.recovery.specs.Told.{told, read_journal, KeepsOrBegins}
 use Rattle.recovery.proofs.Opened.{same_texts}
 use Rattle.diskmodel.proofs.Clock.{started}
 use Rattle.recovery.proofs.Telling.{told_same, told_records, tells_same, stands_same, ones_from}
@@ -62,6 +62,25 @@ returns-clause-any_moment g c =
           rw w.journal-is
           (started g.D.Disk.clock g.D.Disk.outcome_since old (λ left. told node left ≡ told node file)
           (λ left now. told_same node left file (ap stands (c.requires.alive.firm left (g.met.D.Disk.only_now old left now)))))
+    ]
+
+pub returns-in_err-validator-clause-keeps : goal.returns-in_err-validator-clause-keeps
+returns-in_err-validator-clause-keeps g c =
+    let old = disk_of c.args.journal.now in
+    let node = node_of g.S.Sign.own_key g.S.Sign.signature_of c.args.config.now in
+    started g.D.Disk.clock g.D.Disk.outcome_since old (KeepsOrBegins node (g.D.Disk.content old))
+    (λ left now. inl (ap stands (c.requires.alive.firm left (g.met.D.Disk.only_now old left now))))
+
+pub returns-clause-keeps : goal.returns-clause-keeps
+returns-clause-keeps g c =
+    let old = disk_of c.args.journal.now in
+    let node = node_of g.S.Sign.own_key g.S.Sign.signature_of c.args.config.now in
+    elim c.if-is_empty.branch [
+      | then-is_empty+in_ok-write_configuration w ↦ rw w.journal-is w.write_configuration.ensures.keeps
+      | else-is_empty w ↦
+          rw w.journal-is
+          (started g.D.Disk.clock g.D.Disk.outcome_since old (KeepsOrBegins node (g.D.Disk.content old))
+          (λ left now. inl (ap stands (c.requires.alive.firm left (g.met.D.Disk.only_now old left now)))))
     ]
 
 pub returns-clause-texts_left : goal.returns-clause-texts_left

@@ -6,9 +6,9 @@ use Rattle.journal.specs.declared.layout.TheConstants.{MAX_JOURNAL_BYTES}
 use Rattle.journal.specs.Journal.{disk_of, IsBeforeOrAfter, stands_with}
 use Rattle.records.specs.Records.{configuration_of}
 use Rattle.validator.specs.Setting.{node_of}
-use Rattle.recovery.specs.Told.{is_configuration, told}
+use Rattle.recovery.specs.Told.{is_configuration, told, KeepsOrBegins}
 use Rattle.diskmodel.proofs.Clock.{started, weaker}
-use Rattle.recovery.proofs.Empty.{never_full}
+use Rattle.recovery.proofs.Empty.{never_full, begins_with}
 use Rattle.recovery.proofs.Opened.{one_text}
 use Rattle.recovery.proofs.Telling.{told_same, told_before_or_after}
 use Rattle.recovery.proofs.reopening.write_configuration.Goals as goal
@@ -65,3 +65,26 @@ returns-clause-texts g c =
     let later = g.D.Disk.content (disk_of c.append.new.self) in
     one_text file later (configuration_of c.args.config.now.charter c.args.config.now.own) c.requires.empty
     (subst (λ group. stands later ≡ stands_with file group) (c.in_ok-group.ensures.group ∙ (λ i. configuration_of (c.committee.ensures i) (c.own.ensures i) ∷ [])) c.in_ok-append.ensures.records)
+
+pub returns-in_err-group-clause-keeps : goal.returns-in_err-group-clause-keeps
+returns-in_err-group-clause-keeps g c =
+    let old = disk_of c.args.journal.now in
+    let node = node_of g.S.Sign.own_key g.S.Sign.signature_of c.args.config.now in
+    started g.D.Disk.clock g.D.Disk.outcome_since old (KeepsOrBegins node (g.D.Disk.content old))
+    (λ left now. inl (ap stands (c.requires.alive.firm left (g.met.D.Disk.only_now old left now))))
+
+pub returns-in_err-append-clause-keeps : goal.returns-in_err-append-clause-keeps
+returns-in_err-append-clause-keeps g c =
+    let old = disk_of c.args.journal.now in
+    let file = g.D.Disk.content old in
+    let node = node_of g.S.Sign.own_key g.S.Sign.signature_of c.args.config.now in
+    weaker g.D.Disk.clock g.D.Disk.outcome_since old (disk_of c.append.new.self) (KeepsOrBegins node file) (IsBeforeOrAfter file c.in_ok-group.group) c.append.ensures.any_moment
+    (λ left is. begins_with node file left c.requires.alive.ends_closed c.requires.empty (subst (λ group. IsBeforeOrAfter file group left) (c.in_ok-group.ensures.group ∙ (λ i. configuration_of (c.committee.ensures i) (c.own.ensures i) ∷ [])) is))
+
+pub returns-clause-keeps : goal.returns-clause-keeps
+returns-clause-keeps g c =
+    let old = disk_of c.args.journal.now in
+    let file = g.D.Disk.content old in
+    let node = node_of g.S.Sign.own_key g.S.Sign.signature_of c.args.config.now in
+    weaker g.D.Disk.clock g.D.Disk.outcome_since old (disk_of c.append.new.self) (KeepsOrBegins node file) (IsBeforeOrAfter file c.in_ok-group.group) c.append.ensures.any_moment
+    (λ left is. begins_with node file left c.requires.alive.ends_closed c.requires.empty (subst (λ group. IsBeforeOrAfter file group left) (c.in_ok-group.ensures.group ∙ (λ i. configuration_of (c.committee.ensures i) (c.own.ensures i) ∷ [])) is))
