@@ -1,5 +1,5 @@
 -- What clauses see of a disk over a file.
-use Rattle.std.specs.Prelude.{◌≡◌, Bool, true, List, ℕ, IsSome, Result, IsErr, OnErr}
+use Rattle.std.specs.Prelude.{◌≡◌, Bool, true, false, List, ℕ, IsSome, Result, IsErr, OnOk, OnErr}
 use Rattle.diskmodel.specs.declared.disk.DiskFault.{DiskFault}
 use Rattle.filedisk.specs.declared.story.Story.{Story}
 use Rattle.filedisk.specs.declared.disk.FileDisk.{FileDisk}
@@ -25,7 +25,8 @@ is_down disk = disk.is_down
 abbrev pub IsReadable : FileDisk → Type 0
 IsReadable disk = IsSome disk.mirror
 
--- once a call has failed each one fails
+-- once a call has failed each one fails, and no other takes it down
 pub record StaysDown {T : Type 0} (old new : FileDisk) (result : Result T DiskFault) : Type 0 where
   pub fails : is_down old ≡ true → IsErr result
   pub falls : OnErr result (is_down new ≡ true)
+  pub stands : OnOk result (is_down new ≡ false)

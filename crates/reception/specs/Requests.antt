@@ -1,5 +1,5 @@
 -- What the body of a frame asks.
-use Rattle.std.specs.Prelude.{ℕ, List, length, Result, Ok, Err, nat_lt, ◌==◌, if◌then◌else◌}
+use Rattle.std.specs.Prelude.{◌≡◌, ◌≢◌, ℕ, List, length, Result, Ok, Err, nat_lt, ◌==◌, if◌then◌else◌}
 use Rattle.std.specs.Int.{w16}
 use Rattle.wire.specs.Reading.{number_at, message_of, ◌>>=◌}
 use Rattle.wire.specs.declared.error.WireError.{WireError}
@@ -38,6 +38,14 @@ abbrev pub asked_in : List ℕ → Result Asked WireError
 asked_in body = do
   sender ← number_at w16 body
   if sender.0 == 65535 then transaction_in sender.1 else if sender.0 == 65534 then seal_in sender.1 else message_in sender.0 sender.1
+
+-- what is behind the sender is a message's: only that may want memory
+pub record BringsMessage (body : List ℕ) : Type 0 where
+  pub sender : ℕ
+  pub rest : List ℕ
+  pub is : number_at w16 body ≡ Ok (sender, rest)
+  pub no_transaction : sender ≢ 65535
+  pub no_seal : sender ≢ 65534
 
 -- what a request says
 abbrev pub shown : Request → Asked

@@ -1,9 +1,9 @@
 //! What the body of a frame asks.
 
-ghost use Rattle.std.specs.Prelude.{◌≡◌};
+ghost use Rattle.std.specs.Prelude.{◌≡◌, ◌≢◌, Err, IsErrOf};
 ghost use Rattle.std.specs.Int.{w16};
 ghost use Rattle.wire.specs.Reading.{Gives, number_at};
-ghost use Rattle.reception.specs.Requests.{asked_in, transaction_in, seal_in, shown};
+ghost use Rattle.reception.specs.Requests.{asked_in, transaction_in, seal_in, shown, BringsMessage};
 
 use std::alloc::Global;
 use wire::{Author, MAX_TRANSACTION_BYTES, Message, WireError};
@@ -28,7 +28,8 @@ pub enum Request<'f> {
 
 // The number at the front, and what is behind it.
 fn number_of(bytes: &[u8]) -> Result<(u16, &[u8]), WireError>
-    ensures { Gives (λ found. (found.0, found.1.now)) result (number_at w16 bytes.now) }
+    ensures number { Gives (λ found. (found.0, found.1.now)) result (number_at w16 bytes.now) }
+    ensures never_memory { result ≢ Err WireError.Memory }
 {
     match bytes.split_first_chunk::<2>() {
         Some((number, rest)) => Ok((u16::from_be_bytes(*number), rest)),
@@ -39,7 +40,8 @@ fn number_of(bytes: &[u8]) -> Result<(u16, &[u8]), WireError>
 /// What the body of a frame asks. `Short` where it ends within a number, `Trailing` where bytes are behind the worker of a seal,
 /// `TooMany` of a transaction above its limit, and what reading a message answers.
 pub fn request_of(alloc: Global, body: &[u8]) -> Result<Request<'_>, WireError>
-    ensures { Gives shown result (asked_in body.now) }
+    ensures asked { Gives shown result (asked_in body.now) }
+    ensures memory { IsErrOf result WireError.Memory → BringsMessage body.now }
 {
     let (sender, rest) = number_of(body)?;
     if sender == TRANSACTIONS {
@@ -54,7 +56,8 @@ pub fn request_of(alloc: Global, body: &[u8]) -> Result<Request<'_>, WireError>
 }
 
 fn transaction_of(rest: &[u8]) -> Result<Request<'_>, WireError>
-    ensures { Gives shown result (transaction_in rest.now) }
+    ensures transaction { Gives shown result (transaction_in rest.now) }
+    ensures never_memory { result ≢ Err WireError.Memory }
 {
     let (worker, bytes) = number_of(rest)?;
     if bytes.len() > MAX_TRANSACTION_BYTES {
@@ -64,7 +67,8 @@ fn transaction_of(rest: &[u8]) -> Result<Request<'_>, WireError>
 }
 
 fn seal_of(rest: &[u8]) -> Result<Request<'_>, WireError>
-    ensures { Gives shown result (seal_in rest.now) }
+    ensures seal { Gives shown result (seal_in rest.now) }
+    ensures never_memory { result ≢ Err WireError.Memory }
 {
     let (worker, behind) = number_of(rest)?;
     if !behind.is_empty() {

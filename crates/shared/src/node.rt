@@ -1,6 +1,6 @@
 //! The node.
 
-ghost use Rattle.std.specs.Prelude.{◌≡◌, [], IfOk};
+ghost use Rattle.std.specs.Prelude.{◌≡◌, [], IsOk, IfOk};
 ghost use Rattle.model.specs.Admitting.{IsLegal};
 ghost use Rattle.model.specs.Giving.{kept};
 ghost use Rattle.validator.specs.Setting.{node_of};
@@ -77,6 +77,7 @@ impl<'a, S: Sign> Node<'a, S> {
     /// A seat more, which has seen what this one has and has made no call. It takes no memory.
     pub fn split(&self, seat: &mut Seat) -> Result<Seat, AllocError>
         requires of { IsOf self.now seat.old }
+        ensures ok { IsOk result }
         ensures same { seat.new ≡ seat.old }
         ensures seat { IfOk result (λ other. IsOf self.now other) }
         ensures knows { IfOk result (λ other. (other.view.seen ≡ seat.old.view.seen) × (other.view.firm ≡ seat.old.view.firm) × (other.view.mine ≡ [])) }

@@ -1,6 +1,6 @@
 //! What a thread calls a node with.
 
-ghost use Rattle.std.specs.Prelude.{◌≡◌, ◌⊎◌, None, [], not, drop, length, IfOk, IfErr, IfSome};
+ghost use Rattle.std.specs.Prelude.{◌≡◌, ◌⊎◌, None, [], not, drop, length, IsOk, IfOk, IfErr, IfSome};
 ghost use Rattle.header.specs.Checks.{fault_of, accepts_all};
 ghost use Rattle.laws.specs.Laws.{Begins};
 ghost use Rattle.machine.specs.Machine.{is_missing_parents};
@@ -72,6 +72,7 @@ impl<'n, 'a, S: Sign> Caller<'n, 'a, S> {
 
     /// A caller more, which has seen what this one has and has made no call. It takes no memory.
     pub fn split(&mut self) -> Result<Caller<'n, 'a, S>, AllocError>
+        ensures ok { IsOk result }
         ensures same { self.new ≡ self.old }
         ensures other { IfOk result (λ other. StaysWith self.old other) }
         ensures knows { IfOk result (λ other. (other.seat.view.seen ≡ self.old.seat.view.seen) × (other.seat.view.firm ≡ self.old.seat.view.firm) × (other.seat.view.mine ≡ [])) }

@@ -1,6 +1,6 @@
 //! What a thread flushes a node with.
 
-ghost use Rattle.std.specs.Prelude.{◌≡◌, ◌≢◌, ◌⊎◌, ◌↔◌, ◌+◌, ◌<◌, [], false, length, IfOk, IfErr, IsErrOf, IsTrue, OnOk, OnErr};
+ghost use Rattle.std.specs.Prelude.{◌≡◌, ◌≢◌, ◌⊎◌, ◌↔◌, ◌+◌, ◌<◌, [], false, length, IsOk, IfOk, IfErr, IsErrOf, IsTrue, OnOk, OnErr};
 ghost use Rattle.diskmodel.specs.Disk.{AtEachMoment};
 ghost use Rattle.journal.specs.Journal.{disk_of};
 ghost use Rattle.laws.specs.Laws.{Begins};
@@ -68,6 +68,7 @@ impl<'n, 'a, S: Sign, D: Disk> Rounds<'n, 'a, S, D> {
     /// A caller of the node, whose configuration this is, which has seen what the flusher's seat has. It takes no memory.
     pub fn caller(&mut self, config: &'a Config<S>) -> Result<Caller<'n, 'a, S>, AllocError>
         requires setting { self.old.node.setting ≡ config.now }
+        ensures ok { IsOk result }
         ensures same { self.new ≡ self.old }
         ensures setting { IfOk result (λ caller. caller.setting ≡ config.now) }
         ensures node { IfOk result (λ caller. caller.node ≡ self.old.node) }
