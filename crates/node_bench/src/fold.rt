@@ -2,7 +2,7 @@
 
 use sha2::{Digest as _, Sha256};
 use validator::Step;
-use wire::{Digest, HeaderBody, Message, Output};
+use wire::{HeaderBody, Message, Output};
 
 /// A sum over results that costs little beside the work: FNV-1a over numbers of 64 bits.
 #[derive(Clone, Copy)]
@@ -31,11 +31,6 @@ impl Fold {
         }
     }
 
-    /// Adds a digest.
-    pub fn add_digest(&mut self, digest: &Digest) {
-        self.add_bytes(&digest.0);
-    }
-
     fn add_body(&mut self, body: &HeaderBody) {
         self.add(u64::from(body.author.0));
         self.add(body.round.number());
@@ -46,17 +41,17 @@ impl Fold {
     pub fn add_message(&mut self, message: &Message) {
         match message {
             Message::Batch(batch) => self.add_bytes(batch.body()),
-            Message::BatchAck(ack) => self.add_digest(&ack.batch),
             Message::Header(header) => {
                 self.add_body(&header.body);
                 self.add_bytes(&header.signature.0);
             }
-            Message::Vote(vote) => self.add_bytes(&vote.signature.0),
             Message::Certificate(certificate) => {
                 self.add_body(&certificate.header);
                 self.add(certificate.votes.len() as u64);
             }
             Message::Coin(coin) => self.add(coin.value),
+            // None is made alone.
+            Message::BatchAck(_) | Message::Vote(_) => {}
         }
     }
 
@@ -72,14 +67,14 @@ impl Fold {
     pub fn add_output(&mut self, output: &Output) {
         match output {
             Output::Batch(batch) => self.add_bytes(batch.body()),
-            Output::Ack { ack, .. } => self.add_digest(&ack.batch),
+            Output::Ack { ack, .. } => self.add_bytes(&ack.batch.0),
             Output::Header(header) => self.add_body(&header.body),
             Output::Vote(vote) => self.add_bytes(&vote.signature.0),
             Output::Certificate(certificate) => self.add_body(&certificate.header),
             Output::Order { start, digests } => {
                 self.add(*start);
                 for digest in digests.as_slice() {
-                    self.add_digest(digest);
+                    self.add_bytes(&digest.0);
                 }
             }
         }

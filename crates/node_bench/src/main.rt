@@ -21,7 +21,7 @@ use std::process::ExitCode;
 use std::rt::Env;
 use std::sync::Wait;
 use std::thread::Threads;
-use task::{Kind, Step, Task, WORKS, sized, task_of};
+use task::{Kind, Task, WORKS, sized, task_of};
 
 /// What is told where the words ask for nothing.
 const USAGE: &str = "usage: narwhal-bench [prepare-]WORK COUNT [SIZE]
@@ -42,19 +42,21 @@ fn main(rt: HostRuntime) -> ExitCode {
 
 fn run<R: Env + AllocGlobal + Print + Threads + Wait + Sync>(rt: &R) -> Result<(), Ending> {
     let words: Vec<String> = env::args(rt)?.collect(rt.alloc())?;
-    match words.as_slice() {
-        [_, word, ..] => {
-            let (kind, task) = task_of(rt.alloc(), &words[1..]).ok_or(Ending::Usage)?;
-            tell(rt, word.as_str(), kind, task)
-        }
-        _ => run_little(rt),
-    }
+    let [_, word, ..] = words.as_slice() else {
+        return run_little(rt);
+    };
+    let Some((kind, task)) = task_of(rt.alloc(), &words[1..]) else {
+        return Err(Ending::Usage);
+    };
+    tell(rt, word.as_str(), kind, task)
 }
 
 // A little of each kind of work.
 fn run_little<R: AllocGlobal + Print + Threads + Wait + Sync>(rt: &R) -> Result<(), Ending> {
     for (word, _, count, _) in &WORKS {
-        let (kind, task) = sized(rt.alloc(), word, *count, None).ok_or(Ending::Usage)?;
+        let Some((kind, task)) = sized(rt.alloc(), word, *count, None) else {
+            return Err(Ending::Usage);
+        };
         tell(rt, word, kind, task)?;
     }
     Ok(())
@@ -79,15 +81,13 @@ where
 fn digest_of<R: Threads + Wait + Sync>(rt: &R, kind: Kind, task: Task) -> Result<[u8; 32], Ending> {
     let fold = match kind {
         Kind::Hash => return Ok(working::hash(task)),
-        Kind::Message(act, form) => working::work_on(task, act, form)?,
-        Kind::Frames => working::cut_frames(task)?,
-        Kind::Steps(step) => stepping::stepped(task, step)?,
-        Kind::Append => storing::append_groups(task)?,
-        Kind::Book if task.is_work => storing::keep_book(task)?,
-        // The same events through a validator alone.
-        Kind::Book => stepping::stepped(task, Step::Event)?,
-        Kind::Reopen => storing::reopen_journal(task)?,
-        Kind::Node => sharing::share_node(rt, task)?,
+        Kind::Message(act, form) => working::work_on(task, act, form),
+        Kind::Frames => working::cut_frames(task),
+        Kind::Steps(step) => stepping::stepped(task, step),
+        Kind::Append => storing::append_groups(task),
+        Kind::Book => storing::keep_book(task),
+        Kind::Reopen => storing::reopen_journal(task),
+        Kind::Node => sharing::share_node(rt, task),
     };
-    Ok(fold.digest())
+    Ok(fold?.digest())
 }

@@ -5,7 +5,7 @@ use crate::rounds::Rounds;
 use crate::settings::config_of;
 use crate::task::{Form, Task};
 use sigface::HashSign;
-use std::alloc::{AllocError, Global};
+use std::alloc::Global;
 use validator::Config;
 use wire::{Author, Batch, MAX_TRANSACTIONS, Message, OpenBatch, encode};
 
@@ -115,14 +115,11 @@ fn make(task: Task, form: Form, rounds: &Rounds, number: u64) -> Result<Made, En
     })
 }
 
-/// A message once more.
-pub fn again(message: &Message) -> Result<Message, AllocError> {
-    Ok(match message {
-        Message::Batch(batch) => Message::Batch(batch.share()?),
-        Message::BatchAck(ack) => Message::BatchAck(*ack),
-        Message::Header(header) => Message::Header(header.try_clone()?),
-        Message::Vote(vote) => Message::Vote(*vote),
-        Message::Certificate(certificate) => Message::Certificate(certificate.try_clone()?),
-        Message::Coin(coin) => Message::Coin(*coin),
-    })
+/// Puts a length of four bytes behind others.
+pub fn put_length(bytes: &mut Vec<u8>, len: usize) -> Result<(), Ending> {
+    let Ok(len) = u32::try_from(len) else {
+        return Err(Ending::Refused);
+    };
+    bytes.extend_from_slice(&len.to_be_bytes())?;
+    Ok(())
 }

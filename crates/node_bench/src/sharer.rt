@@ -29,7 +29,7 @@ impl<'n, 'a, S: Sign> Sharer<'n, 'a, S> {
     ) -> Result<u64, Ending> {
         let message = Message::Batch(small_batch(alloc, self.member, number)?);
         let event = recheck(self.node.config().committee(), self.member, message)?;
-        fold.add_digest(&digest_in(&event));
+        fold.add_bytes(&digest_in(&event).0);
         let receipt = self.node.submit(rt, event)?;
         match receipt.new {
             true => Ok(receipt.ticket),

@@ -167,7 +167,7 @@ fn step_batches(
     for number in 0..task.count {
         let message = Message::Batch(small_batch(task.alloc, sender, number)?);
         let event = recheck(validator.committee(), sender, message)?;
-        fold.add_digest(&digest_in(&event));
+        fold.add_bytes(&digest_in(&event).0);
         validator.step(event)?;
     }
     Ok(fold)

@@ -1,15 +1,11 @@
 //! Work through a validator.
 
-ghost use Rattle.std.specs.Prelude.{◌≡◌, None};
-ghost use Rattle.header.specs.Checks.{fault_of, accepts_all};
-
 use crate::ending::Ending;
 use crate::events::{Events, Front, digest_in};
 use crate::fold::Fold;
 use crate::settings::config_of;
 use crate::task::{Step, Task};
 use committee::Committee;
-use header::Checked;
 use sigface::HashSign;
 use std::alloc::AllocError;
 use validator::{Config, Validator};
@@ -19,23 +15,60 @@ use wire::Message;
 /// the rounds since the last commit, of which a node in use has few.
 const FEW: u64 = 8;
 
-/// A validator, the events that it is given, and what its answers come to.
-#[derive(Drop)]
-struct Walk<'a> {
-    task: Task,
-    config: &'a Config<HashSign>,
-    validator: Validator<'a, HashSign>,
-    events: Events,
-    fold: Fold,
-}
-
-/// Does the pieces of a kind of step. Without the work a round's are only made, and all others only tested, but for those of
-/// `Event`, which are stepped, too.
+/// Does the pieces of a kind of step. Without the work a round's are only made, and all others only tested.
 pub fn stepped(task: Task, step: Step) -> Result<Fold, Ending> {
     let config = config_of(task)?;
-    let mut walk = Walk::new(task, &config, step)?;
-    walk.take_events(step)?;
-    Ok(walk.fold)
+    let mut fold = Fold::new();
+    let mut left = task.events(step);
+    for _ in 0..u64::MAX {
+        if left == 0 {
+            break;
+        }
+        left = take_some(task, &config, step, left, &mut fold)?;
+    }
+    Ok(fold)
+}
+
+// Gives events to a new validator until so many were pieces or another one is to follow, and says how many are left.
+fn take_some(
+    task: Task,
+    config: &Config<HashSign>,
+    step: Step,
+    mut left: u64,
+    fold: &mut Fold,
+) -> Result<u64, Ending> {
+    let mut validator = Validator::new(task.alloc, config)?;
+    let mut events = events_of(task, config.committee(), step)?;
+    for _ in 0..u64::MAX {
+        if left == 0 || step.is_over(&events) {
+            break;
+        }
+        if take_next(task, &mut validator, &mut events, step, fold)? {
+            left -= 1;
+        }
+    }
+    Ok(left)
+}
+
+// Takes the next event, and says whether it is a piece.
+fn take_next(
+    task: Task,
+    validator: &mut Validator<'_, HashSign>,
+    events: &mut Events,
+    step: Step,
+    fold: &mut Fold,
+) -> Result<bool, Ending> {
+    if matches!(step, Step::Round) && !task.is_work {
+        fold.add_message(&events.made()?);
+        return Ok(true);
+    }
+    let event = events.tested(validator.committee())?;
+    let is_piece = step.counts(event.message());
+    fold.add_bytes(&digest_in(&event).0);
+    if task.is_work || !is_piece {
+        fold.add_step(&validator.step(event)?);
+    }
+    Ok(is_piece)
 }
 
 /// The events that a kind of step is given.
@@ -73,82 +106,13 @@ impl Step {
             (Step::Header, Message::Header(_)) => true,
             (Step::Vote, Message::Vote(_)) => true,
             (Step::Certificate, Message::Certificate(_)) => true,
-            (Step::Batch | Step::Round, _) => true,
+            (Step::Batch | Step::Round | Step::Event, _) => true,
             _ => false,
         }
     }
-}
 
-impl<'a> Walk<'a> {
-    fn new(task: Task, config: &'a Config<HashSign>, step: Step) -> Result<Walk<'a>, Ending> {
-        Ok(Walk {
-            task,
-            config,
-            events: events_of(task, config.committee(), step)?,
-            validator: Validator::new(task.alloc, config)?,
-            fold: Fold::new(),
-        })
-    }
-
-    fn take_events(&mut self, step: Step) -> Result<(), Ending> {
-        let mut left = self.task.events(step);
-        for _ in 0..u64::MAX {
-            if left == 0 {
-                break;
-            }
-            if self.take_next(step)? {
-                left -= 1;
-            }
-        }
-        Ok(())
-    }
-
-    // Takes the next event, and says whether it is a piece.
-    fn take_next(&mut self, step: Step) -> Result<bool, Ending> {
-        match step {
-            Step::Vote | Step::Certificate => self.begin_anew(step)?,
-            Step::Round if !self.task.is_work => return self.make_next(),
-            Step::Event => return self.step_next(),
-            _ => {}
-        }
-        let event = self.events.tested(self.validator.committee())?;
-        let is_piece = step.counts(event.message());
-        self.fold.add_digest(&digest_in(&event));
-        self.take(event, self.task.is_work || !is_piece)?;
-        Ok(is_piece)
-    }
-
-    // Takes an event that was tested, and steps it where that is wanted.
-    fn take(&mut self, event: Checked, steps: bool) -> Result<(), Ending>
-        requires { fault_of self.old.validator.setting.charter accepts_all event ≡ None }
-    {
-        if !steps {
-            return Ok(());
-        }
-        let step = self.validator.step(event)?;
-        self.fold.add_step(&step);
-        Ok(())
-    }
-
-    // Its digest isn't added: a book's sum has none, either.
-    fn step_next(&mut self) -> Result<bool, Ending> {
-        let event = self.events.tested(self.validator.committee())?;
-        let step = self.validator.step(event)?;
-        self.fold.add_step(&step);
-        Ok(true)
-    }
-
-    fn make_next(&mut self) -> Result<bool, Ending> {
-        self.fold.add_message(&self.events.made()?);
-        Ok(true)
-    }
-
-    // Begins with a new validator where this one was given a few rounds.
-    fn begin_anew(&mut self, step: Step) -> Result<(), Ending> {
-        if self.events.are_over(FEW) {
-            self.events = events_of(self.task, self.config.committee(), step)?;
-            self.validator = Validator::new(self.task.alloc, self.config)?;
-        }
-        Ok(())
+    // Whether a new validator is to follow.
+    fn is_over(self, events: &Events) -> bool {
+        matches!(self, Step::Vote | Step::Certificate) && events.are_over(FEW)
     }
 }

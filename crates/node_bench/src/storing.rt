@@ -6,8 +6,9 @@ ghost use Rattle.journal.specs.Journal.{IsAlive};
 use crate::ending::Ending;
 use crate::events::Events;
 use crate::fold::Fold;
+use crate::messages::put_length;
 use crate::settings::config_of;
-use crate::stepping::events_of;
+use crate::stepping::{events_of, stepped};
 use crate::task::{Step, Task};
 use book::OwnBook;
 use committee::Committee;
@@ -18,7 +19,7 @@ use recovery::reopen;
 use sigface::{HashSign, Sign};
 use std::alloc::{AllocError, Global};
 use validator::{Config, Validator};
-use wire::{encode, header_digest};
+use wire::{encode_onto, encoded_len, header_digest};
 
 /// Bytes of a record that is added, as many as a certificate's among four.
 const RECORD_BYTES: usize = 354;
@@ -86,8 +87,13 @@ fn records_of(task: Task, piece: u64) -> Result<Vec<Vec<u8>>, AllocError> {
     Ok(records)
 }
 
-/// Events through a book, whose records are flushed as often as so many were accepted.
+/// Events through a book, whose records are flushed as often as so many were accepted. Without that work, the same events go
+/// through a validator alone.
 pub fn keep_book(task: Task) -> Result<Fold, Ending> {
+    if !task.is_work {
+        let is_work = true;
+        return stepped(Task { is_work, ..task }, Step::Event);
+    }
     let config = config_of(task)?;
     let mut book = empty_book(task.alloc, &config)?;
     let mut fold = Fold::new();
@@ -108,20 +114,16 @@ fn accept_all(task: Task, book: &mut OwnBook<'_, HashSign>, fold: &mut Fold) -> 
         if piece % task.size.max(1) == 0 {
             flush(task.alloc, book, fold)?;
         }
-        accept_next(book, &mut events, fold)?;
+        fold.add(accept_next(book, &mut events)?);
     }
     flush(task.alloc, book, fold)
 }
 
-fn accept_next(
-    book: &mut OwnBook<'_, HashSign>,
-    events: &mut Events,
-    fold: &mut Fold,
-) -> Result<(), Ending> {
+// Says which ticket the next event gets.
+fn accept_next(book: &mut OwnBook<'_, HashSign>, events: &mut Events) -> Result<u64, Ending> {
     let event = events.tested(book.committee())?;
     let receipt = book.accept(event)?;
-    fold.add(receipt.ticket);
-    Ok(())
+    Ok(receipt.ticket)
 }
 
 // Flushes all pending records, each group to a journal of its own, and releases what may go out.
@@ -149,26 +151,29 @@ fn release_all(book: &mut OwnBook<'_, HashSign>, fold: &mut Fold) {
 /// Opens a journal of so many certificates and coins.
 pub fn reopen_journal(task: Task) -> Result<Fold, Ending> {
     let config = config_of(task)?;
-    let bytes = journal_of(task, &config)?;
-    open_bytes(task, &config, bytes)
-}
-
-fn open_bytes(task: Task, config: &Config<HashSign>, bytes: Vec<u8>) -> Result<Fold, Ending> {
-    let disk = MemDisk::new(task.alloc, bytes)?;
+    let disk = MemDisk::new(task.alloc, journal_of(task, &config)?)?;
     let mut fold = Fold::new();
     fold.add_bytes(disk.bytes());
-    if !task.is_work {
-        return Ok(fold);
+    if task.is_work {
+        open(task.alloc, &config, disk, &mut fold)?;
     }
-    let (validator, _) = reopen(task.alloc, config, disk)?;
-    look_at(&validator, &mut fold)?;
     Ok(fold)
+}
+
+fn open(
+    alloc: Global,
+    config: &Config<HashSign>,
+    disk: MemDisk,
+    fold: &mut Fold,
+) -> Result<(), Ending> {
+    let (validator, _) = reopen(alloc, config, disk)?;
+    look_at(&validator, fold)
 }
 
 fn look_at(validator: &Validator<'_, HashSign>, fold: &mut Fold) -> Result<(), Ending> {
     fold.add(validator.round());
     if let Some(header) = validator.propose()? {
-        fold.add_digest(&header_digest(&header.body));
+        fold.add_bytes(&header_digest(&header.body).0);
     }
     Ok(())
 }
@@ -194,7 +199,7 @@ fn put_groups(
             put_group(bytes, &mut body)?;
         }
         let event = events.tested(committee)?;
-        put_record(task.alloc, &mut body, &event)?;
+        put_record(&mut body, &event)?;
     }
     put_group(bytes, &mut body)
 }
@@ -219,20 +224,11 @@ fn put_group(bytes: &mut Vec<u8>, body: &mut Vec<u8>) -> Result<(), Ending> {
     Ok(())
 }
 
-fn put_length(bytes: &mut Vec<u8>, len: usize) -> Result<(), Ending> {
-    let Ok(len) = u32::try_from(len) else {
-        return Err(Ending::Refused);
-    };
-    bytes.extend_from_slice(&len.to_be_bytes())?;
-    Ok(())
-}
-
 // Puts an event's record behind its length.
-fn put_record(alloc: Global, body: &mut Vec<u8>, event: &Checked) -> Result<(), Ending> {
-    let message = encode(alloc, event.message())?;
-    put_length(body, message.len().saturating_add(3))?;
+fn put_record(body: &mut Vec<u8>, event: &Checked) -> Result<(), Ending> {
+    put_length(body, encoded_len(event.message()).saturating_add(3))?;
     body.push(EVENT)?;
     body.extend_from_slice(&event.sender().0.to_be_bytes())?;
-    body.extend_from_slice(&message)?;
+    encode_onto(body, event.message())?;
     Ok(())
 }

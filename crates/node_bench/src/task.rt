@@ -34,8 +34,7 @@ pub enum Step {
     Batch,
     /// Rounds of all members' certificates, with a coin a wave.
     Round,
-    /// Events of such rounds, with the headers of the others before the certificates. They are stepped without the work, too:
-    /// that is what comes before a book's.
+    /// Events of such rounds, with the headers of the others before the certificates.
     Event,
 }
 

@@ -3,14 +3,14 @@
 use crate::ending::Ending;
 use crate::events::digest_in;
 use crate::fold::Fold;
-use crate::messages::{Made, RING, Ring, again};
+use crate::messages::{Made, RING, Ring, put_length};
 use crate::task::{Act, Form, Task};
 use committee::Committee;
 use header::{check, recheck};
 use sha2::{Digest as _, Sha256};
 use sigface::HashVerify;
 use std::alloc::{AllocError, Global};
-use wire::{Message, encode};
+use wire::{Message, WireError, encode};
 use wire_read::{FrameReader, decode};
 
 /// What one compression takes in.
@@ -77,7 +77,7 @@ fn test_once(
     made: &Made,
     fold: &mut Fold,
 ) -> Result<(), Ending> {
-    let message = again(&made.message)?;
+    let message = decode(task.alloc, &made.bytes)?;
     if !task.is_work {
         fold.add_message(&message);
         return Ok(());
@@ -86,38 +86,28 @@ fn test_once(
         Act::Check => check(committee, &HashVerify, made.sender, message),
         _ => recheck(committee, made.sender, message),
     };
-    fold.add_digest(&digest_in(&tested?));
+    fold.add_bytes(&digest_in(&tested?).0);
     Ok(())
 }
 
 /// Cuts a stream of frames, each of a sender and a header, into their bodies. It comes in pieces of a size.
 pub fn cut_frames(task: Task) -> Result<Fold, Ending> {
-    let ring = Ring::new(task, Form::Header)?;
-    let stream = stream_of(task, &ring)?;
-    cut(task, &stream)
-}
-
-fn cut(task: Task, stream: &[u8]) -> Result<Fold, Ending> {
-    let mut reader = FrameReader::new(task.alloc);
+    let stream = stream_of(task, &Ring::new(task, Form::Header)?)?;
     let mut fold = Fold::new();
-    for piece in stream.chunks(task.size.max(1) as usize) {
-        feed(task.is_work, &mut reader, piece, &mut fold)?;
+    if task.is_work {
+        cut(task, &stream, &mut fold)?;
+    } else {
+        fold.add_bytes(&stream);
     }
     Ok(fold)
 }
 
-fn feed(
-    is_work: bool,
-    reader: &mut FrameReader,
-    piece: &[u8],
-    fold: &mut Fold,
-) -> Result<(), Ending> {
-    if !is_work {
-        fold.add_bytes(piece);
-        return Ok(());
-    }
-    for body in &reader.feed(piece)? {
-        fold.add_bytes(body);
+fn cut(task: Task, stream: &[u8], fold: &mut Fold) -> Result<(), WireError> {
+    let mut reader = FrameReader::new(task.alloc);
+    for piece in stream.chunks(task.size.max(1) as usize) {
+        for body in &reader.feed(piece)? {
+            fold.add_bytes(body);
+        }
     }
     Ok(())
 }
@@ -134,10 +124,7 @@ fn stream_of(task: Task, ring: &Ring) -> Result<Vec<u8>, Ending> {
 
 // Puts a frame of sender 0 and these bytes.
 fn put_frame(stream: &mut Vec<u8>, bytes: &[u8]) -> Result<(), Ending> {
-    let Ok(len) = u32::try_from(bytes.len()) else {
-        return Err(Ending::Refused);
-    };
-    stream.extend_from_slice(&len.saturating_add(2).to_be_bytes())?;
+    put_length(stream, bytes.len().saturating_add(2))?;
     stream.extend_from_slice(&[0, 0])?;
     stream.extend_from_slice(bytes)?;
     Ok(())
