@@ -1,7 +1,7 @@
 //! The arguments, and what they name.
 
-ghost use Rattle.std.specs.Prelude.{◌≡◌, ◌≢◌, ℕ, List, Err, IfOk, IfSome, length, slice_get, string_bytes};
-ghost use Rattle.runner.specs.Members.{IsConfigOf};
+ghost use Rattle.std.specs.Prelude.{◌≡◌, ◌≢◌, ℕ, List, Err, IfOk, IfErr, IfSome, length, slice_get, string_bytes};
+ghost use Rattle.runner.specs.Members.{IsConfigOf, RefusesConfig, RefusesOpening};
 
 use committee::{Committee, CommitteeError};
 use filedisk::{FileDisk, OpenError};
@@ -26,6 +26,7 @@ pub(crate) fn open_all<R: Files<File = File> + AllocGlobal>(
 ) -> Result<(Config<HashSign>, FileDisk), Ending>
     ensures arguments { length args.now ≢ 3 → result ≡ Err Ending.Usage }
     ensures member { IfOk result (λ opened. (text : List ℕ) × IfSome (slice_get args.now 1) (λ own. IsConfigOf text (string_bytes own) opened.0)) }
+    ensures refused { IfErr result (λ ending. IfSome (slice_get args.now 1) (λ own. RefusesOpening (string_bytes own) ending)) }
 {
     let [file, own, journal] = args else {
         return Err(Ending::Usage);
@@ -49,6 +50,7 @@ pub(crate) fn open_all<R: Files<File = File> + AllocGlobal>(
 /// `Config` or `Memory` of the text, then `Usage` of a number that is no member's.
 pub(crate) fn config_of(alloc: Global, text: &[u8], own: &str) -> Result<Config<HashSign>, Ending>
     ensures ok { IfOk result (λ config. IsConfigOf text.now own.now config) }
+    ensures refused { IfErr result (λ ending. RefusesConfig text.now own.now ending) }
 {
     let Ok(text) = str::from_utf8(text) else {
         return Err(Ending::Config(CommitteeError::NotToml));
