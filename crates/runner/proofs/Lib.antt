@@ -2,3 +2,4 @@ mod Written
 mod Taken
 mod Proposed
 mod Brought
+mod Flushed

@@ -1,8 +1,8 @@
 //! The thread that brings records to the disk.
 
-ghost use Rattle.std.specs.Prelude.{◌≡◌, ◌≢◌, ◌<◌, Some};
+ghost use Rattle.std.specs.Prelude.{◌≡◌, ◌≢◌, ◌⊎◌, ◌↔◌, ◌<◌, true, false, Some, IsSome, IfSome, IsTrue};
 ghost use Rattle.journal.specs.Journal.{disk_of};
-ghost use Rattle.flusher.specs.Rounds.{journal_of};
+ghost use Rattle.flusher.specs.Rounds.{journal_of, is_down, settled_in, taken_in, HasNoRoom, TakesLongest};
 ghost use Rattle.runner.specs.Ends.{faults_behind};
 
 use crate::bell::Bell;
@@ -52,6 +52,17 @@ fn flush_pending<S: Sign, D: Disk, R: Wait>(
 ) -> Faults
     ensures device { result.journal ≡ Some JournalError.Device → D.faults (disk_of (journal_of rounds.old.flusher)) < D.faults (disk_of (journal_of rounds.new.flusher)) }
     ensures no_fault { result.journal ≢ Some JournalError.Device → D.faults (disk_of (journal_of rounds.new.flusher)) ≡ D.faults (disk_of (journal_of rounds.old.flusher)) }
+
+    // A round that takes the node down is told as the journal's fault: the disk's, or that the group has no place.
+    ensures down { is_down rounds.old.flusher ≡ false → IsSome result.journal ↔ IsTrue (is_down rounds.new.flusher) }
+    ensures which { IfSome result.journal (λ error. (error ≡ JournalError.Device) ⊎ (error ≡ JournalError.Full)) }
+    ensures full { is_down rounds.old.flusher ≡ false → result.journal ≡ Some JournalError.Full → HasNoRoom (D.content (disk_of (journal_of rounds.new.flusher))) (settled_in rounds.new.flusher) (taken_in rounds.new.flusher) }
+
+    // Unless the node is down or memory was refused, of all that was accepted nothing more fits a group behind what is settled.
+    ensures all { is_down rounds.new.flusher ≡ false → result.memory ≡ false → TakesLongest rounds.old.seat.view.seen (settled_in rounds.new.flusher) (settled_in rounds.new.flusher) }
+    // Behind want of memory nothing is taken that isn't settled.
+    ensures memory { result.memory ≡ true → taken_in rounds.new.flusher ≡ settled_in rounds.new.flusher }
+    ensures others { (result.output ≡ false) × (result.input ≡ false) }
 {
     for _ in rt.forever() {
         let round = rounds.round(rt);
