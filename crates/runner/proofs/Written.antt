@@ -20,6 +20,11 @@ use Rattle.world.specs.Text.{frame_of}
 use Rattle.world.specs.World.{put_out}
 use Rattle.runner.specs.Writing.{Puts, MayGo, WritesOnly}
 
+-- the other faults are as before
+others_yet : (before mid later : Faults) → mid ≡ record before { output = mid.output; memory = mid.memory } → later ≡ record mid { output = later.output; memory = later.memory }
+    → later ≡ record before { output = later.output; memory = later.memory }
+others_yet before mid later first second = second ∙ ap (λ (faults : Faults). record faults { output = later.output; memory = later.memory }) first
+
 pub weaker : (May Wider : Output → Type 0) (before later : Faults) (old new : Option (List ℕ)) → ((output : Output) → May output → Wider output)
     → WritesOnly May before later old new → WritesOnly Wider before later old new
 weaker May Wider before later old new wider so_far = record {
@@ -28,6 +33,7 @@ weaker May Wider before later old new wider so_far = record {
   outputs = so_far.outputs;
   each = All-weaker May Wider wider so_far.outputs so_far.each;
   written = so_far.written;
+  others = so_far.others;
 }
 
 -- one output more
@@ -41,6 +47,9 @@ one_more May output before mid later old cur new so_far may puts = behind later.
     memory : before.memory ≡ true → later.memory ≡ true
     memory is = puts.memory (so_far.memory is)
 
+    others : later ≡ record before { output = later.output; memory = later.memory }
+    others = others_yet before mid later so_far.others puts.others
+
     behind : (b : Bool) → later.output ≡ b → WritesOnly May before later old new
     behind true is = record {
       broken = broken;
@@ -48,6 +57,7 @@ one_more May output before mid later old cur new so_far may puts = behind later.
       outputs = so_far.outputs;
       each = so_far.each;
       written = λ fine. let bad : true ≡ false = sym is ∙ fine in absurd cc;
+      others = others;
     }
     behind false is = elim (puts.fine is) [
       | inl all ↦ record {
@@ -58,6 +68,7 @@ one_more May output before mid later old cur new so_far may puts = behind later.
         written = λ _. subst (Appends old new)
             (ap (λ (l : List ℕ). flat_map frame_of so_far.outputs ++ l) (sym (append-nil (frame_of output))) ∙ sym (flat_map-append frame_of so_far.outputs (output ∷ [])))
             (Appends-trans old cur new (flat_map frame_of so_far.outputs) (frame_of output) (so_far.written (sym (ap (λ f. f.output) all.0) ∙ is)) all.1);
+        others = others;
       }
       | inr none ↦ record {
         broken = broken;
@@ -65,20 +76,25 @@ one_more May output before mid later old cur new so_far may puts = behind later.
         outputs = so_far.outputs;
         each = so_far.each;
         written = λ _. Appends-kept old cur new (flat_map frame_of so_far.outputs) (so_far.written (sym (ap (λ f. f.output) none.0) ∙ is)) none.1;
+        others = others;
       }
     ]
 
 -- nothing more, but that the writer may have failed
 pub no_more : (May : Output → Type 0) (before mid later : Faults) (old cur new : Option (List ℕ))
-    → WritesOnly May before mid old cur → (mid.output ≡ true → later.output ≡ true) → later.memory ≡ mid.memory → Keeps cur new → WritesOnly May before later old new
+    → WritesOnly May before mid old cur → (mid.output ≡ true → later.output ≡ true) → later ≡ record mid { output = later.output } → Keeps cur new → WritesOnly May before later old new
 no_more May before mid later old cur new so_far stays same keeps = record {
   broken = λ is. let first = so_far.broken is in (stays first.0, Keeps-trans old cur new first.1 keeps);
-  memory = λ is. same ∙ so_far.memory is;
+  memory = λ is. memory ∙ so_far.memory is;
   outputs = so_far.outputs;
   each = so_far.each;
   written = λ fine. Appends-kept old cur new (flat_map frame_of so_far.outputs) (so_far.written (was mid.output refl fine)) keeps;
+  others = others_yet before mid later so_far.others (same ∙ ap (λ (it : Bool). record mid { output = later.output; memory = it }) (sym memory));
 }
   where
+    memory : later.memory ≡ mid.memory
+    memory = ap (λ (faults : Faults). faults.memory) same
+
     was : (b : Bool) → mid.output ≡ b → later.output ≡ false → mid.output ≡ false
     was true is fine = let bad : true ≡ false = sym (stays is) ∙ fine in absurd cc
     was false is fine = is

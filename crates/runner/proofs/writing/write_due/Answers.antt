@@ -1,4 +1,4 @@
-use Rattle.std.proofs.Common.{rules, ap, subst, sym}
+use Rattle.std.proofs.Common.{rules, subst, sym}
 use Rattle.std.specs.Io.Buffered.{writer_contents}
 use Rattle.seats.proofs.Beginnings.{begins_trans}
 use Rattle.seats.specs.Views.{IsSame}
@@ -38,4 +38,4 @@ returns-then-not-write_next-clause-only g c =
     let so_far_now = subst (λ sink. WritesOnly (MayGo node later) c.args.sink.now.faults sink.faults old (writer_contents g.W.Write.contents sink.writer))
     (sym (c.write_next.ensures.none c.if-not-write_next.true)) so_far in
     no_more (MayGo node later) c.args.sink.now.faults c.write_next.new.sink.faults c.flush.new.self.faults old (writer_contents g.W.Write.contents c.write_next.new.sink.writer) (writer_contents g.W.Write.contents c.flush.new.self.writer)
-    so_far_now c.flush.ensures.broken (ap (λ faults. faults.memory) c.flush.ensures.faults) c.flush.ensures.bytes
+    so_far_now c.flush.ensures.broken c.flush.ensures.faults c.flush.ensures.bytes
