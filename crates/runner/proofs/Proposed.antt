@@ -1,7 +1,8 @@
 -- What comes of a proposal.
 use Rattle.std.proofs.Common.{◌≡◌, ◌++◌, Bool, false, Result, Ok, Err, Option, Some, None, refl, sym, ap, subst, ◌∙◌}
-use Rattle.std.specs.Prelude.{IfOk}
+use Rattle.std.specs.Prelude.{IfOk, OnErr}
 use Rattle.std.specs.declared.alloc.AllocError.{AllocError}
+use Rattle.book.specs.declared.book.Receipt.{Receipt}
 use Rattle.committee.specs.Charter.{Charter}
 use Rattle.header.specs.Checks.{fault_of, accepts_all}
 use Rattle.header.specs.declared.error.CheckError.{CheckError}
@@ -10,14 +11,18 @@ use Rattle.model.specs.Histories.{History}
 use Rattle.model.specs.Nodes.{Node}
 use Rattle.model.specs.Proposing.{propose}
 use Rattle.model.specs.Words.{Author, Event, Header}
+use Rattle.model.specs.declared.refusal.Refusal.{Refusal}
+use Rattle.model.specs.declared.refusal.Refusal.TheVariants.{Memory}
 use Rattle.reception.specs.declared.told.Told.{Told}
+use Rattle.reception.specs.declared.told.Told.TheVariants.{Refused}
 use Rattle.seats.specs.Views.{events}
 use Rattle.seats.proofs.Beginnings.{begins_same}
+use Rattle.shared.specs.Answers.{Submits}
 use Rattle.shared.specs.Home.{seen_by}
 use Rattle.startup.specs.Callers.{Calling}
 use Rattle.wire.specs.declared.message.Message.TheVariants as message
 use Rattle.runner.specs.declared.caller.Taken.{Taken}
-use Rattle.runner.specs.Taking.{IsProposed, IsSubmitted, is_told_new}
+use Rattle.runner.specs.Taking.{IsProposed, IsSubmitted, is_told_new, told_as}
 
 -- an own event by the number and the committee of the node's configuration
 pub own_fault : (node : Node) (charter : Charter) (own : Author) (header : Header) (fault : Option CheckError) → charter ≡ node.charter → own ≡ node.own
@@ -81,3 +86,15 @@ module _ {S : Type 0} (node : Node) (before mid : Calling S) (mine : mid.seat.vi
       on_ok : (newness : Result Bool AllocError) → IfOk newness (λ new. new ≡ is_told_new told) → IfOk newness (λ new. IsProposed node before later new)
       on_ok (Ok new) newly = one new newly
       on_ok (Err error) newly = tt
+
+-- what is refused is no event of one's own
+refused_mine : {S : Type 0} (node : Node) (event : Event) (before later : Calling S) (why : Told) (answer : Result Receipt Refusal)
+    → Submits node event before.seat.view later.seat.view answer → told_as answer ≡ Err why → later.seat.view.mine ≡ before.seat.view.mine
+refused_mine node event before later why (Ok receipt) submits is = absurd cc
+refused_mine node event before later why (Err refusal) submits is = let same = submits.same in same.1
+
+-- want of memory is told only where nothing was accepted
+pub lacked_memory : {S : Type 0} (node : Node) (event : Event) (before mid later : Calling S) (told : Result Taken Told) (newness : Result Bool AllocError)
+    → mid.seat.view.mine ≡ before.seat.view.mine → IsSubmitted node event mid later told → OnErr newness (told ≡ Err (Refused Memory)) → OnErr newness (later.seat.view.mine ≡ before.seat.view.mine)
+lacked_memory node event before mid later told (Ok new) mine done why = tt
+lacked_memory node event before mid later told (Err error) mine done why = refused_mine node event mid later (Refused Memory) done.answer done.submits (sym done.is ∙ why) ∙ mine

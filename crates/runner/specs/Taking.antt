@@ -13,6 +13,7 @@ use Rattle.model.specs.Words.{Event, Header}
 use Rattle.model.specs.declared.refusal.Refusal.{Refusal}
 use Rattle.reception.specs.declared.told.Told.{Told}
 use Rattle.reception.specs.declared.told.Told.TheVariants.{Unchecked, Refused}
+use Rattle.seats.specs.Sights.{Sight}
 use Rattle.seats.specs.Views.{events, IsSame}
 use Rattle.seats.specs.declared.view.Marked.{Marked}
 use Rattle.shared.specs.Answers.{Submits}
@@ -43,6 +44,14 @@ pub record MayBeSubmitted {S : Type 0} (node : Node) (event : Event) (before lat
   pub more : Begins before.seat.view.seen looked
   pub less : Begins looked later.seat.view.seen
   pub goes : is_some (certificate_digest_in event.message) ≡ true → is_missing_parents (admit node (before.seat.view.start ++ events looked) event) ≡ false
+
+-- A call only looked: the seat is the same, with the events that it brought, has seen all that it had, and knows all as settled that it
+-- knew, which is of what it has seen.
+pub record OnlyLooks (before later : Sight) : Type 0 where
+  pub same : IsSame before later
+  pub seen : Begins before.view.seen later.view.seen
+  pub firm : Begins before.view.firm later.view.firm
+  pub within : Begins later.view.firm later.view.seen
 
 -- What came of an event: the first fault of the checks is told, or it waits, or it might go and was submitted.
 pub record Handles {S : Type 0} (node : Node) (fault : Option CheckError) (event : Event) (before later : Calling S) (told : Result Taken Told) : Type 0 where

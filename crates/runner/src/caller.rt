@@ -14,7 +14,7 @@ ghost use Rattle.shared.specs.Home.{seen_by, firm_by};
 ghost use Rattle.sigface.specs.Pair.{is_pair_signature};
 ghost use Rattle.startup.specs.Callers.{StaysWith};
 ghost use Rattle.validator.specs.Setting.{node_of};
-ghost use Rattle.runner.specs.Taking.{Handles, HandlesAgain, IsSubmitted, IsProposed, LacksParents, MayBeSubmitted, is_told_new};
+ghost use Rattle.runner.specs.Taking.{Handles, HandlesAgain, IsSubmitted, IsProposed, LacksParents, MayBeSubmitted, OnlyLooks, is_told_new};
 
 use header::{Checked, check, recheck};
 use reception::{Told, passes};
@@ -105,6 +105,9 @@ impl<'n, 'a, S: Sign> Caller<'n, 'a, S> {
     /// Whether a waiting certificate is ready.
     pub(crate) fn is_ready<R: Wait>(&mut self, rt: &R, event: &Checked) -> bool
         ensures stays { StaysWith self.old self.new }
+        ensures same { IsSame self.old.seat self.new.seat }
+        ensures firm { self.new.seat.view.firm ≡ self.old.seat.view.firm }
+        ensures more { Begins self.old.seat.view.seen self.new.seat.view.seen }
         ensures checked { result ≡ true → fault_of self.old.setting.charter accepts_all event.now ≡ None }
         ensures ready { result ≡ true → is_missing_parents (admit (node_of S.own_key S.signature_of self.old.node.setting) (seen_by self.new.seat) event.now) ≡ false }
         ensures lacks { IsSome (certificate_digest_in event.now.message) → fault_of self.old.setting.charter accepts_all event.now ≡ None → result ≡ false
@@ -128,6 +131,7 @@ impl<'n, 'a, S: Sign> Caller<'n, 'a, S> {
     pub(crate) fn propose<R: Wait>(&mut self, rt: &R) -> Result<bool, AllocError>
         ensures stays { StaysWith self.old self.new }
         ensures proposed { IfOk result (λ new. IsProposed (node_of S.own_key S.signature_of self.old.node.setting) self.old self.new new) }
+        ensures memory { OnErr result (self.new.seat.view.mine ≡ self.old.seat.view.mine) }
     {
         let Some(header) = self.node.propose(rt)? else {
             return Ok(false);
@@ -142,6 +146,7 @@ impl<'n, 'a, S: Sign> Caller<'n, 'a, S> {
     /// `Down` where the node is down.
     pub(crate) fn test_up<R: Wait>(&mut self, rt: &R) -> Result<(), Told>
         ensures stays { StaysWith self.old self.new }
+        ensures looks { OnlyLooks self.old.seat self.new.seat }
         ensures down { OnErr result (result ≡ Err (Refused Refusal.Down)) }
     {
         // There is no such place in the order, so nothing is copied.

@@ -7,7 +7,7 @@ use Rattle.shared.specs.Home.{seen_by}
 use Rattle.validator.specs.Setting.{node_of}
 use Rattle.wire.specs.declared.message.Message.TheVariants as message
 use Rattle.runner.specs.Taking.{IsSubmitted}
-use Rattle.runner.proofs.Proposed.{own_fault, none_proposed, never_passed, was_proposed}
+use Rattle.runner.proofs.Proposed.{own_fault, none_proposed, never_passed, was_proposed, lacked_memory}
 use Rattle.runner.proofs.Taken.{submitted_since, submits_more}
 use Rattle.runner.proofs.caller.Caller.propose.Goals as goal
 
@@ -55,3 +55,8 @@ returns-clause-proposed g c =
     let done = subst (λ it. IsSubmitted (node_of g.S.Sign.own_key g.S.Sign.signature_of it) c.in-Ok.event mid later c.submit.result) at_node c.submit.ensures.submitted in
     was_proposed node before mid mine start more later c.in_ok-header.field-0 c.in-Some.header c.in-Ok.event c.submit.result c.newness.result found c.in-Some.is own passed (submits_more node c.in-Ok.event mid.seat.view later.seat.view done.answer done.submits)
     (submitted_since node c.in-Ok.event before mid later c.submit.result start number mine more done) c.newness.ensures.ok
+
+pub returns-clause-memory : goal.returns-clause-memory
+returns-clause-memory g c =
+    lacked_memory _ c.in-Ok.event c.args.self.now c.propose.new.self c.submit.new.node c.submit.result c.newness.result
+    (c.propose.ensures.same.mine ∙ ap (λ it. it.seat.view.mine) c.self.view_is) c.submit.ensures.submitted c.newness.ensures.err
