@@ -11,7 +11,7 @@ use Rattle.reception.specs.declared.told.Told.{Told}
 use Rattle.reception.specs.declared.told.Told.TheVariants.{Unchecked}
 use Rattle.startup.specs.Callers.{Calling}
 use Rattle.runner.specs.Bringing.{Brings, CantWait, Enters}
-use Rattle.runner.specs.Taking.{Handles, told_as}
+use Rattle.runner.specs.Taking.{Handles, OnlyLooks, told_as}
 use Rattle.runner.specs.declared.caller.Taken.{Taken}
 use Rattle.runner.specs.declared.caller.Taken.TheVariants.{New, Known, Waits}
 
@@ -25,29 +25,29 @@ never_waits certificate (Ok receipt) is = either_way certificate receipt.new is
 never_waits certificate (Err why) is = absurd cc
 
 module _ {S : Type 0} (node : Node) (fault : Option CheckError) (event : Event) (before later : Calling S) (old new : List Event) (told : Result Taken Told) (handles : Handles node fault event before later told) where
-  pub brings_new : told ≡ Ok New → new ≡ old → Brings node fault event before old new (Ok true)
+  pub brings_new : told ≡ Ok New → new ≡ old → Brings node fault event before later old new (Ok true)
   brings_new is same = record {
     told = told;
     later = later;
     handles = handles;
-    is_new = λ _. (refl, same);
+    is_new = λ _. (refl, same, refl);
     is_known = λ other. let bad : Ok New ≡ Ok Known = sym is ∙ other in absurd cc;
     waits = λ certificate other. let bad : Ok New ≡ Ok (Waits certificate) = sym is ∙ other in absurd cc;
     refused = λ why other. let bad : Ok New ≡ Err why = sym is ∙ other in absurd cc;
   }
 
-  pub brings_known : told ≡ Ok Known → new ≡ old → Brings node fault event before old new (Ok false)
+  pub brings_known : told ≡ Ok Known → new ≡ old → Brings node fault event before later old new (Ok false)
   brings_known is same = record {
     told = told;
     later = later;
     handles = handles;
     is_new = λ other. let bad : Ok Known ≡ Ok New = sym is ∙ other in absurd cc;
-    is_known = λ _. (refl, same);
+    is_known = λ _. (refl, same, refl);
     waits = λ certificate other. let bad : Ok Known ≡ Ok (Waits certificate) = sym is ∙ other in absurd cc;
     refused = λ why other. let bad : Ok Known ≡ Err why = sym is ∙ other in absurd cc;
   }
 
-  pub brings_refusal : (why : Told) → told ≡ Err why → new ≡ old → Brings node fault event before old new (Err why)
+  pub brings_refusal : (why : Told) → told ≡ Err why → new ≡ old → Brings node fault event before later old new (Err why)
   brings_refusal why is same = record {
     told = told;
     later = later;
@@ -58,12 +58,12 @@ module _ {S : Type 0} (node : Node) (fault : Option CheckError) (event : Event) 
     refused = λ another other.
         let both : Err why ≡ Err another = sym is ∙ other in
         let one : why ≡ another = cc in
-        (ap Err one, same);
+        (ap Err one, same, refl);
   }
 
-  pub brings_waiting : (certificate : Event) (result : Result Bool Told) → told ≡ Ok (Waits certificate) → result ≢ Ok true → OnOk result (Enters certificate old new) → OnErr result (new ≡ old) → IfErr result (CantWait certificate old)
-      → Brings node fault event before old new result
-  brings_waiting certificate (Ok found) is never enters same why = record {
+  pub brings_waiting : (now : Calling S) (certificate : Event) (result : Result Bool Told) → OnlyLooks later.seat now.seat → told ≡ Ok (Waits certificate) → result ≢ Ok true → OnOk result (Enters certificate old new) → OnErr result (new ≡ old) → IfErr result (CantWait certificate old)
+      → Brings node fault event before now old new result
+  brings_waiting now certificate (Ok found) looks is never enters same why = record {
     told = told;
     later = later;
     handles = handles;
@@ -72,10 +72,10 @@ module _ {S : Type 0} (node : Node) (fault : Option CheckError) (event : Event) 
     waits = λ another other.
         let both : Ok (Waits certificate) ≡ Ok (Waits another) = sym is ∙ other in
         let one : certificate ≡ another = cc in
-        (never, λ _. rw (← one) enters, tt, tt);
+        (never, λ _. rw (← one) enters, tt, tt, looks);
     refused = λ why other. let bad : Ok (Waits certificate) ≡ Err why = sym is ∙ other in absurd cc;
   }
-  brings_waiting certificate (Err told_so) is never enters same why = record {
+  brings_waiting now certificate (Err told_so) looks is never enters same why = record {
     told = told;
     later = later;
     handles = handles;
@@ -84,7 +84,7 @@ module _ {S : Type 0} (node : Node) (fault : Option CheckError) (event : Event) 
     waits = λ another other.
         let both : Ok (Waits certificate) ≡ Ok (Waits another) = sym is ∙ other in
         let one : certificate ≡ another = cc in
-        (never, λ fine. let bad : Err told_so ≡ Ok false = fine in absurd cc, same, rw (← one) why);
+        (never, λ fine. let bad : Err told_so ≡ Ok false = fine in absurd cc, same, rw (← one) why, looks);
     refused = λ why other. let bad : Ok (Waits certificate) ≡ Err why = sym is ∙ other in absurd cc;
   }
 

@@ -11,7 +11,7 @@ use Rattle.waiter.specs.Waiting as waiting
 use Rattle.waiter.specs.declared.waiter.TheConstants.{MAX_WAITING}
 use Rattle.wire.specs.Batches.{Contents}
 use Rattle.wire.specs.declared.message.Message.TheVariants as message
-use Rattle.runner.specs.Taking.{Handles}
+use Rattle.runner.specs.Taking.{Handles, OnlyLooks}
 use Rattle.runner.specs.declared.caller.Taken.{Taken}
 use Rattle.runner.specs.declared.caller.Taken.TheVariants.{New, Known, Waits}
 
@@ -26,15 +26,17 @@ CantWait event held why =
     (why ≡ Refused refusal.Down) ⊎ (why ≡ Refused refusal.Memory)
     ⊎ ((why ≡ Refused refusal.MissingParents) × (waiting.Waits held event → ⊥) × (length held ≡ MAX_WAITING))
 
--- What the caller made of it is told: whether it was a new record, or why it was refused. One that has to wait does so, or can't.
-pub record Brings {S : Type 0} (node : Node) (fault : Option CheckError) (event : Event) (before : Calling S) (old new : List Event) (result : Result Bool Told) : Type 0 where
+-- What the caller made of it is told: whether it was a new record, or why it was refused. One that has to wait does so, or can't. Behind
+-- that the caller makes no other call, but for a look where it waits.
+pub record Brings {S : Type 0} (node : Node) (fault : Option CheckError) (event : Event) (before now : Calling S) (old new : List Event) (result : Result Bool Told) : Type 0 where
   pub told : Result Taken Told
   pub later : Calling S
   pub handles : Handles node fault event before later told
-  pub is_new : told ≡ Ok New → (result ≡ Ok true) × (new ≡ old)
-  pub is_known : told ≡ Ok Known → (result ≡ Ok false) × (new ≡ old)
-  pub waits : (certificate : Event) → told ≡ Ok (Waits certificate) → (result ≢ Ok true) × (result ≡ Ok false → Enters certificate old new) × OnErr result (new ≡ old) × IfErr result (CantWait certificate old)
-  pub refused : (why : Told) → told ≡ Err why → (result ≡ Err why) × (new ≡ old)
+  pub is_new : told ≡ Ok New → (result ≡ Ok true) × (new ≡ old) × (now ≡ later)
+  pub is_known : told ≡ Ok Known → (result ≡ Ok false) × (new ≡ old) × (now ≡ later)
+  pub waits : (certificate : Event) → told ≡ Ok (Waits certificate)
+      → (result ≢ Ok true) × (result ≡ Ok false → Enters certificate old new) × OnErr result (new ≡ old) × IfErr result (CantWait certificate old) × OnlyLooks later.seat now.seat
+  pub refused : (why : Told) → told ≡ Err why → (result ≡ Err why) × (new ≡ old) × (now ≡ later)
 
 -- a batch of the node's own, as the event that it is
 abbrev pub own_batch : Author → Contents → Event

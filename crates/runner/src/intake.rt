@@ -1,6 +1,6 @@
 //! What is done with the frames.
 
-ghost use Rattle.std.specs.Prelude.{◌≡◌, ◌≢◌, true, false, None, Ok, IfOk, IfErr, IfSome, OnOk, OnErr};
+ghost use Rattle.std.specs.Prelude.{◌≡◌, ◌≢◌, [], true, false, None, Ok, IfOk, IfErr, IfSome, OnOk, OnErr};
 ghost use Rattle.header.specs.Checks.{fault_of};
 ghost use Rattle.header.specs.Digested.{certificate_digest_in};
 ghost use Rattle.reception.specs.Makers.{fresh_makers};
@@ -9,6 +9,7 @@ ghost use Rattle.startup.specs.Callers.{StaysWith};
 ghost use Rattle.validator.specs.Setting.{node_of};
 ghost use Rattle.runner.specs.Bringing.{Brings, CantWait, Enters, own_batch};
 ghost use Rattle.runner.specs.Ends.{told_of_wait};
+ghost use Rattle.runner.specs.Taking.{OnlyLooks};
 
 use crate::bell::Bell;
 use crate::caller::{Caller, Taken};
@@ -42,6 +43,7 @@ impl<'n, 'a, S: Sign> Intake<'n, 'a, S> {
     ) -> Result<Intake<'n, 'a, S>, AllocError>
         ensures caller { IfOk result (λ intake. intake.caller ≡ caller.entry) }
         ensures makers { IfOk result (λ intake. intake.makers ≡ fresh_makers caller.entry.setting.own caller.entry.setting.charter.workers) }
+        ensures fresh { IfOk result (λ intake. (intake.waiter ≡ []) × (intake.was_refused_memory ≡ false)) }
     {
         let config = caller.config();
         let makers = Makers::new(alloc, config.committee(), config.own())?;
@@ -56,7 +58,9 @@ impl<'n, 'a, S: Sign> Intake<'n, 'a, S> {
     }
 
     /// Whether memory was refused outside an event.
-    pub(crate) fn was_refused_memory(&self) -> bool {
+    pub(crate) fn was_refused_memory(&self) -> bool
+        ensures { result ≡ self.now.was_refused_memory }
+    {
         self.was_refused_memory
     }
 
@@ -106,9 +110,10 @@ impl<'n, 'a, S: Sign> Intake<'n, 'a, S> {
     // Submits a batch of the node's own, if one was given.
     fn submit_batch<R: Wait>(&mut self, rt: &R, batch: Option<Batch>) -> Result<bool, Told>
         ensures makers { self.new.makers ≡ self.old.makers }
+        ensures mark { self.new.was_refused_memory ≡ self.old.was_refused_memory }
         ensures stays { StaysWith self.old.caller self.new.caller }
         ensures none { batch ≡ None → (result ≡ Ok false) × (self.new ≡ self.old) }
-        ensures some { IfSome batch (λ given. Brings (node_of S.own_key S.signature_of self.old.caller.node.setting) (fault_of self.old.caller.setting.charter is_pair_signature (own_batch self.old.caller.setting.own given)) (own_batch self.old.caller.setting.own given) self.old.caller self.old.waiter self.new.waiter result) }
+        ensures some { IfSome batch (λ given. Brings (node_of S.own_key S.signature_of self.old.caller.node.setting) (fault_of self.old.caller.setting.charter is_pair_signature (own_batch self.old.caller.setting.own given)) (own_batch self.old.caller.setting.own given) self.old.caller self.new.caller self.old.waiter self.new.waiter result) }
     {
         match batch {
             Some(batch) => {
@@ -121,8 +126,9 @@ impl<'n, 'a, S: Sign> Intake<'n, 'a, S> {
 
     fn submit<R: Wait>(&mut self, rt: &R, sender: Author, message: Message) -> Result<bool, Told>
         ensures makers { self.new.makers ≡ self.old.makers }
+        ensures mark { self.new.was_refused_memory ≡ self.old.was_refused_memory }
         ensures stays { StaysWith self.old.caller self.new.caller }
-        ensures brings { Brings (node_of S.own_key S.signature_of self.old.caller.node.setting) (fault_of self.old.caller.setting.charter is_pair_signature (record { sender = sender; message = message })) (record { sender = sender; message = message }) self.old.caller self.old.waiter self.new.waiter result }
+        ensures brings { Brings (node_of S.own_key S.signature_of self.old.caller.node.setting) (fault_of self.old.caller.setting.charter is_pair_signature (record { sender = sender; message = message })) (record { sender = sender; message = message }) self.old.caller self.new.caller self.old.waiter self.new.waiter result }
     {
         match self.caller.take(rt, sender, message) {
             Ok(Taken::New) => {
@@ -142,7 +148,9 @@ impl<'n, 'a, S: Sign> Intake<'n, 'a, S> {
     fn offer<R: Wait>(&mut self, rt: &R, event: Checked) -> Result<bool, Told>
         requires { certificate_digest_in event.message ≢ None }
         ensures makers { self.new.makers ≡ self.old.makers }
+        ensures mark { self.new.was_refused_memory ≡ self.old.was_refused_memory }
         ensures stays { StaysWith self.old.caller self.new.caller }
+        ensures looks { OnlyLooks self.old.caller.seat self.new.caller.seat }
         ensures never_new { result ≢ Ok true }
         ensures ok { OnOk result (Enters event self.old.waiter self.new.waiter) }
         ensures err { OnErr result (self.new.waiter ≡ self.old.waiter) }
