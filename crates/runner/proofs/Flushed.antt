@@ -1,6 +1,6 @@
 -- What there is left to bring to the disk behind a round.
-use Rattle.std.proofs.Common.{◌≡◌, ◌+◌, ℕ, List, length, Result, Ok, sym, subst, ◌∙◌, inl, inr, arith}
-use Rattle.std.specs.Prelude.{◌⊎◌, IfOk, IsErrOf}
+use Rattle.std.proofs.Common.{◌≡◌, ◌+◌, ℕ, Bool, true, false, List, length, Result, Ok, refl, sym, subst, ◌∙◌, inl, inr, arith}
+use Rattle.std.specs.Prelude.{◌⊎◌, IfOk, OnOk, IsErrOf, IsTrue}
 use Rattle.flusher.specs.Rounds.{TakesLongest}
 use Rattle.flusher.specs.declared.error.FlushError.{FlushError}
 use Rattle.flusher.specs.declared.error.FlushError.TheVariants as flush
@@ -38,3 +38,18 @@ nothing_left first seen settled taken later firm round is more takes settles = b
     by (inl down) = let bad : IsErrOf {T = ℕ} (Ok 0) flush.Down = sym is ∙ down in absurd cc
     by (inr (inl memory)) = let bad : IsErrOf {T = ℕ} (Ok 0) flush.Memory = sym is ∙ memory in absurd cc
     by (inr (inr longest)) = nothing_more first seen settled taken later more longest ended.0 ended.1
+
+-- what holds of a round that ends well
+pub of_ok : {P : Type 0} (round : Result ℕ FlushError) (count : ℕ) → round ≡ Ok count → OnOk round P → P
+of_ok {P} round count is holds = subst (λ (it : Result ℕ FlushError). OnOk it P) is holds
+
+-- such a round leaves the node up
+pub stays_up : (round : Result ℕ FlushError) (count : ℕ) (down : Bool) → round ≡ Ok count
+    → (IsTrue down → IsErrOf round flush.Device ⊎ IsErrOf round flush.Full ⊎ IsErrOf round flush.Down) → down ≡ false
+stays_up round count false is goes = refl
+stays_up round count true is goes = absurd (never (goes refl))
+  where
+    never : IsErrOf round flush.Device ⊎ IsErrOf round flush.Full ⊎ IsErrOf round flush.Down → ⊥
+    never (inl device) = let bad : IsErrOf {T = ℕ} (Ok count) flush.Device = sym is ∙ device in cc
+    never (inr (inl full)) = let bad : IsErrOf {T = ℕ} (Ok count) flush.Full = sym is ∙ full in cc
+    never (inr (inr down)) = let bad : IsErrOf {T = ℕ} (Ok count) flush.Down = sym is ∙ down in cc

@@ -28,7 +28,9 @@ pub(crate) fn flush_all<S: Sign, D: Disk, R: Wait>(
     mut rounds: Rounds<'_, '_, S, D>,
     pending: &Bell,
     settled: &Bell,
-) -> Flushed<D> {
+) -> Flushed<D>
+    ensures { (result.faults.output ≡ false) × (result.faults.input ≡ false) }
+{
     let mut faults = Faults::none();
     for _ in rt.forever() {
         let may_go_on = pending.wait(rt);

@@ -165,7 +165,11 @@ impl<'n, 'a, S: Sign> Intake<'n, 'a, S> {
         }
     }
 
-    fn propose<R: Wait>(&mut self, rt: &R) {
+    // Takes what the validator proposes. Want of memory leaves a mark, which stays.
+    fn propose<R: Wait>(&mut self, rt: &R)
+        ensures memory { self.new.was_refused_memory ≢ self.old.was_refused_memory → self.new.caller.seat.view.mine ≡ self.old.caller.seat.view.mine }
+        ensures stays { self.old.was_refused_memory ≡ true → self.new.was_refused_memory ≡ true }
+    {
         match self.caller.propose(rt) {
             Ok(true) => self.pending.ring(rt),
             Ok(false) => (),

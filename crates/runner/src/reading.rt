@@ -1,5 +1,7 @@
 //! The thread that reads frames and takes what they bring.
 
+ghost use Rattle.std.specs.Prelude.{◌≡◌, false, None};
+
 use crate::intake::Intake;
 use reception::{Faults, Input};
 use sigface::Sign;
@@ -12,7 +14,9 @@ pub(crate) fn read_all<S: Sign, I: Read + Drop, E: Write + Drop, R: Wait>(
     mut input: Input<I>,
     mut intake: Intake<'_, '_, S>,
     errors: &mut BufWriter<E>,
-) -> Faults {
+) -> Faults
+    ensures { (result.journal ≡ None) × (result.output ≡ false) }
+{
     intake.follow(rt, errors);
     for _ in 0..u64::MAX {
         let _ = errors.flush();

@@ -1,6 +1,6 @@
 //! The thread that writes what goes out.
 
-ghost use Rattle.std.specs.Prelude.{◌≡◌, ◌≤◌, ◌++◌, true, false, length, OnOk};
+ghost use Rattle.std.specs.Prelude.{◌≡◌, ◌≤◌, ◌++◌, true, false, None, length, OnOk};
 ghost use Rattle.std.specs.Int.{w32, to_be_bytes};
 ghost use Rattle.std.specs.Io.Buffered.{writer_contents};
 ghost use Rattle.std.specs.Io.KnownBytes.{Appends, Keeps};
@@ -36,7 +36,9 @@ pub(crate) fn write_outputs<S: Sign, W: Write + Drop, R: Wait>(
     mut caller: Caller<'_, '_, S>,
     writer: BufWriter<W>,
     settled: &Bell,
-) -> Faults {
+) -> Faults
+    ensures { (result.journal ≡ None) × (result.input ≡ false) }
+{
     let mut sink = Sink {
         alloc,
         writer,

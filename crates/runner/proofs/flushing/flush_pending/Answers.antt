@@ -1,6 +1,17 @@
 use Rattle.std.proofs.Common.{Ok, ap, sym, ◌∙◌}
-use Rattle.runner.proofs.Flushed.{nothing_left}
+use Rattle.seats.proofs.Beginnings.{begins_trans}
+use Rattle.runner.proofs.Flushed.{nothing_left, of_ok, stays_up}
 use Rattle.runner.proofs.flushing.flush_pending.Goals as goal
+
+pub loop-preserved : goal.loop-preserved
+loop-preserved g c =
+    let round = c.round-round in (
+      tt,
+      tt,
+      of_ok round.result c.in-Ok.field-0 c.in-Ok.is round.ensures.no_fault ∙ c.loop.invariant.2,
+      λ _. stays_up round.result c.in-Ok.field-0 _ c.in-Ok.is round.ensures.goes_down,
+      begins_trans _ _ _ c.loop.invariant.4 round.ensures.more,
+    )
 
 pub returns-in-Ok-eq0-clause-all : goal.returns-in-Ok-eq0-clause-all
 returns-in-Ok-eq0-clause-all g c = λ up fine.
