@@ -3,3 +3,4 @@ mod Taken
 mod Proposed
 mod Brought
 mod Flushed
+mod Opened
