@@ -1,9 +1,11 @@
--- What there is left to bring to the disk behind a round.
-use Rattle.std.proofs.Common.{◌≡◌, ◌+◌, ℕ, Bool, true, false, List, length, Result, Ok, refl, sym, subst, ◌∙◌, inl, inr, arith}
-use Rattle.std.specs.Prelude.{◌⊎◌, IfOk, OnOk, IsErrOf, IsTrue}
+-- What there is left to bring to the disk behind a round, and what is told of all rounds.
+use Rattle.std.proofs.Common.{◌≡◌, ◌+◌, ◌<◌, ℕ, Bool, true, false, List, length, Option, Some, Result, Ok, refl, sym, subst, ◌∙◌, inl, inr, arith}
+use Rattle.std.specs.Prelude.{◌≢◌, ◌⊎◌, ◌↔◌, IfOk, OnOk, IsErrOf, IsSome, IsTrue}
 use Rattle.flusher.specs.Rounds.{TakesLongest}
 use Rattle.flusher.specs.declared.error.FlushError.{FlushError}
 use Rattle.flusher.specs.declared.error.FlushError.TheVariants as flush
+use Rattle.journal.specs.declared.error.JournalError.{JournalError}
+use Rattle.journal.specs.declared.error.JournalError.TheVariants as journal
 use Rattle.laws.specs.Laws.{Begins}
 use Rattle.seats.proofs.Beginnings.{begins_trans, begins_whole}
 use Rattle.seats.specs.declared.view.Marked.{Marked}
@@ -43,13 +45,20 @@ nothing_left first seen settled taken later firm round is more takes settles = b
 pub of_ok : {P : Type 0} (round : Result ℕ FlushError) (count : ℕ) → round ≡ Ok count → OnOk round P → P
 of_ok {P} round count is holds = subst (λ (it : Result ℕ FlushError). OnOk it P) is holds
 
--- such a round leaves the node up
-pub stays_up : (round : Result ℕ FlushError) (count : ℕ) (down : Bool) → round ≡ Ok count
-    → (IsTrue down → IsErrOf round flush.Device ⊎ IsErrOf round flush.Full ⊎ IsErrOf round flush.Down) → down ≡ false
-stays_up round count false is goes = refl
-stays_up round count true is goes = absurd (never (goes refl))
+-- such a round is of a node that is up, and leaves it so
+pub stays_up : (round : Result ℕ FlushError) (count : ℕ) (was down : Bool) → round ≡ Ok count → IsErrOf round flush.Down ↔ IsTrue was
+    → (IsTrue down → IsErrOf round flush.Device ⊎ IsErrOf round flush.Full ⊎ IsErrOf round flush.Down) → down ≡ was
+stays_up round count true down is fell goes = absurd (let bad : IsErrOf {T = ℕ} (Ok count) flush.Down = sym is ∙ fell.1 refl in cc)
+stays_up round count false false is fell goes = refl
+stays_up round count false true is fell goes = absurd (never (goes refl))
   where
     never : IsErrOf round flush.Device ⊎ IsErrOf round flush.Full ⊎ IsErrOf round flush.Down → ⊥
     never (inl device) = let bad : IsErrOf {T = ℕ} (Ok count) flush.Device = sym is ∙ device in cc
     never (inr (inl full)) = let bad : IsErrOf {T = ℕ} (Ok count) flush.Full = sym is ∙ full in cc
     never (inr (inr down)) = let bad : IsErrOf {T = ℕ} (Ok count) flush.Down = sym is ∙ down in cc
+
+-- what is told so far, where the disk had so many faults at first, and has so many now: its fault exactly where it has more
+pub record TellsFaults (first now : ℕ) (fault : Option JournalError) (down : Bool) : Type 0 where
+  pub fell : IsSome fault → IsTrue down
+  pub device : fault ≡ Some journal.Device → first < now
+  pub no_fault : fault ≢ Some journal.Device → now ≡ first

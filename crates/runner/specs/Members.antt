@@ -27,7 +27,7 @@ pub record NamesMember (charter : Charter) (own : List ℕ) : Type 0 where
   pub some : own ≢ []
   pub member : number_of 0 own < length charter.keys
 
--- the bytes of a file are no text, or a text that makes no committee for this reason
+-- the bytes of a file are no text, which is told as no TOML, or a text that makes no committee for this reason
 abbrev pub MakesNone : List ℕ → CommitteeError → Type 0
 MakesNone text error = ((IsUtf8 text → ⊥) × (error ≡ NotToml)) ⊎ (IsUtf8 text × (answer_to (parse_document text) ≡ Err error))
 

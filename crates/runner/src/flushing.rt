@@ -1,6 +1,6 @@
 //! The thread that brings records to the disk.
 
-ghost use Rattle.std.specs.Prelude.{◌≡◌, ◌≢◌, ◌⊎◌, ◌↔◌, ◌<◌, true, false, Some, IsSome, IfSome, IsTrue};
+ghost use Rattle.std.specs.Prelude.{◌≡◌, ◌≢◌, ◌⊎◌, ◌↔◌, ◌<◌, true, false, Some, None, IsSome, IfSome, IsTrue};
 ghost use Rattle.journal.specs.Journal.{disk_of};
 ghost use Rattle.flusher.specs.Rounds.{journal_of, is_down, settled_in, taken_in, HasNoRoom, TakesLongest};
 ghost use Rattle.runner.specs.Ends.{faults_behind};
@@ -29,7 +29,9 @@ pub(crate) fn flush_all<S: Sign, D: Disk, R: Wait>(
     pending: &Bell,
     settled: &Bell,
 ) -> Flushed<D>
-    ensures { (result.faults.output ≡ false) × (result.faults.input ≡ false) }
+    ensures device { result.faults.journal ≡ Some JournalError.Device → D.faults (disk_of (journal_of rounds.entry.flusher)) < D.faults result.disk }
+    ensures no_fault { result.faults.journal ≢ Some JournalError.Device → D.faults result.disk ≡ D.faults (disk_of (journal_of rounds.entry.flusher)) }
+    ensures others { (result.faults.output ≡ false) × (result.faults.input ≡ false) }
 {
     let mut faults = Faults::none();
     for _ in rt.forever() {
@@ -57,6 +59,7 @@ fn flush_pending<S: Sign, D: Disk, R: Wait>(
 
     // A round that takes the node down is told as the journal's fault: the disk's, or that the group has no place.
     ensures down { is_down rounds.old.flusher ≡ false → IsSome result.journal ↔ IsTrue (is_down rounds.new.flusher) }
+    ensures stays { IsTrue (is_down rounds.old.flusher) → (result.journal ≡ None) × IsTrue (is_down rounds.new.flusher) }
     ensures which { IfSome result.journal (λ error. (error ≡ JournalError.Device) ⊎ (error ≡ JournalError.Full)) }
     ensures full { is_down rounds.old.flusher ≡ false → result.journal ≡ Some JournalError.Full → HasNoRoom (D.content (disk_of (journal_of rounds.new.flusher))) (settled_in rounds.new.flusher) (taken_in rounds.new.flusher) }
 

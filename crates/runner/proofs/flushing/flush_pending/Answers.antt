@@ -9,7 +9,7 @@ loop-preserved g c =
       tt,
       tt,
       of_ok round.result c.in-Ok.field-0 c.in-Ok.is round.ensures.no_fault ∙ c.loop.invariant.2,
-      λ _. stays_up round.result c.in-Ok.field-0 _ c.in-Ok.is round.ensures.goes_down,
+      stays_up round.result c.in-Ok.field-0 _ _ c.in-Ok.is round.ensures.down round.ensures.goes_down ∙ c.loop.invariant.3,
       begins_trans _ _ _ c.loop.invariant.4 round.ensures.more,
     )
 

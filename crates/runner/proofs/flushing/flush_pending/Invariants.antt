@@ -1,4 +1,4 @@
-use Rattle.std.proofs.Common.{◌≡◌, false}
+use Rattle.std.proofs.Common.{◌≡◌}
 use Rattle.journal.specs.Journal.{disk_of}
 use Rattle.laws.specs.Laws.{Begins}
 use Rattle.flusher.specs.Rounds.{journal_of, is_down}
@@ -8,5 +8,5 @@ abbrev pub invariant-loop : goal.invariant-loop
 invariant-loop g l =
     (goal.iterator-loop g).can_next l.iterator' × (goal.iterator-loop g).is_finite l.iterator'
     × (g.D.Disk.faults (disk_of (journal_of l.rounds.flusher)) ≡ g.D.Disk.faults (disk_of (journal_of l.initial.rounds.flusher)))
-    × (is_down l.initial.rounds.flusher ≡ false → is_down l.rounds.flusher ≡ false)
+    × (is_down l.rounds.flusher ≡ is_down l.initial.rounds.flusher)
     × Begins l.initial.rounds.seat.view.seen l.rounds.seat.view.seen
