@@ -38,8 +38,8 @@ pub record HasNoMember (text own : List ℕ) : Type 0 where
   pub committee : answer_to (parse_document text) ≡ Ok charter
   pub stranger : NamesMember charter own → ⊥
 
--- Why a file's bytes and a number make no configuration: memory was refused for a text that isn't blank, the bytes make no committee, or
--- it has no such member.
+-- Why a file's bytes and a number make no configuration: memory was refused for a text that isn't blank, the bytes make no committee, or the
+-- committee has no such member.
 abbrev pub RefusesConfig : List ℕ → List ℕ → Ending → Type 0
 RefusesConfig text own Memory = IsUtf8 text × (IsBlank text → ⊥)
 RefusesConfig text own (Config error) = MakesNone text error
