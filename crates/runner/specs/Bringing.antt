@@ -27,7 +27,7 @@ CantWait event held why =
     ⊎ ((why ≡ Refused refusal.MissingParents) × (waiting.Waits held event → ⊥) × (length held ≡ MAX_WAITING))
 
 -- What the caller made of it is told: whether it was a new record, or why it was refused. One that has to wait does so, or can't. Behind
--- that the caller makes no other call, but for a look where it waits.
+-- that the caller's seat stays as it is, but for a look where it waits.
 pub record Brings {S : Type 0} (node : Node) (fault : Option CheckError) (event : Event) (before now : Calling S) (old new : List Event) (result : Result Bool Told) : Type 0 where
   pub told : Result Taken Told
   pub later : Calling S

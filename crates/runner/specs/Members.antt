@@ -47,7 +47,7 @@ RefusesConfig text own Usage = HasNoMember text own
 RefusesConfig text own other = ⊥
 
 -- Why nothing is opened for a number: memory was refused, a file can't be read or has no such member, its bytes make no committee, or
--- they make a configuration and the journal can't be opened.
+-- they make a configuration and the journal can't be opened. Of the first two it asks nothing, and the bytes are some, not the file's.
 abbrev pub RefusesOpening : List ℕ → Ending → Type 0
 RefusesOpening own Memory = ⊤
 RefusesOpening own Usage = ⊤

@@ -46,7 +46,7 @@ pub record MayBeSubmitted {S : Type 0} (node : Node) (event : Event) (before lat
   pub goes : is_some (certificate_digest_in event.message) ≡ true → is_missing_parents (admit node (before.seat.view.start ++ events looked) event) ≡ false
 
 -- A call only looked: the seat is the same, with the events that it brought, has seen all that it had, and knows all as settled that it
--- knew, which is of what it has seen.
+-- knew, which is of what it has seen. That no output was taken out it doesn't say.
 pub record OnlyLooks (before later : Sight) : Type 0 where
   pub same : IsSame before later
   pub seen : Begins before.view.seen later.view.seen

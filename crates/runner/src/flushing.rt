@@ -63,7 +63,8 @@ fn flush_pending<S: Sign, D: Disk, R: Wait>(
     ensures which { IfSome result.journal (λ error. (error ≡ JournalError.Device) ⊎ (error ≡ JournalError.Full)) }
     ensures full { is_down rounds.old.flusher ≡ false → result.journal ≡ Some JournalError.Full → HasNoRoom (D.content (disk_of (journal_of rounds.new.flusher))) (settled_in rounds.new.flusher) (taken_in rounds.new.flusher) }
 
-    // Unless the node is down or memory was refused, of all that was accepted nothing more fits a group behind what is settled.
+    // Unless the node is down or memory was refused, of some list of what was accepted, with all of it that the seat had seen before,
+    // nothing more fits a group behind what is settled.
     ensures all { is_down rounds.new.flusher ≡ false → result.memory ≡ false → TakesLongest rounds.old.seat.view.seen (settled_in rounds.new.flusher) (settled_in rounds.new.flusher) }
     // Behind want of memory nothing is taken that isn't settled.
     ensures memory { result.memory ≡ true → taken_in rounds.new.flusher ≡ settled_in rounds.new.flusher }
