@@ -42,6 +42,10 @@ pub record IsClosedUp (file left : List ℕ) : Type 0 where
 abbrev pub IsBeforeOrAfter : List ℕ → List (List ℕ) → List ℕ → Type 0
 IsBeforeOrAfter file group left = (stands left ≡ stands file) ⊎ (stands left ≡ stands_with file group)
 
--- what a stop leaves stands for what one of these stands for
+-- both stand for records, and for the same: damaged bytes stand for none
+abbrev pub HaveSameRecords : List ℕ → List ℕ → Type 0
+HaveSameRecords file left = (records : List Record) × (stands file ≡ Ok records) × (stands left ≡ Ok records)
+
+-- what a stop leaves is one of these byte for byte, or stands for the records of one
 abbrev pub StandsAsOneOf : (List ℕ → Type 0) → List ℕ → Type 0
-StandsAsOneOf outcome left = (first : List ℕ) × outcome first × (stands left ≡ stands first)
+StandsAsOneOf outcome left = outcome left ⊎ ((first : List ℕ) × outcome first × HaveSameRecords first left)

@@ -17,7 +17,7 @@ use Rattle.book.specs.Book.{Shown, Stands, run_on}
 use Rattle.recovery.specs.Faults.{ended_by}
 use Rattle.recovery.specs.Laws.{IsNoRefusal}
 use Rattle.recovery.specs.Script.{IsOf, IsOpenedOf, IsNotOpened, MayEnd, Breaks}
-use Rattle.recovery.specs.Told.{told, Tells, StandsAt, IsToldAsOneOf}
+use Rattle.recovery.specs.Told.{told, Tells, StandsAt, IsToldAsOneOf, KeepsRecords}
 use Rattle.recovery.specs.declared.driving.DriveError.{DriveError}
 use Rattle.recovery.specs.declared.driving.DriveError.TheVariants.{Device, Full}
 use Rattle.recovery.proofs.Opened.{no_refusal}
@@ -88,12 +88,13 @@ stop_breaks node desk error bytes later possible left found_now only not_opened 
 
 -- an opening that failed
 pub not_opened_of : {D : Type 0} (node : Node) (clock : D → ℕ) (since : D → ℕ → List ℕ → Type 0) (may : D → List ℕ → Type 0) (old new : D) (bytes : List ℕ) (cause : JournalError) (error : DriveError) → error ≡ ended_by cause
-    → (cause ≢ errors.Device → Tells cause (told node bytes)) → cause ≢ errors.Full → AtEachMoment clock since old new (IsToldAsOneOf node (may old))
+    → (cause ≢ errors.Device → Tells cause (told node bytes)) → cause ≢ errors.Full → AtEachMoment clock since old new (IsToldAsOneOf node (may old)) → AtEachMoment clock since old new (KeepsRecords node (may old))
     → ((disk : D) (t : ℕ) (c : List ℕ) → t ≤ clock disk → may disk c → since disk t c) → IsNotOpened node error bytes (may old) (may new)
-not_opened_of {D} node clock since may old new bytes cause error is tells never at counts = record {
+not_opened_of {D} node clock since may old new bytes cause error is tells never at keeping counts = record {
   cause = cause;
   is = is;
   tells = tells;
   never_full = never;
   left = λ found left. at.each found (counts new (clock old) found at.later left);
+  keeps = λ found left. keeping.each found (counts new (clock old) found keeping.later left);
 }

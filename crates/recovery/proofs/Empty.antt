@@ -106,7 +106,7 @@ never_full file record_bytes ends none short full =
 
 -- what a stop leaves while a first record is added to it
 pub begins_with : (node : Node) (file left : List ℕ) → EndsClosed file → stands file ≡ Ok [] → IsBeforeOrAfter file (configuration_of node.charter node.own ∷ []) left → KeepsOrBegins node file left
-begins_with node file left ends none (inl same) = inl same
+begins_with node file left ends none (inl same) = inl ([], none, same ∙ none)
 begins_with node file left ends none (inr with_it) =
     let configuration = configuration_of node.charter node.own in
     let gate : length file - 1 ≡ 0 = omega (arith, empty_length file ends none) in

@@ -361,15 +361,17 @@ opening_fails node bytes ConfigMismatch damaged full config device = absurd (con
 opening_fails node bytes Full damaged full config device = absurd (full refl)
 
 pub as_one_of : (node : Node) (outcome : List ℕ → Type 0) (left : List ℕ) → StandsAsOneOf outcome left → IsToldAsOneOf node outcome left
-as_one_of node outcome left (first, possible, same) = (first, possible, told_same node left first same)
+as_one_of node outcome left (inl possible) = (left, possible, refl)
+as_one_of node outcome left (inr (first, possible, (records, before, after))) = (first, possible, told_same node left first (after ∙ sym before))
 
--- an opening of the journal leaves the records of one outcome
+-- an opening of the journal leaves one outcome, or the records of one
 pub keeps_one : (node : Node) (outcome : List ℕ → Type 0) (left : List ℕ) → StandsAsOneOf outcome left → KeepsRecords node outcome left
-keeps_one node outcome left (first, possible, same) = (first, possible, inl same)
+keeps_one node outcome left (inl possible) = inl possible
+keeps_one node outcome left (inr (first, possible, same)) = inr (first, possible, inl same)
 
 -- and what is kept of bytes that stand for the same is kept of these
 pub keeps_same : (node : Node) (file mid left : List ℕ) → stands mid ≡ stands file → KeepsOrBegins node mid left → KeepsOrBegins node file left
-keeps_same node file mid left same (inl kept) = inl (kept ∙ same)
+keeps_same node file mid left same (inl (records, before, after)) = inl (records, sym same ∙ before, after)
 keeps_same node file mid left same (inr (none, begun)) = inr (sym same ∙ none, begun)
 
 pub stands_same : (node : Node) (one other : Result History JournalError) (tables : Tables) → one ≡ other → StandsAt node one tables → StandsAt node other tables

@@ -17,7 +17,7 @@ use Rattle.model.specs.Nodes.{Node}
 use Rattle.records.specs.Records.{record_of}
 use Rattle.world.specs.Text as script
 use Rattle.recovery.specs.Faults.{ended_by}
-use Rattle.recovery.specs.Told.{told, Tells, IsToldAsOneOf}
+use Rattle.recovery.specs.Told.{told, Tells, IsToldAsOneOf, KeepsRecords}
 use Rattle.recovery.specs.Writing.{EndsAtDisk}
 use Rattle.recovery.specs.declared.driving.Command.{Command}
 use Rattle.recovery.specs.declared.driving.Command.TheVariants.{Event, Flush, Stop}
@@ -74,13 +74,14 @@ pub record HasRun (node : Node) (commands : List script.Command) (before later :
   pub firm : LeavesOnly later outcome
 
 -- The node was not opened: the error is what the bytes are told as, unless memory or the disk failed; and what a stop leaves is told as
--- one outcome from before.
+-- one outcome from before, and keeps its records, or its bytes where these are damaged.
 pub record IsNotOpened (node : Node) (error : DriveError) (before : List ℕ) (possible outcome : List ℕ → Type 0) : Type 0 where
   pub cause : JournalError
   pub is : error ≡ ended_by cause
   pub tells : cause ≢ journal.Device → Tells cause (told node before)
   pub never_full : cause ≢ journal.Full
   pub left : (bytes : List ℕ) → outcome bytes → IsToldAsOneOf node possible bytes
+  pub keeps : (bytes : List ℕ) → outcome bytes → KeepsRecords node possible bytes
 
 -- and nothing was written
 abbrev pub IsUnopened : Node → DriveError → List ℕ → (List ℕ → Type 0) → (List ℕ → Type 0) → Option (List ℕ) → Option (List ℕ) → Type 0

@@ -10,6 +10,7 @@ use Rattle.committee.specs.Charter.{Charter}
 use Rattle.diskmodel.specs.Outcomes.{AreBytes}
 use Rattle.header.specs.Checks.{fault_of, accepts_all}
 use Rattle.journal.specs.Format.{kept_at, stands}
+use Rattle.journal.specs.Journal.{HaveSameRecords}
 use Rattle.journal.specs.declared.error.JournalError.{JournalError}
 use Rattle.journal.specs.declared.error.JournalError.TheVariants.{Memory, Damaged, ConfigMismatch}
 use Rattle.journal.specs.declared.record.Record.{Record}
@@ -157,13 +158,13 @@ IsOld (Err refusal) = refusal ≢ refusals.Memory
 abbrev pub HasTexts : List ℕ → Type 0
 HasTexts file = (records : List Record) → stands file ≡ Ok records → All IsText (drop 1 records)
 
--- what is left of these bytes stands for their records, whoever's they are, or where they have none for the node's configuration alone
+-- these bytes stand for records, and what is left of them for the same, whoever's they are, or where they are none for the node's configuration alone
 abbrev pub KeepsOrBegins : Node → List ℕ → List ℕ → Type 0
-KeepsOrBegins node file left = (stands left ≡ stands file) ⊎ ((stands file ≡ Ok []) × (stands left ≡ Ok (kept_at 0 (configuration_of node.charter node.own) ∷ [])))
+KeepsOrBegins node file left = HaveSameRecords file left ⊎ ((stands file ≡ Ok []) × (stands left ≡ Ok (kept_at 0 (configuration_of node.charter node.own) ∷ [])))
 
--- so it is of one of these outcomes
+-- what is left is one of these outcomes byte for byte, or so of one of them: damaged bytes stay as they were
 abbrev pub KeepsRecords : Node → (List ℕ → Type 0) → List ℕ → Type 0
-KeepsRecords node outcome left = (first : List ℕ) × outcome first × KeepsOrBegins node first left
+KeepsRecords node outcome left = outcome left ⊎ ((first : List ℕ) × outcome first × KeepsOrBegins node first left)
 
 -- what a stop leaves is told as one of these outcomes is
 abbrev pub IsToldAsOneOf : Node → (List ℕ → Type 0) → List ℕ → Type 0

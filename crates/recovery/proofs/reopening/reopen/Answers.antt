@@ -1,4 +1,4 @@
-use Rattle.std.proofs.Common.{rules, ◌≡◌, List, ℕ, sym, ◌∙◌, subst, drop}
+use Rattle.std.proofs.Common.{rules, ◌≡◌, inr, List, ℕ, sym, ◌∙◌, subst, drop}
 use borrow.Author.Rules.{in_lives}
 use Rattle.std.specs.Prelude.{All}
 use Rattle.std.proofs.lemmas.Result.{err_from_is_err_and}
@@ -132,7 +132,7 @@ returns-in-Ok-clause-keeps g c =
     let P : List ℕ → Type 0 = KeepsRecords node outcome in
     let first = weaker g.D.Disk.clock g.D.Disk.outcome_since c.args.disk middle P (StandsAsOneOf outcome) c.in_ok-journal.ensures.any_moment (λ left is. keeps_one node outcome left is) in
     joins g.D.Disk.clock g.D.Disk.outcome_since c.args.disk middle (disk_of c.validator_on.new.journal) P (KeepsOrBegins node mid) first c.validator_on.ensures.keeps
-    (λ left kept. (file, g.met.D.Disk.content_is_outcome c.args.disk, keeps_same node file mid left c.in_ok-journal.ensures.same kept))
+    (λ left kept. inr (file, g.met.D.Disk.content_is_outcome c.args.disk, keeps_same node file mid left c.in_ok-journal.ensures.same kept))
 
 pub returns-clause-keeps_err : goal.returns-clause-keeps_err
 returns-clause-keeps_err g c =
@@ -144,5 +144,5 @@ returns-clause-keeps_err g c =
     let P : List ℕ → Type 0 = KeepsRecords node outcome in
     let first = weaker g.D.Disk.clock g.D.Disk.outcome_since c.args.disk middle P (StandsAsOneOf outcome) c.in_ok-journal.ensures.any_moment (λ left is. keeps_one node outcome left is) in
     let whole = joins g.D.Disk.clock g.D.Disk.outcome_since c.args.disk middle (disk_of c.validator_on.new.journal) P (KeepsOrBegins node mid) first c.validator_on.ensures.keeps
-    (λ left kept. (file, g.met.D.Disk.content_is_outcome c.args.disk, keeps_same node file mid left c.in_ok-journal.ensures.same kept)) in
+    (λ left kept. inr (file, g.met.D.Disk.content_is_outcome c.args.disk, keeps_same node file mid left c.in_ok-journal.ensures.same kept)) in
     rw c.into_disk.ensures whole

@@ -69,7 +69,7 @@ returns-in_err-validator-clause-keeps g c =
     let old = disk_of c.args.journal.now in
     let node = node_of g.S.Sign.own_key g.S.Sign.signature_of c.args.config.now in
     started g.D.Disk.clock g.D.Disk.outcome_since old (KeepsOrBegins node (g.D.Disk.content old))
-    (λ left now. inl (ap stands (c.requires.alive.firm left (g.met.D.Disk.only_now old left now))))
+    (λ left now. inl (c.args.records.now, c.requires.records, ap stands (c.requires.alive.firm left (g.met.D.Disk.only_now old left now)) ∙ c.requires.records))
 
 pub returns-clause-keeps : goal.returns-clause-keeps
 returns-clause-keeps g c =
@@ -80,7 +80,7 @@ returns-clause-keeps g c =
       | else-is_empty w ↦
           rw w.journal-is
           (started g.D.Disk.clock g.D.Disk.outcome_since old (KeepsOrBegins node (g.D.Disk.content old))
-          (λ left now. inl (ap stands (c.requires.alive.firm left (g.met.D.Disk.only_now old left now)))))
+          (λ left now. inl (c.args.records.now, c.requires.records, ap stands (c.requires.alive.firm left (g.met.D.Disk.only_now old left now)) ∙ c.requires.records)))
     ]
 
 pub returns-clause-texts_left : goal.returns-clause-texts_left

@@ -71,7 +71,7 @@ returns-in_err-group-clause-keeps g c =
     let old = disk_of c.args.journal.now in
     let node = node_of g.S.Sign.own_key g.S.Sign.signature_of c.args.config.now in
     started g.D.Disk.clock g.D.Disk.outcome_since old (KeepsOrBegins node (g.D.Disk.content old))
-    (λ left now. inl (ap stands (c.requires.alive.firm left (g.met.D.Disk.only_now old left now))))
+    (λ left now. inl ([], c.requires.empty, ap stands (c.requires.alive.firm left (g.met.D.Disk.only_now old left now)) ∙ c.requires.empty))
 
 pub returns-in_err-append-clause-keeps : goal.returns-in_err-append-clause-keeps
 returns-in_err-append-clause-keeps g c =

@@ -32,7 +32,7 @@ pub returns-in-Err-clause-err : goal.returns-in-Err-clause-err
 returns-in-Err-clause-err g c =
     let node = node_of g.S.Sign.own_key g.S.Sign.signature_of c.args.config.now in
     not_opened_of node g.D.Disk.clock g.D.Disk.outcome_since g.D.Disk.outcome c.args.disk c.in-Err.field-0.disk (g.D.Disk.content c.args.disk) c.in-Err.field-0.error c.from.result c.from.ensures
-    c.in-Err.ensures.err c.in-Err.ensures.never_full c.in-Err.ensures.any_moment_err g.met.D.Disk.counts_now
+    c.in-Err.ensures.err c.in-Err.ensures.never_full c.in-Err.ensures.any_moment_err c.in-Err.ensures.keeps_err g.met.D.Disk.counts_now
 
 pub returns-in-Err-clause-device : goal.returns-in-Err-clause-device
 returns-in-Err-clause-device g c = λ is. c.in-Err.ensures.device (only_device c.in-Err.field-0.error (sym c.from.ensures ∙ is))
