@@ -232,9 +232,9 @@ def group(records):
     return b'\1' + u32(len(body)) + body
 
 
-def append(fold, piece):
+def append(fold, _):
     fold.add(RECORDS)
-    fold.add_bytes(group([u64(piece) + bytes(346)] * RECORDS) + b'\0')
+    fold.add_bytes(group([bytes(354)] * RECORDS) + b'\0')
 
 
 def book(count):
@@ -267,23 +267,21 @@ def book(count):
 def reopen(count):
     keys = b''.join(bytes([member + 1]) * 32 for member in range(MEMBERS))
     text = group([b'\0\1' + u16(0) + u16(50) + u16(1) + u32(1048576) + u16(MEMBERS) + keys])
-    records, full = [], None
+    records, coins, full = [], Coins(), 0
     for _, made in rounds():
+        round_ = made[0].round
         records += [b'\1' + u16(one.author) + one.certificate_bytes for one in made]
         # A round is full where a quorum of it is there.
         if len(records) - 1 <= count:
-            held = made[:MEMBERS - max(0, len(records) - count)]
-            full = held
-        round_ = made[0].round
-        if round_ >= 3 and round_ % 2 == 1:
+            full = round_
+        if len(records) < count and coins.take(made):
             records.append(b'\1' + u16(0) + b'\6' + u64((round_ - 1) // 2) * 2)
         if len(records) >= count:
             break
     text += b''.join(group(records[place:min(place + RECORDS, count)]) for place in range(0, count, RECORDS)) + b'\0'
     fold = Fold()
     fold.add_bytes(text)
-    fold.add(full[0].round + 1)
-    fold.add_bytes(Header(0, full[0].round + 1, [(one.author, one.certificate) for one in full]).digest)
+    fold.add(full + 1, len(coins.ordered))
     return fold
 
 
@@ -303,6 +301,7 @@ def node(count):
 
 
 LITTLE = [
+    ('hash', 1000, lambda n: over([sha(BLOCK * n)], tested)),
     ('decode-header', 20, lambda n: over(pieces(n), lambda fold, one: one.add_header(fold))),
     ('decode-certificate', 20, lambda n: over(pieces(n), lambda fold, one: one.add_certificate(fold))),
     ('decode-batch', 3, lambda n: over(batches(n), lambda fold, body: fold.add_bytes(body))),
@@ -327,6 +326,5 @@ LITTLE = [
     ('node', 500, node),
 ]
 
-print('hash', 1000, sha(BLOCK * 1000).hex())
 for word, count, fold in LITTLE:
-    print(word, count, sha(u64(fold(count).value)).hex())
+    print(word, count, '%016x' % fold(count).value)

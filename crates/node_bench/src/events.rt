@@ -9,7 +9,7 @@ use crate::rounds::{Rounds, UNSIGNED};
 use committee::Committee;
 use header::{Checked, recheck};
 use script::OWN;
-use std::alloc::{AllocError, Global};
+use std::alloc::Global;
 use wire::{Author, Digest, Message, Vote};
 
 /// What comes in a round before its certificates.
@@ -24,7 +24,7 @@ pub enum Front {
     Batches(u64),
 }
 
-/// What stands for the digest of an event that isn't tested, or has none.
+/// What stands for the digest of an event that has none.
 const STAND_IN: Digest = Digest([7; 32]);
 
 /// Rounds of events.
@@ -62,7 +62,7 @@ impl Events {
         committee: &Committee,
         front: Front,
         has_coins: bool,
-    ) -> Result<Events, AllocError> {
+    ) -> Result<Events, Ending> {
         let rounds = Rounds::new(alloc, committee, false)?;
         let (front_len, certificates) = match front {
             Front::Nothing | Front::Batches(_) => (0, rounds.members),
@@ -95,13 +95,6 @@ impl Events {
         let event = recheck(committee, sender, message)?;
         self.note(event.message(), digest_in(&event))?;
         Ok(event)
-    }
-
-    /// The next one, untested.
-    pub fn made(&mut self) -> Result<Message, Ending> {
-        let (_, message) = self.next()?;
-        self.note(&message, STAND_IN)?;
-        Ok(message)
     }
 
     // The next one, with its sender.
@@ -164,14 +157,16 @@ impl Events {
     }
 
     // Keeps the digest of the event that came last for those that name it.
-    fn note(&mut self, message: &Message, digest: Digest) -> Result<(), AllocError> {
+    fn note(&mut self, message: &Message, digest: Digest) -> Result<(), Ending> {
         match message {
-            Message::Header(_) => self.header = digest,
-            Message::Certificate(certificate) => {
-                self.rounds.note(certificate.header.author, digest)?;
+            Message::Certificate(certificate) => self
+                .rounds
+                .note(certificate.header.author, digest),
+            Message::Header(_) => {
+                self.header = digest;
+                Ok(())
             }
-            _ => {}
+            _ => Ok(()),
         }
-        Ok(())
     }
 }

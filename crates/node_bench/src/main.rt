@@ -16,6 +16,8 @@ mod task;
 mod working;
 
 use ending::Ending;
+use fold::Fold;
+use settings::config_of;
 use std::env;
 use std::process::ExitCode;
 use std::rt::Env;
@@ -45,49 +47,44 @@ fn run<R: Env + AllocGlobal + Print + Threads + Wait + Sync>(rt: &R) -> Result<(
     let [_, word, ..] = words.as_slice() else {
         return run_little(rt);
     };
-    let Some((kind, task)) = task_of(rt.alloc(), &words[1..]) else {
-        return Err(Ending::Usage);
-    };
-    tell(rt, word.as_str(), kind, task)
+    tell(rt, word.as_str(), task_of(rt.alloc(), &words[1..]))
 }
 
 // A little of each kind of work.
 fn run_little<R: AllocGlobal + Print + Threads + Wait + Sync>(rt: &R) -> Result<(), Ending> {
     for (word, _, count, _) in &WORKS {
-        let Some((kind, task)) = sized(rt.alloc(), word, *count, None) else {
-            return Err(Ending::Usage);
-        };
-        tell(rt, word, kind, task)?;
+        tell(rt, word, sized(rt.alloc(), word, *count, None))?;
     }
     Ok(())
 }
 
-// Does a task, and prints what it comes to.
-fn tell<R>(rt: &R, word: &str, kind: Kind, task: Task) -> Result<(), Ending>
+// Does a task, if the words ask for one, and prints what it comes to.
+fn tell<R>(rt: &R, word: &str, task: Option<Task>) -> Result<(), Ending>
 where
     R: AllocGlobal + Print + Threads + Wait + Sync,
 {
-    let digest = digest_of(rt, kind, task)?;
-    let count = task.count;
-    let mut line = format!(in rt.alloc(); "{word} {count} ")?;
-    for byte in &digest {
-        write!(line, "{byte:02x}")?;
-    }
+    let Some(task) = task else {
+        return Err(Ending::Usage);
+    };
+    let (count, digest) = (task.count, digest_of(rt, task)?);
+    let line = format!(in rt.alloc(); "{word} {count} {digest:016x}")?;
     rt.println(line.as_str())?;
     Ok(())
 }
 
 // The digest over the results of a task.
-fn digest_of<R: Threads + Wait + Sync>(rt: &R, kind: Kind, task: Task) -> Result<[u8; 32], Ending> {
-    let fold = match kind {
-        Kind::Hash => return Ok(working::hash(task)),
-        Kind::Message(act, form) => working::work_on(task, act, form),
-        Kind::Frames => working::cut_frames(task),
-        Kind::Steps(step) => stepping::stepped(task, step),
-        Kind::Append => storing::append_groups(task),
-        Kind::Book => storing::keep_book(task),
-        Kind::Reopen => storing::reopen_journal(task),
-        Kind::Node => sharing::share_node(rt, task),
-    };
-    Ok(fold?.digest())
+fn digest_of<R: Threads + Wait + Sync>(rt: &R, task: Task) -> Result<u64, Ending> {
+    let config = config_of(task)?;
+    let mut fold = Fold::new();
+    match task.kind {
+        Kind::Hash => Ok(working::hash(task, &mut fold)),
+        Kind::Message(act, form) => working::work_on(task, &config, act, form, &mut fold),
+        Kind::Frames => working::cut_frames(task, &config, &mut fold),
+        Kind::Steps(step) => stepping::take_all(task, &config, step, &mut fold),
+        Kind::Append => storing::append_groups(task, &mut fold),
+        Kind::Book => storing::keep_book(task, &config, &mut fold),
+        Kind::Reopen => storing::reopen_journal(task, &config, &mut fold),
+        Kind::Node => sharing::share_node(rt, task, &config, &mut fold),
+    }?;
+    Ok(fold.value())
 }

@@ -2,12 +2,10 @@
 
 use crate::ending::Ending;
 use crate::rounds::Rounds;
-use crate::settings::config_of;
 use crate::task::{Form, Task};
-use sigface::HashSign;
+use committee::Committee;
 use std::alloc::Global;
-use validator::Config;
-use wire::{Author, Batch, MAX_TRANSACTIONS, Message, OpenBatch, encode};
+use wire::{Author, Batch, MAX_TRANSACTION_BYTES, Message, OpenBatch, encode};
 
 /// How many are made.
 pub const RING: u64 = 16;
@@ -15,17 +13,17 @@ pub const RING: u64 = 16;
 /// The author of batches.
 pub const PEER: Author = Author(1);
 
-/// Bytes of a transaction, which has 512 with its length.
-const TRANSACTION_BYTES: usize = 508;
+/// Bytes of a transaction with its length.
+const STRIDE: usize = 512;
 
 /// Bytes of a batch's body before its transactions.
 const HEAD_BYTES: u64 = 8;
 
 /// Bytes of a transaction's length.
-const LENGTH_BYTES: u64 = 4;
+const LENGTH_BYTES: usize = 4;
 
 /// Bytes of the body of a batch that has one number.
-const SMALL_BYTES: u64 = 20;
+pub const SMALL_BYTES: u64 = 20;
 
 /// What stands in a transaction.
 const FILLING: u8 = 0xab;
@@ -38,22 +36,28 @@ pub fn small_batch(alloc: Global, author: Author, number: u64) -> Result<Batch, 
 /// A batch whose body has so many bytes, or up to four less, with a number in its transactions that makes it another one
 /// than those of other numbers.
 pub fn batch(alloc: Global, author: Author, number: u64, size: u64) -> Result<Batch, Ending> {
-    let mut transaction = [FILLING; TRANSACTION_BYTES];
+    let mut transaction = [FILLING; STRIDE - LENGTH_BYTES];
     transaction[..8].copy_from_slice(&number.to_be_bytes());
     let mut open = OpenBatch::new(alloc, author, 0)?;
-    let mut left = size.saturating_sub(HEAD_BYTES);
-    for _ in 0..MAX_TRANSACTIONS {
-        if left <= LENGTH_BYTES {
-            break;
-        }
-        let len = (left - LENGTH_BYTES).min(TRANSACTION_BYTES as u64);
-        if !open.has_room(len as usize) {
-            return Err(Ending::Refused);
-        }
-        open.push(&transaction[..len as usize])?;
-        left -= LENGTH_BYTES + len;
+    let len = size.saturating_sub(HEAD_BYTES) as usize;
+    for _ in 0..len / STRIDE {
+        push(&mut open, &transaction)?;
+    }
+    // The last one, where it isn't empty.
+    let rest = len % STRIDE;
+    if rest > LENGTH_BYTES {
+        push(&mut open, &transaction[..rest - LENGTH_BYTES])?;
     }
     Ok(open.close()?)
+}
+
+fn push(open: &mut OpenBatch, transaction: &[u8]) -> Result<(), Ending> {
+    let len = transaction.len();
+    if len > MAX_TRANSACTION_BYTES || !open.has_room(len) {
+        return Err(Ending::Refused);
+    }
+    open.push(transaction)?;
+    Ok(())
 }
 
 /// A message with who sends it and with its bytes.
@@ -67,34 +71,15 @@ pub struct Made {
     pub bytes: Vec<u8>,
 }
 
-/// Messages of one form, each another one, and who tests them.
-#[derive(Drop)]
-pub struct Ring {
-    /// Of the committee.
-    pub config: Config<HashSign>,
-    /// The messages.
-    pub made: Vec<Made>,
-}
-
-impl Ring {
-    /// The messages of a form.
-    pub fn new(task: Task, form: Form) -> Result<Ring, Ending> {
-        let mut ring = Ring {
-            config: config_of(task)?,
-            made: Vec::new(task.alloc),
-        };
-        ring.fill(task, form)?;
-        Ok(ring)
+/// Messages of one form, each another one, among the members of a committee.
+pub fn ring_of(task: Task, form: Form, committee: &Committee) -> Result<Vec<Made>, Ending> {
+    let mut rounds = Rounds::new(task.alloc, committee, true)?;
+    let mut ring = Vec::new(task.alloc);
+    for number in 0..RING {
+        ring.push(make(task, form, &rounds, number)?)?;
+        rounds.raise();
     }
-
-    fn fill(&mut self, task: Task, form: Form) -> Result<(), Ending> {
-        let mut rounds = Rounds::new(task.alloc, self.config.committee(), true)?;
-        for number in 0..RING {
-            self.made.push(make(task, form, &rounds, number)?)?;
-            rounds.raise();
-        }
-        Ok(())
-    }
+    Ok(ring)
 }
 
 fn make(task: Task, form: Form, rounds: &Rounds, number: u64) -> Result<Made, Ending> {
@@ -113,13 +98,4 @@ fn make(task: Task, form: Form, rounds: &Rounds, number: u64) -> Result<Made, En
         message,
         bytes,
     })
-}
-
-/// Puts a length of four bytes behind others.
-pub fn put_length(bytes: &mut Vec<u8>, len: usize) -> Result<(), Ending> {
-    let Ok(len) = u32::try_from(len) else {
-        return Err(Ending::Refused);
-    };
-    bytes.extend_from_slice(&len.to_be_bytes())?;
-    Ok(())
 }

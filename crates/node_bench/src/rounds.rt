@@ -4,7 +4,7 @@ use crate::ending::Ending;
 use committee::Committee;
 use script::signer;
 use sigface::Sign;
-use std::alloc::{AllocError, Global};
+use std::alloc::Global;
 use std::mem;
 use wire::{
     Author, BatchReferences, Certificate, Coin, Digest, Header, HeaderBody, MAX_PARENTS, MAX_VOTES,
@@ -28,36 +28,28 @@ pub struct Rounds {
     pub voters: u16,
     /// The number of the round that is being made.
     pub number: u64,
-    parents: Vec<ParentReference>,
-    made: Vec<ParentReference>,
+    parents: ParentReferences,
+    made: ParentReferences,
 }
 
 impl Rounds {
     /// The first round, over the genesis.
-    pub fn new(
-        alloc: Global,
-        committee: &Committee,
-        is_signed: bool,
-    ) -> Result<Rounds, AllocError> {
+    pub fn new(alloc: Global, committee: &Committee, is_signed: bool) -> Result<Rounds, Ending> {
         let members = committee.size();
-        let mut parents = Vec::new(alloc);
-        for member in 0..members {
-            let author = Author(member);
-            let certificate = genesis_digest(author);
-            parents.push(ParentReference {
-                author,
-                certificate,
-            })?;
-        }
-        Ok(Rounds {
+        let mut rounds = Rounds {
             alloc,
             is_signed,
             members,
             voters: committee.quorum().min(u64::from(members)) as u16,
-            number: 1,
-            parents,
-            made: Vec::new(alloc),
-        })
+            number: 0,
+            parents: ParentReferences::new(alloc),
+            made: ParentReferences::new(alloc),
+        };
+        for member in 0..members {
+            rounds.note(Author(member), genesis_digest(Author(member)))?;
+        }
+        rounds.end();
+        Ok(rounds)
     }
 
     /// The coin of the wave that ends with the round before, if one does. Its value is its number.
@@ -77,18 +69,11 @@ impl Rounds {
 
     // What an author proposes.
     fn body(&self, author: Author) -> Result<HeaderBody, Ending> {
-        let mut parents = ParentReferences::new(self.alloc);
-        for parent in &self.parents {
-            if parents.len() == MAX_PARENTS || !parents.may_follow(parent.author) {
-                return Err(Ending::Refused);
-            }
-            parents.push(*parent)?;
-        }
         Ok(HeaderBody {
             author,
             round: self.round()?,
             batches: BatchReferences::new(self.alloc),
-            parents,
+            parents: self.parents.clone()?,
         })
     }
 
@@ -130,8 +115,11 @@ impl Rounds {
         Ok(Certificate { header, votes })
     }
 
-    /// Says that an author's certificate was made: the next round is over it.
-    pub fn note(&mut self, author: Author, certificate: Digest) -> Result<(), AllocError> {
+    /// Says that an author's certificate was made: the next round is over it. The authors rise.
+    pub fn note(&mut self, author: Author, certificate: Digest) -> Result<(), Ending> {
+        if self.made.len() == MAX_PARENTS || !self.made.may_follow(author) {
+            return Err(Ending::Refused);
+        }
         self.made.push(ParentReference {
             author,
             certificate,
@@ -141,8 +129,7 @@ impl Rounds {
 
     /// Goes on to the next round, over what was noted.
     pub fn end(&mut self) {
-        mem::swap(&mut self.parents, &mut self.made);
-        self.made.clear();
+        self.parents = mem::replace(&mut self.made, ParentReferences::new(self.alloc));
         self.raise();
     }
 

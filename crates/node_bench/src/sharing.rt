@@ -4,39 +4,41 @@ ghost use Rattle.std.specs.Prelude.{◌≡◌};
 ghost use Rattle.std.specs.Thread.{IsSend, IsSync};
 
 use crate::ending::Ending;
-use crate::events::digest_in;
 use crate::fold::{Fold, Sum};
-use crate::messages::small_batch;
-use crate::settings::config_of;
+use crate::messages::SMALL_BYTES;
 use crate::sharer::Sharer;
+use crate::stepping::take_all;
 use crate::storing::empty_disk;
-use crate::task::Task;
+use crate::task::{Step, Task};
 use crossbeam_channel::{Receiver, Sender, unbounded};
 use diskmodel::Disk;
-use header::recheck;
 use sigface::{HashSign, Sign};
 use startup::{Caller, Rounds, start};
 use std::alloc::AllocError;
 use std::sync::Wait;
 use std::thread::{self, Threads};
-use validator::{Config, Validator};
-use wire::{Author, Message};
+use validator::Config;
+use wire::Author;
 
 /// Whose batches are submitted, by a thread each.
 const MEMBERS: [Author; 3] = [Author(1), Author(2), Author(3)];
 
 /// Three threads submit so many batches each to a node, and a fourth flushes as often as so many were accepted, and releases the
-/// outputs. Without that work, the same events go through a validator alone.
-pub fn share_node<R: Threads + Wait + Sync>(rt: &R, task: Task) -> Result<Fold, Ending> {
-    let config = config_of(task)?;
+/// outputs. Without that work, as many events go through a validator alone.
+pub fn share_node<R: Threads + Wait + Sync>(
+    rt: &R,
+    task: Task,
+    config: &Config<HashSign>,
+    fold: &mut Fold,
+) -> Result<(), Ending> {
     if !task.is_work {
-        return step_all(task, Validator::new(task.alloc, &config)?);
+        return step_as_many(task, config, fold);
     }
-    let (node, seat, flusher) = start(task.alloc, &config, empty_disk(task.alloc)?)?;
+    let (node, seat, flusher) = start(task.alloc, config, empty_disk(task.alloc)?)?;
     let mut rounds = Rounds::new(&node, seat, flusher);
-    let sharers = sharers_of(task, &config, &mut rounds)?;
-    let released = rounds.caller(&config)?;
-    submit_all(rt, task, sharers, Flushing { rounds, released })
+    let sharers = sharers_of(task, config, &mut rounds)?;
+    let released = rounds.caller(config)?;
+    submit_all(rt, task, sharers, Flushing { rounds, released }, fold)
 }
 
 // What flushes a node, and what its outputs are collected with.
@@ -69,7 +71,8 @@ fn submit_all<R, S, D>(
     task: Task,
     sharers: Vec<Sharer<'_, '_, S>>,
     flushing: Flushing<'_, '_, S, D>,
-) -> Result<Fold, Ending>
+    fold: &mut Fold,
+) -> Result<(), Ending>
 where
     R: Threads + Wait + Sync,
     S: Sign + Send + Sync + Drop,
@@ -85,18 +88,17 @@ where
         ),
         move || flush_all(rt, flushing, rings),
     );
-    let mut fold = folded(folds?)?;
-    released?.add_to(&mut fold);
-    Ok(fold)
+    join_all(folds?, fold)?;
+    released?.add_to(fold);
+    Ok(())
 }
 
-// What the threads' work comes to, in the order of the members.
-fn folded(folds: Vec<Result<Fold, Ending>>) -> Result<Fold, Ending> {
-    let mut all = Fold::new();
+// Adds what the threads' work comes to, in the order of the members.
+fn join_all(folds: Vec<Result<Fold, Ending>>, all: &mut Fold) -> Result<(), Ending> {
     for fold in folds {
         all.join(fold?);
     }
-    Ok(all)
+    Ok(())
 }
 
 // Rings each time that so many events were accepted, from all threads.
@@ -150,25 +152,15 @@ fn flush<S: Sign, D: Disk, R: Wait>(
     Ok(count)
 }
 
-fn step_all(task: Task, mut validator: Validator<'_, HashSign>) -> Result<Fold, Ending> {
-    let mut all = Fold::new();
-    for sender in &MEMBERS {
-        all.join(step_batches(task, &mut validator, *sender)?);
-    }
-    Ok(all)
-}
-
-fn step_batches(
-    task: Task,
-    validator: &mut Validator<'_, HashSign>,
-    sender: Author,
-) -> Result<Fold, Ending> {
-    let mut fold = Fold::new();
-    for number in 0..task.count {
-        let message = Message::Batch(small_batch(task.alloc, sender, number)?);
-        let event = recheck(validator.committee(), sender, message)?;
-        fold.add_bytes(&digest_in(&event).0);
-        validator.step(event)?;
-    }
-    Ok(fold)
+// As many batches of one member, through a validator alone.
+fn step_as_many(task: Task, config: &Config<HashSign>, fold: &mut Fold) -> Result<(), Ending> {
+    let (is_work, size) = (true, SMALL_BYTES);
+    let count = task.count.saturating_mul(MEMBERS.len() as u64);
+    let batches = Task {
+        is_work,
+        count,
+        size,
+        ..task
+    };
+    take_all(batches, config, Step::Batch, fold)
 }

@@ -3,11 +3,9 @@
 use crate::ending::Ending;
 use crate::events::{Events, Front, digest_in};
 use crate::fold::Fold;
-use crate::settings::config_of;
 use crate::task::{Step, Task};
 use committee::Committee;
 use sigface::HashSign;
-use std::alloc::AllocError;
 use validator::{Config, Validator};
 use wire::Message;
 
@@ -15,18 +13,21 @@ use wire::Message;
 /// the rounds since the last commit, of which a node in use has few.
 const FEW: u64 = 8;
 
-/// Does the pieces of a kind of step. Without the work a round's are only made, and all others only tested.
-pub fn stepped(task: Task, step: Step) -> Result<Fold, Ending> {
-    let config = config_of(task)?;
-    let mut fold = Fold::new();
+/// Steps the pieces of a kind, and what comes between them. Without the work pieces are only tested.
+pub fn take_all(
+    task: Task,
+    config: &Config<HashSign>,
+    step: Step,
+    fold: &mut Fold,
+) -> Result<(), Ending> {
     let mut left = task.events(step);
     for _ in 0..u64::MAX {
         if left == 0 {
             break;
         }
-        left = take_some(task, &config, step, left, &mut fold)?;
+        left = take_some(task, config, step, left, fold)?;
     }
-    Ok(fold)
+    Ok(())
 }
 
 // Gives events to a new validator until so many were pieces or another one is to follow, and says how many are left.
@@ -58,10 +59,6 @@ fn take_next(
     step: Step,
     fold: &mut Fold,
 ) -> Result<bool, Ending> {
-    if matches!(step, Step::Round) && !task.is_work {
-        fold.add_message(&events.made()?);
-        return Ok(true);
-    }
     let event = events.tested(validator.committee())?;
     let is_piece = step.counts(event.message());
     // The sum of a book's work has no digests either.
@@ -75,7 +72,7 @@ fn take_next(
 }
 
 /// The events that a kind of step is given.
-pub fn events_of(task: Task, committee: &Committee, step: Step) -> Result<Events, AllocError> {
+pub fn events_of(task: Task, committee: &Committee, step: Step) -> Result<Events, Ending> {
     let (front, has_coins) = match step {
         Step::Header | Step::Event => (Front::Headers, true),
         Step::Vote => (Front::Votes, false),

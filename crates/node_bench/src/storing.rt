@@ -6,26 +6,18 @@ ghost use Rattle.journal.specs.Journal.{IsAlive};
 use crate::ending::Ending;
 use crate::events::Events;
 use crate::fold::Fold;
-use crate::messages::put_length;
-use crate::settings::config_of;
-use crate::stepping::{events_of, stepped};
+use crate::stepping::{events_of, take_all};
 use crate::task::{Step, Task};
 use book::OwnBook;
-use committee::Committee;
 use diskmodel::{Disk, MemDisk};
-use header::Checked;
-use journal::{CLOSED, Group, Journal, MAX_GROUP_RECORDS, OPEN};
+use journal::{CLOSED, Group, Journal};
 use recovery::reopen;
 use sigface::{HashSign, Sign};
 use std::alloc::{AllocError, Global};
-use validator::{Config, Validator};
-use wire::{encode_onto, encoded_len, header_digest};
+use validator::Config;
 
 /// Bytes of a record that is added, as many as a certificate's among four.
 const RECORD_BYTES: usize = 354;
-
-/// The kind of a record that has an event.
-const EVENT: u8 = 1;
 
 /// A disk that has nothing.
 pub fn empty_disk(alloc: Global) -> Result<MemDisk, AllocError> {
@@ -34,23 +26,20 @@ pub fn empty_disk(alloc: Global) -> Result<MemDisk, AllocError> {
 
 /// Groups of records, each added to a journal of its own: at each sync the disk in memory copies all that it has, and a
 /// long journal would show that alone.
-pub fn append_groups(task: Task) -> Result<Fold, Ending> {
-    let mut fold = Fold::new();
-    for piece in 0..task.count {
-        append_group(task, piece, &mut fold)?;
+pub fn append_groups(task: Task, fold: &mut Fold) -> Result<(), Ending> {
+    for _ in 0..task.count {
+        append_group(task, fold)?;
     }
-    Ok(fold)
+    Ok(())
 }
 
-fn append_group(task: Task, piece: u64, fold: &mut Fold) -> Result<(), Ending> {
-    let records = records_of(task, piece)?;
+fn append_group(task: Task, fold: &mut Fold) -> Result<(), Ending> {
+    let records = records_of(task)?;
     let mut journal = empty_journal(task.alloc)?;
-    if !task.is_work {
-        fold.add(records.len() as u64);
-        return Ok(());
+    if task.is_work {
+        fold.add(append(task.alloc, &mut journal, records)?);
+        fold.add_bytes(journal.into_disk().bytes());
     }
-    fold.add(append(task.alloc, &mut journal, records)?);
-    fold.add_bytes(journal.into_disk().bytes());
     Ok(())
 }
 
@@ -77,61 +66,90 @@ fn empty_journal(alloc: Global) -> Result<Journal<MemDisk>, Ending>
     Ok(journal)
 }
 
-fn records_of(task: Task, piece: u64) -> Result<Vec<Vec<u8>>, AllocError> {
-    let mut record = [0; RECORD_BYTES];
-    record[..8].copy_from_slice(&piece.to_be_bytes());
+fn records_of(task: Task) -> Result<Vec<Vec<u8>>, AllocError> {
     let mut records = Vec::new(task.alloc);
     for _ in 0..task.size {
-        records.push(record.to_vec(task.alloc)?)?;
+        records.push([0; RECORD_BYTES].to_vec(task.alloc)?)?;
     }
     Ok(records)
 }
 
 /// Events through a book, whose records are flushed as often as so many were accepted. Without that work, the same events go
 /// through a validator alone.
-pub fn keep_book(task: Task) -> Result<Fold, Ending> {
+pub fn keep_book(task: Task, config: &Config<HashSign>, fold: &mut Fold) -> Result<(), Ending> {
     if !task.is_work {
         let is_work = true;
-        return stepped(Task { is_work, ..task }, Step::Event);
+        return take_all(Task { is_work, ..task }, config, Step::Event, fold);
     }
-    let config = config_of(task)?;
-    let mut book = empty_book(task.alloc, &config)?;
-    let mut fold = Fold::new();
-    accept_all(task, &mut book, &mut fold)?;
-    Ok(fold)
+    keep_all(task, config, Step::Event, &mut Vec::new(task.alloc), fold)
 }
 
-fn empty_book<'a, S: Sign>(alloc: Global, config: &'a Config<S>) -> Result<OwnBook<'a, S>, Ending> {
-    match reopen(alloc, config, empty_disk(alloc)?) {
-        Ok((validator, _)) => Ok(OwnBook::new(alloc, validator)),
+// Events through a new book, flushed whenever as many more were accepted as the size says.
+fn keep_all(
+    task: Task,
+    config: &Config<HashSign>,
+    step: Step,
+    kept: &mut Vec<u8>,
+    fold: &mut Fold,
+) -> Result<(), Ending> {
+    let (mut book, journal) = book_on(task.alloc, config, Vec::new(task.alloc))?;
+    keep(kept, journal)?;
+    accept_all(task, step, &mut book, kept, fold)
+}
+
+// A book over a disk of these bytes, and the journal there.
+fn book_on<'a, S: Sign>(
+    alloc: Global,
+    config: &'a Config<S>,
+    bytes: Vec<u8>,
+) -> Result<(OwnBook<'a, S>, Journal<MemDisk>), Ending> {
+    match reopen(alloc, config, MemDisk::new(alloc, bytes)?) {
+        Ok((validator, journal)) => Ok((OwnBook::new(alloc, validator), journal)),
         Err(failed) => Err(Ending::from(failed)),
     }
 }
 
-fn accept_all(task: Task, book: &mut OwnBook<'_, HashSign>, fold: &mut Fold) -> Result<(), Ending> {
-    let mut events = events_of(task, book.committee(), Step::Event)?;
+fn accept_all(
+    task: Task,
+    step: Step,
+    book: &mut OwnBook<'_, HashSign>,
+    kept: &mut Vec<u8>,
+    fold: &mut Fold,
+) -> Result<(), Ending> {
+    let mut events = events_of(task, book.committee(), step)?;
     for piece in 0..task.count {
         if piece % task.size.max(1) == 0 {
-            flush(task.alloc, book, fold)?;
+            flush(task.alloc, book, kept, fold)?;
         }
-        fold.add(accept_next(book, &mut events)?);
+        accept_next(book, &mut events, fold)?;
     }
-    flush(task.alloc, book, fold)
+    flush(task.alloc, book, kept, fold)
 }
 
-// Says which ticket the next event gets.
-fn accept_next(book: &mut OwnBook<'_, HashSign>, events: &mut Events) -> Result<u64, Ending> {
+// Adds which ticket the next event gets.
+fn accept_next(
+    book: &mut OwnBook<'_, HashSign>,
+    events: &mut Events,
+    fold: &mut Fold,
+) -> Result<(), Ending> {
     let event = events.tested(book.committee())?;
     let receipt = book.accept(event)?;
-    Ok(receipt.ticket)
+    fold.add(receipt.ticket);
+    Ok(())
 }
 
 // Flushes all pending records, each group to a journal of its own, and releases what may go out.
-fn flush(alloc: Global, book: &mut OwnBook<'_, HashSign>, fold: &mut Fold) -> Result<(), Ending> {
+fn flush(
+    alloc: Global,
+    book: &mut OwnBook<'_, HashSign>,
+    kept: &mut Vec<u8>,
+    fold: &mut Fold,
+) -> Result<(), Ending> {
     for _ in 0..u64::MAX {
         let mut journal = empty_journal(alloc)?;
         fold.add(book.flush(&mut journal)?);
         release_all(book, fold);
+        keep(kept, journal)?;
         if !book.has_pending() {
             break;
         }
@@ -148,87 +166,46 @@ fn release_all(book: &mut OwnBook<'_, HashSign>, fold: &mut Fold) {
     }
 }
 
-/// Opens a journal of so many certificates and coins.
-pub fn reopen_journal(task: Task) -> Result<Fold, Ending> {
-    let config = config_of(task)?;
-    let disk = MemDisk::new(task.alloc, journal_of(task, &config)?)?;
-    let mut fold = Fold::new();
-    fold.add_bytes(disk.bytes());
-    if task.is_work {
-        open(task.alloc, &config, disk, &mut fold)?;
+// Puts a journal's groups behind others, in the place of their closed gate. Where there are no others, none are kept.
+fn keep(kept: &mut Vec<u8>, journal: Journal<MemDisk>) -> Result<(), AllocError> {
+    if kept.pop().is_some() {
+        kept.extend_from_slice(journal.into_disk().bytes())?;
     }
-    Ok(fold)
+    Ok(())
 }
 
+/// Opens a journal of so many certificates and coins, in groups as large as they may be.
+pub fn reopen_journal(
+    task: Task,
+    config: &Config<HashSign>,
+    fold: &mut Fold,
+) -> Result<(), Ending> {
+    let bytes = journal_of(task, config)?;
+    fold.add_bytes(&bytes);
+    if task.is_work {
+        return open(task.alloc, config, bytes, fold);
+    }
+    Ok(())
+}
+
+fn journal_of(task: Task, config: &Config<HashSign>) -> Result<Vec<u8>, Ending> {
+    let mut kept = Vec::new(task.alloc);
+    kept.push(CLOSED)?;
+    let size = u64::MAX;
+    let whole = Task { size, ..task };
+    keep_all(whole, config, Step::Round, &mut kept, &mut Fold::new())?;
+    Ok(kept)
+}
+
+// Adds the round of the node and how many its order has.
 fn open(
     alloc: Global,
     config: &Config<HashSign>,
-    disk: MemDisk,
+    bytes: Vec<u8>,
     fold: &mut Fold,
 ) -> Result<(), Ending> {
-    let (validator, _) = reopen(alloc, config, disk)?;
-    look_at(&validator, fold)
-}
-
-fn look_at(validator: &Validator<'_, HashSign>, fold: &mut Fold) -> Result<(), Ending> {
-    fold.add(validator.round());
-    if let Some(header) = validator.propose()? {
-        fold.add_bytes(&header_digest(&header.body).0);
-    }
-    Ok(())
-}
-
-// The bytes of a journal of so many certificates and coins, in groups as large as they may be.
-fn journal_of(task: Task, config: &Config<HashSign>) -> Result<Vec<u8>, Ending> {
-    let mut bytes = first_group(task.alloc, config)?;
-    let mut events = events_of(task, config.committee(), Step::Round)?;
-    put_groups(task, config.committee(), &mut events, &mut bytes)?;
-    bytes.push(CLOSED)?;
-    Ok(bytes)
-}
-
-fn put_groups(
-    task: Task,
-    committee: &Committee,
-    events: &mut Events,
-    bytes: &mut Vec<u8>,
-) -> Result<(), Ending> {
-    let mut body = Vec::new(task.alloc);
-    for piece in 0..task.count {
-        if piece % MAX_GROUP_RECORDS as u64 == 0 {
-            put_group(bytes, &mut body)?;
-        }
-        let event = events.tested(committee)?;
-        put_record(&mut body, &event)?;
-    }
-    put_group(bytes, &mut body)
-}
-
-// The group of the configuration, without the gate behind it.
-fn first_group(alloc: Global, config: &Config<HashSign>) -> Result<Vec<u8>, Ending> {
-    let (_, journal) = reopen(alloc, config, empty_disk(alloc)?)?;
-    let mut bytes = journal.into_disk().bytes().to_vec(alloc)?;
-    bytes.pop();
-    Ok(bytes)
-}
-
-// Puts a group of this body behind its open gate, if it has a record.
-fn put_group(bytes: &mut Vec<u8>, body: &mut Vec<u8>) -> Result<(), Ending> {
-    if body.is_empty() {
-        return Ok(());
-    }
-    bytes.push(OPEN)?;
-    put_length(bytes, body.len())?;
-    bytes.extend_from_slice(body)?;
-    body.clear();
-    Ok(())
-}
-
-// Puts an event's record behind its length.
-fn put_record(body: &mut Vec<u8>, event: &Checked) -> Result<(), Ending> {
-    put_length(body, encoded_len(event.message()).saturating_add(3))?;
-    body.push(EVENT)?;
-    body.extend_from_slice(&event.sender().0.to_be_bytes())?;
-    encode_onto(body, event.message())?;
+    let (book, _) = book_on(alloc, config, bytes)?;
+    fold.add(book.round_now());
+    fold.add(book.order(0)?.len() as u64);
     Ok(())
 }

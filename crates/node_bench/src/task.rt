@@ -62,6 +62,8 @@ pub enum Kind {
 /// How much of a kind of work is to be done. Without the work only that is done which has to come before it.
 #[derive(Clone, Copy)]
 pub struct Task {
+    /// The kind.
+    pub kind: Kind,
     /// What memory comes from.
     pub alloc: Global,
     /// Whether the work is done.
@@ -231,7 +233,7 @@ pub const WORKS: [(&str, Kind, u64, Sizes); 23] = [
 ];
 
 /// The task of these words, if it is one.
-pub fn task_of(alloc: Global, words: &[String]) -> Option<(Kind, Task)> {
+pub fn task_of(alloc: Global, words: &[String]) -> Option<Task> {
     match words {
         [word, count] => sized(alloc, word.as_str(), number(count.as_str())?, None),
         [word, count, size] => {
@@ -243,17 +245,22 @@ pub fn task_of(alloc: Global, words: &[String]) -> Option<(Kind, Task)> {
 }
 
 /// The task of so many pieces of a kind, of this size or of the kind's own.
-pub fn sized(alloc: Global, word: &str, count: u64, size: Option<u64>) -> Option<(Kind, Task)> {
+pub fn sized(alloc: Global, word: &str, count: u64, size: Option<u64>) -> Option<Task> {
     let (is_work, name) = match word.strip_prefix(PREPARE) {
         Some(name) => (false, name),
         None => (true, word),
     };
     let (kind, sizes) = work_of(name)?;
-    if count > MOST || !size.is_none_or(|size| sizes.least <= size && size <= sizes.most) {
+    let size = match size {
+        Some(size) if size < sizes.least || sizes.most < size => return None,
+        Some(size) => size,
+        None => sizes.usual,
+    };
+    if count > MOST {
         return None;
     }
-    let size = size.unwrap_or(sizes.usual);
-    let task = Task {
+    Some(Task {
+        kind,
         alloc,
         is_work,
         count,
@@ -261,8 +268,7 @@ pub fn sized(alloc: Global, word: &str, count: u64, size: Option<u64>) -> Option
         members: sizes
             .members
             .unwrap_or(size.min(u64::from(u16::MAX)) as u16),
-    };
-    Some((kind, task))
+    })
 }
 
 fn work_of(word: &str) -> Option<(Kind, Sizes)> {
@@ -276,7 +282,7 @@ fn work_of(word: &str) -> Option<(Kind, Sizes)> {
 
 // Decimal digits.
 fn number(word: &str) -> Option<u64> {
-    if !word.as_bytes().iter().all(|byte| byte.is_ascii_digit()) {
+    if word.starts_with('+') {
         return None;
     }
     word.parse().ok()
