@@ -267,14 +267,16 @@ def book(count):
 def reopen(count):
     keys = b''.join(bytes([member + 1]) * 32 for member in range(MEMBERS))
     text = group([b'\0\1' + u16(0) + u16(50) + u16(1) + u32(1048576) + u16(MEMBERS) + keys])
-    records, coins, full = [], Coins(), 0
+    records, coins, full, last = [], Coins(), 0, None
     for _, made in rounds():
         round_ = made[0].round
         records += [b'\1' + u16(one.author) + one.certificate_bytes for one in made]
         # A round is full where a quorum of it is there.
-        if len(records) - 1 <= count:
+        if len(records) - (MEMBERS - VOTERS) <= count:
             full = round_
-        if len(records) < count and coins.take(made):
+        found = coins.take(made) if len(records) < count else None
+        if found:
+            last = found[1][-1]
             records.append(b'\1' + u16(0) + b'\6' + u64((round_ - 1) // 2) * 2)
         if len(records) >= count:
             break
@@ -282,6 +284,7 @@ def reopen(count):
     fold = Fold()
     fold.add_bytes(text)
     fold.add(full + 1, len(coins.ordered))
+    fold.add_bytes(*[last] if last else [])
     return fold
 
 

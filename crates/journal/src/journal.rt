@@ -70,7 +70,7 @@ impl<D: Disk> Journal<D> {
         ensures unchanged { IfErr result (λ failed. failed.error ≢ JournalError.Device → D.content failed.disk ≡ D.content disk) }
 
         // A stop at any moment of the call leaves bytes that one before it might have left, or the records of such bytes.
-        // So damaged bytes stay as they are.
+        // So firm bytes that are damaged stay as they are.
         ensures any_moment { IfOk result (λ opened. AtEachMoment D.clock D.outcome_since disk (disk_of opened.0) (StandsAsOneOf (D.outcome disk))) }
         ensures any_moment_err { IfErr result (λ failed. AtEachMoment D.clock D.outcome_since disk failed.disk (StandsAsOneOf (D.outcome disk))) }
 

@@ -14,7 +14,9 @@ use wire::{Author, Message};
 /// A caller of a node, for the batches of a member.
 #[derive(Drop)]
 pub struct Sharer<'n, 'a, S: Sign> {
+    /// The caller.
     pub node: Caller<'n, 'a, S>,
+    /// Whose batches it submits.
     pub member: Author,
 }
 

@@ -84,7 +84,8 @@ pub fn keep_book(task: Task, config: &Config<HashSign>, fold: &mut Fold) -> Resu
     keep_all(task, config, Step::Event, &mut Vec::new(task.alloc), fold)
 }
 
-// Events through a new book, flushed whenever as many more were accepted as the size says.
+// Events through a new book, flushed whenever as many more were accepted as the size says. The journals' groups are kept behind
+// these bytes, if they end with a gate.
 fn keep_all(
     task: Task,
     config: &Config<HashSign>,
@@ -92,18 +93,17 @@ fn keep_all(
     kept: &mut Vec<u8>,
     fold: &mut Fold,
 ) -> Result<(), Ending> {
-    let (mut book, journal) = book_on(task.alloc, config, Vec::new(task.alloc))?;
+    let (mut book, journal) = new_book(task.alloc, config)?;
     keep(kept, journal)?;
     accept_all(task, step, &mut book, kept, fold)
 }
 
-// A book over a disk of these bytes, and the journal there.
-fn book_on<'a, S: Sign>(
+// A book, and the journal of its configuration.
+fn new_book<'a, S: Sign>(
     alloc: Global,
     config: &'a Config<S>,
-    bytes: Vec<u8>,
 ) -> Result<(OwnBook<'a, S>, Journal<MemDisk>), Ending> {
-    match reopen(alloc, config, MemDisk::new(alloc, bytes)?) {
+    match reopen(alloc, config, empty_disk(alloc)?) {
         Ok((validator, journal)) => Ok((OwnBook::new(alloc, validator), journal)),
         Err(failed) => Err(Ending::from(failed)),
     }
@@ -166,7 +166,7 @@ fn release_all(book: &mut OwnBook<'_, HashSign>, fold: &mut Fold) {
     }
 }
 
-// Puts a journal's groups behind others, in the place of their closed gate. Where there are no others, none are kept.
+// Puts a journal's groups in the place of the closed gate that ends these bytes. Where there are no bytes, it keeps none.
 fn keep(kept: &mut Vec<u8>, journal: Journal<MemDisk>) -> Result<(), AllocError> {
     if kept.pop().is_some() {
         kept.extend_from_slice(journal.into_disk().bytes())?;
@@ -174,16 +174,17 @@ fn keep(kept: &mut Vec<u8>, journal: Journal<MemDisk>) -> Result<(), AllocError>
     Ok(())
 }
 
-/// Opens a journal of so many certificates and coins, in groups as large as they may be.
+/// Opens a journal of so many certificates and coins, in groups as large as they may be. Without that work the journal and its
+/// disk are only made.
 pub fn reopen_journal(
     task: Task,
     config: &Config<HashSign>,
     fold: &mut Fold,
 ) -> Result<(), Ending> {
-    let bytes = journal_of(task, config)?;
-    fold.add_bytes(&bytes);
+    let disk = MemDisk::new(task.alloc, journal_of(task, config)?)?;
+    fold.add_bytes(disk.bytes());
     if task.is_work {
-        return open(task.alloc, config, bytes, fold);
+        return open(task.alloc, config, disk, fold);
     }
     Ok(())
 }
@@ -197,15 +198,18 @@ fn journal_of(task: Task, config: &Config<HashSign>) -> Result<Vec<u8>, Ending> 
     Ok(kept)
 }
 
-// Adds the round of the node and how many its order has.
+// Adds the round of the node, and of its order how long it is and the last digest, which rests on those before it.
 fn open(
     alloc: Global,
     config: &Config<HashSign>,
-    bytes: Vec<u8>,
+    disk: MemDisk,
     fold: &mut Fold,
 ) -> Result<(), Ending> {
-    let (book, _) = book_on(alloc, config, bytes)?;
-    fold.add(book.round_now());
-    fold.add(book.order(0)?.len() as u64);
+    let (validator, _) = reopen(alloc, config, disk)?;
+    fold.add(validator.round());
+    fold.add(validator.order().len() as u64);
+    if let Some(last) = validator.order().last() {
+        fold.add_bytes(&last.0);
+    }
     Ok(())
 }

@@ -280,7 +280,7 @@ fn work_of(word: &str) -> Option<(Kind, Sizes)> {
     None
 }
 
-// Decimal digits.
+// Decimal digits. The parse alone would take a plus sign before them.
 fn number(word: &str) -> Option<u64> {
     if word.starts_with('+') {
         return None;

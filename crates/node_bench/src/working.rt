@@ -48,9 +48,10 @@ fn go_round(
     fold: &mut Fold,
 ) -> Result<(), Ending> {
     for piece in 0..task.count {
-        if let Some(made) = ring.get((piece % RING) as usize) {
-            work_once(task, act, committee, made, fold)?;
-        }
+        let Some(made) = ring.get((piece % RING) as usize) else {
+            return Err(Ending::Refused);
+        };
+        work_once(task, act, committee, made, fold)?;
     }
     Ok(())
 }

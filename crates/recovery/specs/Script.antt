@@ -74,7 +74,7 @@ pub record HasRun (node : Node) (commands : List script.Command) (before later :
   pub firm : LeavesOnly later outcome
 
 -- The node was not opened: the error is what the bytes are told as, unless memory or the disk failed; and what a stop leaves is told as
--- one outcome from before, and keeps its records, or its bytes where these are damaged.
+-- one outcome from before, and is one byte for byte, or has the records of one, or where these are none the configuration alone.
 pub record IsNotOpened (node : Node) (error : DriveError) (before : List ℕ) (possible outcome : List ℕ → Type 0) : Type 0 where
   pub cause : JournalError
   pub is : error ≡ ended_by cause

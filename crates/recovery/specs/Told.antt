@@ -162,7 +162,7 @@ HasTexts file = (records : List Record) → stands file ≡ Ok records → All I
 abbrev pub KeepsOrBegins : Node → List ℕ → List ℕ → Type 0
 KeepsOrBegins node file left = HaveSameRecords file left ⊎ ((stands file ≡ Ok []) × (stands left ≡ Ok (kept_at 0 (configuration_of node.charter node.own) ∷ [])))
 
--- what is left is one of these outcomes byte for byte, or so of one of them: damaged bytes stay as they were
+-- what is left is one of these outcomes byte for byte, or so of one of them: what stands for no records is one of them
 abbrev pub KeepsRecords : Node → (List ℕ → Type 0) → List ℕ → Type 0
 KeepsRecords node outcome left = outcome left ⊎ ((first : List ℕ) × outcome first × KeepsOrBegins node first left)
 

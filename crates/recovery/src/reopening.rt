@@ -59,7 +59,7 @@ pub fn reopen<'a, S: Sign, D: Disk>(
     ensures any_moment { IfOk result (λ opened. AtEachMoment D.clock D.outcome_since disk (disk_of opened.1) (IsToldAsOneOf (node_of S.own_key S.signature_of config.now) (D.outcome disk))) }
     ensures any_moment_err { IfErr result (λ failed. AtEachMoment D.clock D.outcome_since disk failed.disk (IsToldAsOneOf (node_of S.own_key S.signature_of config.now) (D.outcome disk))) }
     // It leaves the records, whoever's they are and whatever it answers, or where there are none the configuration alone.
-    // Damaged bytes stay as they were, byte for byte.
+    // What it leaves that stands for no records is an outcome from before it, byte for byte.
     ensures keeps { IfOk result (λ opened. AtEachMoment D.clock D.outcome_since disk (disk_of opened.1) (KeepsRecords (node_of S.own_key S.signature_of config.now) (D.outcome disk))) }
     ensures keeps_err { IfErr result (λ failed. AtEachMoment D.clock D.outcome_since disk failed.disk (KeepsRecords (node_of S.own_key S.signature_of config.now) (D.outcome disk))) }
 

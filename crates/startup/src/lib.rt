@@ -63,7 +63,7 @@ pub fn start<'a, S: Sign, D: Disk>(
     ensures any_moment_err { IfErr result (λ failed. AtEachMoment D.clock D.outcome_since disk failed.disk (IsToldAsOneOf (node_of S.own_key S.signature_of config.now) (D.outcome disk))) }
 
     // It leaves the records, whoever's they are and whatever it answers, or where there are none the configuration alone.
-    // Damaged bytes stay as they were, byte for byte.
+    // What it leaves that stands for no records is an outcome from before it, byte for byte.
     ensures keeps { IfOk result (λ started. AtEachMoment D.clock D.outcome_since disk (disk_of (journal_of started.2)) (KeepsRecords (node_of S.own_key S.signature_of config.now) (D.outcome disk))) }
     ensures keeps_err { IfErr result (λ failed. AtEachMoment D.clock D.outcome_since disk failed.disk (KeepsRecords (node_of S.own_key S.signature_of config.now) (D.outcome disk))) }
 {
