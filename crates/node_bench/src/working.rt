@@ -65,11 +65,9 @@ fn work_once(
     fold: &mut Fold,
 ) -> Result<(), Ending> {
     match (act, task.is_work) {
+        (Act::Decode, true) => decode_once(task.alloc, &made.bytes, fold),
         (Act::Encode, true) => Ok(encode_once(task.alloc, &made.message, fold)?),
-        (Act::Check | Act::Recheck, true) => test_once(task, act, committee, made, fold),
-        (Act::Decode, true) | (Act::Check | Act::Recheck, false) => {
-            decode_once(task.alloc, &made.bytes, fold)
-        }
+        (Act::Check | Act::Recheck, _) => test_once(task, act, committee, made, fold),
         (Act::Decode | Act::Encode, false) => {
             fold.add_message(&made.message);
             Ok(())
@@ -97,6 +95,10 @@ fn test_once(
     fold: &mut Fold,
 ) -> Result<(), Ending> {
     let message = decode(task.alloc, &made.bytes)?;
+    if !task.is_work {
+        fold.add_message(&message);
+        return Ok(());
+    }
     let tested = match act {
         Act::Check => check(committee, &HashVerify, made.sender, message),
         _ => recheck(committee, made.sender, message),
