@@ -84,8 +84,8 @@ pub fn keep_book(task: Task, config: &Config<HashSign>, fold: &mut Fold) -> Resu
     keep_all(task, config, Step::Event, &mut Vec::new(task.alloc), fold)
 }
 
-// Events through a new book, flushed whenever as many more were accepted as the size says. The journals' groups are kept behind
-// these bytes, if they end with a gate.
+// Events through a new book, flushed whenever as many more were accepted as the size says. The journals' groups are kept where
+// there is a closed gate for the first of them.
 fn keep_all(
     task: Task,
     config: &Config<HashSign>,
@@ -189,6 +189,7 @@ pub fn reopen_journal(
     Ok(())
 }
 
+// Nothing is flushed before all events were accepted, so that each group has as many records as it may.
 fn journal_of(task: Task, config: &Config<HashSign>) -> Result<Vec<u8>, Ending> {
     let mut kept = Vec::new(task.alloc);
     kept.push(CLOSED)?;

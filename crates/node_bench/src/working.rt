@@ -136,9 +136,10 @@ fn feed(reader: &mut FrameReader, piece: &[u8], fold: &mut Fold) -> Result<(), E
 fn stream_of(task: Task, ring: &[Made]) -> Result<Vec<u8>, Ending> {
     let mut stream = Vec::new(task.alloc);
     for piece in 0..task.count {
-        if let Some(made) = ring.get((piece % RING) as usize) {
-            put_frame(&mut stream, &made.bytes)?;
-        }
+        let Some(made) = ring.get((piece % RING) as usize) else {
+            return Err(Ending::Refused);
+        };
+        put_frame(&mut stream, &made.bytes)?;
     }
     Ok(stream)
 }
