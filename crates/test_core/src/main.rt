@@ -73,11 +73,26 @@ fn main(rt: HostRuntime) -> ExitCode {
 
 fn tested(rt: &HostRuntime) -> Result<bool, Ending> {
     let reader = BufReader::new(rt.alloc(), rt.reader())?;
-    let player = Player::new(rt.alloc(), reader, io::writer(rt));
-    play_all(rt.alloc(), player, Cases::new(rt.alloc())?)
+    let mut player = Player::new(rt.alloc(), reader, io::writer(rt));
+    play_all(rt.alloc(), &mut player)?;
+    player.end()
 }
 
-fn play_all<I, W>(alloc: Global, mut player: Player<I, W>, mut cases: Cases) -> Result<bool, Ending>
+fn play_all<I, W>(alloc: Global, player: &mut Player<I, W>) -> Result<(), Ending>
+where
+    I: BufRead + Drop,
+    W: Write + Drop,
+{
+    let mut cases = Cases::new(alloc)?;
+    play_each(alloc, player, &mut cases)
+}
+
+/// Plays each title and command. The loop owns nothing, since what a loop owns costs the proof at each way out of it.
+fn play_each<I, W>(
+    alloc: Global,
+    player: &mut Player<I, W>,
+    cases: &mut Cases,
+) -> Result<(), Ending>
 where
     I: BufRead + Drop,
     W: Write + Drop,
@@ -86,9 +101,9 @@ where
         if !player.advance()? {
             break;
         }
-        play(alloc, &mut player, &mut cases)?;
+        play(alloc, player, cases)?;
     }
-    player.end()
+    Ok(())
 }
 
 /// Plays a title or a command.

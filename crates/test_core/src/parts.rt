@@ -23,6 +23,7 @@ use ordering::{Ordering, is_ordering};
 use std::alloc::Global;
 use tables::Tables;
 use words::Told;
+pub use words::{list, parted, whether};
 
 /// What the commands are put to.
 #[derive(Drop)]
@@ -48,7 +49,7 @@ impl Parts {
 
     /// Carries out a command, and adds the lines that it answers.
     pub fn obey(&mut self, command: &str, answer: &mut String) -> Told {
-        let (name, words) = command.split_once(' ').unwrap_or((command, ""));
+        let (name, words) = parted(command, ' ');
         if is_ordering(name) {
             self.ordering.obey(name, words, answer)
         } else {

@@ -1,9 +1,10 @@
 //! The tables of a node beside its history: what both answer an event, and what both hold and decide behind it.
 
 use crate::definitions::looking::proposal_line;
-use crate::definitions::played::Played;
+use crate::definitions::played::{Played, tell_kind};
 use crate::definitions::searching::past;
-use crate::definitions::showing::{batch_label, order, outputs};
+use crate::definitions::showing::{add, batch_label, order, outputs};
+use crate::parts::{list, whether};
 use model::{Admission, Event, Refusal};
 use plain::certificates::{floor, round};
 use plain::held::{Held, floor_in};
@@ -15,8 +16,8 @@ use wire::{Batch, Digest, Header, batch_digest};
 /// Adds both texts, where they differ.
 pub fn same(
     what: &str,
-    by_history: &str,
-    by_tables: &str,
+    by_history: String,
+    by_tables: String,
     answer: &mut String,
 ) -> Result<(), AllocError> {
     if by_history == by_tables {
@@ -33,18 +34,17 @@ pub fn same(
 /// An answer, with what is put out.
 pub fn told(played: &Played, found: &Admission) -> Result<String, AllocError> {
     let mut text = String::new(played.alloc);
-    match found {
-        Admission::New(list) => {
-            text.push_str("new\n")?;
-            outputs(played, list, &mut text)?;
-        }
-        Admission::Known(list) => {
-            text.push_str("known\n")?;
-            outputs(played, list, &mut text)?;
-        }
-        Admission::Refused(refusal) => writeln!(text, "refused {refusal}")?,
-    }
+    tell(played, found, &mut text)?;
     Ok(text)
+}
+
+/// Adds an answer, with what is put out.
+pub fn tell(played: &Played, found: &Admission, text: &mut String) -> Result<(), AllocError> {
+    tell_kind(found, text)?;
+    match found {
+        Admission::New(list) | Admission::Known(list) => outputs(played, list, text),
+        Admission::Refused(_) => Ok(()),
+    }
 }
 
 fn lacks_parents(found: &Admission) -> bool {
@@ -60,19 +60,18 @@ pub fn compare_answers(
     let Some(event) = played.history.last() else {
         return Ok(());
     };
-    let (alloc, node, tables) = (played.alloc, &played.node, &played.tables);
-    let by_tables = told(played, &answered(alloc, node, tables, event)?)?;
-    same(
-        "answer",
-        told(played, found)?.as_str(),
-        by_tables.as_str(),
-        answer,
-    )?;
-    let is_ready = is_ready(alloc, node, tables, event)?;
-    if is_ready == lacks_parents(found) {
-        writeln!(answer, "ready by the tables: {is_ready}")?;
+    let by_tables = answer_by_tables(played, event)?;
+    same("answer", told(played, found)?, by_tables, answer)?;
+    let is_ready = is_ready(played.alloc, &played.node, &played.tables, event)?;
+    match is_ready == lacks_parents(found) {
+        true => whether("ready by the tables:", is_ready, answer),
+        false => Ok(()),
     }
-    Ok(())
+}
+
+fn answer_by_tables(played: &Played, event: &Event) -> Result<String, AllocError> {
+    let found = answered(played.alloc, &played.node, &played.tables, event)?;
+    told(played, &found)
 }
 
 /// What tables answer events one after the other, from none on.
@@ -92,25 +91,42 @@ fn answer_next(
     event: &Event,
     text: &mut String,
 ) -> Result<Tables, AllocError> {
-    let found = answered(played.alloc, &played.node, &tables, event)?;
-    text.push_str(told(played, &found)?.as_str())?;
-    match found.is_new() {
+    match tell_next(played, &tables, event, text)? {
         true => after(played.alloc, &played.node, tables, event),
         false => Ok(tables),
     }
+}
+
+/// Adds what tables answer an event, and gives whether it is new.
+fn tell_next(
+    played: &Played,
+    tables: &Tables,
+    event: &Event,
+    text: &mut String,
+) -> Result<bool, AllocError> {
+    let found = answered(played.alloc, &played.node, tables, event)?;
+    tell(played, &found, text)?;
+    Ok(found.is_new())
 }
 
 // ---- states
 
 /// Compares the order, the floor and the round.
 pub fn compare_states(played: &Played, answer: &mut String) -> Result<(), AllocError> {
+    let by_history = decided_by_history(played)?;
+    same("decided", by_history, decided_by_tables(played)?, answer)
+}
+
+fn decided_by_history(played: &Played) -> Result<String, AllocError> {
     let (alloc, node, history) = (played.alloc, &played.node, played.history.as_slice());
-    let (first, second) = (floor(alloc, node, history)?, round(alloc, node, history)?);
-    let by_history = decided(played, &past(played), first, second)?;
-    let tables = &played.tables;
-    let (first, second) = (floor_in(alloc, node, tables)?, round_in(node, tables));
-    let by_tables = decided(played, tables, first, second)?;
-    same("decided", by_history.as_str(), by_tables.as_str(), answer)
+    let (floor, round) = (floor(alloc, node, history)?, round(alloc, node, history)?);
+    decided(played, &past(played), floor, round)
+}
+
+fn decided_by_tables(played: &Played) -> Result<String, AllocError> {
+    let (node, tables) = (&played.node, &played.tables);
+    let floor = floor_in(played.alloc, node, tables)?;
+    decided(played, tables, floor, round_in(node, tables))
 }
 
 /// The floor, the round and the order.
@@ -132,31 +148,33 @@ pub fn compare_held(played: &Played, answer: &mut String) -> Result<(), AllocErr
     let by_history = held_by(played, &past(played), proposal)?;
     let proposal = proposed(alloc, node, &played.tables)?;
     let by_tables = held_by(played, &played.tables, proposal)?;
-    same("held", by_history.as_str(), by_tables.as_str(), answer)
+    same("held", by_history, by_tables, answer)
 }
 
-/// Batches, who acknowledged them, which were named, the greatest round and coins, and the proposal.
+/// What is held, and the proposal.
 fn held_by<H: Held>(
     played: &Played,
     held: &H,
     proposal: Option<Header>,
 ) -> Result<String, AllocError> {
     let mut text = String::new(played.alloc);
-    for batch in &held.batches(played.alloc)? {
-        batch_line(played, held, batch, &mut text)?;
-    }
-    let highest = held.highest(played.alloc)?;
-    write!(text, "highest {highest}, coins")?;
-    numbers(&held.coins(played.alloc)?, &mut text)?;
+    add_held(played, held, &mut text)?;
     proposal_line(played, proposal, &mut text)?;
     Ok(text)
 }
 
-fn numbers(list: &[u64], text: &mut String) -> Result<(), AllocError> {
-    for one in list {
-        write!(text, " {one}")?;
+/// Batches, who acknowledged them, which were named, the greatest round and coins.
+fn add_held<H: Held>(played: &Played, held: &H, text: &mut String) -> Result<(), AllocError> {
+    add_batches(played, held, text)?;
+    list("highest", &[held.highest(played.alloc)?], text)?;
+    list("coins", &held.coins(played.alloc)?, text)
+}
+
+fn add_batches<H: Held>(played: &Played, held: &H, text: &mut String) -> Result<(), AllocError> {
+    for batch in &held.batches(played.alloc)? {
+        batch_line(played, held, batch, text)?;
     }
-    text.push_str("\n")
+    Ok(())
 }
 
 /// A batch, the one that its digest finds, whether it was named, and who acknowledged it.
@@ -171,11 +189,9 @@ fn batch_line<H: Held>(
         None => "none",
         Some(found) => batch_label(played, &batch_digest(found)),
     };
-    let (label, was_named) = (batch_label(played, &digest), held.was_named(&digest));
-    write!(
-        text,
-        "batch {label}, found {found}, named {was_named}, acknowledged"
-    )?;
+    add("batch ", batch_label(played, &digest), text)?;
+    add(", found ", found, text)?;
+    whether(", named", held.was_named(&digest), text)?;
     ackers(played, held, &digest, text)
 }
 

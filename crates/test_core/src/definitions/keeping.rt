@@ -4,6 +4,7 @@ use crate::definitions::beside::same;
 use crate::definitions::played::Played;
 use crate::definitions::searching::{digest_line, vote_line};
 use crate::definitions::showing::certificate_line;
+use crate::parts::list;
 use plain::held::Held;
 use plain::slots::slot;
 use plain_answers::keeping::{kept_counted, kept_header, kept_highest, kept_slot, kept_vote};
@@ -54,13 +55,18 @@ fn by_tables(played: &Played, round: u64, author: u16) -> Result<Kept, AllocErro
     })
 }
 
-/// What is kept, a line for each.
-fn text_of(played: &Played, kept: Kept) -> Result<String, AllocError> {
-    let mut text = String::new(played.alloc);
-    digest_line(played, kept.vote, &mut text)?;
-    digest_line(played, kept.header, &mut text)?;
-    vote_line(played, kept.counted, &mut text)?;
-    certificate_line(played, kept.certificate.as_ref(), &mut text)?;
+/// Adds what is kept, a line for each.
+fn add_kept(played: &Played, kept: &Kept, text: &mut String) -> Result<(), AllocError> {
+    digest_line(played, kept.vote, text)?;
+    digest_line(played, kept.header, text)?;
+    vote_line(played, kept.counted, text)?;
+    certificate_line(played, kept.certificate.as_ref(), text)
+}
+
+/// What is kept of a round, for an author or voter.
+fn text_of(played: &Played, round: u64, author: u16, kept: &Kept) -> Result<String, AllocError> {
+    let mut text = format!(in played.alloc; "round {round}, author {author}\n")?;
+    add_kept(played, kept, &mut text)?;
     Ok(text)
 }
 
@@ -71,10 +77,9 @@ fn compare_one(
     author: u16,
     answer: &mut String,
 ) -> Result<(), AllocError> {
-    let kept = text_of(played, by_history(played, round, author)?)?;
-    let found = text_of(played, by_tables(played, round, author)?)?;
-    let what = format!(in played.alloc; "kept of round {round}, author {author},")?;
-    same(what.as_str(), kept.as_str(), found.as_str(), answer)
+    let kept = text_of(played, round, author, &by_history(played, round, author)?)?;
+    let found = text_of(played, round, author, &by_tables(played, round, author)?)?;
+    same("kept", kept, found, answer)
 }
 
 fn compare_round(played: &Played, round: u64, answer: &mut String) -> Result<(), AllocError> {
@@ -89,9 +94,10 @@ pub fn compare_kept(played: &Played, answer: &mut String) -> Result<(), AllocErr
     let highest = kept_highest(played.alloc, &played.node, &played.history)?;
     let by_tables = played.tables.highest(played.alloc)?;
     if by_tables != highest {
-        writeln!(
+        list(
+            "highest by the history and by the tables",
+            &[highest, by_tables],
             answer,
-            "highest {highest} by the history, {by_tables} by the tables"
         )?;
     }
     for round in 0..highest.saturating_add(3) {

@@ -3,8 +3,9 @@
 use crate::definitions::played::Played;
 use crate::definitions::searching;
 use crate::definitions::showing::{
-    add, certificate_label, certificates, label_of, line, order, outputs, yes_or_no,
+    add, certificate_label, certificates, label_line, label_of, line, order, outputs, yes_or_no,
 };
+use crate::parts::list;
 use plain::ledger::Ledger;
 use plain::newer::{last_wave, newer};
 use plain::ordering::{chain, committed, floor_by, leader, order_by, top};
@@ -43,6 +44,11 @@ impl View {
     }
 }
 
+/// The words of a line.
+pub fn words_of(alloc: Global, line: &str) -> Result<Vec<&str>, AllocError> {
+    line.split(' ').collect(alloc)
+}
+
 pub fn number(word: &str) -> u64 {
     word.parse().unwrap_or(0)
 }
@@ -52,6 +58,7 @@ pub fn member(word: &str) -> u16 {
 }
 
 /// What a command looks at.
+#[derive(Clone, Copy)]
 enum About {
     State,
     Batches,
@@ -60,16 +67,28 @@ enum About {
     Certificates,
 }
 
+/// The names of the commands that look at each of these, parted by blanks; any other looks at certificates. The proof of a
+/// table costs less than that of an arm for each name.
+const NAMES: [(About, &str); 4] = [
+    (About::State, "floor counts propose given"),
+    (
+        About::Batches,
+        "available acked own-batch was-named to-name nameable placed",
+    ),
+    (
+        About::Votes,
+        "voted vote-on counted entries completed held kept",
+    ),
+    (About::Leaders, "top committed chain newer leader by"),
+];
+
 fn kind_of_look(name: &str) -> About {
-    match name {
-        "floor" | "counts" | "propose" | "given" => About::State,
-        "available" | "acked" | "own-batch" | "was-named" | "to-name" | "nameable" | "placed" => {
-            About::Batches
+    for (about, names) in NAMES {
+        if names.split(' ').any(|one| one == name) {
+            return about;
         }
-        "voted" | "vote-on" | "counted" | "entries" | "completed" | "held" | "kept" => About::Votes,
-        "top" | "committed" | "chain" | "newer" | "leader" | "by" => About::Leaders,
-        _ => About::Certificates,
     }
+    About::Certificates
 }
 
 /// Carries out a command that looks.
@@ -162,24 +181,28 @@ fn given_line(
 
 fn floor(played: &Played, answer: &mut String) -> Result<(), AllocError> {
     let floor = held::floor(played.alloc, &played.node, &played.history)?;
-    writeln!(answer, "floor {floor}")
+    list("floor", &[floor], answer)
 }
 
 fn counts(played: &Played, answer: &mut String) -> Result<(), AllocError> {
     let (alloc, history) = (played.alloc, played.history.as_slice());
-    let batches = histories::batches(alloc, history)?.len();
-    let acks = histories::acks(alloc, history)?.len();
-    let headers = histories::headers(alloc, history)?.len();
-    write!(answer, "batches {batches} acks {acks} headers {headers} ")?;
-    rest_of_counts(played, answer)
+    count("batches", histories::batches(alloc, history), answer)?;
+    count(" acks", histories::acks(alloc, history), answer)?;
+    count(" headers", histories::headers(alloc, history), answer)?;
+    count(" votes", histories::votes(alloc, history), answer)?;
+    count(" received", histories::received(alloc, history), answer)?;
+    count(" coins", histories::coins(alloc, history), answer)?;
+    answer.push_str("\n")
 }
 
-fn rest_of_counts(played: &Played, answer: &mut String) -> Result<(), AllocError> {
-    let (alloc, history) = (played.alloc, played.history.as_slice());
-    let votes = histories::votes(alloc, history)?.len();
-    let received = histories::received(alloc, history)?.len();
-    let coins = histories::coins(alloc, history)?.len();
-    writeln!(answer, "votes {votes} received {received} coins {coins}")
+/// A word, and how many were found.
+fn count<T: Drop>(
+    word: &str,
+    found: Result<Vec<T>, AllocError>,
+    answer: &mut String,
+) -> Result<(), AllocError> {
+    let count = found?.len();
+    write!(answer, "{word} {count}")
 }
 
 fn full(played: &Played, view: &View, round: u64, answer: &mut String) -> Result<(), AllocError> {
@@ -204,10 +227,7 @@ fn slot_line(
     author: u16,
     answer: &mut String,
 ) -> Result<(), AllocError> {
-    match slot(&view.certificates, round, author) {
-        None => line("none", answer),
-        Some(found) => line(certificate_label(played, found), answer),
-    }
+    label_line(played, slot(&view.certificates, round, author), answer)
 }
 
 /// Whether one certificate is a parent of another or reaches it.
@@ -268,15 +288,13 @@ fn leaders_of(
     wave: u64,
     answer: &mut String,
 ) -> Result<(), AllocError> {
-    match name {
-        "leader" => match leader(ledger, wave) {
-            None => line("none", answer),
-            Some(found) => line(certificate_label(played, found), answer),
-        },
-        "chain" => certificates(played, name, &chain(played.alloc, ledger, wave)?, answer),
-        "newer" => certificates(played, name, &newer(played.alloc, ledger, wave)?, answer),
-        _ => line("bad case", answer),
-    }
+    let found = match name {
+        "leader" => return label_line(played, leader(ledger, wave), answer),
+        "chain" => chain(played.alloc, ledger, wave)?,
+        "newer" => newer(played.alloc, ledger, wave)?,
+        _ => return line("bad case", answer),
+    };
+    certificates(played, name, &found, answer)
 }
 
 fn tops(ledger: &Ledger, answer: &mut String) -> Result<(), AllocError> {

@@ -1,13 +1,14 @@
 //! A history that grows by commands, and what was put out.
 
 use crate::definitions::beside::{
-    answers_by_tables, compare_answers, compare_held, compare_states, same, told,
+    answers_by_tables, compare_answers, compare_held, compare_states, same, tell,
 };
 use crate::definitions::keeping::compare_kept;
-use crate::definitions::looking::{look, member, number};
+use crate::definitions::looking::{look, member, number, words_of};
 use crate::definitions::searching::passes;
 use crate::definitions::showing::{header_label, line, order, outputs};
 use crate::definitions::weighing::{committee_of, label_genesis};
+use crate::parts::list;
 use committee::Committee;
 use header::check;
 use model::{Admission, Event, Node, Outputs};
@@ -94,32 +95,43 @@ impl Played {
     /// A command of scripts.
     fn run(&mut self, command: Command<'_>, answer: &mut String) -> Result<(), FormError> {
         match command {
-            Command::Set(Setting::Depth(depth)) => self.begin_as(node_with(
-                self.alloc, depth, BATCHES,
-            )?)?,
-            Command::Set(Setting::Batches(most)) => self.begin_as(node_with(
-                self.alloc, DEPTH, most,
-            )?)?,
-            Command::Pack(pack) => define_batch(self.alloc, &mut self.labels, &pack)?,
-            Command::Form(form) => define_header(self.alloc, &mut self.labels, &form)?,
-            Command::Flush => self.flush(answer)?,
-            Command::Collect => self.collect(answer)?,
-            Command::Order => self.order(answer)?,
-            Command::Round => self.round(answer)?,
-            Command::Peek { author, round } => self.peek(author, round, answer)?,
-            other => {
-                let (sender, message) = message_of(self.alloc, &self.labels, other)?;
-                self.take(sender, message, answer)?;
-            }
+            Command::Set(setting) => Ok(self.begin_with(setting)?),
+            Command::Pack(pack) => define_batch(self.alloc, &mut self.labels, &pack),
+            Command::Form(form) => define_header(self.alloc, &mut self.labels, &form),
+            other => self.run_over_history(other, answer),
         }
-        Ok(())
+    }
+
+    /// A command that looks at the history, or submits a message to it.
+    fn run_over_history(
+        &mut self,
+        command: Command<'_>,
+        answer: &mut String,
+    ) -> Result<(), FormError> {
+        match command {
+            Command::Flush => Ok(self.flush(answer)?),
+            Command::Collect => Ok(self.collect(answer)?),
+            Command::Order => Ok(self.order(answer)?),
+            Command::Round => Ok(self.round(answer)?),
+            Command::Peek { author, round } => Ok(self.peek(author, round, answer)?),
+            other => self.submit(other, answer),
+        }
     }
 
     /// Another node, whose tables are as before any event.
-    fn begin_as(&mut self, node: Node<HashSign>) -> Result<(), AllocError> {
-        self.tables = fresh(self.alloc, &node)?;
-        self.node = node;
+    fn begin_with(&mut self, setting: Setting) -> Result<(), AllocError> {
+        let (depth, batches) = match setting {
+            Setting::Depth(depth) => (depth, BATCHES),
+            Setting::Batches(most) => (DEPTH, most),
+        };
+        self.node = node_with(self.alloc, depth, batches)?;
+        self.tables = fresh(self.alloc, &self.node)?;
         Ok(())
+    }
+
+    fn submit(&mut self, command: Command<'_>, answer: &mut String) -> Result<(), FormError> {
+        let (sender, message) = message_of(self.alloc, &self.labels, command)?;
+        Ok(self.take(sender, message, answer)?)
     }
 
     /// Takes a message, where it passes the checks; what is only gathered isn't checked.
@@ -145,30 +157,37 @@ impl Played {
 
     /// Admits the last event, and drops it again where it isn't new.
     fn admit(&mut self, answer: &mut String) -> Result<(), AllocError> {
-        let ticket = self.history.len();
-        if ticket == 0 {
+        if self.history.is_empty() {
             return Ok(());
         }
         let found = admit_last(self.alloc, &self.node, &self.history)?;
         compare_answers(self, &found, answer)?;
         self.counts.answers = self.counts.answers.saturating_add(1);
-        match found {
-            Admission::New(outputs) => {
-                self.follow(answer)?;
-                writeln!(answer, "new {ticket}")?;
-                self.put_out(ticket, &outputs, answer)
-            }
-            Admission::Known(outputs) => {
-                self.history.pop();
-                let ticket = self.history.len();
-                writeln!(answer, "known {ticket}")?;
-                self.put_out(ticket, &outputs, answer)
-            }
-            Admission::Refused(refusal) => {
-                self.history.pop();
-                writeln!(answer, "refused {refusal}")
-            }
+        match found.is_new() {
+            true => self.follow(answer)?,
+            false => drop(self.history.pop()),
         }
+        self.admitted(&found, answer)
+    }
+
+    /// Tells what was answered, and how many events there are then.
+    fn admitted(&mut self, found: &Admission, answer: &mut String) -> Result<(), AllocError> {
+        match found {
+            Admission::New(outputs) => self.accepted("new", outputs, answer),
+            Admission::Known(outputs) => self.accepted("known", outputs, answer),
+            Admission::Refused(refusal) => writeln!(answer, "refused {refusal}"),
+        }
+    }
+
+    fn accepted(
+        &mut self,
+        word: &str,
+        list: &Outputs,
+        answer: &mut String,
+    ) -> Result<(), AllocError> {
+        let ticket = self.history.len();
+        writeln!(answer, "{word} {ticket}")?;
+        self.put_out(ticket, list, answer)
     }
 
     /// Lets the tables follow the history by its last event, and compares both.
@@ -205,7 +224,7 @@ impl Played {
     fn flush(&mut self, answer: &mut String) -> Result<(), AllocError> {
         let count = self.history.len().saturating_sub(self.settled);
         self.settled = self.history.len();
-        writeln!(answer, "settled {count}")
+        list("settled", &[count as u64], answer)
     }
 
     fn collect(&mut self, answer: &mut String) -> Result<(), AllocError> {
@@ -227,7 +246,7 @@ impl Played {
 
     fn round(&self, answer: &mut String) -> Result<(), AllocError> {
         let round = round(self.alloc, &self.node, &self.history)?;
-        writeln!(answer, "round {round}")
+        list("round", &[round], answer)
     }
 
     fn peek(&self, author: Author, round: u64, answer: &mut String) -> Result<(), AllocError> {
@@ -242,12 +261,21 @@ impl Played {
     fn answer_all(&mut self, answer: &mut String) -> Result<(), AllocError> {
         let events = std::mem::replace(&mut self.history, Vec::new(self.alloc));
         let by_tables = answers_by_tables(self, &events)?;
-        let mut by_history = String::new(self.alloc);
+        let by_history = self.answers_by_history(events, answer)?;
+        same("answers", by_history, by_tables, answer)
+    }
+
+    fn answers_by_history(
+        &self,
+        events: Vec<Event>,
+        answer: &mut String,
+    ) -> Result<String, AllocError> {
+        let mut text = String::new(self.alloc);
         for found in &answers(self.alloc, &self.node, events)? {
-            by_history.push_str(told(self, found)?.as_str())?;
+            tell(self, found, &mut text)?;
             tell_kind(found, answer)?;
         }
-        same("answers", by_history.as_str(), by_tables.as_str(), answer)
+        Ok(text)
     }
 
     fn each_is_new(&mut self, answer: &mut String) -> Result<(), AllocError> {
@@ -279,21 +307,38 @@ impl Played {
     /// A command of these tests alone.
     fn run_own(&mut self, words: &[&str], answer: &mut String) -> Result<(), FormError> {
         match words {
-            ["stakes", stakes] => self.weigh(stakes)?,
-            ["tell", "outputs"] => self.tells = true,
-            ["gather"] => self.gathers = true,
-            ["answers"] => self.answer_all(answer)?,
-            ["compared"] => self.compared(answer)?,
-            ["each-new"] => self.each_is_new(answer)?,
-            ["proposal-passes"] => passes(self, answer)?,
-            ["coin-from", sender, wave, value] => {
-                let sender = Author(member(sender));
-                let (sender, message) = coin(sender, number(wave), number(value))?;
-                self.take(sender, message, answer)?;
+            [name] => Ok(self.run_word(name, words, answer)?),
+            ["stakes", stakes] => self.weigh(stakes),
+            ["tell", "outputs"] => {
+                self.tells = true;
+                Ok(())
             }
-            _ => look(self, words, answer)?,
+            ["coin-from", sender, wave, value] => {
+                let (sender, message) = coin(sender, wave, value)?;
+                Ok(self.take(sender, message, answer)?)
+            }
+            _ => Ok(look(self, words, answer)?),
         }
-        Ok(())
+    }
+
+    /// A command of one word.
+    fn run_word(
+        &mut self,
+        name: &str,
+        words: &[&str],
+        answer: &mut String,
+    ) -> Result<(), AllocError> {
+        match name {
+            "gather" => {
+                self.gathers = true;
+                Ok(())
+            }
+            "answers" => self.answer_all(answer),
+            "compared" => self.compared(answer),
+            "each-new" => self.each_is_new(answer),
+            "proposal-passes" => passes(self, answer),
+            _ => look(self, words, answer),
+        }
     }
 
     /// Begins a case.
@@ -318,12 +363,13 @@ impl Played {
         if let Some(command) = parse(text.as_bytes()) {
             return self.run(command, answer);
         }
-        let words: Vec<&str> = text.split(' ').collect(self.alloc)?;
-        self.run_own(words.as_slice(), answer)
+        let words = words_of(self.alloc, text)?;
+        self.run_own(&words, answer)
     }
 }
 
-fn tell_kind(found: &Admission, answer: &mut String) -> Result<(), AllocError> {
+/// Adds an answer, without what is put out.
+pub fn tell_kind(found: &Admission, answer: &mut String) -> Result<(), AllocError> {
     match found {
         Admission::New(_) => line("new", answer),
         Admission::Known(_) => line("known", answer),
@@ -332,7 +378,7 @@ fn tell_kind(found: &Admission, answer: &mut String) -> Result<(), AllocError> {
 }
 
 /// The coin of a wave, from this sender.
-pub fn coin(sender: Author, wave: u64, value: u64) -> Result<(Author, Message), FormError> {
-    let wave = Wave::new(wave)?;
-    Ok((sender, Message::Coin(Coin { wave, value })))
+pub fn coin(sender: &str, wave: &str, value: &str) -> Result<(Author, Message), FormError> {
+    let (wave, value) = (Wave::new(number(wave))?, number(value));
+    Ok((Author(member(sender)), Message::Coin(Coin { wave, value })))
 }

@@ -2,9 +2,8 @@
 
 use crate::definitions::looking::{member, number};
 use crate::definitions::played::Played;
-use crate::definitions::showing::{
-    add, batch_label, certificate_label, header_label, line, yes_or_no,
-};
+use crate::definitions::showing::{add, batch_label, header_label, label_line, line, yes_or_no};
+use crate::parts::list;
 use header::check;
 use plain::certificates::{certificates, completed, votes_on};
 use plain::held::{has_own_batch, is_available};
@@ -24,18 +23,20 @@ use wire::{
 
 pub fn batches(played: &Played, words: &[&str], answer: &mut String) -> Result<(), AllocError> {
     match words {
-        ["nameable"] => {
-            let found = nameable(played.alloc, &played.node, &past(played))?;
-            answer.push_str("nameable")?;
-            named(played, &found, answer)
-        }
-        ["placed", first, second, third] => in_place(played, first, second, third, answer),
+        ["nameable"] => nameable_line(played, answer),
+        ["placed", places @ ..] => in_place(played, places, answer),
         [how, label, rest @ ..] => match labelled_batch(played, label) {
             None => line("bad case", answer),
             Some(batch) => of_batch(played, how, batch, rest, answer),
         },
         _ => line("bad case", answer),
     }
+}
+
+fn nameable_line(played: &Played, answer: &mut String) -> Result<(), AllocError> {
+    let found = nameable(played.alloc, &played.node, &past(played))?;
+    answer.push_str("nameable")?;
+    named(played, &found, answer)
 }
 
 /// The history as what the node holds.
@@ -60,23 +61,41 @@ fn of_batch(
     rest: &[&str],
     answer: &mut String,
 ) -> Result<(), AllocError> {
-    let (node, history, digest) = (&played.node, played.history.as_slice(), batch_digest(batch));
-    let held = past(played);
-    match (how, rest) {
-        ("available", []) => yes_or_no(is_available(node, &held, &digest), answer),
-        ("own-batch", []) => yes_or_no(has_own_batch(node, &held, &digest), answer),
-        ("was-named", []) => yes_or_no(was_named(node, history, &digest), answer),
-        ("acked", [who]) => yes_or_no(has_acked(history, &digest, member(who)), answer),
-        ("to-name", []) => match to_name(node, &held, batch) {
-            None => line("none", answer),
-            Some(found) => {
-                let worker = found.worker;
-                let is_held = batch_at(history, &found.digest).is_some();
-                writeln!(answer, "worker {worker}, held {is_held}")
-            }
-        },
+    let digest = batch_digest(batch);
+    match rest {
+        [] if how == "to-name" => to_name_line(played, batch, answer),
+        [] => of_digest(played, how, &digest, answer),
+        [who] if how == "acked" => {
+            yes_or_no(has_acked(&played.history, &digest, member(who)), answer)
+        }
         _ => line("bad case", answer),
     }
+}
+
+fn of_digest(
+    played: &Played,
+    how: &str,
+    digest: &Digest,
+    answer: &mut String,
+) -> Result<(), AllocError> {
+    let (node, held) = (&played.node, past(played));
+    let is_so = match how {
+        "available" => is_available(node, &held, digest),
+        "own-batch" => has_own_batch(node, &held, digest),
+        "was-named" => was_named(node, &played.history, digest),
+        _ => return line("bad case", answer),
+    };
+    yes_or_no(is_so, answer)
+}
+
+/// The worker of a batch that may be named, and whether it is held.
+fn to_name_line(played: &Played, batch: &Batch, answer: &mut String) -> Result<(), AllocError> {
+    let Some(found) = to_name(&played.node, &past(played), batch) else {
+        return line("none", answer);
+    };
+    let worker = found.worker;
+    let is_held = batch_at(&played.history, &found.digest).is_some();
+    writeln!(answer, "worker {worker}, held {is_held}")
 }
 
 /// The labels of batches, parted by commas.
@@ -104,19 +123,17 @@ fn reference(word: &str) -> BatchReference {
 }
 
 /// Batches of these bytes as digests, put in their places one after the other.
-fn in_place(
-    played: &Played,
-    first: &str,
-    second: &str,
-    third: &str,
-    answer: &mut String,
-) -> Result<(), AllocError> {
-    let mut list = Vec::new(played.alloc);
-    for word in [first, second, third] {
-        list = placed(played.alloc, &list, reference(word))?;
+fn in_place(played: &Played, places: &[&str], answer: &mut String) -> Result<(), AllocError> {
+    let mut found = Vec::new(played.alloc);
+    for place in places {
+        found = placed(played.alloc, &found, reference(place))?;
     }
+    first_bytes(&found, answer)
+}
+
+fn first_bytes(batches: &[BatchReference], answer: &mut String) -> Result<(), AllocError> {
     answer.push_str("placed")?;
-    for batch in &list {
+    for batch in batches {
         let byte = batch.digest.0[0];
         write!(answer, " {byte}")?;
     }
@@ -126,28 +143,38 @@ fn in_place(
 // ---- votes
 
 pub fn votes(played: &Played, words: &[&str], answer: &mut String) -> Result<(), AllocError> {
-    let history = played.history.as_slice();
-    match words {
-        ["voted", round, author] => {
-            digest_line(
-                played,
-                voted_digest(history, number(round), member(author)),
-                answer,
-            )
-        }
-        ["counted", round, voter] => {
-            vote_line(
-                played,
-                counted_at(&played.node, history, number(round), member(voter)),
-                answer,
-            )
-        }
-        ["kept", kind, rest @ ..] => kept(played, kind, rest, answer),
-        [how, label, rest @ ..] => match played.labels.header(label) {
+    let [how, of, rest @ ..] = words else {
+        return line("bad case", answer);
+    };
+    match *how {
+        "voted" | "counted" => in_history(played, how, number(of), rest, answer),
+        "kept" => kept(played, of, rest, answer),
+        _ => match played.labels.header(of) {
             None => line("bad case", answer),
             Some(proposed) => of_header(played, how, &proposed.header, rest, answer),
         },
-        _ => line("bad case", answer),
+    }
+}
+
+/// The own vote for an author in a round, or the counted vote of a voter.
+fn in_history(
+    played: &Played,
+    how: &str,
+    round: u64,
+    rest: &[&str],
+    answer: &mut String,
+) -> Result<(), AllocError> {
+    let [who] = rest else {
+        return line("bad case", answer);
+    };
+    let (history, who) = (played.history.as_slice(), member(who));
+    match how {
+        "voted" => digest_line(played, voted_digest(history, round, who), answer),
+        _ => vote_line(
+            played,
+            counted_at(&played.node, history, round, who),
+            answer,
+        ),
     }
 }
 
@@ -239,7 +266,7 @@ fn kept(played: &Played, kind: &str, rest: &[&str], answer: &mut String) -> Resu
 
 fn highest_line(played: &Played, answer: &mut String) -> Result<(), AllocError> {
     let highest = kept_highest(played.alloc, &played.node, &played.history)?;
-    writeln!(answer, "highest {highest}")
+    list("highest", &[highest], answer)
 }
 
 fn kept_header_line(played: &Played, round: u64, answer: &mut String) -> Result<(), AllocError> {
@@ -275,10 +302,8 @@ fn kept_slot_line(
     author: u16,
     answer: &mut String,
 ) -> Result<(), AllocError> {
-    match kept_slot(played.alloc, &played.node, &played.history, round, author)? {
-        None => line("none", answer),
-        Some(found) => line(certificate_label(played, &found), answer),
-    }
+    let found = kept_slot(played.alloc, &played.node, &played.history, round, author)?;
+    label_line(played, found.as_ref(), answer)
 }
 
 /// Whether what the node proposes passes the checks, its signature too.

@@ -91,6 +91,18 @@ fn voters(entries: &[VoteEntry], answer: &mut String) -> Result<(), AllocError> 
     answer.push_str("\n")
 }
 
+/// The label of a certificate, or that there is none.
+pub fn label_line(
+    played: &Played,
+    certificate: Option<&Certificate>,
+    answer: &mut String,
+) -> Result<(), AllocError> {
+    match certificate {
+        None => line("none", answer),
+        Some(certificate) => line(certificate_label(played, certificate), answer),
+    }
+}
+
 /// The label of a certificate with its voters, or that there is none.
 pub fn certificate_line(
     played: &Played,
@@ -106,33 +118,36 @@ pub fn certificate_line(
 
 /// An output, as `collect` shows it.
 pub fn output(played: &Played, output: &Output, answer: &mut String) -> Result<(), AllocError> {
-    match output {
-        Output::Batch(batch) => {
-            let label = batch_label(played, &batch_digest(batch));
-            writeln!(answer, "out batch {label}")
-        }
-        Output::Ack { ack, .. } => {
-            let label = batch_label(played, &ack.batch);
-            writeln!(answer, "out ack {label}")
-        }
-        Output::Header(header) => {
-            let label = header_label(played, &header_digest(&header.body));
-            writeln!(answer, "out header {label}")
-        }
-        Output::Vote(vote) => {
-            let label = header_label(played, &vote.header);
-            writeln!(answer, "out vote {label}")
-        }
-        Output::Certificate(certificate) => {
-            let label = certificate_label(played, certificate);
-            write!(answer, "out certificate {label}")?;
-            voters(certificate.votes.as_slice(), answer)
-        }
+    let (kind, label) = match output {
+        Output::Batch(batch) => ("batch", batch_label(played, &batch_digest(batch))),
+        Output::Ack { ack, .. } => ("ack", batch_label(played, &ack.batch)),
+        Output::Header(header) => ("header", header_label(played, &header_digest(&header.body))),
+        Output::Vote(vote) => ("vote", header_label(played, &vote.header)),
+        Output::Certificate(certificate) => return certified(played, certificate, answer),
         Output::Order { start, digests } => {
-            write!(answer, "out order {start}")?;
-            order(played, digests.as_slice(), answer)
+            return ordered(played, *start, digests.as_slice(), answer);
         }
-    }
+    };
+    writeln!(answer, "out {kind} {label}")
+}
+
+fn certified(
+    played: &Played,
+    certificate: &Certificate,
+    answer: &mut String,
+) -> Result<(), AllocError> {
+    answer.push_str("out certificate ")?;
+    certificate_line(played, Some(certificate), answer)
+}
+
+fn ordered(
+    played: &Played,
+    start: u64,
+    digests: &[Digest],
+    answer: &mut String,
+) -> Result<(), AllocError> {
+    write!(answer, "out order {start}")?;
+    order(played, digests, answer)
 }
 
 pub fn outputs(played: &Played, list: &Outputs, answer: &mut String) -> Result<(), AllocError> {

@@ -3,11 +3,13 @@
 mod beside;
 mod playing;
 mod same;
+mod seen;
 mod sum;
 mod tally;
 
 use crate::definitions::looking::number;
 use crate::definitions::weighing::committee_of;
+use crate::parts::parted;
 use model::Node;
 use playing::play_lines;
 use script::{BATCHES, DEPTH, FormError, OWN, signer};
@@ -57,23 +59,37 @@ impl Gathered {
     /// `depth`, `batches` and `stakes` set up the committee, `play` plays the lines; any
     /// other line is one of them.
     pub fn obey(&mut self, command: &str, answer: &mut String) -> Result<(), AllocError> {
-        match command.split_once(' ') {
-            Some(("depth", depth)) => self.depth = number(depth),
-            Some(("batches", batches)) => self.batches = number(batches),
-            Some(("stakes", stakes)) => {
-                self.stakes.clear();
-                self.stakes.push_str(stakes)?;
+        let (name, rest) = parted(command, ' ');
+        match name {
+            "depth" => {
+                self.depth = number(rest);
+                Ok(())
             }
-            Some(("play", most)) => match self.play(number(most), answer) {
-                Ok(()) => {}
-                Err(FormError::Memory) => return Err(AllocError),
-                Err(_) => answer.push_str("bad case\n")?,
-            },
-            _ => {
-                self.lines.push_str(command)?;
-                self.lines.push_str("\n")?;
+            "batches" => {
+                self.batches = number(rest);
+                Ok(())
             }
+            "stakes" => self.set_stakes(rest),
+            "play" => self.answer_play(number(rest), answer),
+            _ => self.add_line(command),
         }
-        Ok(())
+    }
+
+    fn set_stakes(&mut self, stakes: &str) -> Result<(), AllocError> {
+        self.stakes.clear();
+        self.stakes.push_str(stakes)
+    }
+
+    fn add_line(&mut self, line: &str) -> Result<(), AllocError> {
+        self.lines.push_str(line)?;
+        self.lines.push_str("\n")
+    }
+
+    fn answer_play(&self, most: u64, answer: &mut String) -> Result<(), AllocError> {
+        match self.play(most, answer) {
+            Ok(()) => Ok(()),
+            Err(FormError::Memory) => Err(AllocError),
+            Err(_) => answer.push_str("bad case\n"),
+        }
     }
 }

@@ -5,7 +5,7 @@ ghost use Rattle.wire.specs.Digests.{header_digest_of, certificate_digest_of};
 
 use crate::parts::certificates::{certificate_of, digest_of};
 use crate::parts::looks::look;
-use crate::parts::words::{Told, numbers_in, round_of, set_of};
+use crate::parts::words::{Told, numbers_in, parted, round_of, set_of, whether};
 use committee::Committee;
 use dag::{Added, Dag, DagRefusal, Reads};
 use std::alloc::Global;
@@ -16,14 +16,18 @@ pub fn graph(alloc: Global, committee: &Committee, words: &str, answer: &mut Str
     let mut dag = Dag::new(alloc, committee)?;
     let mut reads = Reads::new();
     for word in words.split_whitespace() {
-        let (name, rest) = word.split_once('-').unwrap_or((word, ""));
-        let numbers = numbers_in(alloc, rest)?;
-        play(alloc, &mut dag, &mut reads, name, &numbers, answer)?;
+        play(alloc, &mut dag, &mut reads, word, answer)?;
     }
     Ok(())
 }
 
-fn play(
+fn play(alloc: Global, dag: &mut Dag, reads: &mut Reads, word: &str, answer: &mut String) -> Told {
+    let (name, rest) = parted(word, '-');
+    let numbers = numbers_in(alloc, rest)?;
+    obey(alloc, dag, reads, name, &numbers, answer)
+}
+
+fn obey(
     alloc: Global,
     dag: &mut Dag,
     reads: &mut Reads,
@@ -146,11 +150,8 @@ fn full(alloc: Global, dag: &mut Dag, first: u64, last: u64, answer: &mut String
     for round in first..last.saturating_add(1) {
         full_round(alloc, dag, round, &mut text)?;
     }
-    writeln!(
-        answer,
-        "{}",
-        text.lines().filter(|line| *line == "New").count()
-    )
+    let count = text.lines().filter(|line| *line == "New").count();
+    writeln!(answer, "{count}")
 }
 
 fn full_round(alloc: Global, dag: &mut Dag, round: u64, text: &mut String) -> Told {
@@ -171,10 +172,6 @@ fn ask(alloc: Global, dag: &Dag, name: &str, numbers: &[u64], answer: &mut Strin
             let digest = digest_of(&certificate);
             write_added(answer, &dag.answer(&certificate, &digest))
         }
-        _ => writeln!(
-            answer,
-            "has_parents {}",
-            dag.has_parents(&certificate.header)
-        ),
+        _ => whether("has_parents", dag.has_parents(&certificate.header), answer),
     }
 }

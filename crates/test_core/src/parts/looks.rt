@@ -1,6 +1,6 @@
 //! What is seen of a DAG.
 
-use crate::parts::words::{Told, author_of, round_of, write_set};
+use crate::parts::words::{Told, author_of, list, round_of, whether, write_set};
 use dag::{Dag, Reads, answers_as_admission, reach_stays, reach_stays_above};
 use wire::{Author, Round};
 
@@ -29,9 +29,9 @@ pub fn look(
 
 fn own_look(dag: &Dag, name: &str, answer: &mut String) -> Told {
     match name {
-        "floor" => writeln!(answer, "floor {}", dag.floor().number()),
-        "base" => writeln!(answer, "base {}", dag.base().number()),
-        "end" => writeln!(answer, "end {}", dag.end()),
+        "floor" => list(name, &[dag.floor().number()], answer),
+        "base" => list(name, &[dag.base().number()], answer),
+        "end" => list(name, &[dag.end()], answer),
         "laws" => {
             laws(dag);
             answer.push_str("laws\n")
@@ -50,9 +50,9 @@ fn laws(dag: &Dag) {
 
 fn round_look(dag: &Dag, name: &str, round: Round, answer: &mut String) -> Told {
     match name {
-        "count" => writeln!(answer, "count {}", dag.count(round)),
-        "stake" => writeln!(answer, "stake {}", dag.stake_at(round)),
-        "low" => writeln!(answer, "low {}", dag.is_low(round)),
+        "count" => list(name, &[dag.count(round) as u64], answer),
+        "stake" => list(name, &[dag.stake_at(round)], answer),
+        "low" => whether(name, dag.is_low(round), answer),
         "authors" => write_set(answer, name, &dag.authors_at(round)),
         "unmarked" => write_set(answer, name, &dag.unmarked_at(round)),
         _ => answer.push_str("bad word\n"),
@@ -61,8 +61,8 @@ fn round_look(dag: &Dag, name: &str, round: Round, answer: &mut String) -> Told 
 
 fn slot_look(dag: &Dag, name: &str, round: Round, author: Author, answer: &mut String) -> Told {
     match name {
-        "held" => writeln!(answer, "held {}", dag.get(round, author).is_some()),
-        "marked" => writeln!(answer, "marked {}", dag.is_marked(round, author)),
+        "held" => whether(name, dag.get(round, author).is_some(), answer),
+        "marked" => whether(name, dag.is_marked(round, author), answer),
         "supporters" => supporters(dag, round, author, answer),
         "parents" => parents(dag, round, author, answer),
         _ => answer.push_str("bad word\n"),
@@ -109,13 +109,9 @@ fn parent(
         Some((parent, digest)) => {
             let below = round_of(round.number().saturating_sub(1));
             let is_held = dag.digest(below, parent) == Some(&digest);
-            writeln!(
-                answer,
-                "parent {} held {is_held} reads {}",
-                parent.0,
-                reads.number()
-            )
+            write!(answer, "parent {} held {is_held}", parent.0)?;
         }
-        None => writeln!(answer, "parent none reads {}", reads.number()),
+        None => answer.push_str("parent none")?,
     }
+    list(" reads", &[reads.number()], answer)
 }

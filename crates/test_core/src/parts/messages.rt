@@ -49,22 +49,29 @@ pub fn beginnings(alloc: Global, bytes: &[u8], answer: &mut String) -> Told {
 /// Tells the fields of a message, whether its lists may go on with this number, and its output: of an acknowledgement
 /// to the author of this number.
 pub fn message(alloc: Global, number: u64, bytes: &[u8], answer: &mut String) -> Told {
-    let number = number.min(255) as u8;
-    let message = match read(alloc, bytes) {
-        Ok(message) => message,
-        Err(error) => return writeln!(answer, "{error}"),
-    };
-    tell_fields(&message, number, answer)?;
-    let to = Author(number as u16);
-    let output = match message {
+    match read(alloc, bytes) {
+        Ok(message) => tell_message(alloc, &message, number.min(255) as u8, answer),
+        Err(error) => writeln!(answer, "{error}"),
+    }
+}
+
+fn tell_message(alloc: Global, message: &Message, number: u8, answer: &mut String) -> Told {
+    tell_fields(message, number, answer)?;
+    match output_of(message, Author(number as u16))? {
+        None => Ok(()),
+        Some(output) => tell_output(alloc, &output, answer),
+    }
+}
+
+fn output_of(message: &Message, to: Author) -> Result<Option<Output>, AllocError> {
+    Ok(Some(match message {
         Message::Batch(batch) => Output::Batch(batch.share()?),
-        Message::BatchAck(ack) => Output::Ack { to, ack },
+        Message::BatchAck(ack) => Output::Ack { to, ack: *ack },
         Message::Header(header) => Output::Header(header.try_clone()?),
-        Message::Vote(vote) => Output::Vote(vote),
+        Message::Vote(vote) => Output::Vote(*vote),
         Message::Certificate(certificate) => Output::Certificate(certificate.try_clone()?),
-        Message::Coin(_) => return Ok(()),
-    };
-    tell_output(alloc, &output, answer)
+        Message::Coin(_) => return Ok(None),
+    }))
 }
 
 fn tell_output(alloc: Global, output: &Output, answer: &mut String) -> Told {
@@ -95,22 +102,32 @@ fn tell_batch(batch: &Batch, answer: &mut String) -> Told {
 pub fn tell_body(body: &HeaderBody, number: u8, answer: &mut String) -> Told {
     let (author, round) = (body.author.0, body.round.number());
     list("header", &[author as u64, round], answer)?;
-    let batches = &body.batches;
-    let (is_empty, follows) = (
-        batches.is_empty(),
-        batches.may_follow(&Digest([number; 32])),
-    );
-    entries("batches", batches.len(), is_empty, follows, answer)?;
-    let parents = &body.parents;
-    let (is_empty, follows) = (
-        parents.is_empty(),
-        parents.may_follow(Author(number as u16)),
-    );
-    entries("parents", parents.len(), is_empty, follows, answer)?;
+    tell_lists(body, number, answer)?;
     let header = header_digest(body);
     show(&header.0, answer)?;
     let certificate = certificate_digest(&header, body.round, body.author);
     show(&certificate.0, answer)
+}
+
+fn tell_lists(body: &HeaderBody, number: u8, answer: &mut String) -> Told {
+    let batches = &body.batches;
+    let follows = batches.may_follow(&Digest([number; 32]));
+    entries(
+        "batches",
+        batches.len(),
+        batches.is_empty(),
+        follows,
+        answer,
+    )?;
+    let parents = &body.parents;
+    let follows = parents.may_follow(Author(number as u16));
+    entries(
+        "parents",
+        parents.len(),
+        parents.is_empty(),
+        follows,
+        answer,
+    )
 }
 
 fn tell_certificate(certificate: &Certificate, number: u8, answer: &mut String) -> Told {
@@ -151,14 +168,18 @@ fn push(open: &mut OpenBatch, bytes: &[u8], answer: &mut String) -> Told {
 /// Tells the piece of the order of the digests that these bytes are, as far as it has room.
 pub fn order(alloc: Global, start: u64, bytes: &[u8], answer: &mut String) -> Told {
     let mut digests = OrderDigests::new(alloc);
-    for digest in bytes.chunks_exact(32) {
-        if !digests.has_room() {
-            answer.push_str("no room\n")?;
-            break;
-        }
-        digests.push(digest_of(digest))?;
-    }
+    add_digests(&mut digests, bytes, answer)?;
     let (len, is_empty) = (digests.len(), digests.is_empty());
     list("order", &[len as u64, is_empty as u64], answer)?;
     tell_output(alloc, &Output::Order { start, digests }, answer)
+}
+
+fn add_digests(digests: &mut OrderDigests, bytes: &[u8], answer: &mut String) -> Told {
+    for digest in bytes.chunks_exact(32) {
+        if !digests.has_room() {
+            return answer.push_str("no room\n");
+        }
+        digests.push(digest_of(digest))?;
+    }
+    Ok(())
 }

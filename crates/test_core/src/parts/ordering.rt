@@ -5,7 +5,7 @@ use crate::parts::graphs::graph;
 use crate::parts::playing::play_words;
 use crate::parts::stores::store;
 use crate::parts::votes::assemble;
-use crate::parts::words::{Told, numbers_in};
+use crate::parts::words::{Told, list, numbers_in, parted};
 use committee::Committee;
 use std::alloc::Global;
 
@@ -26,7 +26,7 @@ impl Ordering {
     }
 
     fn read(&mut self, words: &str, answer: &mut String) -> Told {
-        let (words, line) = words.split_once('|').unwrap_or((words, ""));
+        let (words, line) = parted(words, '|');
         let stakes = numbers_in(self.alloc, words)?;
         match committee_of(self.alloc, &stakes, line)? {
             Ok(committee) => {
@@ -65,7 +65,7 @@ pub fn is_ordering(name: &str) -> bool {
 
 fn ask(alloc: Global, committee: &Committee, name: &str, words: &str, answer: &mut String) -> Told {
     match name {
-        "quorum" => writeln!(answer, "quorum {}", committee.quorum()),
+        "quorum" => list(name, &[committee.quorum()], answer),
         "assemble" => assemble(alloc, committee, words, answer),
         "store" => store(alloc, committee, words, answer),
         "dag" => graph(alloc, committee, words, answer),

@@ -4,7 +4,7 @@ ghost use Rattle.std.specs.Prelude.{◌≡◌, ◌<◌, length};
 ghost use Rattle.wire.specs.Digests.{header_digest_of, certificate_digest_of};
 
 use crate::parts::certificates::{certificate_of, digest_of};
-use crate::parts::words::{Told, numbers_in, round_of, write_slot};
+use crate::parts::words::{Told, list, numbers_in, parted, round_of, write_slot};
 use committee::Committee;
 use dag::{Added, Dag};
 use flatten::{Lengthening, mark, segment};
@@ -41,12 +41,20 @@ pub fn play_words(alloc: Global, committee: &Committee, words: &str, answer: &mu
 
 impl<'a> Playing<'a> {
     fn play(&mut self, word: &str, answer: &mut String) -> Told {
-        let (name, rest) = word.split_once('-').unwrap_or((word, ""));
+        let (name, rest) = parted(word, '-');
         let numbers = numbers_in(self.alloc, rest)?;
-        match (name, numbers.as_slice()) {
-            ("add", [round, author, parents @ ..]) => self.add(*round, *author, parents, answer),
-            ("coin", [value]) => self.coin(*value, answer),
-            ("leaders", _) => self.tell_leaders(answer),
+        match name {
+            "leaders" => self.tell_leaders(answer),
+            _ => self.change(name, &numbers, answer),
+        }
+    }
+
+    fn change(&mut self, name: &str, numbers: &[u64], answer: &mut String) -> Told {
+        match numbers {
+            [round, author, parents @ ..] if name == "add" => {
+                self.add(*round, *author, parents, answer)
+            }
+            [value] if name == "coin" => self.coin(*value, answer),
             _ => answer.push_str("bad word\n"),
         }
     }
@@ -86,7 +94,7 @@ impl<'a> Playing<'a> {
             .coins
             .committed_with(self.alloc, &self.dag, value, self.last)?;
         self.coins.push(value)?;
-        writeln!(answer, "coin {}", self.coins.count())?;
+        list("coin", &[self.coins.count() as u64], answer)?;
         let made = self.lengthen(&chain)?;
         self.commit(&chain, &made, answer)
     }
@@ -110,18 +118,20 @@ impl<'a> Playing<'a> {
         if !self.is_found(chain)? || !self.is_alike(chain, made)? {
             answer.push_str("otherwise\n")?;
         }
-        let Some(last) = chain.last() else {
-            return Ok(());
-        };
-        tell_chain(chain, answer)?;
-        self.tell_orders(made, answer)?;
-        self.take(last.0, made.last());
-        writeln!(
-            answer,
-            "top {} floor {}",
-            self.last.unwrap_or(0),
-            self.dag.floor().number()
-        )
+        match chain.last() {
+            None => Ok(()),
+            Some(last) => {
+                tell_chain(chain, answer)?;
+                self.tell_orders(made, answer)?;
+                self.take(last.0, made.last());
+                self.tell_top(answer)
+            }
+        }
+    }
+
+    fn tell_top(&self, answer: &mut String) -> Told {
+        let (top, floor) = (self.last.unwrap_or(0), self.dag.floor().number());
+        writeln!(answer, "top {top} floor {floor}")
     }
 
     // Whether these are the leaders that the DAG commits as it is now.

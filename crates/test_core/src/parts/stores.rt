@@ -1,6 +1,6 @@
 //! A store of batches that is put to words one after the other.
 
-use crate::parts::words::{Told, author_of, numbers_in};
+use crate::parts::words::{Told, author_of, list, member_in, numbers_in, parted};
 use batchstore::BatchStore;
 use committee::Committee;
 use std::alloc::{AllocError, Global};
@@ -22,8 +22,8 @@ fn batch_of(
 
 /// Puts a store of a member to these words, and tells what it answers.
 pub fn store(alloc: Global, committee: &Committee, words: &str, answer: &mut String) -> Told {
-    let (own, words) = words.split_once(':').unwrap_or((words, ""));
-    let own = Author(own.trim().parse::<u16>().unwrap_or(0));
+    let (own, words) = parted(words, ':');
+    let own = member_in(own);
     if own.0 >= committee.size() {
         return answer.push_str("no member\n");
     }
@@ -42,22 +42,46 @@ fn obey(
     word: &str,
     answer: &mut String,
 ) -> Told {
-    let (name, rest) = word.split_once('-').unwrap_or((word, ""));
+    let (name, rest) = parted(word, '-');
     let numbers = numbers_in(alloc, rest)?;
-    match numbers.as_slice() {
-        [author, worker, byte] if name == "put" => {
-            let (author, worker) = (author_of(*author), (*worker).min(65_535) as u16);
-            let batch = batch_of(alloc, author, worker, (*byte).min(255) as u8)?;
-            put(store, digests, batch, answer)
-        }
+    match name {
+        "put" => put_of(alloc, store, digests, &numbers, answer),
+        "least" => least(alloc, store, digests, answer),
+        _ => look(store, name, digests, &numbers, answer),
+    }
+}
+
+// Of the batch of a place: an acknowledgement of it, or what is asked of it.
+fn look(
+    store: &mut BatchStore,
+    name: &str,
+    digests: &[Digest],
+    numbers: &[u64],
+    answer: &mut String,
+) -> Told {
+    match numbers {
         [place, member] if name == "ack" => {
             let digest = digest_at(digests, *place);
             ack(store, digest, author_of(*member), answer)
         }
         [place] => ask(store, name, digest_at(digests, *place), answer),
-        _ if name == "least" => least(alloc, store, digests, answer),
         _ => answer.push_str("bad word\n"),
     }
+}
+
+fn put_of(
+    alloc: Global,
+    store: &mut BatchStore,
+    digests: &mut Vec<Digest>,
+    numbers: &[u64],
+    answer: &mut String,
+) -> Told {
+    let [author, worker, byte] = numbers else {
+        return answer.push_str("bad word\n");
+    };
+    let (worker, byte) = ((*worker).min(65_535) as u16, (*byte).min(255) as u8);
+    let batch = batch_of(alloc, author_of(*author), worker, byte)?;
+    put(store, digests, batch, answer)
 }
 
 fn digest_at(digests: &[Digest], place: u64) -> Digest {
@@ -81,8 +105,7 @@ fn put(
         Ok(put) => write!(answer, "{put:?}")?,
         Err(refusal) => write!(answer, "{refusal}")?,
     }
-    let len = store.len();
-    writeln!(answer, " of {len}")
+    list(" of", &[store.len() as u64], answer)
 }
 
 fn ack(store: &mut BatchStore, digest: Digest, member: Author, answer: &mut String) -> Told {

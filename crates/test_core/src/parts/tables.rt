@@ -7,7 +7,9 @@ use crate::parts::messages::{beginnings, fill, message, order, spelled_again, wr
 use crate::parts::numbers::{genesis, laws, vote, voted};
 use crate::parts::stakes::{is_among, is_in_both, show_stake, show_total, weigh};
 use crate::parts::waiters::{Waiting, next, offer, offer_header, offer_rounds, open};
-use crate::parts::words::{Names, Told, author_of, bad, joined, numbers_of, round_of, show, tell};
+use crate::parts::words::{
+    Names, Told, author_of, bad, joined, numbers_of, parted, round_of, show, tell,
+};
 use batchmaker::BatchMaker;
 use committee::Committee;
 use sha2::{Digest, Sha256};
@@ -160,8 +162,8 @@ impl Tables {
     }
 
     fn run(&mut self, command: &str, answer: &mut String) -> Told {
-        let (front, words) = command.split_once(':').unwrap_or((command, ""));
-        let (name, numbers) = front.split_once(' ').unwrap_or((front, ""));
+        let (front, words) = parted(command, ':');
+        let (name, numbers) = parted(front, ' ');
         let numbers = numbers_of(self.alloc, numbers)?;
         let bytes = joined(self.alloc, &self.names, words)?;
         match (numbers, bytes) {

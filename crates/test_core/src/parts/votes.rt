@@ -3,7 +3,7 @@
 ghost use Rattle.std.specs.Prelude.{◌≡◌, ◌<◌, length};
 ghost use Rattle.wire.specs.Digests.{header_digest_of};
 
-use crate::parts::words::Told;
+use crate::parts::words::{Told, member_in, parted};
 use certify::{Added, Assembly};
 use committee::Committee;
 use std::alloc::{AllocError, Global};
@@ -69,22 +69,34 @@ fn vote_of(body: &HeaderBody, word: &str, byte: u8) -> Vote {
 
 /// Tells what an assembly of a member's header answers each vote, and what it is then.
 pub fn assemble(alloc: Global, committee: &Committee, words: &str, answer: &mut String) -> Told {
-    let (own, votes) = words.split_once(':').unwrap_or((words, ""));
-    let own = Author(own.trim().parse::<u16>().unwrap_or(0));
+    let (own, votes) = parted(words, ':');
+    let own = member_in(own);
     if own.0 >= committee.size() {
         return answer.push_str("no member\n");
     }
     let header = header_of(alloc, own);
-    let body = header.body.try_clone()?;
     let vote = vote_on(&header.body, own, 0);
     let mut assembly = Assembly::start(alloc, committee, header, vote)?;
+    give_each(committee, &mut assembly, votes, answer)?;
+    tell_assembly(&assembly, committee.size(), answer)
+}
+
+// Gives an assembly the votes of these words, in a loop that owns nothing: what it owns costs the proof at each way out of it.
+fn give_each(
+    committee: &Committee,
+    assembly: &mut Assembly,
+    votes: &str,
+    answer: &mut String,
+) -> Told
+    requires { assembly.old.charter ≡ committee.now }
+{
     let mut byte: u8 = 0;
     for word in votes.split_whitespace() {
         byte = byte.saturating_add(1);
-        let vote = vote_of(&body, word, byte);
-        give(committee, &mut assembly, vote, byte % 2 == 1, answer)?;
+        let vote = vote_of(&assembly.header().body, word, byte);
+        give(committee, assembly, vote, byte % 2 == 1, answer)?;
     }
-    tell_assembly(&assembly, committee.size(), answer)
+    Ok(())
 }
 
 // Gives an assembly a vote, at once or in two steps, unless no member has cast it.
@@ -101,13 +113,15 @@ fn give(
     if vote.voter.0 >= committee.size() {
         return Ok(());
     }
-    if at_once {
-        return tell_added(&assembly.add(vote)?, answer);
-    }
-    let added = assembly.answer(&vote)?;
-    tell_added(&added, answer)?;
-    assembly.count(&added, vote);
-    Ok(())
+    let added = match at_once {
+        true => assembly.add(vote)?,
+        false => {
+            let added = assembly.answer(&vote)?;
+            assembly.count(&added, vote);
+            added
+        }
+    };
+    tell_added(&added, answer)
 }
 
 fn tell_added(added: &Added, answer: &mut String) -> Told {

@@ -14,6 +14,16 @@ const SHOWN_BYTES: usize = 80;
 /// Bytes that have a name.
 pub type Names = BTreeMap<String, Vec<u8>>;
 
+/// The texts before and behind the first of these marks; where there is none, the whole one and nothing.
+pub fn parted(text: &str, mark: char) -> (&str, &str) {
+    text.split_once(mark).unwrap_or((text, ""))
+}
+
+/// The member of a number that blanks may stand around, member 0 where there is no number.
+pub fn member_in(word: &str) -> Author {
+    Author(word.trim().parse::<u16>().unwrap_or(0))
+}
+
 /// The numbers of these words.
 pub fn numbers_of(alloc: Global, words: &str) -> Result<Option<Vec<u64>>, AllocError> {
     let mut numbers = Vec::new(alloc);
@@ -106,6 +116,11 @@ pub fn list(name: &str, numbers: &[u64], answer: &mut String) -> Told {
         write!(answer, " {number}")?;
     }
     answer.push_str("\n")
+}
+
+/// Adds a line of a name, and of whether it is so.
+pub fn whether(name: &str, is_so: bool, answer: &mut String) -> Told {
+    writeln!(answer, "{name} {is_so}")
 }
 
 /// Adds a line: what came out, or the refusal.

@@ -48,20 +48,39 @@ impl Beside {
         event: &Event,
         is_ready: bool,
         step: &Result<Step, Refusal>,
-        proposal: Option<Header>,
+        proposal: Option<&Header>,
     ) -> Result<Option<&'static str>, AllocError> {
         self.taken = self.taken.saturating_add(1);
+        match self.answer(event, is_ready, step)? {
+            None => difference(self.alloc, &self.node, validator, &self.tables, proposal),
+            differs => Ok(differs),
+        }
+    }
+
+    /// Answers an event, and says in what that differs from what the validator did.
+    fn answer(
+        &mut self,
+        event: &Event,
+        is_ready: bool,
+        step: &Result<Step, Refusal>,
+    ) -> Result<Option<&'static str>, AllocError> {
         let plain = answered(self.alloc, &self.node, &self.tables, event)?;
+        if plain.is_new() {
+            self.follow(event)?;
+        }
         if is_ready == matches!(plain, Admission::Refused(Refusal::MissingParents)) {
             return Ok(Some("ready"));
         }
-        if !same_answer(self.alloc, step, &plain)? {
-            return Ok(Some("the answer"));
+        match same_answer(self.alloc, step, &plain)? {
+            true => Ok(None),
+            false => Ok(Some("the answer")),
         }
-        if plain.is_new() {
-            let tables = self.tables.try_clone(self.alloc)?;
-            self.tables = after(self.alloc, &self.node, tables, event)?;
-        }
-        difference(self.alloc, &self.node, validator, &self.tables, proposal)
+    }
+
+    /// Lets the tables follow by a new event.
+    fn follow(&mut self, event: &Event) -> Result<(), AllocError> {
+        let tables = self.tables.try_clone(self.alloc)?;
+        self.tables = after(self.alloc, &self.node, tables, event)?;
+        Ok(())
     }
 }

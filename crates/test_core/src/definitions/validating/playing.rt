@@ -3,12 +3,14 @@
 ghost use Rattle.std.specs.Prelude.{◌≡◌, None};
 ghost use Rattle.header.specs.Checks.{fault_of, accepts_all};
 
-use crate::definitions::looking::{member, number};
+use crate::definitions::looking::{number, words_of};
 use crate::definitions::played::coin;
 use crate::definitions::validating::beside::Beside;
+use crate::definitions::validating::seen::seen_of;
 use crate::definitions::validating::sum::Sum;
-use crate::definitions::validating::tally::Tally;
+use crate::definitions::validating::tally::{Tally, counts};
 use crate::definitions::weighing::label_genesis;
+use crate::parts::list;
 use committee::Committee;
 use header::{Checked, check};
 use model::{Event, Node};
@@ -16,9 +18,9 @@ use script::{
     Command, FormError, Labels, OWN, define_batch, define_header, message_of, parse, signer,
 };
 use sigface::{HashSign, HashVerify};
-use std::alloc::Global;
+use std::alloc::{AllocError, Global};
 use validator::{Config, Refusal, Step, Validator};
-use wire::{Author, Message};
+use wire::{Author, Header, Message};
 
 /// A validator, with what is summed up and counted of it, and with the plain program beside it.
 #[derive(Drop)]
@@ -41,29 +43,48 @@ pub fn play_lines(
     most: u64,
     answer: &mut String,
 ) -> Result<(), FormError> {
-    let Some(config) = Config::new(committee, OWN, signer(OWN)) else {
-        return Err(FormError::BadCommand);
-    };
-    let members = node.size();
-    let mut playing = Playing {
-        alloc,
-        validator: Validator::new(alloc, &config)?,
-        labels: Labels::new(alloc),
-        beside: Beside::new(alloc, node, most)?,
-        sum: Sum::new(),
-        tally: Tally::new(),
-    };
-    label_genesis(alloc, &mut playing.labels, members)?;
-    for line in lines.lines() {
-        if let Some(differs) = playing.run(line)? {
-            writeln!(answer, "{line}: otherwise {differs}")?;
-            return Ok(());
-        }
+    let config = config_of(committee)?;
+    let beside = Beside::new(alloc, node, most)?;
+    Playing::new(alloc, &config, beside)?.play(lines, answer)
+}
+
+/// The setting of member 0. This call stands alone, too.
+fn config_of(committee: Committee) -> Result<Config<HashSign>, FormError> {
+    match Config::new(committee, OWN, signer(OWN)) {
+        None => Err(FormError::BadCommand),
+        Some(config) => Ok(config),
     }
-    playing.tell(answer)
 }
 
 impl<'c> Playing<'c> {
+    fn new(
+        alloc: Global,
+        config: &'c Config<HashSign>,
+        beside: Beside,
+    ) -> Result<Playing<'c>, FormError> {
+        Ok(Playing {
+            alloc,
+            validator: Validator::new(alloc, config)?,
+            labels: Labels::new(alloc),
+            beside,
+            sum: Sum::new(),
+            tally: Tally::new(),
+        })
+    }
+
+    /// Plays these lines, up to the first at which something differs.
+    fn play(&mut self, lines: &str, answer: &mut String) -> Result<(), FormError> {
+        let members = self.validator.committee().size();
+        label_genesis(self.alloc, &mut self.labels, members)?;
+        for line in lines.lines() {
+            if let Some(differs) = self.run(line)? {
+                writeln!(answer, "{line}: otherwise {differs}")?;
+                return Ok(());
+            }
+        }
+        Ok(self.tell(answer)?)
+    }
+
     /// Runs a line, and says what is otherwise than it should be, if anything is.
     fn run(&mut self, line: &str) -> Result<Option<&'static str>, FormError> {
         match parse(line.as_bytes()) {
@@ -85,15 +106,20 @@ impl<'c> Playing<'c> {
 
     /// A line of these tests alone: a coin that another member sends, or what the running sum has to be.
     fn run_own(&mut self, line: &str) -> Result<Option<&'static str>, FormError> {
-        let words: Vec<&str> = line.split(' ').collect(self.alloc)?;
-        match words.as_slice() {
+        let words = words_of(self.alloc, line)?;
+        self.run_words(&words)
+    }
+
+    fn run_words(&mut self, words: &[&str]) -> Result<Option<&'static str>, FormError> {
+        match words {
             ["coin-from", sender, wave, value] => {
-                let sender = Author(member(sender));
-                let (sender, message) = coin(sender, number(wave), number(value))?;
+                let (sender, message) = coin(sender, wave, value)?;
                 self.take(sender, message)
             }
-            ["sum", expected] if number(expected) == self.sum.value() => Ok(None),
-            ["sum", _] => Ok(Some("the sum")),
+            ["sum", expected] => match number(expected) == self.sum.value() {
+                true => Ok(None),
+                false => Ok(Some("the sum")),
+            },
             _ => Err(FormError::BadCommand),
         }
     }
@@ -133,7 +159,12 @@ impl<'c> Playing<'c> {
             return Err(FormError::Memory);
         }
         self.tally.count(&step);
-        self.compare(is_ready, &step, event)
+        Ok(self.compare(is_ready, &step, event)?)
+    }
+
+    /// What the validator proposes. The contract of that call is long, so it stands alone, as in `seen_of`.
+    fn proposal(&self) -> Result<Option<Header>, AllocError> {
+        self.validator.propose()
     }
 
     fn compare(
@@ -141,29 +172,44 @@ impl<'c> Playing<'c> {
         is_ready: bool,
         step: &Result<Step, Refusal>,
         event: Option<Event>,
-    ) -> Result<Option<&'static str>, FormError> {
-        let proposal = self.validator.propose()?;
+    ) -> Result<Option<&'static str>, AllocError> {
+        let proposal = self.proposal()?;
+        self.compare_with(is_ready, step, event.as_ref(), proposal.as_ref())
+    }
+
+    fn compare_with(
+        &mut self,
+        is_ready: bool,
+        step: &Result<Step, Refusal>,
+        event: Option<&Event>,
+        proposal: Option<&Header>,
+    ) -> Result<Option<&'static str>, AllocError> {
         self.tally.count_proposal(proposal.is_some());
         self.sum
-            .add_event(&self.validator, is_ready, step, proposal.as_ref());
+            .add_event(&self.validator, is_ready, step, proposal);
         match event {
             None => Ok(None),
-            Some(event) => Ok(
-                self.beside
-                    .take(&self.validator, &event, is_ready, step, proposal)?,
-            ),
+            Some(event) => self
+                .beside
+                .take(&self.validator, event, is_ready, step, proposal),
         }
     }
 
     /// How often each answer came, and what there is at the end.
-    fn tell(&self, answer: &mut String) -> Result<(), FormError> {
+    fn tell(&self, answer: &mut String) -> Result<(), AllocError> {
         self.tally.tell(answer)?;
-        let (round, floor) = (self.validator.round(), self.validator.floor().number());
-        let ordered = self.validator.order().len();
-        writeln!(answer, "round {round}, floor {floor}, ordered {ordered}")?;
-        let compared = self.beside.compared();
-        writeln!(answer, "beside the plain program {compared}")?;
-        Ok(())
+        let seen = seen_of(&self.validator);
+        let found = [
+            ("round", seen.round),
+            ("floor", seen.floor),
+            ("ordered", seen.order.len() as u64),
+        ];
+        counts(&found, answer)?;
+        list(
+            "beside the plain program",
+            &[self.beside.compared()],
+            answer,
+        )
     }
 }
 

@@ -1,5 +1,6 @@
 //! What a validator answers and holds beside what the plain program of its tables does.
 
+use crate::definitions::validating::seen::seen_of;
 use model::{Admission, Node, Refusal};
 use plain::held::{Held, floor_in};
 use plain_machine::{Tables, proposed, round_in};
@@ -44,25 +45,46 @@ pub fn difference(
     node: &Node<HashSign>,
     validator: &Validator<'_, HashSign>,
     tables: &Tables,
-    proposal: Option<Header>,
+    proposal: Option<&Header>,
 ) -> Result<Option<&'static str>, AllocError> {
-    if validator.order() != tables.order.as_slice() {
-        return Ok(Some("the order"));
+    let floor = floor_in(alloc, node, tables)?;
+    match difference_but_proposal(node, validator, tables, floor) {
+        None => difference_of_proposal(alloc, node, tables, proposal),
+        differs => Ok(differs),
     }
-    if validator.floor().number() != floor_in(alloc, node, tables)? {
-        return Ok(Some("the floor"));
+}
+
+fn difference_of_proposal(
+    alloc: Global,
+    node: &Node<HashSign>,
+    tables: &Tables,
+    proposal: Option<&Header>,
+) -> Result<Option<&'static str>, AllocError> {
+    let by_tables = proposed(alloc, node, tables)?;
+    match same_header(alloc, proposal, by_tables.as_ref())? {
+        true => Ok(None),
+        false => Ok(Some("the proposal")),
     }
-    let round = round_in(node, tables);
-    if validator.round() != round {
-        return Ok(Some("the round"));
+}
+
+fn difference_but_proposal(
+    node: &Node<HashSign>,
+    validator: &Validator<'_, HashSign>,
+    tables: &Tables,
+    floor: u64,
+) -> Option<&'static str> {
+    let (seen, round) = (seen_of(validator), round_in(node, tables));
+    if seen.order != tables.order.as_slice() {
+        Some("the order")
+    } else if seen.floor != floor {
+        Some("the floor")
+    } else if seen.round != round {
+        Some("the round")
+    } else if !votes_are_same(node, validator, tables, round) {
+        Some("the votes")
+    } else {
+        None
     }
-    if !votes_are_same(node, validator, tables, round) {
-        return Ok(Some("the votes"));
-    }
-    if !same_header(alloc, proposal, proposed(alloc, node, tables)?)? {
-        return Ok(Some("the proposal"));
-    }
-    Ok(None)
 }
 
 /// Whether the votes of all rounds up to the one behind this are the same.
@@ -90,16 +112,18 @@ fn round_is_same(
 
 fn same_header(
     alloc: Global,
-    one: Option<Header>,
-    other: Option<Header>,
+    one: Option<&Header>,
+    other: Option<&Header>,
 ) -> Result<bool, AllocError> {
-    match (one, other) {
-        (None, None) => Ok(true),
-        (Some(one), Some(other)) => {
-            let one = encode(alloc, &Message::Header(one))?;
-            let other = encode(alloc, &Message::Header(other))?;
-            Ok(one.as_slice() == other.as_slice())
-        }
-        _ => Ok(false),
+    let one = bytes_of_header(alloc, one)?;
+    let other = bytes_of_header(alloc, other)?;
+    Ok(one.as_slice() == other.as_slice())
+}
+
+/// The bytes of a header's message, and none of no header.
+fn bytes_of_header(alloc: Global, header: Option<&Header>) -> Result<Vec<u8>, AllocError> {
+    match header {
+        None => Ok(Vec::new(alloc)),
+        Some(header) => encode(alloc, &Message::Header(header.try_clone()?)),
     }
 }

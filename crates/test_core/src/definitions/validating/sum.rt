@@ -1,5 +1,6 @@
 //! A running sum over all that a validator answers, puts out, holds and proposes.
 
+use crate::definitions::validating::seen::seen_of;
 use model::Refusal;
 use sigface::HashSign;
 use validator::{Step, Validator};
@@ -121,15 +122,14 @@ impl Sum {
 
     /// Adds the round, the floor, how much is ordered, and the votes near the floor and the round.
     fn add_state(&mut self, validator: &Validator<'_, HashSign>) {
-        let (round, floor) = (validator.round(), validator.floor().number());
-        self.add(&round.to_be_bytes());
-        self.add(&floor.to_be_bytes());
-        self.add(&(validator.order().len() as u64).to_be_bytes());
-        for behind in 0..3 {
-            self.add_votes(validator, floor.saturating_add(behind));
-        }
-        for behind in 0..3 {
-            self.add_votes(validator, round.saturating_sub(1).saturating_add(behind));
+        let seen = seen_of(validator);
+        self.add(&seen.round.to_be_bytes());
+        self.add(&seen.floor.to_be_bytes());
+        self.add(&(seen.order.len() as u64).to_be_bytes());
+        for first in [seen.floor, seen.round.saturating_sub(1)] {
+            for behind in 0..3 {
+                self.add_votes(validator, first.saturating_add(behind));
+            }
         }
     }
 

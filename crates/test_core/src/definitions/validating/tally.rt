@@ -66,18 +66,30 @@ impl Tally {
 
     /// Tells how often each answer came; no refusal that didn't come.
     pub fn tell(&self, answer: &mut String) -> Result<(), AllocError> {
-        let (new, known) = (self.new, self.known);
-        writeln!(answer, "new {new}, known {known}")?;
+        counts(&[("new", self.new), ("known", self.known)], answer)?;
+        self.tell_refused(answer)?;
+        let (pieces, proposals) = (self.pieces, self.proposals);
+        let made = [("pieces of the order", pieces), ("proposals", proposals)];
+        counts(&made, answer)
+    }
+
+    fn tell_refused(&self, answer: &mut String) -> Result<(), AllocError> {
         for number in 1..REFUSALS {
             let count = self.refused.get(number).copied().unwrap_or(0);
             if count > 0 {
                 writeln!(answer, "refused {number}: {count}")?;
             }
         }
-        let (pieces, proposals) = (self.pieces, self.proposals);
-        writeln!(
-            answer,
-            "pieces of the order {pieces}, proposals {proposals}"
-        )
+        Ok(())
     }
+}
+
+/// A line of words, each with a number behind it, parted by commas.
+pub fn counts(list: &[(&str, u64)], answer: &mut String) -> Result<(), AllocError> {
+    let mut mark = "";
+    for (word, number) in list {
+        write!(answer, "{mark}{word} {number}")?;
+        mark = ", ";
+    }
+    answer.push_str("\n")
 }

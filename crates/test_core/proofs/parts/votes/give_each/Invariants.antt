@@ -1,5 +1,5 @@
 use Rattle.std.proofs.Common.{◌≡◌}
-use Rattle.test_core.proofs.parts.votes.assemble.Given as goal
+use Rattle.test_core.proofs.parts.votes.give_each.Given as goal
 
 -- the assembly is of the committee
 abbrev pub invariant-loop-word : goal.invariant-loop-word
