@@ -132,3 +132,15 @@ returns-in-Err g c =
       no_fault_err = search rules;
       setting = search rules;
     }
+
+pub returns-then-is_down : goal.returns-then-is_down
+returns-then-is_down g c = search rules
+
+pub returns-then-not-is_settled : goal.returns-then-not-is_settled
+returns-then-not-is_settled g c = search rules
+
+pub returns-in_err-group : goal.returns-in_err-group
+returns-in_err-group g c = search rules
+
+pub returns-in_default : goal.returns-in_default
+returns-in_default g c = search rules

@@ -13,3 +13,12 @@ returns-in-Err-clause-err g c = λ desk is.
 
 pub returns-in-Err-clause-same_err : goal.returns-in-Err-clause-same_err
 returns-in-Err-clause-same_err g c = c.fail.ensures.disk ∙ ap disk_of c.accept.ensures.same
+
+pub returns-in-Err-clause-memory : goal.returns-in-Err-clause-memory
+returns-in-Err-clause-memory g c = c.fail.ensures.error ∙ c.in-Err.ensures.memory
+
+pub returns-in-Ok-clause-ok : goal.returns-in-Ok-clause-ok
+returns-in-Ok-clause-ok g c = c.in-Ok.ensures.ok
+
+pub returns-in-Ok-clause-same : goal.returns-in-Ok-clause-same
+returns-in-Ok-clause-same g c = c.accept.ensures.same
