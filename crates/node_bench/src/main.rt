@@ -26,9 +26,10 @@ use std::thread::Threads;
 use task::{Kind, Task, WORKS, sized, task_of};
 
 /// What is told where the words ask for nothing.
-const USAGE: &str = "usage: narwhal-bench [prepare-]WORK COUNT [SIZE]
-WORK is hash, decode-FORM, encode-FORM, check-FORM, recheck-FORM, frames, step-header, step-vote,
-step-certificate, step-batch, order, append, book, reopen or node; FORM is header, certificate or batch";
+const USAGE: &str =
+    "usage: narwhal-bench [prepare-]WORK COUNT [SIZE], where WORK is hash, decode-FORM, encode-FORM, \
+    check-FORM, recheck-FORM, frames, step-header, step-vote, step-certificate, step-batch, order, append, book, reopen or \
+    node, and FORM is header, certificate or batch";
 
 fn main(rt: HostRuntime) -> ExitCode {
     match run(&rt) {

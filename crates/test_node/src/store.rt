@@ -3,7 +3,6 @@
 
 mod batches;
 mod books;
-mod committees;
 mod damages;
 mod disks;
 mod draws;
@@ -28,13 +27,13 @@ mod texts;
 mod words;
 mod worlds;
 
-pub use committees::{FOUR, own_config};
+pub use headers::{SHORTEST, batch};
 use nodes::Node;
 use sigface::HashSign;
 use std::alloc::{AllocError, Global};
 use stores::Store;
 use validator::Config;
-use words::{Told, Word, words_of};
+use words::{Told, Word, parted, words_of};
 use worlds::Worlds;
 
 /// What the cases are put to, new in each case.
@@ -69,7 +68,7 @@ impl<'a> StoreCases<'a> {
 
     /// Carries out a command, and adds the lines that it answers.
     pub fn obey(&mut self, command: &str, answer: &mut String) -> Told {
-        let (name, rest) = command.split_once(' ').unwrap_or((command, ""));
+        let (name, rest) = parted(command);
         let words = words_of(self.alloc, rest)?;
         self.obey_words(name, words.as_slice(), answer)
     }
@@ -81,16 +80,14 @@ impl<'a> StoreCases<'a> {
 
     /// `node` or `file` makes the case one of the node: its commands have names that the store's have too.
     fn obey_words(&mut self, name: &str, words: &[Word], answer: &mut String) -> Told {
-        if name == "lists" {
-            return self.worlds.obey(words, answer);
+        match name {
+            "lists" => return self.worlds.obey(words, answer),
+            "node" | "file" => self.has_node = true,
+            _ => {}
         }
-        if name == "node" || name == "file" {
-            self.has_node = true;
-        }
-        if self.has_node {
-            self.node.obey(name, words, answer)
-        } else {
-            self.store.obey(name, words, answer)
+        match self.has_node {
+            true => self.node.obey(name, words, answer),
+            false => self.store.obey(name, words, answer),
         }
     }
 }

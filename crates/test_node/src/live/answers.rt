@@ -1,7 +1,7 @@
 //! What a run is answered with.
 
 use crate::live::streams::Seen;
-use crate::live::words::{put, put_hex};
+use crate::live::words::{put, put_count, put_hex};
 use std::alloc::Global;
 use std::str;
 use wire_read::FrameReader;
@@ -20,8 +20,7 @@ pub fn tell_seen(alloc: Global, seen: &Seen, answer: &mut String) {
 
 fn tell_outputs(bodies: &[Vec<u8>], answer: &mut String) {
     for body in bodies {
-        let len = body.len();
-        let _ = write!(answer, "out {len} ");
+        put_count(answer, "out ", body.len() as u64, " ");
         put_hex(answer, body.get(..SHOWN_BYTES).unwrap_or(body));
         put(answer, "\n");
     }

@@ -1,16 +1,19 @@
 //! Three threads that submit to one node, while a fourth flushes.
 
+ghost use Rattle.std.specs.Prelude.{◌≡◌};
+
+use crate::committees::{FOUR, own_config};
 use crate::live::ending::Ending;
-use crate::live::makers::{batch_of, config_of, disk_with};
-use crate::live::words::{put, put_number};
-use diskmodel::{Disk, MemDisk, StopDisk};
+use crate::live::makers::batch_of;
+use crate::live::words::{put, put_count, put_number};
+use crate::memory::{disk_with, stopped};
+use diskmodel::MemDisk;
 use shared::Receipt;
 use sigface::HashSign;
 use startup::{Caller, Rounds, start};
 use std::alloc::{AllocError, Global};
 use std::sync::Wait;
 use std::thread::{self, Threads};
-use stopping::losing;
 use validator::Config;
 use wire::Author;
 
@@ -39,12 +42,10 @@ pub fn crowd<R>(rt: &R, alloc: Global, answer: &mut String) -> Result<(), Ending
 where
     R: Threads + Wait + Sync,
 {
-    let config = config_of(alloc)?;
+    let config = own_config(alloc, &FOUR)?;
     let disk = submit_all(rt, alloc, &config, answer)?;
-    let mut disk = losing(alloc, disk)?;
-    disk.stop();
-    let known = submit_again(rt, alloc, &config, disk)?;
-    let _ = writeln!(answer, "{known} known");
+    let known = submit_again(rt, alloc, &config, stopped(alloc, disk)?)?;
+    put_count(answer, "", known, " known\n");
     Ok(())
 }
 
@@ -60,25 +61,26 @@ where
     let (node, mut seat, flusher) = start(alloc, config, disk_with(alloc, &[])?)?;
     let mut first = node.split(&mut seat)?;
     let mut second = node.split(&mut first)?;
-    let mut rounds = Rounds::new(&node, seat, flusher);
-    let caller = rounds.caller(config)?;
-    let disk = submit_beside(rt, alloc, caller, rounds, answer)?;
+    let rounds = Rounds::new(&node, seat, flusher);
+    let disk = submit_beside(rt, alloc, config, rounds, answer)?;
     let count = node.meet(&mut first, &mut second);
     put_number(answer, "two seats meet at", count);
     Ok(disk)
 }
 
 // Each member submits its batches in a thread, while one more flushes.
-fn submit_beside<R>(
+fn submit_beside<'a, R>(
     rt: &R,
     alloc: Global,
-    caller: Caller<'_, '_, HashSign>,
-    rounds: Rounds<'_, '_, HashSign, MemDisk>,
+    config: &'a Config<HashSign>,
+    mut rounds: Rounds<'_, 'a, HashSign, MemDisk>,
     answer: &mut String,
 ) -> Result<MemDisk, Ending>
 where
     R: Threads + Wait + Sync,
+    requires { rounds.node.setting ≡ config.now }
 {
+    let caller = rounds.caller(config)?;
     let (told, flushed) = thread::join(
         rt,
         move || submit_each(rt, alloc, caller),
@@ -158,10 +160,10 @@ fn submit<R: Wait>(
 }
 
 // Flushes until all are settled, and answers the disk.
-fn flush_all<D: Disk + Drop, R: Wait>(
+fn flush_all<R: Wait>(
     rt: &R,
-    mut rounds: Rounds<'_, '_, HashSign, D>,
-) -> Result<D, Ending> {
+    mut rounds: Rounds<'_, '_, HashSign, MemDisk>,
+) -> Result<MemDisk, Ending> {
     let mut settled = 0;
     for _ in 0..TURNS {
         let count = rounds.round(rt)?;

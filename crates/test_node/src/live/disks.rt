@@ -1,7 +1,7 @@
 //! Commands to the disk that is open.
 
 use crate::live::folder::tell_bytes;
-use crate::live::words::{Told, bad};
+use crate::live::words::{Told, bad, parted, put_count, tell_fault};
 use cases::bytes_of;
 use diskmodel::{Disk, DiskFault};
 use filedisk::FileDisk;
@@ -15,11 +15,11 @@ pub fn obey_disk(
     rest: &str,
     answer: &mut String,
 ) -> Told {
-    let (first, second) = rest.split_once(' ').unwrap_or((rest, ""));
+    let (first, second) = parted(rest);
     let place = first.parse().unwrap_or(0);
     match name {
         "len" => tell_len(disk.len(), answer),
-        "sync" => tell(answer, disk.sync()),
+        "sync" => tell_fault(answer, disk.sync()),
         "cut" => cut(disk, place, answer),
         "write" => return write(alloc, disk, place, second, answer),
         "read" => return read(alloc, disk, place, second, answer),
@@ -28,26 +28,18 @@ pub fn obey_disk(
     Ok(())
 }
 
-fn tell(answer: &mut String, outcome: Result<(), DiskFault>) {
-    if let Err(fault) = outcome {
-        let _ = writeln!(answer, "{fault}");
-    }
-}
-
 fn tell_len(outcome: Result<u64, DiskFault>, answer: &mut String) {
     match outcome {
-        Ok(len) => {
-            let _ = writeln!(answer, "{len}");
-        }
-        Err(fault) => tell(answer, Err(fault)),
+        Ok(len) => put_count(answer, "", len, "\n"),
+        Err(fault) => tell_fault(answer, Err(fault)),
     }
 }
 
 fn cut(disk: &mut FileDisk, at: u64, answer: &mut String) {
     match disk.len() {
-        Ok(len) if at <= len => tell(answer, disk.cut(at)),
+        Ok(len) if at <= len => tell_fault(answer, disk.cut(at)),
         Ok(_) => bad(answer),
-        Err(fault) => tell(answer, Err(fault)),
+        Err(fault) => tell_fault(answer, Err(fault)),
     }
 }
 
@@ -60,9 +52,9 @@ fn write(alloc: Global, disk: &mut FileDisk, at: u64, digits: &str, answer: &mut
 
 fn write_at(disk: &mut FileDisk, at: u64, bytes: &[u8], answer: &mut String) {
     match disk.len() {
-        Ok(len) if at <= len => tell(answer, disk.write_at(at, bytes)),
+        Ok(len) if at <= len => tell_fault(answer, disk.write_at(at, bytes)),
         Ok(_) => bad(answer),
-        Err(fault) => tell(answer, Err(fault)),
+        Err(fault) => tell_fault(answer, Err(fault)),
     }
 }
 
@@ -77,9 +69,9 @@ fn read_at(disk: &mut FileDisk, at: u64, buffer: &mut [u8], answer: &mut String)
     match disk.len() {
         Ok(len) if at <= len && count <= len - at => match disk.read_at(at, buffer) {
             Ok(()) => tell_bytes(answer, buffer),
-            Err(fault) => tell(answer, Err(fault)),
+            Err(fault) => tell_fault(answer, Err(fault)),
         },
         Ok(_) => bad(answer),
-        Err(fault) => tell(answer, Err(fault)),
+        Err(fault) => tell_fault(answer, Err(fault)),
     }
 }

@@ -1,6 +1,5 @@
 //! What ends a test before its end.
 
-use committee::CommitteeError;
 use diskmodel::TooManyTold;
 use flusher::FlushError;
 use header::CheckError;
@@ -32,12 +31,6 @@ impl<T: Drop> From<AllocFailed<T>> for Ending {
 
 impl<D: Drop> From<Failed<JournalError, D>> for Ending {
     fn from(_: Failed<JournalError, D>) -> Ending {
-        Ending::Unexpected
-    }
-}
-
-impl From<CommitteeError> for Ending {
-    fn from(_: CommitteeError) -> Ending {
         Ending::Unexpected
     }
 }

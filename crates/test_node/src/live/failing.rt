@@ -1,15 +1,18 @@
 //! Rounds in which a call of the disk fails.
 
+ghost use Rattle.std.specs.Prelude.{◌≡◌};
+
+use crate::committees::{FOUR, own_config};
 use crate::live::ending::Ending;
 use crate::live::journals::record_count;
-use crate::live::makers::{config_of, disk_with, header_of, submit_header};
-use crate::live::words::{put, put_number};
-use diskmodel::{CallKind, MemDisk, StopDisk, Switch};
+use crate::live::makers::{header_of, submit_header};
+use crate::live::words::{call_of, put, put_count, put_number, put_shown};
+use crate::memory::{disk_with, stopped};
+use diskmodel::{CallKind, MemDisk, Switch};
 use sigface::HashSign;
 use startup::{Caller, Rounds, start};
 use std::alloc::Global;
 use std::sync::Wait;
-use stopping::losing;
 use validator::Config;
 use wire::{Author, Round};
 
@@ -31,14 +34,18 @@ pub fn go_down<R: Wait>(rt: &R, alloc: Global, answer: &mut String) -> Result<()
     Ok(())
 }
 
-/// A round with one record, in which the first call of a kind fails, then the second, and so on, until none does: what it answers, and
-/// how many records a stop behind it leaves that keeps all, and one that loses what isn't synced.
+/// A round with one record, in which the first call of a kind, of which this is the name in the plural, fails, then the second, and so
+/// on, until none does: what it answers, and how many records a stop behind it leaves that keeps all, and one that loses what isn't
+/// synced.
 pub fn fail_each<R: Wait>(
     rt: &R,
     alloc: Global,
-    kind: CallKind,
+    name: &str,
     answer: &mut String,
 ) -> Result<(), Ending> {
+    let Some(kind) = call_of(name.trim_end_matches('s')) else {
+        return Err(Ending::Unexpected);
+    };
     for count in 1..MOST {
         let (is_settled, disk) = carry_out(rt, alloc, Plan::Call(kind, count), answer)?;
         tell_left(alloc, disk, answer)?;
@@ -51,17 +58,16 @@ pub fn fail_each<R: Wait>(
 
 fn tell_left(alloc: Global, disk: MemDisk, answer: &mut String) -> Result<(), Ending> {
     let kept = events_on(alloc, disk_with(alloc, disk.bytes())?)?;
-    let mut disk = losing(alloc, disk)?;
-    disk.stop();
-    let lost = events_on(alloc, disk)?;
-    let _ = writeln!(answer, "kept {kept}, or {lost}");
+    let lost = events_on(alloc, stopped(alloc, disk)?)?;
+    put_count(answer, "kept ", kept, "");
+    put_count(answer, ", or ", lost, "\n");
     Ok(())
 }
 
 // How many events the journal on a disk has.
-fn events_on(alloc: Global, disk: MemDisk) -> Result<usize, Ending> {
+fn events_on(alloc: Global, disk: MemDisk) -> Result<u64, Ending> {
     match record_count(alloc, disk) {
-        Some(count) => Ok(count.saturating_sub(1)),
+        Some(count) => Ok(count.saturating_sub(1) as u64),
         None => Err(Ending::Unexpected),
     }
 }
@@ -73,7 +79,7 @@ fn carry_out<R: Wait>(
     plan: Plan,
     answer: &mut String,
 ) -> Result<(bool, MemDisk), Ending> {
-    let config = config_of(alloc)?;
+    let config = own_config(alloc, &FOUR)?;
     let switch = Switch::new(alloc)?;
     let disk = MemDisk::with_switch(alloc, Vec::new(alloc), &switch)?;
     carry_out_on(rt, alloc, &config, &switch, disk, plan, answer)
@@ -90,10 +96,25 @@ fn carry_out_on<R: Wait>(
 ) -> Result<(bool, MemDisk), Ending> {
     let (node, seat, flusher) = start(alloc, config, disk)?;
     let mut rounds = Rounds::new(&node, seat, flusher);
-    let mut caller = rounds.caller(config)?;
-    play(rt, alloc, switch, &mut rounds, &mut caller, plan, answer)?;
-    let is_settled = caller.synced() == 1;
+    let is_settled = play_with(rt, alloc, config, switch, &mut rounds, plan, answer)?;
     Ok((is_settled, rounds.into_disk()))
+}
+
+// The same with a caller of the node.
+fn play_with<'a, R: Wait>(
+    rt: &R,
+    alloc: Global,
+    config: &'a Config<HashSign>,
+    switch: &Switch,
+    rounds: &mut Rounds<'_, 'a, HashSign, MemDisk>,
+    plan: Plan,
+    answer: &mut String,
+) -> Result<bool, Ending>
+    requires { rounds.old.node.setting ≡ config.now }
+{
+    let mut caller = rounds.caller(config)?;
+    play(rt, alloc, switch, rounds, &mut caller, plan, answer)?;
+    Ok(caller.synced() == 1)
 }
 
 fn play<R: Wait>(
@@ -145,9 +166,7 @@ fn tell_submit<R: Wait>(
     let event = header_of(alloc, caller.config(), Author(1))?;
     match caller.submit(rt, event) {
         Ok(receipt) => put_number(answer, "ticket", receipt.ticket),
-        Err(refusal) => {
-            let _ = writeln!(answer, "refused {refusal}");
-        }
+        Err(refusal) => put_shown(answer, "refused ", &refusal, "\n"),
     }
     Ok(())
 }
@@ -159,9 +178,7 @@ fn tell_round<R: Wait>(
 ) {
     match rounds.round(rt) {
         Ok(count) => put_number(answer, "settled", count),
-        Err(error) => {
-            let _ = writeln!(answer, "fault {error}");
-        }
+        Err(error) => put_shown(answer, "fault ", &error, "\n"),
     }
 }
 
@@ -175,7 +192,7 @@ fn tell_reads<R: Wait>(
         put(answer, "no output\n");
     }
     if let Err(refusal) = caller.order(rt, 0) {
-        let _ = writeln!(answer, "order refused {refusal}");
+        put_shown(answer, "order refused ", &refusal, "\n");
     }
     if caller.peek_voted(rt, Author(1), first).is_some() {
         put(answer, "voted\n");
@@ -183,11 +200,9 @@ fn tell_reads<R: Wait>(
 }
 
 fn tell_counts<R: Wait>(rt: &R, caller: &mut Caller<'_, '_, HashSign>, answer: &mut String) {
-    let (accepted, synced, round) = (caller.accepted(), caller.synced(), caller.round_now(rt));
-    let _ = writeln!(
-        answer,
-        "accepted {accepted}, synced {synced}, round {round}"
-    );
+    put_count(answer, "accepted ", caller.accepted(), "");
+    put_count(answer, ", synced ", caller.synced(), "");
+    put_count(answer, ", round ", caller.round_now(rt), "\n");
 }
 
 fn tell_proposal<R: Wait>(

@@ -2,7 +2,7 @@
 
 use crate::live::disks::obey_disk;
 use crate::live::journals::{records_of, tell_opening};
-use crate::live::words::{Told, put, put_hex};
+use crate::live::words::{Told, put, put_hex, put_shown};
 use filedisk::FileDisk;
 use std::alloc::Global;
 use std::fs::{self, File};
@@ -34,19 +34,6 @@ impl Folder {
             "close" => self.disk = None,
             "journal" => return self.journal(rest, answer),
             "file" => tell_file(rt, rest, answer),
-            _ => return self.obey_more(rt, name, rest, answer),
-        }
-        Ok(())
-    }
-
-    fn obey_more<R: Files<File = File>>(
-        &mut self,
-        rt: &R,
-        name: &str,
-        rest: &str,
-        answer: &mut String,
-    ) -> Told {
-        match name {
             "again" => drop(opened(rt, self.alloc, rest, answer)),
             "folder" => {
                 let _ = fs::create_dir(rt, rest);
@@ -95,7 +82,7 @@ fn opened<R: Files<File = File>>(
             Some(disk)
         }
         Err(error) => {
-            let _ = writeln!(answer, "{error}");
+            put_shown(answer, "", &error, "\n");
             None
         }
     }

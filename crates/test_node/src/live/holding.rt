@@ -2,9 +2,11 @@
 
 ghost use Rattle.std.specs.Prelude.{◌≡◌};
 
+use crate::committees::{FOUR, own_config};
 use crate::live::ending::Ending;
-use crate::live::makers::{config_of, disk_with, header_of, submit_header};
+use crate::live::makers::{header_of, submit_header};
 use crate::live::words::{put, put_number};
+use crate::memory::disk_with;
 use diskmodel::{Disk, Gate, GatedDisk};
 use flusher::FlushError;
 use sigface::HashSign;
@@ -74,7 +76,7 @@ pub fn hold<R>(rt: &R, alloc: Global, answer: &mut String) -> Result<(), Ending>
 where
     R: Threads + Wait + Sync,
 {
-    let config = config_of(alloc)?;
+    let config = own_config(alloc, &FOUR)?;
     let doors = Doors::new();
     let disk = GatedDisk::new(disk_with(alloc, &[])?, Held { doors: &doors });
     hold_over(rt, alloc, &config, &doors, disk, answer)
@@ -95,8 +97,8 @@ where
     let (node, seat, flusher) = start(alloc, config, disk)?;
     tell(&doors.armed);
     let mut rounds = Rounds::new(&node, seat, flusher);
-    let caller = rounds.caller(config)?;
-    hold_round(rt, alloc, doors, rounds, caller, answer)
+    let mut caller = rounds.caller(config)?;
+    hold_round(rt, alloc, doors, rounds, &mut caller, answer)
 }
 
 fn hold_round<R, D>(
@@ -104,7 +106,7 @@ fn hold_round<R, D>(
     alloc: Global,
     doors: &Doors,
     rounds: Rounds<'_, '_, HashSign, D>,
-    mut caller: Caller<'_, '_, HashSign>,
+    caller: &mut Caller<'_, '_, HashSign>,
     answer: &mut String,
 ) -> Result<(), Ending>
 where
@@ -114,13 +116,13 @@ where
     put_number(
         answer,
         "ticket",
-        submit_header(rt, alloc, &mut caller, Author(1))?,
+        submit_header(rt, alloc, caller, Author(1))?,
     );
     let settled = flush_beside(rt, alloc, doors, rounds, caller.split()?, answer)?;
     put_number(answer, "settled", settled);
     put_number(answer, "synced", caller.synced());
-    tell_output(rt, &mut caller, answer);
-    tell_output(rt, &mut caller, answer);
+    tell_output(rt, caller, answer);
+    tell_output(rt, caller, answer);
     Ok(())
 }
 
@@ -164,10 +166,11 @@ fn submit_more<R: Wait>(
     let is_held = wait(&doors.reached);
     let ended = tell_more(rt, alloc, &mut caller, &mut told);
     tell(&doors.open);
-    match is_held {
-        true => ended.map(|()| told),
-        false => Err(Ending::Unexpected),
+    if !is_held {
+        return Err(Ending::Unexpected);
     }
+    ended?;
+    Ok(told)
 }
 
 fn tell_more<R: Wait>(

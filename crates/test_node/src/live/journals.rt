@@ -2,7 +2,7 @@
 
 ghost use Rattle.journal.specs.Journal.{IsAlive};
 
-use crate::live::words::{put, put_hex};
+use crate::live::words::{put, put_hex, put_number, put_shown};
 use cases::bytes_of;
 use diskmodel::{Disk, MemDisk};
 use filedisk::FileDisk;
@@ -35,8 +35,7 @@ pub fn tell_opening(
             journal.into_disk()
         }
         Err(failed) => {
-            let error = failed.error;
-            let _ = writeln!(answer, "{error}");
+            put_shown(answer, "", &failed.error, "\n");
             failed.disk
         }
     }
@@ -54,13 +53,8 @@ fn append(
         return;
     };
     match journal.append(group) {
-        Ok(synced) => {
-            let count = synced.records();
-            let _ = writeln!(answer, "synced {count}");
-        }
-        Err(error) => {
-            let _ = writeln!(answer, "{error}");
-        }
+        Ok(synced) => put_number(answer, "synced", synced.records()),
+        Err(error) => put_shown(answer, "", &error, "\n"),
     }
 }
 

@@ -1,11 +1,10 @@
-//! The committee of the simulator, the node that threads share, which is member 0 of it, and what is submitted to that.
+//! What is submitted to the node that threads share, which is member 0 of four.
 
 ghost use Rattle.std.specs.Prelude.{◌≡◌, None, IfOk};
 ghost use Rattle.header.specs.Checks.{fault_of, accepts_all};
 
 use crate::live::ending::Ending;
-use committee::{Committee, CommitteeError};
-use diskmodel::MemDisk;
+use crate::store::{SHORTEST, batch};
 use header::{Checked, check, make, recheck};
 use script::signer;
 use sigface::{HashSign, HashVerify};
@@ -13,40 +12,10 @@ use startup::Caller;
 use std::alloc::{AllocError, Global};
 use std::sync::Wait;
 use validator::Config;
-use wire::{Author, Message, OpenBatch, ParentReference, Round, genesis_digest};
-
-// The committee, with the limits that a file has by default.
-const COMMITTEE: &str = "members = [
-    \"0101010101010101010101010101010101010101010101010101010101010101\",
-    \"0202020202020202020202020202020202020202020202020202020202020202\",
-    \"0303030303030303030303030303030303030303030303030303030303030303\",
-    \"0404040404040404040404040404040404040404040404040404040404040404\",
-]
-";
-
-// The member that threads share.
-const OWN: Author = Author(0);
+use wire::{Author, Message, ParentReference, Round, genesis_digest};
 
 // Of how many members a header names the certificates of the round before.
 const QUORUM: u16 = 3;
-
-/// The committee that the simulator has too.
-pub fn committee_of(alloc: Global) -> Result<Committee, CommitteeError> {
-    Committee::read(alloc, COMMITTEE)
-}
-
-/// The node's configuration.
-pub fn config_of(alloc: Global) -> Result<Config<HashSign>, Ending> {
-    match Config::new(committee_of(alloc)?, OWN, signer(OWN)) {
-        Some(config) => Ok(config),
-        None => Err(Ending::Unexpected),
-    }
-}
-
-/// A disk in memory that has these bytes.
-pub fn disk_with(alloc: Global, bytes: &[u8]) -> Result<MemDisk, AllocError> {
-    MemDisk::new(alloc, bytes.to_vec(alloc)?)
-}
 
 /// An author's header for round 1.
 pub fn header_of(
@@ -95,8 +64,8 @@ pub fn batch_of(
 ) -> Result<Checked, Ending>
     ensures { IfOk result (λ event. fault_of config.now.charter accepts_all event ≡ None) }
 {
-    let mut open = OpenBatch::new(alloc, author, 0)?;
-    open.push(&number.to_be_bytes())?;
-    let message = Message::Batch(open.close()?);
-    Ok(recheck(config.committee(), author, message)?)
+    match batch(alloc, author, number, SHORTEST)? {
+        Some(batch) => Ok(recheck(config.committee(), author, Message::Batch(batch))?),
+        None => Err(Ending::Unexpected),
+    }
 }

@@ -3,9 +3,9 @@
 use crate::live::answers::tell_seen;
 use crate::live::file_runs::run_files;
 use crate::live::journals::record_count;
-use crate::live::makers::disk_with;
 use crate::live::streams::{Lines, Output, Seen, Step, Steps};
-use crate::live::words::{Told, bad, call_of, joined, put_len};
+use crate::live::words::{Told, bad, call_of, joined, put_count, put_len};
+use crate::memory::{disk_with, failing_disk};
 use diskmodel::{CallKind, MemDisk};
 use runner::run_over;
 use std::alloc::{AllocError, Global};
@@ -123,7 +123,7 @@ impl Runs {
         let seen = Mutex::new(Seen::new(self.alloc, self.is_broken));
         let (status, disk) = run_steps(rt, self.alloc, self.member(), disk, steps, &seen);
         tell_seen(self.alloc, &seen.into_inner(), answer);
-        let _ = write!(answer, "status {status}, ");
+        put_count(answer, "status ", status as u64, ", ");
         self.keep(disk)?;
         tell_events(self.alloc, &self.disk, answer)
     }
@@ -139,12 +139,12 @@ impl Runs {
 
     // The disk, of which a call may be told to fail.
     fn disk_to_run(&mut self) -> Result<MemDisk, AllocError> {
-        let bytes = mem::replace(&mut self.disk, Vec::new(self.alloc));
-        let mut disk = MemDisk::new(self.alloc, bytes)?;
-        if let Some((call, count)) = self.failing.take() {
-            disk.fail(call, count)?;
-        }
-        Ok(disk)
+        let disk = match self.failing.take() {
+            Some((kind, count)) => failing_disk(self.alloc, &self.disk, kind, count),
+            None => disk_with(self.alloc, &self.disk),
+        };
+        self.disk.clear();
+        disk
     }
 
     fn keep(&mut self, disk: Option<MemDisk>) -> Told {
@@ -176,8 +176,8 @@ fn tell_events(alloc: Global, disk: &[u8], answer: &mut String) -> Told {
     match record_count(alloc, disk_with(alloc, disk)?) {
         None | Some(0) => answer.push_str("no events\n"),
         Some(count) => {
-            let events = count - 1;
-            writeln!(answer, "{events} events")
+            put_count(answer, "", (count - 1) as u64, " events\n");
+            Ok(())
         }
     }
 }

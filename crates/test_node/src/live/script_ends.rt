@@ -1,6 +1,7 @@
 //! What a script is read from, and where its lines go.
 
 use crate::live::streams::filled;
+use crate::live::words::put_count;
 use std::alloc::Global;
 use std::cell::Cell;
 use std::io::{self, Read, Write};
@@ -19,8 +20,7 @@ pub struct Input<'a> {
 
 impl Read for Input<'_> {
     fn read(&mut self, bytes: &mut [u8]) -> io::Result<usize> {
-        let lines = self.lines.get();
-        let _ = writeln!(self.notes, "read after {lines} lines");
+        put_count(&mut self.notes, "read after ", self.lines.get(), " lines\n");
         if self.rest.is_empty() && self.is_broken {
             return Err(io::ErrorKind::Other.into());
         }

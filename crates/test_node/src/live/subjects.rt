@@ -5,7 +5,7 @@ use crate::live::runs::Runs;
 use crate::live::scripts::Script;
 use crate::live::threads::obey_threads;
 use crate::live::trial::obey_script;
-use crate::live::words::Told;
+use crate::live::words::{Told, parted};
 use std::alloc::Global;
 use std::fs::File;
 use std::rt::Files;
@@ -48,7 +48,7 @@ impl Case {
     where
         R: Files<File = File> + AllocGlobal + Threads + Wait + Sync,
     {
-        let (name, words) = command.split_once(' ').unwrap_or((command, ""));
+        let (name, words) = parted(command);
         self.choose(name);
         match &mut self.subject {
             Subject::Threads => obey_threads(rt, self.alloc, name, words, answer),

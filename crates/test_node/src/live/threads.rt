@@ -4,7 +4,7 @@ use crate::live::crowd::crowd;
 use crate::live::ending::Ending;
 use crate::live::failing::{fail_each, go_down};
 use crate::live::holding::hold;
-use crate::live::words::{Told, call_of};
+use crate::live::words::Told;
 use std::alloc::{AllocError, Global};
 use std::sync::Wait;
 use std::thread::Threads;
@@ -18,20 +18,12 @@ where
         "hold" => hold(rt, alloc, answer),
         "crowd" => crowd(rt, alloc, answer),
         "down" => go_down(rt, alloc, answer),
-        "fail" => fail(rt, alloc, words, answer),
+        "fail" => fail_each(rt, alloc, words, answer),
         _ => Err(Ending::Unexpected),
     };
     match ended {
         Ok(()) => Ok(()),
         Err(Ending::Memory) => Err(AllocError),
         Err(Ending::Unexpected) => answer.push_str("this should not come\n"),
-    }
-}
-
-// The word is the name of a kind of call in the plural.
-fn fail<R: Wait>(rt: &R, alloc: Global, word: &str, answer: &mut String) -> Result<(), Ending> {
-    match call_of(word.trim_end_matches('s')) {
-        Some(kind) => fail_each(rt, alloc, kind, answer),
-        None => Err(Ending::Unexpected),
     }
 }

@@ -1,16 +1,16 @@
 //! The commands of a case of the simulator.
 
-use crate::live::makers::committee_of;
+use crate::committees::{FOUR, OWN, own_config};
 use crate::live::script_ends::{Input, Taker};
 use crate::live::scripts::Script;
-use crate::live::words::{Told, bad, put, put_len, put_number, put_text};
+use crate::live::words::{Told, bad, put, put_count, put_len, put_number, put_shown, put_text};
 use header::check;
 use sigface::HashVerify;
 use simulator::{disk_after, run, vote_after};
 use std::alloc::Global;
 use std::cell::Cell;
 use std::sync::Wait;
-use wire::{Author, Message, Vote};
+use wire::{Message, Vote};
 
 /// A line behind `|` is one of the script. The other commands change how it is run, or run it.
 pub fn obey_script<R: Wait>(
@@ -26,20 +26,6 @@ pub fn obey_script<R: Wait>(
         "play" => play(rt, alloc, script, answer),
         "watch" => watch(rt, alloc, script, answer),
         "count" => count(rt, alloc, script, answer),
-        _ => return obey_more(rt, alloc, script, name, rest, answer),
-    }
-    Ok(())
-}
-
-fn obey_more<R: Wait>(
-    rt: &R,
-    alloc: Global,
-    script: &mut Script,
-    name: &str,
-    rest: &str,
-    answer: &mut String,
-) -> Told {
-    match name {
         "journal" => journal(rt, alloc, script, answer),
         "vote" => vote(rt, alloc, script, answer),
         _ => {
@@ -104,8 +90,9 @@ fn watch<R: Wait>(rt: &R, alloc: Global, script: &Script, answer: &mut String) {
 // How many lines are written, and whether by at most as many calls.
 fn count<R: Wait>(rt: &R, alloc: Global, script: &Script, answer: &mut String) {
     let outcome = outcome_of(rt, alloc, script);
-    let (lines, few) = (outcome.lines, outcome.calls <= outcome.lines);
-    let _ = writeln!(answer, "{lines} lines, at most as many calls: {few}");
+    let few = outcome.calls <= outcome.lines;
+    put_count(answer, "", outcome.lines, " lines");
+    put_shown(answer, ", at most as many calls: ", &few, "\n");
 }
 
 // How many bytes the journal has after the script.
@@ -126,8 +113,8 @@ fn vote<R: Wait>(rt: &R, alloc: Global, script: &Script, answer: &mut String) {
 }
 
 fn passes(alloc: Global, vote: Vote) -> bool {
-    match committee_of(alloc) {
-        Ok(committee) => check(&committee, &HashVerify, Author(0), Message::Vote(vote)).is_ok(),
+    match own_config(alloc, &FOUR) {
+        Ok(config) => check(config.committee(), &HashVerify, OWN, Message::Vote(vote)).is_ok(),
         Err(_) => false,
     }
 }

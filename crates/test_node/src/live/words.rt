@@ -1,6 +1,6 @@
 //! The words of a command, and the parts of its answer.
 
-pub use crate::words::{Told, bad, call_of, put};
+pub use crate::words::{Told, bad, call_of, parted, put, put_count, put_shown, tell_fault};
 use cases::{bytes_of, write_hex};
 use std::alloc::{AllocError, Global};
 use std::str;
@@ -50,6 +50,5 @@ pub fn put_number(answer: &mut String, word: &str, number: u64) {
 
 /// Adds a line that says how many bytes these are.
 pub fn put_len(answer: &mut String, bytes: &[u8]) {
-    let len = bytes.len();
-    let _ = writeln!(answer, "{len} bytes");
+    put_count(answer, "", bytes.len() as u64, " bytes\n");
 }

@@ -1,10 +1,11 @@
 //! Commands to a book of member 0.
 
+use crate::memory::taken;
 use crate::store::disks::tell_if;
 use crate::store::headers::{Named, batch, body, event, header, tell_output, vote};
 use crate::store::rounds::{Putting, put_groups};
 use crate::store::stores::Store;
-use crate::store::words::{Told, bad, put, put_number, told_bad};
+use crate::store::words::{Told, Word, bad, put, put_count, put_number, put_shown, told_bad};
 use book::{OwnBook, Receipt};
 use committee::Committee;
 use sigface::HashSign;
@@ -52,15 +53,9 @@ impl Store<'_> {
     /// Commands with no word: groups of the book on their way to the disk, and what it says of itself.
     pub fn obey_book(&mut self, name: &str, answer: &mut String) -> Told {
         match name {
-            "put" => self.put(Putting::Written, answer),
-            "flush" => self.put(Putting::Settled, answer),
-            "write_two" => self.put(Putting::Two, answer),
-            _ => self.ask_book(name, answer),
-        }
-    }
-
-    fn ask_book(&mut self, name: &str, answer: &mut String) -> Told {
-        match name {
+            "put" => return self.put(Putting::Written, answer),
+            "flush" => return self.put(Putting::Settled, answer),
+            "write_two" => return self.put(Putting::Two, answer),
             "release" => self.release(answer),
             "down" => tell_if(answer, self.book.is_down()),
             "fault" => self.book.fail(),
@@ -79,16 +74,17 @@ impl Store<'_> {
         Ok(())
     }
 
-    /// A header over certificates of some members, to the book, or to a validator without one.
-    pub fn take_header(
-        &mut self,
-        name: &str,
-        author: u64,
-        round: u64,
-        members: &[u8],
-        answer: &mut String,
-    ) -> Told {
-        let (Some(named), Some((author, round))) = (named_of(name), slot(author, round)) else {
+    /// A header of an author and a round over certificates of some members, to the book, or to a validator without one.
+    pub fn take_header(&mut self, name: &str, words: &[Word], answer: &mut String) -> Told {
+        let [
+            Word::Number(author),
+            Word::Number(round),
+            Word::Bytes(members),
+        ] = words
+        else {
+            return told_bad(answer);
+        };
+        let (Some(named), Some((author, round))) = (named_of(name), slot(*author, *round)) else {
             return told_bad(answer);
         };
         let message = header(body(self.alloc, named, author, round, members)?);
@@ -122,7 +118,7 @@ impl Store<'_> {
     }
 
     fn put(&mut self, putting: Putting, answer: &mut String) -> Told {
-        let disk = self.taken()?;
+        let disk = taken(self.alloc, &mut self.disk)?;
         self.disk = put_groups(self.alloc, &mut self.book, disk, putting, answer);
         Ok(())
     }
@@ -162,7 +158,8 @@ fn step(
     let Some(event) = event(validator.committee(), sender, message) else {
         return told_bad(answer);
     };
-    let _ = write!(answer, "from {} to {}: ", event.sender().0, config.own().0);
+    put_count(answer, "from ", u64::from(event.sender().0), "");
+    put_count(answer, " to ", u64::from(config.own().0), ": ");
     let is_new = validator.is_new(&event);
     let step = validator.step(event);
     tell_step(config.committee(), is_new, step, answer);
@@ -178,17 +175,17 @@ fn tell_step(
 ) {
     match step {
         Ok(Step::New(outputs)) => {
-            let _ = writeln!(answer, "New {is_new}");
+            put_shown(answer, "New ", &is_new, "\n");
             for output in &outputs {
                 tell_output(committee, answer, output);
             }
         }
         Ok(Step::Known(_)) => {
-            let _ = writeln!(answer, "Known {is_new}");
-            put(answer, "known\n");
+            put_shown(answer, "Known ", &is_new, "\nknown\n");
         }
         Err(refusal) => {
-            let _ = writeln!(answer, "Refused({refusal:?}) {is_new}");
+            let _ = write!(answer, "Refused({refusal:?}) ");
+            put_shown(answer, "", &is_new, "\n");
             tell_refusal(answer, refusal);
         }
     }
@@ -201,7 +198,7 @@ fn tell_receipt(answer: &mut String, receipt: Receipt) {
 }
 
 fn tell_refusal(answer: &mut String, refusal: Refusal) {
-    let _ = writeln!(answer, "{refusal}");
+    put_shown(answer, "", &refusal, "\n");
 }
 
 fn tell_refusals(answer: &mut String) {

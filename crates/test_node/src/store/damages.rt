@@ -1,7 +1,7 @@
 //! Openings of a node on a file that is cut or changed at each of some places.
 
 use crate::store::openings::told;
-use crate::store::words::Told;
+use crate::store::words::{Told, put, put_count, put_other};
 use sigface::HashSign;
 use std::alloc::{AllocError, Global};
 use std::ops::RangeInclusive;
@@ -19,10 +19,7 @@ pub fn lengths(
     for length in lengths {
         if let Some(bytes) = file.get(..length as usize) {
             let text = told(alloc, config, bytes)?;
-            if text.as_str() != before.as_str() {
-                let _ = writeln!(answer, "{length}: {text}");
-            }
-            before = text;
+            put_other(answer, length, text, &mut before);
         }
     }
     Ok(())
@@ -60,7 +57,9 @@ pub fn changes(
 
 fn tell_counts(counts: &[Count], answer: &mut String) {
     for Count { text, times } in counts {
-        let _ = writeln!(answer, "{times} {text}");
+        put_count(answer, "", *times, " ");
+        put(answer, text.as_str());
+        put(answer, "\n");
     }
 }
 
@@ -72,17 +71,11 @@ fn told_changed(
     place: u64,
     more: u8,
 ) -> Result<String, AllocError> {
-    let bytes = changed(alloc, file, place, more)?;
-    told(alloc, config, &bytes)
-}
-
-/// A file with so much more in a place.
-fn changed(alloc: Global, file: &[u8], place: u64, more: u8) -> Result<Vec<u8>, AllocError> {
     let mut bytes = file.to_vec(alloc)?;
     if let Some(byte) = bytes.get_mut(place as usize) {
         *byte = byte.wrapping_add(more);
     }
-    Ok(bytes)
+    told(alloc, config, &bytes)
 }
 
 fn add_one(counts: &mut Vec<Count>, text: String) -> Told {

@@ -1,36 +1,52 @@
 //! Commands to the disk in memory.
 
+use crate::memory::disk_with;
+use crate::store::journals::{tell_errors, tell_stands};
 use crate::store::stores::Store;
-use crate::store::words::{Told, bad, put, put_bytes, put_number, told_bad};
-use diskmodel::{Call, Disk, DiskFault, MemDisk, StopDisk};
+use crate::store::words::{Told, Word, bad, put, put_bytes, put_number, tell_fault, told_bad};
+use diskmodel::{Call, Disk, MemDisk, StopDisk};
 
 impl Store<'_> {
-    /// Commands with no word.
-    pub fn obey_disk(&mut self, name: &str, answer: &mut String) -> Told {
+    /// Commands with no word: to the disk, to the journal on it, or to the book.
+    pub fn obey_alone(&mut self, name: &str, answer: &mut String) -> Told {
         match name {
-            "sync" => tell(answer, self.disk.sync()),
+            "sync" => tell_fault(answer, self.disk.sync()),
             "stop" => self.disk.stop(),
             "tell" => tell_disk(&mut self.disk, answer),
             "calls" => tell_calls(self.disk.calls(), answer),
-            _ => return self.obey_journal(name, answer),
+            "open" => return self.attempt(None, answer),
+            "stands" => tell_stands(self.alloc, self.disk.bytes(), answer),
+            "errors" => tell_errors(answer),
+            _ => return self.obey_book(name, answer),
         }
         Ok(())
     }
 
-    /// Cuts the disk to a length that it has.
-    pub fn cut(&mut self, place: u64, answer: &mut String) -> Told {
-        if place <= self.disk.bytes().len() as u64 {
-            tell(answer, self.disk.cut(place));
+    /// `cut PLACE` cuts the disk to a length that it has.
+    pub fn cut(&mut self, words: &[Word], answer: &mut String) -> Told {
+        let [Word::Number(place)] = words else {
+            return told_bad(answer);
+        };
+        if *place <= self.disk.bytes().len() as u64 {
+            tell_fault(answer, self.disk.cut(*place));
         } else {
             bad(answer);
         }
         Ok(())
     }
 
+    /// `fail CALL COUNT` tells the count-th of these calls to fail.
+    pub fn fail(&mut self, words: &[Word], answer: &mut String) -> Told {
+        let [Word::Call(kind), Word::Number(count)] = words else {
+            return told_bad(answer);
+        };
+        self.disk.fail(*kind, *count)
+    }
+
     /// Writes bytes in a place that the disk has.
     pub fn write(&mut self, place: u64, bytes: &[u8], answer: &mut String) -> Told {
         if place <= self.disk.bytes().len() as u64 {
-            tell(answer, self.disk.write_at(place, bytes));
+            tell_fault(answer, self.disk.write_at(place, bytes));
         } else {
             bad(answer);
         }
@@ -45,7 +61,7 @@ impl Store<'_> {
 
     /// Takes another disk, which has these bytes.
     pub fn renew(&mut self, bytes: &[u8]) -> Told {
-        self.disk = MemDisk::new(self.alloc, bytes.to_vec(self.alloc)?)?;
+        self.disk = disk_with(self.alloc, bytes)?;
         Ok(())
     }
 
@@ -62,17 +78,11 @@ impl Store<'_> {
             return told_bad(answer);
         }
         let mut buffer = vec![in self.alloc; 0; count as usize]?;
-        tell(answer, self.disk.read_at(place, &mut buffer));
+        tell_fault(answer, self.disk.read_at(place, &mut buffer));
         put(answer, "read");
         put_bytes(answer, &buffer);
         put(answer, "\n");
         Ok(())
-    }
-}
-
-fn tell(answer: &mut String, outcome: Result<(), DiskFault>) {
-    if let Err(fault) = outcome {
-        let _ = writeln!(answer, "{fault}");
     }
 }
 

@@ -1,6 +1,6 @@
 //! The events of the lists, each with a number.
 
-use crate::store::committees::OWN;
+use crate::committees::OWN;
 use crate::store::headers::{Named, body, header, vote};
 use std::alloc::{AllocError, Global};
 use wire::{Author, HeaderBody, Message, Round};
@@ -73,5 +73,8 @@ fn round_of(kind: Kind) -> Result<Round, AllocError> {
         Kind::Low => 0,
         _ => 1,
     };
-    Round::new(number).map_err(|_| AllocError)
+    match Round::new(number) {
+        Ok(round) => Ok(round),
+        Err(_) => Err(AllocError),
+    }
 }

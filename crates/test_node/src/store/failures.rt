@@ -1,8 +1,9 @@
 //! An opening in which a call of the disk fails, and the openings on what a stop may leave behind it.
 
+use crate::memory::{failing_disk, stop_with};
 use crate::store::openings::opened;
 use crate::store::words::{Told, put, put_once};
-use diskmodel::{CallKind, Disk, MemDisk, StopDisk};
+use diskmodel::{CallKind, MemDisk};
 use sigface::HashSign;
 use std::alloc::{AllocError, Global};
 use validator::Config;
@@ -56,8 +57,7 @@ impl Trial<'_> {
 
     /// The disk after the opening.
     fn play(&self, text: &mut String) -> Result<MemDisk, AllocError> {
-        let mut disk = MemDisk::new(self.alloc, self.file.to_vec(self.alloc)?)?;
-        disk.fail(self.kind, self.count)?;
+        let disk = failing_disk(self.alloc, self.file, self.kind, self.count)?;
         Ok(opened(self.alloc, self.config, disk, text))
     }
 
@@ -65,8 +65,7 @@ impl Trial<'_> {
     fn tell_after(&self, outcome: &[u8], answer: &mut String) -> Told {
         let mut text = String::new(self.alloc);
         let mut disk = self.play(&mut text)?;
-        disk.choose(outcome.to_vec(self.alloc)?);
-        disk.stop();
+        stop_with(self.alloc, &mut disk, outcome)?;
         text.clear();
         put(
             &mut text,

@@ -1,5 +1,6 @@
 //! A file that is cut or changed at each of some places. A line is answered wherever the answer becomes another one.
 
+use crate::memory::disk_with;
 use crate::store::disks::tell_left;
 use crate::store::journals::{attempt, put_records};
 use crate::store::words::{Told, put, put_number};
@@ -56,8 +57,7 @@ fn opened(alloc: Global, file: &[u8], in_full: bool) -> Result<String, AllocErro
 
 /// How a file is opened, its records or how many they are, and what is left of it.
 fn tell_opened(alloc: Global, file: &[u8], in_full: bool, text: &mut String) -> Told {
-    let disk = MemDisk::new(alloc, file.to_vec(alloc)?)?;
-    let (disk, found) = attempt(alloc, disk, None, text)?;
+    let (disk, found) = attempt(alloc, disk_with(alloc, file)?, None, text)?;
     put_records(text, &found, in_full);
     tell_left(text, &disk, file);
     open_again(alloc, disk, &found, text)

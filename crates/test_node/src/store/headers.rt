@@ -3,7 +3,8 @@
 ghost use Rattle.std.specs.Prelude.{◌≡◌, ◌≤◌, None, IfOk, IfSome, length};
 ghost use Rattle.header.specs.Checks.{fault_of, accepts_all};
 
-use crate::store::committees::OWN;
+use crate::committees::OWN;
+use crate::store::words::{put, put_count};
 use committee::Committee;
 use header::{CheckError, Checked, check, recheck};
 use sigface::HashVerify;
@@ -21,6 +22,9 @@ pub const FOREIGN: Digest = Digest([7; 32]);
 /// The bytes of a batch's record around its one transaction: the kind, the sender, the tag, and the body's eight bytes
 /// and the transaction's length.
 const AROUND: usize = 16;
+
+/// The length of the shortest record of a batch, whose transaction is a number alone.
+pub const SHORTEST: usize = AROUND + 8;
 
 /// What a header of the cases names.
 #[derive(Clone, Copy)]
@@ -99,7 +103,7 @@ pub fn batch(
     number: u64,
     len: usize,
 ) -> Result<Option<Batch>, AllocError> {
-    if len < AROUND + 8 || len > MAX_TRANSACTION_BYTES {
+    if len < SHORTEST || len > MAX_TRANSACTION_BYTES {
         return Ok(None);
     }
     let transaction = transaction(alloc, number, len - AROUND)?;
@@ -143,14 +147,12 @@ pub fn tell_output(committee: &Committee, answer: &mut String, output: &Output) 
     match output {
         Output::Vote(vote) => tell_vote(committee, answer, vote),
         Output::Ack { to, .. } => {
-            let _ = writeln!(answer, "acknowledgement for {}", to.0);
+            put_count(answer, "acknowledgement for ", u64::from(to.0), "\n");
         }
         Output::Header(header) => {
-            let _ = writeln!(answer, "header of round {}", header.body.round.number());
+            put_count(answer, "header of round ", header.body.round.number(), "\n");
         }
-        _ => {
-            let _ = writeln!(answer, "another output");
-        }
+        _ => put(answer, "another output\n"),
     }
 }
 

@@ -2,29 +2,19 @@
 
 ghost use Rattle.journal.specs.Journal.{IsAlive};
 
+use crate::memory::taken;
 use crate::store::spelling::group_in;
 use crate::store::stores::Store;
-use crate::store::words::{Told, Word, put, put_bytes, put_number};
+use crate::store::words::{Told, Word, put, put_bytes, put_number, put_shown};
 use diskmodel::{Disk, MemDisk};
 use journal::JournalError::{ConfigMismatch, Damaged, Device, Full, Memory};
 use journal::{Group, Journal, JournalError, Record, stands};
 use std::alloc::{AllocError, Global};
-use std::mem;
 
 /// Each error of a journal.
 const ERRORS: [JournalError; 5] = [Memory, Device, Damaged(15), ConfigMismatch, Full];
 
 impl Store<'_> {
-    /// Commands with no word.
-    pub fn obey_journal(&mut self, name: &str, answer: &mut String) -> Told {
-        match name {
-            "open" => self.attempt(None, answer),
-            "stands" => tell_stands(self.alloc, self.disk.bytes(), answer),
-            "errors" => tell_errors(answer),
-            _ => self.obey_book(name, answer),
-        }
-    }
-
     /// Opens the journal, and appends the records of these words.
     pub fn append(&mut self, words: &[Word], answer: &mut String) -> Told {
         let records = listed(self.alloc, words)?;
@@ -37,22 +27,17 @@ impl Store<'_> {
         self.attempt(Some(records), answer)
     }
 
-    /// Takes the disk, and leaves an empty one.
-    pub fn taken(&mut self) -> Result<MemDisk, AllocError> {
-        let empty = MemDisk::new(self.alloc, Vec::new(self.alloc))?;
-        Ok(mem::replace(&mut self.disk, empty))
-    }
-
     /// Opens the journal, and appends the group that these bytes are, of so many records.
     pub fn append_written(&mut self, count: u64, bytes: &[u8], answer: &mut String) -> Told {
-        let disk = self.taken()?;
+        let disk = taken(self.alloc, &mut self.disk)?;
         self.disk = append_written(self.alloc, disk, count, bytes, answer)?;
         put(answer, "\n");
         Ok(())
     }
 
-    fn attempt(&mut self, records: Option<Vec<Vec<u8>>>, answer: &mut String) -> Told {
-        let disk = self.taken()?;
+    /// Opens the journal, and appends these records, if there are any.
+    pub fn attempt(&mut self, records: Option<Vec<Vec<u8>>>, answer: &mut String) -> Told {
+        let disk = taken(self.alloc, &mut self.disk)?;
         let (disk, found) = attempt(self.alloc, disk, records, answer)?;
         self.disk = disk;
         put_records(answer, &found, true);
@@ -173,24 +158,25 @@ pub fn put_records(text: &mut String, records: &[Record], in_full: bool) {
     }
 }
 
-fn tell_errors(answer: &mut String) -> Told {
+/// Tells each error of a journal.
+pub fn tell_errors(answer: &mut String) {
     for error in &ERRORS {
         put_error(answer, *error);
         put(answer, "\n");
     }
-    Ok(())
 }
 
 /// Puts an error, and where damage is.
 pub fn put_error(text: &mut String, error: JournalError) {
-    let _ = write!(text, "{error}");
+    put_shown(text, "", &error, "");
     if let Damaged(gate) = error {
         put(text, " at");
         put_number(text, gate);
     }
 }
 
-fn tell_stands(alloc: Global, bytes: &[u8], answer: &mut String) -> Told {
+/// Tells the records of these bytes.
+pub fn tell_stands(alloc: Global, bytes: &[u8], answer: &mut String) {
     match stands(alloc, bytes) {
         Ok(records) => {
             put(answer, "stands");
@@ -199,5 +185,4 @@ fn tell_stands(alloc: Global, bytes: &[u8], answer: &mut String) -> Told {
         Err(error) => put_error(answer, error),
     }
     put(answer, "\n");
-    Ok(())
 }

@@ -4,20 +4,21 @@ ghost use Rattle.std.specs.Prelude.{◌≡◌, ◌<◌, IfOk, IsNone};
 ghost use Rattle.journal.specs.Journal.{IsAlive};
 ghost use Rattle.test_node.specs.Way.{KeepsOnTheWay};
 
-use crate::store::committees::OWN;
+use crate::committees::OWN;
+use crate::memory::{disk_with, stop_with, taken};
+use crate::store::books::own_book;
 use crate::store::draws::Draws;
 use crate::store::events::{KINDS, SENDERS, body_of, kind_of, sender_of};
 use crate::store::listed::Plain;
 use crate::store::running::{accept, are_of, open_book};
 use crate::store::stops::fails;
 use crate::store::tally::{Leaves, Moment, Tally, count};
-use crate::store::words::Told;
+use crate::store::words::{Told, put_count};
 use book::OwnBook;
-use diskmodel::{CallKind, Disk, MemDisk, StopDisk};
+use diskmodel::{CallKind, Disk, MemDisk};
 use journal::Journal;
 use sigface::{HashSign, Sign};
 use std::alloc::{AllocError, Global};
-use std::mem;
 use validator::Config;
 use wire::{Output, header_digest};
 
@@ -42,14 +43,12 @@ impl<'a> Lists<'a> {
         config: &'a Config<HashSign>,
         start: u64,
     ) -> Result<Lists<'a>, AllocError> {
-        let disk = MemDisk::new(alloc, Vec::new(alloc))?;
-        let (book, journal) = open_book(alloc, config, disk).map_err(|_| AllocError)?;
         Ok(Lists {
             alloc,
             config,
             draws: Draws::from(start),
-            disk: journal.into_disk(),
-            book,
+            disk: disk_with(alloc, &[])?,
+            book: own_book(alloc, config)?,
             plain: Plain::new(alloc),
             tally: Tally::new(),
             wrong: 0,
@@ -58,16 +57,17 @@ impl<'a> Lists<'a> {
 
     /// Makes a list of so many steps, from an empty disk on.
     pub fn play(&mut self, steps: u64) -> Told {
-        self.disk = MemDisk::new(self.alloc, Vec::new(self.alloc))?;
+        self.disk = disk_with(self.alloc, &[])?;
         self.plain = Plain::new(self.alloc);
         self.stop(Moment::Idle, 0)?;
         for _ in 0..steps {
-            match self.draws.below(16) {
-                0..=7 => self.accept()?,
-                8..=11 => self.release()?,
-                12..=14 => self.flush()?,
-                _ => self.stop(Moment::Idle, 0)?,
-            }
+            let told = match self.draws.below(16) {
+                0..=7 => self.accept(),
+                8..=11 => self.release(),
+                12..=14 => self.flush(),
+                _ => self.stop(Moment::Idle, 0),
+            };
+            told?;
         }
         Ok(())
     }
@@ -75,19 +75,8 @@ impl<'a> Lists<'a> {
     /// Tells the counts, and how many answers were wrong.
     pub fn tell(&self, answer: &mut String) -> Told {
         self.tally.tell(answer);
-        writeln!(answer, "wrong {}", self.wrong)
-    }
-
-    fn pending(&self) -> usize {
-        self.plain.pending()
-    }
-
-    fn has_pending(&self) -> bool {
-        self.book.has_pending()
-    }
-
-    fn keeps_what_it_gave(&self) -> bool {
-        self.plain.keeps_what_it_gave()
+        put_count(answer, "wrong ", self.wrong, "\n");
+        Ok(())
     }
 
     fn differs(&mut self)
@@ -121,8 +110,7 @@ impl<'a> Lists<'a> {
         ensures { KeepsOnTheWay ⟦<HashSign as Sign>⟧.own_key ⟦<HashSign as Sign>⟧.signature_of self.old.book self.new.book }
     {
         let expected = self.plain.release()?;
-        let output = self.book.release();
-        let same = is_expected(self.alloc, &output, expected)?;
+        let same = is_expected(self.alloc, self.book.release(), expected)?;
         self.expect(same);
         self.tally.add_release(expected.is_some());
         Ok(())
@@ -139,7 +127,7 @@ impl<'a> Lists<'a> {
     /// A group is taken and appended, which may fail at each device call, and is then settled, if the machine doesn't
     /// stop. A second group may follow it on the same journal.
     fn flush(&mut self) -> Told {
-        let (has_pending, pending) = (self.has_pending(), self.pending());
+        let (has_pending, pending) = (self.book.has_pending(), self.plain.pending());
         self.expect(has_pending == (pending > 0));
         if has_pending {
             self.flush_pending()
@@ -151,9 +139,8 @@ impl<'a> Lists<'a> {
     fn flush_pending(&mut self) -> Told {
         let gate = self.disk.bytes().len().saturating_sub(1);
         let failing = moment_of(self.draws.below(12));
-        let mut disk = self.taken_disk()?;
-        arm(&mut disk, failing)?;
-        match Journal::open(self.alloc, disk) {
+        arm(&mut self.disk, failing)?;
+        match Journal::open(self.alloc, self.taken_disk()?) {
             Ok((journal, _)) => self.write_groups(journal, failing, gate),
             Err(failed) => {
                 self.disk = failed.disk;
@@ -173,7 +160,7 @@ impl<'a> Lists<'a> {
         requires { IsAlive ⟦<MemDisk as Disk>⟧.content ⟦<MemDisk as Disk>⟧.outcome journal }
     {
         let mut written = self.write(&mut journal, failing);
-        if matches!(written, Ok(None)) && self.has_pending() {
+        if matches!(written, Ok(None)) && self.book.has_pending() {
             written = self.write(&mut journal, None);
         }
         self.disk = journal.into_disk();
@@ -200,7 +187,7 @@ impl<'a> Lists<'a> {
             self.differs();
             return Ok(Some(Moment::Idle));
         };
-        let pending = self.pending();
+        let pending = self.plain.pending();
         self.expect(group.records_count() == pending as u64);
         self.plain.take();
         count(&mut self.tally.taken);
@@ -237,8 +224,7 @@ impl<'a> Lists<'a> {
     fn taken_disk(&mut self) -> Result<MemDisk, AllocError>
         ensures book { self.new.book ≡ self.old.book }
     {
-        let empty = MemDisk::new(self.alloc, Vec::new(self.alloc))?;
-        Ok(mem::replace(&mut self.disk, empty))
+        taken(self.alloc, &mut self.disk)
     }
 
     /// The machine stops and begins a new run. Of a group on its way the gate is at this place.
@@ -277,8 +263,7 @@ impl<'a> Lists<'a> {
 
     /// Stops the disk, which is to leave these bytes.
     fn stop_disk(&mut self, found: &[u8]) -> Told {
-        self.disk.choose(found.to_vec(self.alloc)?);
-        self.disk.stop();
+        stop_with(self.alloc, &mut self.disk, found)?;
         let left = self.disk.bytes() == found;
         self.expect(left);
         Ok(())
@@ -288,9 +273,8 @@ impl<'a> Lists<'a> {
     fn fail_to_open(&mut self) -> Result<bool, AllocError> {
         let call = self.draws.below(5);
         let (kind, count) = opening_call(call);
-        let mut disk = self.taken_disk()?;
-        disk.fail(kind, count)?;
-        match open_book(self.alloc, self.config, disk) {
+        self.disk.fail(kind, count)?;
+        match open_book(self.alloc, self.config, self.taken_disk()?) {
             Ok((_, journal)) => {
                 self.disk = journal.into_disk();
                 spend(&mut self.disk, kind);
@@ -306,8 +290,7 @@ impl<'a> Lists<'a> {
 
     /// Opens the node, whose journal then has the records of the plain history.
     fn open(&mut self) -> Told {
-        let disk = self.taken_disk()?;
-        match open_book(self.alloc, self.config, disk) {
+        match open_book(self.alloc, self.config, self.taken_disk()?) {
             Ok((book, journal)) => {
                 self.book = book;
                 self.disk = journal.into_disk();
@@ -323,7 +306,7 @@ impl<'a> Lists<'a> {
 
     /// Compares what was opened with the plain world.
     fn compare(&mut self) -> Told {
-        let (right, keeps) = (self.has_plain_records()?, self.keeps_what_it_gave());
+        let (right, keeps) = (self.has_plain_records()?, self.plain.keeps_what_it_gave());
         self.expect(right && keeps);
         count(&mut self.tally.opened);
         Ok(())
@@ -331,8 +314,7 @@ impl<'a> Lists<'a> {
 
     /// Whether the journal has the records of the plain history.
     fn has_plain_records(&mut self) -> Result<bool, AllocError> {
-        let disk = self.taken_disk()?;
-        match Journal::open(self.alloc, disk) {
+        match Journal::open(self.alloc, self.taken_disk()?) {
             Ok((journal, records)) => {
                 self.disk = journal.into_disk();
                 are_of(self.alloc, &records, &self.plain.history)
@@ -348,11 +330,11 @@ impl<'a> Lists<'a> {
 /// The output is the one of the event of this number, or there is none of both.
 fn is_expected(
     alloc: Global,
-    output: &Option<Output>,
+    output: Option<Output>,
     expected: Option<u64>,
 ) -> Result<bool, AllocError> {
     match (output, expected) {
-        (Some(output), Some(number)) => is_vote_for(alloc, output, number),
+        (Some(output), Some(number)) => is_vote_for(alloc, &output, number),
         (None, None) => Ok(true),
         _ => Ok(false),
     }

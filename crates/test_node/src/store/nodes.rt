@@ -1,10 +1,9 @@
 //! Nodes that are opened on journals of hand-made bytes, and that carry out commands.
 
-use crate::store::committees::{Setting, own_setting, setting_of};
+use crate::committees::{Setting, own_setting, setting_of};
 use crate::store::scripts::{Line, Script, lines_of};
 use crate::store::words::{Told, Word, bad, numbers, told_bad};
 use crate::store::{batches, damages, failures, openings, texts};
-use diskmodel::CallKind;
 use std::alloc::{AllocError, Global};
 use wire::Author;
 
@@ -36,99 +35,29 @@ impl Node {
         Ok(())
     }
 
-    /// Carries out a command. Three have a list of words. The others are told apart by how many words they have and of
-    /// what kind these are, and then by their names.
+    /// Carries out a command. Its words are told apart where it is carried out.
     pub fn obey(&mut self, name: &str, words: &[Word], answer: &mut String) -> Told {
         match name {
             "node" => self.set_up(words, answer),
             "plain" => self.tell_plain(words, answer),
             "drive" => self.drive(words, answer),
-            _ => self.obey_few(name, words, answer),
+            "file" => self.lay(words, answer),
+            "event" => self.add_event(words, answer),
+            "batches" => self.add_batches(words, answer),
+            "lengths" => self.tell_lengths(words, answer),
+            "changes" => self.tell_changes(words, answer),
+            "fails" => self.tell_fails(words, answer),
+            _ => self.obey_alone(name, words, answer),
         }
     }
 
-    fn obey_few(&mut self, name: &str, words: &[Word], answer: &mut String) -> Told {
-        match words {
-            [] => self.obey_alone(name, answer),
-            [Word::Bytes(bytes)] => self.obey_bytes(name, bytes, answer),
-            [Word::Number(sender), Word::Bytes(message)] => {
-                self.obey_message(name, *sender, message, answer)
-            }
-            _ => self.obey_more(name, words, answer),
-        }
-    }
-
-    fn obey_more(&mut self, name: &str, words: &[Word], answer: &mut String) -> Told {
-        match words {
-            [Word::Number(first), Word::Number(second)] => {
-                self.obey_numbers(name, *first, *second, answer)
-            }
-            [Word::Number(from), Word::Number(to), Word::Number(values)] => {
-                self.obey_places(name, *from, *to, *values, answer)
-            }
-            [Word::Call(kind), Word::Number(count)] => {
-                self.obey_call(name, *kind, *count, answer)
-            }
-            _ => told_bad(answer),
-        }
-    }
-
-    fn obey_alone(&mut self, name: &str, answer: &mut String) -> Told {
+    /// Commands with no word.
+    fn obey_alone(&mut self, name: &str, words: &[Word], answer: &mut String) -> Told {
         match name {
+            _ if !words.is_empty() => told_bad(answer),
             "flush" => self.add(Line::Flush),
             "stop" => self.add(Line::Stop),
             "open" => openings::open(self.alloc, &self.setting.config, &self.file, answer),
-            _ => told_bad(answer),
-        }
-    }
-
-    fn obey_bytes(&mut self, name: &str, bytes: &[u8], answer: &mut String) -> Told {
-        match name {
-            "file" => self.lay(bytes),
-            _ => told_bad(answer),
-        }
-    }
-
-    fn obey_message(
-        &mut self,
-        name: &str,
-        sender: u64,
-        message: &[u8],
-        answer: &mut String,
-    ) -> Told {
-        match name {
-            "event" => self.add_event(sender, message),
-            _ => told_bad(answer),
-        }
-    }
-
-    fn obey_numbers(&mut self, name: &str, first: u64, second: u64, answer: &mut String) -> Told {
-        let (alloc, config) = (self.alloc, &self.setting.config);
-        match name {
-            "batches" => self.add_batches(first, second, answer),
-            "lengths" => damages::lengths(alloc, config, &self.file, first..=second, answer),
-            _ => told_bad(answer),
-        }
-    }
-
-    fn obey_places(
-        &self,
-        name: &str,
-        from: u64,
-        to: u64,
-        values: u64,
-        answer: &mut String,
-    ) -> Told {
-        let (alloc, config) = (self.alloc, &self.setting.config);
-        match name {
-            "changes" => damages::changes(alloc, config, &self.file, from..=to, values, answer),
-            _ => told_bad(answer),
-        }
-    }
-
-    fn obey_call(&self, name: &str, kind: CallKind, count: u64, answer: &mut String) -> Told {
-        match name {
-            "fails" => self.fail(kind, count, answer),
             _ => told_bad(answer),
         }
     }
@@ -146,14 +75,20 @@ impl Node {
         Ok(())
     }
 
-    fn lay(&mut self, bytes: &[u8]) -> Told {
+    fn lay(&mut self, words: &[Word], answer: &mut String) -> Told {
+        let [Word::Bytes(bytes)] = words else {
+            return told_bad(answer);
+        };
         self.file = bytes.to_vec(self.alloc)?;
         Ok(())
     }
 
-    fn add_event(&mut self, sender: u64, message: &[u8]) -> Told {
+    fn add_event(&mut self, words: &[Word], answer: &mut String) -> Told {
+        let [Word::Number(sender), Word::Bytes(message)] = words else {
+            return told_bad(answer);
+        };
         let message = message.to_vec(self.alloc)?;
-        let sender = Author(u16::try_from(sender).unwrap_or(u16::MAX));
+        let sender = Author(u16::try_from(*sender).unwrap_or(u16::MAX));
         self.add(Line::Event { sender, message })
     }
 
@@ -162,11 +97,30 @@ impl Node {
         Ok(())
     }
 
-    fn add_batches(&mut self, count: u64, len: u64, answer: &mut String) -> Told {
-        match (u32::try_from(count), u32::try_from(len)) {
+    fn add_batches(&mut self, words: &[Word], answer: &mut String) -> Told {
+        let [Word::Number(count), Word::Number(len)] = words else {
+            return told_bad(answer);
+        };
+        match (u32::try_from(*count), u32::try_from(*len)) {
             (Ok(count), Ok(len)) => batches::come_in(self.alloc, &mut self.lines, count, len),
             _ => told_bad(answer),
         }
+    }
+
+    fn tell_lengths(&self, words: &[Word], answer: &mut String) -> Told {
+        let [Word::Number(from), Word::Number(to)] = words else {
+            return told_bad(answer);
+        };
+        let (alloc, config) = (self.alloc, &self.setting.config);
+        damages::lengths(alloc, config, &self.file, *from..=*to, answer)
+    }
+
+    fn tell_changes(&self, words: &[Word], answer: &mut String) -> Told {
+        let [Word::Number(from), Word::Number(to), Word::Number(values)] = words else {
+            return told_bad(answer);
+        };
+        let (alloc, config) = (self.alloc, &self.setting.config);
+        damages::changes(alloc, config, &self.file, *from..=*to, *values, answer)
     }
 
     /// Carries out what the node is told, with a flush or a stop of these words behind each command, or else with calls of
@@ -197,13 +151,16 @@ impl Node {
         }
     }
 
-    fn fail(&self, kind: CallKind, count: u64, answer: &mut String) -> Told {
+    fn tell_fails(&self, words: &[Word], answer: &mut String) -> Told {
+        let [Word::Call(kind), Word::Number(count)] = words else {
+            return told_bad(answer);
+        };
         let trial = failures::Trial {
             alloc: self.alloc,
             config: &self.setting.config,
             file: &self.file,
-            kind,
-            count,
+            kind: *kind,
+            count: *count,
         };
         trial.tell(answer)
     }

@@ -1,8 +1,9 @@
 //! Openings of a node, and what is told of them.
 
+use crate::memory::disk_with;
 use crate::store::disks::tell_left;
 use crate::store::journals::put_error;
-use crate::store::words::{Told, put, put_bytes};
+use crate::store::words::{Told, put, put_bytes, put_count};
 use diskmodel::MemDisk;
 use recovery::reopen;
 use sigface::HashSign;
@@ -15,9 +16,8 @@ const SHOWN: usize = 4;
 
 /// Opens a node on a file, and tells what is left of the file. What is left is opened again, which has to be the same.
 pub fn open(alloc: Global, config: &Config<HashSign>, file: &[u8], answer: &mut String) -> Told {
-    let disk = MemDisk::new(alloc, file.to_vec(alloc)?)?;
     let mut text = String::new(alloc);
-    let disk = opened(alloc, config, disk, &mut text);
+    let disk = opened(alloc, config, disk_with(alloc, file)?, &mut text);
     put(answer, text.as_str());
     tell_left(answer, &disk, file);
     if told(alloc, config, disk.bytes())?.as_str() != text.as_str() {
@@ -29,9 +29,8 @@ pub fn open(alloc: Global, config: &Config<HashSign>, file: &[u8], answer: &mut 
 
 /// What the opening of a node on a file is told as.
 pub fn told(alloc: Global, config: &Config<HashSign>, file: &[u8]) -> Result<String, AllocError> {
-    let disk = MemDisk::new(alloc, file.to_vec(alloc)?)?;
     let mut text = String::new(alloc);
-    let _ = opened(alloc, config, disk, &mut text);
+    let _ = opened(alloc, config, disk_with(alloc, file)?, &mut text);
     Ok(text)
 }
 
@@ -56,14 +55,15 @@ pub fn opened(
 
 /// The round, the length of the order, and the votes of the first rounds, by author and round.
 fn tell_node(validator: &Validator<'_, HashSign>, text: &mut String) {
-    let (round, ordered) = (validator.round(), validator.order().len());
-    let _ = write!(text, "opened, round {round}, order {ordered}");
+    put_count(text, "opened, round ", validator.round(), "");
+    put_count(text, ", order ", validator.order().len() as u64, "");
     for author in 0..4 {
         for number in 1..=4 {
             if let Ok(round) = Round::new(number)
                 && let Some(digest) = validator.voted(Author(author), round)
             {
-                let _ = write!(text, ", vote {author}.{number}");
+                put_count(text, ", vote ", u64::from(author), "");
+                put_count(text, ".", number, "");
                 put_bytes(text, &digest.0[..SHOWN]);
             }
         }

@@ -5,7 +5,7 @@ ghost use Rattle.journal.specs.Journal.{IsAlive};
 ghost use Rattle.validator.specs.Setting.{node_of};
 ghost use Rattle.book.specs.OnTheWay.{AreOnTheWay};
 
-use crate::store::words::{bad, put, put_number};
+use crate::store::words::{bad, put, put_number, put_shown};
 use book::OwnBook;
 use diskmodel::{Disk, MemDisk};
 use journal::{Group, Journal, Synced};
@@ -76,9 +76,7 @@ fn flush(own: &mut OwnBook<'_, HashSign>, journal: &mut Journal<MemDisk>, answer
             put(answer, "a group of");
             put_number(answer, count);
         }
-        Err(error) => {
-            let _ = write!(answer, "{error}");
-        }
+        Err(error) => put_shown(answer, "", &error, ""),
     }
 }
 

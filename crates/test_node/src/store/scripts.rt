@@ -3,9 +3,10 @@
 ghost use Rattle.std.specs.Prelude.{All, IfOk, IfSome};
 ghost use Rattle.recovery.specs.Script.{Passes};
 
+use crate::memory::{disk_with, failing_disk};
 use crate::store::headers::message_in;
 use crate::store::takers::Taker;
-use crate::store::words::{Told, Word, put, put_bytes};
+use crate::store::words::{Told, Word, put, put_bytes, put_count, put_other, put_shown};
 use book::MAX_ACCEPTED;
 use cases::write_hex;
 use diskmodel::{CallKind, MemDisk};
@@ -68,9 +69,8 @@ impl Script<'_> {
     /// Tells what is written where a call of this kind fails: the first one, the second one and so on, until none does.
     pub fn tell_failing(&self, kind: CallKind, answer: &mut String) -> Told {
         for count in 1..CALLS {
-            let mut disk = self.disk()?;
-            disk.fail(kind, count)?;
-            let _ = write!(answer, "{count}: ");
+            put_count(answer, "", count, ": ");
+            let disk = failing_disk(self.alloc, self.file, kind, count)?;
             let is_carried_out = self.tell_on(disk, answer)?;
             put(answer, "\n");
             if is_carried_out {
@@ -86,10 +86,7 @@ impl Script<'_> {
         let mut before = String::new(self.alloc);
         for room in 0..=text.len() {
             let told = self.told_room(room, text)?;
-            if told.as_str() != before.as_str() {
-                let _ = writeln!(answer, "{room}: {}", told.as_str());
-            }
-            before = told;
+            put_other(answer, room as u64, told, &mut before);
         }
         Ok(())
     }
@@ -118,7 +115,7 @@ impl Script<'_> {
             Some(Ok(disk)) => {
                 put(answer, "carried out");
                 tell_text(&written, answer);
-                let _ = write!(answer, ", file of {} bytes", disk.bytes().len());
+                put_count(answer, ", file of ", disk.bytes().len() as u64, " bytes");
                 Ok(true)
             }
             Some(Err(error)) => {
@@ -131,7 +128,7 @@ impl Script<'_> {
 
     /// A disk with the file.
     pub fn disk(&self) -> Result<MemDisk, AllocError> {
-        MemDisk::new(self.alloc, self.file.to_vec(self.alloc)?)
+        disk_with(self.alloc, self.file)
     }
 
     /// Each line, and what is done behind it.
@@ -153,18 +150,28 @@ impl Script<'_> {
         writer: &mut W,
     ) -> Result<Option<Result<MemDisk, DriveError>>, AllocError> {
         let lines = self.spaced_lines()?;
-        let Some(commands) = commands_of(self.alloc, self.config, &lines)? else {
-            return Ok(None);
-        };
-        if commands.len() as u64 > MAX_ACCEPTED {
-            return Ok(None);
+        match commands_of(self.alloc, self.config, &lines)? {
+            Some(commands) => Ok(self.carry_out(disk, commands, writer)),
+            None => Ok(None),
         }
-        Ok(Some(
-            match drive(self.alloc, self.config, disk, commands, writer) {
-                Ok(disk) => Ok(disk),
-                Err(failed) => Err(failed.error),
-            },
-        ))
+    }
+
+    /// The same for these commands; nothing where they are too many.
+    fn carry_out<W: Write>(
+        &self,
+        disk: MemDisk,
+        commands: Vec<Command>,
+        writer: &mut W,
+    ) -> Option<Result<MemDisk, DriveError>>
+        requires { All (Passes self.now.config.now.charter) commands.items }
+    {
+        if commands.len() as u64 > MAX_ACCEPTED {
+            return None;
+        }
+        match drive(self.alloc, self.config, disk, commands, writer) {
+            Ok(disk) => Some(Ok(disk)),
+            Err(failed) => Some(Err(failed.error)),
+        }
     }
 }
 
@@ -227,15 +234,15 @@ fn filled(text: Option<&[u8]>, taken: &[u8]) -> &'static str {
 }
 
 fn tell_error(error: DriveError, answer: &mut String) {
-    let _ = write!(answer, "{error}");
+    put_shown(answer, "", &error, "");
     if let DriveError::Damaged(place) = error {
-        let _ = write!(answer, " at {place}");
+        put_count(answer, " at ", place, "");
     }
 }
 
 /// Tells how long a text is, and what it is, or its SHA-256.
 pub fn tell_text(text: &[u8], answer: &mut String) {
-    let _ = write!(answer, ", {} bytes", text.len());
+    put_count(answer, ", ", text.len() as u64, " bytes");
     if text.len() > SHOWN {
         put(answer, " sha256 ");
         let _ = write_hex(answer, &Sha256::digest(text));

@@ -1,9 +1,10 @@
 //! A stop of the machine at a call of the disk that fails, with each of its outcomes.
 
+use crate::memory::{failing_disk, stop_with};
 use crate::store::journals::{attempt, listed, put_records};
 use crate::store::stores::Store;
 use crate::store::words::{Told, Word, put, put_number, put_once, told_bad};
-use diskmodel::{CallKind, Disk, MemDisk, StopDisk};
+use diskmodel::{CallKind, Disk, MemDisk};
 use std::alloc::{AllocError, Global};
 
 /// A byte that no case writes.
@@ -53,16 +54,11 @@ impl Trial<'_> {
     /// The disk after the calls. None of its calls is told to fail any more.
     fn play(&self, text: &mut String) -> Result<MemDisk, AllocError> {
         let records = listed(self.alloc, self.records)?;
-        let (mut disk, _) = attempt(self.alloc, self.disk()?, records, text)?;
+        let disk = failing_disk(self.alloc, self.file, self.kind, self.count)?;
+        let (mut disk, _) = attempt(self.alloc, disk, records, text)?;
         if self.count > 0 && !text.as_str().ends_with("2 Device") && !fails(&mut disk, self.kind) {
             put(text, ", and none failed");
         }
-        Ok(disk)
-    }
-
-    fn disk(&self) -> Result<MemDisk, AllocError> {
-        let mut disk = MemDisk::new(self.alloc, self.file.to_vec(self.alloc)?)?;
-        disk.fail(self.kind, self.count)?;
         Ok(disk)
     }
 
@@ -71,8 +67,7 @@ impl Trial<'_> {
         let mut text = String::new(self.alloc);
         let mut disk = self.play(&mut text)?;
         text.clear();
-        disk.choose(outcome.to_vec(self.alloc)?);
-        disk.stop();
+        stop_with(self.alloc, &mut disk, outcome)?;
         if disk.bytes() != outcome {
             put(&mut text, "other bytes, ");
         }

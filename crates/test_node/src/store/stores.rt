@@ -1,10 +1,11 @@
 //! A disk, a journal on it, and a book.
 
+use crate::memory::disk_with;
 use crate::store::books::own_book;
 use crate::store::files::{beginnings, changes};
 use crate::store::words::{Told, Word, told_bad};
 use book::OwnBook;
-use diskmodel::{CallKind, MemDisk};
+use diskmodel::MemDisk;
 use sigface::HashSign;
 use std::alloc::{AllocError, Global};
 use validator::Config;
@@ -21,37 +22,36 @@ pub struct Store<'a> {
 impl<'a> Store<'a> {
     /// Before the first case.
     pub fn new(alloc: Global, config: &'a Config<HashSign>) -> Result<Store<'a>, AllocError> {
-        let disk = MemDisk::new(alloc, Vec::new(alloc))?;
-        let book = own_book(alloc, config)?;
         Ok(Store {
             alloc,
             config,
-            disk,
-            book,
+            disk: disk_with(alloc, &[])?,
+            book: own_book(alloc, config)?,
         })
     }
 
     /// An empty disk, and a book that has accepted nothing.
     pub fn begin(&mut self) -> Told {
-        self.disk = MemDisk::new(self.alloc, Vec::new(self.alloc))?;
+        self.disk = disk_with(self.alloc, &[])?;
         self.book = own_book(self.alloc, self.config)?;
         Ok(())
     }
 
-    /// Carries out a command. Two have a list of words. The others are told apart by how many words they have and of
-    /// what kind these are, and then by their names.
+    /// Carries out a command. The words of a few are told apart where these are carried out. The others are told apart by
+    /// how many words they have and of what kind these are, and then by their names.
     pub fn obey(&mut self, name: &str, words: &[Word], answer: &mut String) -> Told {
         match name {
             "append" => self.append(words, answer),
             "stops" => self.tell_stops(words, answer),
+            "cut" => self.cut(words, answer),
+            "fail" => self.fail(words, answer),
             _ => self.obey_few(name, words, answer),
         }
     }
 
     fn obey_few(&mut self, name: &str, words: &[Word], answer: &mut String) -> Told {
         match words {
-            [] => self.obey_disk(name, answer),
-            [Word::Number(place)] => self.obey_place(name, *place, answer),
+            [] => self.obey_alone(name, answer),
             [Word::Bytes(bytes)] => self.obey_bytes(name, bytes, answer),
             _ => self.obey_more(name, words, answer),
         }
@@ -65,22 +65,7 @@ impl<'a> Store<'a> {
             [Word::Number(first), Word::Bytes(bytes)] => {
                 self.obey_number_bytes(name, *first, bytes, answer)
             }
-            [Word::Call(call), Word::Number(count)] => {
-                self.obey_call(name, *call, *count, answer)
-            }
-            [
-                Word::Number(author),
-                Word::Number(round),
-                Word::Bytes(members),
-            ] => self.take_header(name, *author, *round, members, answer),
-            _ => told_bad(answer),
-        }
-    }
-
-    fn obey_place(&mut self, name: &str, place: u64, answer: &mut String) -> Told {
-        match name {
-            "cut" => self.cut(place, answer),
-            _ => told_bad(answer),
+            _ => self.take_header(name, words, answer),
         }
     }
 
@@ -115,13 +100,6 @@ impl<'a> Store<'a> {
         match name {
             "write" => self.write(number, bytes, answer),
             "written" => self.append_written(number, bytes, answer),
-            _ => told_bad(answer),
-        }
-    }
-
-    fn obey_call(&mut self, name: &str, call: CallKind, count: u64, answer: &mut String) -> Told {
-        match name {
-            "fail" => self.disk.fail(call, count),
             _ => told_bad(answer),
         }
     }

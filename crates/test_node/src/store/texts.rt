@@ -17,11 +17,20 @@ const EVENT: u8 = 1;
 /// Tells the text of a script, and whether a node writes the same.
 pub fn tell(script: &Script, node: &Node<HashSign>, answer: &mut String) -> Told {
     let mut written = Vec::new(script.alloc);
-    let Some(Ok(_)) = script.run(script.disk()?, &mut written)? else {
-        return told_bad(answer);
-    };
+    match script.run(script.disk()?, &mut written)? {
+        Some(Ok(_)) => tell_text_of(script, node, &written, answer),
+        _ => told_bad(answer),
+    }
+}
+
+fn tell_text_of(
+    script: &Script,
+    node: &Node<HashSign>,
+    written: &[u8],
+    answer: &mut String,
+) -> Told {
     match text_of(script, node)? {
-        Some(text) => tell_beside(&text, &written, answer),
+        Some(text) => tell_beside(&text, written, answer),
         None => bad(answer),
     }
     Ok(())

@@ -1,7 +1,7 @@
 //! The words of a command, and the parts of its answer.
 
 use crate::words::call_of;
-pub use crate::words::{Told, bad, put};
+pub use crate::words::{Told, bad, parted, put, put_count, put_shown, tell_fault};
 use cases::{bytes_of, write_hex};
 use diskmodel::CallKind;
 use std::alloc::{AllocError, Global};
@@ -74,9 +74,19 @@ pub fn put_once(text: &mut String, line: &str) {
     }
 }
 
+/// Adds a line of a number and a text, where that is another one than the text before, and keeps it as that.
+pub fn put_other(answer: &mut String, number: u64, text: String, before: &mut String) {
+    if text.as_str() != before.as_str() {
+        put_count(answer, "", number, ": ");
+        put(answer, text.as_str());
+        put(answer, "\n");
+    }
+    *before = text;
+}
+
 /// Adds a number behind a space.
 pub fn put_number(text: &mut String, number: u64) {
-    let _ = write!(text, " {number}");
+    put_count(text, " ", number, "");
 }
 
 /// Adds bytes as digits, behind a space and an `x`.

@@ -1,8 +1,8 @@
 //! Lists of runs: random steps and stops of the running code, made beside a plain world.
 
-use crate::store::committees::{SEVEN, own_config};
+use crate::committees::{SEVEN, own_config};
 use crate::store::lists::Lists;
-use crate::store::words::{Told, Word, put, told_bad};
+use crate::store::words::{Told, Word, put, put_count, told_bad};
 use std::alloc::Global;
 
 /// What the lists came to.
@@ -41,10 +41,9 @@ impl Worlds {
         let config = own_config(self.alloc, &SEVEN)?;
         let lists = Lists::new(self.alloc, &config, start)?;
         play(lists, count, steps, answer)?;
-        let _ = writeln!(
-            self.report,
-            "{count} lists of {steps} steps, drawn from {start}"
-        );
+        put_count(&mut self.report, "", count, " lists");
+        put_count(&mut self.report, " of ", steps, " steps");
+        put_count(&mut self.report, ", drawn from ", start, "\n");
         put(&mut self.report, answer.as_str());
         Ok(())
     }

@@ -1,6 +1,6 @@
 //! Nodes of committees whose members sign with the test pair: the key of each is its number plus 1, 32 times.
 
-use crate::store::words::Told;
+use crate::words::Told;
 use cases::write_hex;
 use committee::{Committee, CommitteeError, DEFAULT_DEPTH};
 use model::Node;
