@@ -1,11 +1,11 @@
 -- What is answered an event that meets tables.
 use Rattle.std.proofs.Common.{◌≡◌, [], ◌∙◌}
 use Rattle.wire.specs.declared.message.Message.TheVariants as message
-use Rattle.model.specs.Admitting.{vote_outputs, order_outputs}
-use Rattle.model.specs.Nodes.{Node}
-use Rattle.model.specs.States.{State}
-use Rattle.model.specs.Words.{Certificate, Coin, Digest, Event, Header, Signature, Vote}
-use Rattle.machine.specs.Machine.{answered, grown}
+use Rattle.spec_model.specs.Admitting.{vote_outputs, order_outputs}
+use Rattle.spec_model.specs.Nodes.{Node}
+use Rattle.spec_model.specs.States.{State}
+use Rattle.spec_model.specs.Words.{Certificate, Coin, Digest, Event, Header, Signature, Vote}
+use Rattle.spec_machine.specs.Machine.{answered, grown}
 use Rattle.dag.specs.Graph.{slots_in}
 use Rattle.admission.specs.HeaderLaws.{VotesAgree}
 use Rattle.admission.proofs.Answering.{answered_as}

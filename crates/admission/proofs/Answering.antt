@@ -9,20 +9,20 @@ use Rattle.std.proofs.lemmas.Bool.{and_parts, true≢false}
 use Rattle.std.proofs.lemmas.Grind.{common_steps}
 use Rattle.std.proofs.lemmas.List.{length-map}
 use Rattle.wire.specs.Batches.{batch_body}
-use Rattle.model.specs.Admitting.{when◌gives◌else◌, is_new, is_own, batch_outputs, held_batch_answer, batch_answer, ack_answer, may_name, header_answer}
-use Rattle.model.specs.Nodes.{Node}
-use Rattle.model.specs.Slots.{same_digest}
-use Rattle.model.specs.States as states
-use Rattle.model.specs.States.{State, has_own_batch}
-use Rattle.model.specs.Words.{Author, BatchAck, BatchReference, Contents, Digest, Event, Header, Message}
-use Rattle.model.specs.declared.admission.Admission.TheVariants.{New, Known, Refused}
-use Rattle.model.specs.declared.refusal.Refusal.TheVariants.{NotOurs, StoreFull, DigestClash}
-use Rattle.model.specs.declared.refusal.Refusal.{Refusal}
+use Rattle.spec_model.specs.Admitting.{when◌gives◌else◌, is_new, is_own, batch_outputs, held_batch_answer, batch_answer, ack_answer, may_name, header_answer}
+use Rattle.spec_model.specs.Nodes.{Node}
+use Rattle.spec_model.specs.Slots.{same_digest}
+use Rattle.spec_model.specs.States as states
+use Rattle.spec_model.specs.States.{State, has_own_batch}
+use Rattle.spec_model.specs.Words.{Author, BatchAck, BatchReference, Contents, Digest, Event, Header, Message}
+use Rattle.spec_model.specs.declared.admission.Admission.TheVariants.{New, Known, Refused}
+use Rattle.spec_model.specs.declared.refusal.Refusal.TheVariants.{NotOurs, StoreFull, DigestClash}
+use Rattle.spec_model.specs.declared.refusal.Refusal.{Refusal}
 use Rattle.std.proofs.lemmas.Option.{same_Some, none-some}
-use Rattle.laws.proofs.Lists.{given_or_none}
-use Rattle.laws.proofs.Closed.{all_to}
-use Rattle.laws.proofs.Meeting.{any_to}
-use Rattle.machine.specs.Machine.{answered, after}
+use Rattle.spec_laws.proofs.Lists.{given_or_none}
+use Rattle.spec_laws.proofs.Closed.{all_to}
+use Rattle.spec_laws.proofs.Meeting.{any_to}
+use Rattle.spec_machine.specs.Machine.{answered, after}
 use Rattle.batchstore.specs.Answer.{is_full}
 use Rattle.batchstore.specs.Stock.{Stock, digest_of, held_at, batch_in, has_own, holds, is_available}
 use Rattle.batchstore.proofs.Among.{one_digest, found_is}

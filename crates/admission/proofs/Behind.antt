@@ -11,15 +11,15 @@ use Rattle.std.proofs.lemmas.List.Folds.{find-append}
 use Rattle.std.proofs.lemmas.Nat.Bits.{bit_at-zero}
 use Rattle.committee.specs.Sets.{has as is_in}
 use Rattle.wire.specs.declared.message.Message.TheVariants as message
-use Rattle.model.specs.Admitting.{is_own}
-use Rattle.model.specs.Giving.{collected}
-use Rattle.model.specs.Histories.{as_batch}
-use Rattle.model.specs.Nodes.{Node}
-use Rattle.model.specs.Slots.{same_digest}
-use Rattle.model.specs.States.{State}
-use Rattle.model.specs.Words.{BatchAck, BatchReference, Contents, Digest, Header, Message}
-use Rattle.laws.proofs.Lists.{given_or_none}
-use Rattle.machine.specs.Machine.{acknowledges, names, grown}
+use Rattle.spec_model.specs.Admitting.{is_own}
+use Rattle.spec_model.specs.Giving.{collected}
+use Rattle.spec_model.specs.Histories.{as_batch}
+use Rattle.spec_model.specs.Nodes.{Node}
+use Rattle.spec_model.specs.Slots.{same_digest}
+use Rattle.spec_model.specs.States.{State}
+use Rattle.spec_model.specs.Words.{BatchAck, BatchReference, Contents, Digest, Header, Message}
+use Rattle.spec_laws.proofs.Lists.{given_or_none}
+use Rattle.spec_machine.specs.Machine.{acknowledges, names, grown}
 use Rattle.batchstore.specs.Answer.{no_members, with_member, with_batch, acked_by, with_ack, is_named_in, named_by, with_names}
 use Rattle.batchstore.specs.Stock.{Stock, digest_of, held_at, has_own, has_acked, was_named}
 use Rattle.batchstore.specs.declared.held.Held.{Held}

@@ -4,12 +4,12 @@ use Rattle.std.specs.Prelude.{◌==◌, nat_le, option_map, if◌then◌else◌}
 use Rattle.std.specs.FinMap as map
 use Rattle.std.proofs.lemmas.Bool.{cases_Bool, eqb-true, true≢false, eq-eqb}
 use Rattle.std.proofs.lemmas.Option.{none-some}
-use Rattle.model.specs.Nodes.{Node}
-use Rattle.model.specs.States.{State, floor_in}
-use Rattle.model.specs.Words.{Author, Digest}
-use Rattle.machine.specs.Laws.{LowIsToTheFloor}
-use Rattle.machine.specs.Machine.{after}
-use Rattle.machine.specs.Sound.{IsSound}
+use Rattle.spec_model.specs.Nodes.{Node}
+use Rattle.spec_model.specs.States.{State, floor_in}
+use Rattle.spec_model.specs.Words.{Author, Digest}
+use Rattle.spec_machine.specs.Laws.{LowIsToTheFloor}
+use Rattle.spec_machine.specs.Machine.{after}
+use Rattle.spec_machine.specs.Sound.{IsSound}
 use Rattle.votebook.specs.Votes.{Votes, ForgetsTo}
 use Rattle.certify.specs.Assembled.{Assembled}
 use Rattle.admission.specs.Headers.{Headers, assembly_at, header_in, IsWith, IsForgotten}

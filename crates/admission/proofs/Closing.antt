@@ -4,16 +4,16 @@ use Rattle.std.specs.Prelude.{Result, Ok, Err, IfOk, IfErr, OnOk}
 use Rattle.std.specs.Global.{Vec}
 use Rattle.std.specs.declared.alloc.AllocError.{AllocError}
 use Rattle.std.proofs.lemmas.Bool.{true≢false}
-use Rattle.model.specs.Admitting.{is_new}
-use Rattle.model.specs.Nodes.{Node}
-use Rattle.model.specs.States.{State}
-use Rattle.model.specs.Words.{Event, Message, Output}
-use Rattle.model.specs.declared.admission.Admission.{Admission}
-use Rattle.model.specs.declared.admission.Admission.TheVariants as admission
-use Rattle.model.specs.declared.refusal.Refusal.{Refusal}
-use Rattle.model.specs.declared.refusal.Refusal.TheVariants.{Memory}
-use Rattle.machine.specs.Laws.{Comes}
-use Rattle.machine.specs.Machine.{answered}
+use Rattle.spec_model.specs.Admitting.{is_new}
+use Rattle.spec_model.specs.Nodes.{Node}
+use Rattle.spec_model.specs.States.{State}
+use Rattle.spec_model.specs.Words.{Event, Message, Output}
+use Rattle.spec_model.specs.declared.admission.Admission.{Admission}
+use Rattle.spec_model.specs.declared.admission.Admission.TheVariants as admission
+use Rattle.spec_model.specs.declared.refusal.Refusal.{Refusal}
+use Rattle.spec_model.specs.declared.refusal.Refusal.TheVariants.{Memory}
+use Rattle.spec_machine.specs.Laws.{Comes}
+use Rattle.spec_machine.specs.Machine.{answered}
 use Rattle.admission.specs.Answers.{IsAnswer, RefusesAs, is_new_step}
 use Rattle.admission.specs.declared.step.Step.{Step}
 use Rattle.admission.specs.declared.step.Step.TheVariants as step

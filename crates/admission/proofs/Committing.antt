@@ -4,16 +4,16 @@ use Rattle.std.specs.Prelude.{not, ◌==◌, nat_le, if◌then◌else◌, IfOk, 
 use Rattle.std.specs.Global.{Vec}
 use Rattle.std.specs.declared.alloc.AllocError.{AllocError}
 use Rattle.std.proofs.lemmas.Bool.{cases_Bool, eqb-true, true≢false}
-use Rattle.model.specs.Admitting.{is_new}
-use Rattle.model.specs.Nodes.{Node}
-use Rattle.model.specs.States.{State}
-use Rattle.model.specs.Words.{Event, Message, Output}
-use Rattle.model.specs.declared.admission.Admission.{Admission}
-use Rattle.model.specs.declared.admission.Admission.TheVariants as admission
-use Rattle.model.specs.declared.refusal.Refusal.{Refusal}
-use Rattle.model.specs.declared.refusal.Refusal.TheVariants.{Memory, NotOurs, TooOld}
-use Rattle.machine.specs.Laws.{Comes}
-use Rattle.machine.specs.Machine.{answered, after}
+use Rattle.spec_model.specs.Admitting.{is_new}
+use Rattle.spec_model.specs.Nodes.{Node}
+use Rattle.spec_model.specs.States.{State}
+use Rattle.spec_model.specs.Words.{Event, Message, Output}
+use Rattle.spec_model.specs.declared.admission.Admission.{Admission}
+use Rattle.spec_model.specs.declared.admission.Admission.TheVariants as admission
+use Rattle.spec_model.specs.declared.refusal.Refusal.{Refusal}
+use Rattle.spec_model.specs.declared.refusal.Refusal.TheVariants.{Memory, NotOurs, TooOld}
+use Rattle.spec_machine.specs.Laws.{Comes}
+use Rattle.spec_machine.specs.Machine.{answered, after}
 use Rattle.votebook.specs.Votes.{ForgetsTo}
 use Rattle.admission.specs.Headers.{Headers, assembly_at, IsWith, IsForgotten}
 use Rattle.admission.specs.Headers as headers

@@ -6,19 +6,19 @@ use Rattle.std.specs.Option.{option_map_or}
 use Rattle.std.proofs.lemmas.Bool.{cases_Bool, eq-eqb, true≢false}
 use Rattle.committee.specs.Charter.{Charter, weight, quorum_of}
 use Rattle.wire.specs.declared.output.Output.TheVariants as output
-use Rattle.laws.proofs.Lists.{given_or_none}
-use Rattle.laws.proofs.Votes.{slot_is}
-use Rattle.model.specs.Admitting.{when◌gives◌else◌, is_own, header_outputs, vote_outputs, order_outputs, known_header_answer, header_answer, held_answer, vote_answer, held_certificate_answer, certificate_answer, coin_answer, same_header, may_name}
-use Rattle.model.specs.Holdings.{is_low, is_full, all_held}
-use Rattle.model.specs.Nodes.{Node}
-use Rattle.model.specs.Slots.{Slots, same_digest, header_digest, certificate_digest}
-use Rattle.model.specs.States.{State, floor_in}
-use Rattle.model.specs.Words.{Author, Certificate, Coin, Digest, Header, Output, Signature, Vote}
-use Rattle.model.specs.declared.admission.Admission.{Admission}
-use Rattle.model.specs.declared.admission.Admission.TheVariants as admission
-use Rattle.model.specs.declared.refusal.Refusal.{Refusal}
-use Rattle.model.specs.declared.refusal.Refusal.TheVariants.{TooOld, MissingParents, MissingBatch, Equivocation, CertConflict, DigestClash, AlreadyProposed, NotOurs, CoinOutOfTurn, CoinEarly, CoinConflict}
-use Rattle.machine.specs.Sound.{IsSound}
+use Rattle.spec_laws.proofs.Lists.{given_or_none}
+use Rattle.spec_laws.proofs.Votes.{slot_is}
+use Rattle.spec_model.specs.Admitting.{when◌gives◌else◌, is_own, header_outputs, vote_outputs, order_outputs, known_header_answer, header_answer, held_answer, vote_answer, held_certificate_answer, certificate_answer, coin_answer, same_header, may_name}
+use Rattle.spec_model.specs.Holdings.{is_low, is_full, all_held}
+use Rattle.spec_model.specs.Nodes.{Node}
+use Rattle.spec_model.specs.Slots.{Slots, same_digest, header_digest, certificate_digest}
+use Rattle.spec_model.specs.States.{State, floor_in}
+use Rattle.spec_model.specs.Words.{Author, Certificate, Coin, Digest, Header, Output, Signature, Vote}
+use Rattle.spec_model.specs.declared.admission.Admission.{Admission}
+use Rattle.spec_model.specs.declared.admission.Admission.TheVariants as admission
+use Rattle.spec_model.specs.declared.refusal.Refusal.{Refusal}
+use Rattle.spec_model.specs.declared.refusal.Refusal.TheVariants.{TooOld, MissingParents, MissingBatch, Equivocation, CertConflict, DigestClash, AlreadyProposed, NotOurs, CoinOutOfTurn, CoinEarly, CoinConflict}
+use Rattle.spec_machine.specs.Sound.{IsSound}
 use Rattle.dag.specs.Answer.{answer}
 use Rattle.dag.specs.Answer as dag
 use Rattle.dag.specs.Graph.{slots_in}

@@ -10,18 +10,18 @@ use Rattle.wire.specs.Digests.{header_digest_of}
 use Rattle.wire.specs.declared.message.Message.TheVariants as message
 use Rattle.committee.specs.Charter.{Charter}
 use Rattle.certify.specs.Assembled.{Assembled, is_on, started}
-use Rattle.laws.proofs.Lists.{given_or_none}
-use Rattle.laws.proofs.Meeting.{same_number}
-use Rattle.laws.proofs.SlotsGrow.{or_none}
-use Rattle.model.specs.Admitting.{is_own}
-use Rattle.model.specs.Holdings.{own_vote}
-use Rattle.model.specs.Nodes.{Node}
-use Rattle.model.specs.States.{State}
-use Rattle.model.specs.Words.{Author, Event, Header, HeaderBody, Message, Vote}
-use Rattle.machine.specs.Machine.{header_at, vote_at, grown}
-use Rattle.machine.specs.Sound.{IsSound}
+use Rattle.spec_laws.proofs.Lists.{given_or_none}
+use Rattle.spec_laws.proofs.Meeting.{same_number}
+use Rattle.spec_laws.proofs.SlotsGrow.{or_none}
+use Rattle.spec_model.specs.Admitting.{is_own}
+use Rattle.spec_model.specs.Holdings.{own_vote}
+use Rattle.spec_model.specs.Nodes.{Node}
+use Rattle.spec_model.specs.States.{State}
+use Rattle.spec_model.specs.Words.{Author, Event, Header, HeaderBody, Message, Vote}
+use Rattle.spec_machine.specs.Machine.{header_at, vote_at, grown}
+use Rattle.spec_machine.specs.Sound.{IsSound}
 use Rattle.admission.specs.Headers.{Headers, assembly_at, vote_in, IsWith, IsAt}
-use Rattle.machine.specs.Laws.{FloorsAgree, Comes}
+use Rattle.spec_machine.specs.Laws.{FloorsAgree, Comes}
 use Rattle.admission.specs.HeaderLaws.{HeaderComesTo}
 use Rattle.admission.proofs.HeadersBehind.{behind}
 use Rattle.admission.proofs.NewThere.{header_free}

@@ -14,10 +14,10 @@ use Rattle.committee.specs.Charter.{Charter, numbers, weight}
 use Rattle.committee.proofs.Weights.{weight-same}
 use Rattle.certify.specs.Answer.{certificate_of}
 use Rattle.certify.specs.Assembled.{Assembled, is_on, has_voted, with_vote, started, votes_in, votes_weight, entry_of}
-use Rattle.model.specs.Holdings.{certificate_by, votes_by}
-use Rattle.model.specs.Holdings as holdings
-use Rattle.model.specs.Nodes.{Node, size_of, quorum}
-use Rattle.model.specs.Words.{Certificate, Header, HeaderBody, Vote}
+use Rattle.spec_model.specs.Holdings.{certificate_by, votes_by}
+use Rattle.spec_model.specs.Holdings as holdings
+use Rattle.spec_model.specs.Nodes.{Node, size_of, quorum}
+use Rattle.spec_model.specs.Words.{Certificate, Header, HeaderBody, Vote}
 use Rattle.admission.specs.Headers.{vote_in}
 
 -- an assembly with one vote more

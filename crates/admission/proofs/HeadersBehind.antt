@@ -5,16 +5,16 @@ use Rattle.std.specs.Option.{option_or}
 use Rattle.std.proofs.lemmas.Grind.{common_steps}
 use Rattle.wire.specs.declared.message.Message.TheVariants as message
 use Rattle.certify.specs.Assembled.{Assembled}
-use Rattle.laws.proofs.SlotsGrow.{or_none}
-use Rattle.model.specs.Admitting.{is_own}
-use Rattle.model.specs.Giving.{collected}
-use Rattle.model.specs.Holdings.{is_low, own_vote}
-use Rattle.model.specs.Nodes.{Node}
-use Rattle.model.specs.States.{State, floor_in}
-use Rattle.model.specs.Words.{Event, Header, Message, Vote}
-use Rattle.machine.specs.Machine.{header_at, vote_at, grown, after}
+use Rattle.spec_laws.proofs.SlotsGrow.{or_none}
+use Rattle.spec_model.specs.Admitting.{is_own}
+use Rattle.spec_model.specs.Giving.{collected}
+use Rattle.spec_model.specs.Holdings.{is_low, own_vote}
+use Rattle.spec_model.specs.Nodes.{Node}
+use Rattle.spec_model.specs.States.{State, floor_in}
+use Rattle.spec_model.specs.Words.{Event, Header, Message, Vote}
+use Rattle.spec_machine.specs.Machine.{header_at, vote_at, grown, after}
 use Rattle.admission.specs.Headers.{Headers, assembly_at, vote_in, IsForgotten, IsAt}
-use Rattle.machine.specs.Laws.{FloorsAgree, Comes}
+use Rattle.spec_machine.specs.Laws.{FloorsAgree, Comes}
 use Rattle.admission.specs.HeaderLaws.{IsBehind, is_other}
 
 -- a round is low exactly where it is no higher than the floor

@@ -8,16 +8,16 @@ use Rattle.std.specs.Ordering.{eq_by_cmp}
 use Rattle.std.proofs.lemmas.Bool.{cases_Bool}
 use Rattle.std.proofs.lemmas.Map.Views.{tells_apart}
 use Rattle.wire.specs.declared.message.Message.TheVariants as message
-use Rattle.model.specs.Admitting.{is_new}
-use Rattle.model.specs.Holdings.{is_low}
-use Rattle.model.specs.Nodes.{Node}
-use Rattle.model.specs.Slots.{same_digest, header_digest}
-use Rattle.model.specs.States.{State, floor_in}
-use Rattle.model.specs.Words.{Digest, Event, Header}
-use Rattle.model.specs.declared.refusal.Refusal.{Refusal}
-use Rattle.model.specs.declared.refusal.Refusal.TheVariants.{TooOld, AlreadyProposed, Equivocation}
-use Rattle.machine.specs.Laws.{LowIsToTheFloor}
-use Rattle.machine.specs.Machine.{answered}
+use Rattle.spec_model.specs.Admitting.{is_new}
+use Rattle.spec_model.specs.Holdings.{is_low}
+use Rattle.spec_model.specs.Nodes.{Node}
+use Rattle.spec_model.specs.Slots.{same_digest, header_digest}
+use Rattle.spec_model.specs.States.{State, floor_in}
+use Rattle.spec_model.specs.Words.{Digest, Event, Header}
+use Rattle.spec_model.specs.declared.refusal.Refusal.{Refusal}
+use Rattle.spec_model.specs.declared.refusal.Refusal.TheVariants.{TooOld, AlreadyProposed, Equivocation}
+use Rattle.spec_machine.specs.Laws.{LowIsToTheFloor}
+use Rattle.spec_machine.specs.Machine.{answered}
 use Rattle.votebook.specs.Slot.{slot_of, slot_cmp}
 use Rattle.votebook.specs.Votes.{Votes, ForgetsTo}
 use Rattle.votebook.specs.declared.slot.Slot.{Slot}

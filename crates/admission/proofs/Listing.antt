@@ -6,11 +6,11 @@ use Rattle.std.specs.Option.{option_map_or}
 use Rattle.wire.specs.References.{placed}
 use Rattle.committee.specs.Charter.{weight, quorum_of}
 use Rattle.committee.specs.Sets.{has as is_in}
-use Rattle.model.specs.Nodes.{Node}
-use Rattle.model.specs.Proposing as proposing
-use Rattle.model.specs.Proposing.{is_nameable}
-use Rattle.model.specs.States as states
-use Rattle.model.specs.States.{State}
+use Rattle.spec_model.specs.Nodes.{Node}
+use Rattle.spec_model.specs.Proposing as proposing
+use Rattle.spec_model.specs.Proposing.{is_nameable}
+use Rattle.spec_model.specs.States as states
+use Rattle.spec_model.specs.States.{State}
 use Rattle.batchstore.specs.Stock.{Stock, held_at, is_available, was_named, may_be_named, as_reference, to_name}
 use Rattle.batchstore.specs.declared.held.Held.{Held}
 use Rattle.batchstore.proofs.Among.{digest_in, is_of, Distinct, found, others}

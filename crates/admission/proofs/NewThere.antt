@@ -7,12 +7,12 @@ use Rattle.wire.specs.declared.message.Message.TheVariants as message
 use Rattle.header.specs.Checks.{Test, test, first_failing, vote_tests, vote_signed, accepts_all, is_member, is_signed}
 use Rattle.header.specs.declared.error.CheckError.{CheckError}
 use Rattle.header.specs.declared.error.CheckError.TheVariants.{UnknownAuthor, BadSender, BadSignature}
-use Rattle.laws.proofs.Lists.{given_or_none}
-use Rattle.model.specs.Admitting.{is_new, is_own, header_answer, vote_answer, IsTaken}
-use Rattle.model.specs.Nodes.{Node, size_of}
-use Rattle.model.specs.Slots.{same_digest, header_digest}
-use Rattle.model.specs.States.{State}
-use Rattle.model.specs.Words.{Author, Header, Vote}
+use Rattle.spec_laws.proofs.Lists.{given_or_none}
+use Rattle.spec_model.specs.Admitting.{is_new, is_own, header_answer, vote_answer, IsTaken}
+use Rattle.spec_model.specs.Nodes.{Node, size_of}
+use Rattle.spec_model.specs.Slots.{same_digest, header_digest}
+use Rattle.spec_model.specs.States.{State}
+use Rattle.spec_model.specs.Words.{Author, Header, Vote}
 
 -- ---- headers
 

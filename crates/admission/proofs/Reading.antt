@@ -7,12 +7,12 @@ use Rattle.std.specs.Str.{bytes_eq}
 use Rattle.std.proofs.lemmas.Bool.{cases_Bool, false_from_ne_true, true≢false}
 use Rattle.std.proofs.lemmas.Slice.Eq.{bytes_eq-Decides}
 use Rattle.committee.specs.Charter.{Charter, weight, quorum_of}
-use Rattle.model.specs.Holdings.{batch_digest}
-use Rattle.model.specs.Nodes.{Node}
-use Rattle.model.specs.Slots.{same_digest}
-use Rattle.model.specs.States as states
-use Rattle.model.specs.States.{State, has_own_batch}
-use Rattle.model.specs.Words.{Contents, Digest}
+use Rattle.spec_model.specs.Holdings.{batch_digest}
+use Rattle.spec_model.specs.Nodes.{Node}
+use Rattle.spec_model.specs.Slots.{same_digest}
+use Rattle.spec_model.specs.States as states
+use Rattle.spec_model.specs.States.{State, has_own_batch}
+use Rattle.spec_model.specs.Words.{Contents, Digest}
 use Rattle.batchstore.specs.Stock.{Stock, held_at, batch_in, has_with, has_own, has_acked, holds, is_available}
 use Rattle.batchstore.specs.declared.held.Held.{Held}
 use Rattle.batchstore.proofs.Among.{is_of, digest_in}

@@ -4,16 +4,16 @@ use Rattle.std.specs.Prelude.{not, ◌==◌, ◌||◌, nat_le, length, is_some, 
 use Rattle.std.specs.Str.{bytes_eq}
 use Rattle.wire.specs.Batches.{batch_body}
 use Rattle.wire.specs.declared.message.Message.TheVariants as message
-use Rattle.model.specs.Admitting.{when◌gives◌else◌, is_own, held_batch_answer, batch_outputs, held_answer, vote_outputs, order_outputs}
-use Rattle.model.specs.Holdings.{batch_digest, is_low, is_full}
-use Rattle.model.specs.Nodes.{Node}
-use Rattle.model.specs.Slots.{same_digest, header_digest}
-use Rattle.model.specs.States.{State, batch_in, has_own_batch, floor_in}
-use Rattle.model.specs.Words.{Author, Certificate, Coin, Contents, Event, Header, Message, Output, Vote}
-use Rattle.model.specs.declared.admission.Admission.TheVariants.{New, Known, Refused}
-use Rattle.model.specs.declared.refusal.Refusal.{Refusal}
-use Rattle.model.specs.declared.refusal.Refusal.TheVariants as refusal
-use Rattle.machine.specs.Machine.{answered, grown, is_missing_parents, is_ready}
+use Rattle.spec_model.specs.Admitting.{when◌gives◌else◌, is_own, held_batch_answer, batch_outputs, held_answer, vote_outputs, order_outputs}
+use Rattle.spec_model.specs.Holdings.{batch_digest, is_low, is_full}
+use Rattle.spec_model.specs.Nodes.{Node}
+use Rattle.spec_model.specs.Slots.{same_digest, header_digest}
+use Rattle.spec_model.specs.States.{State, batch_in, has_own_batch, floor_in}
+use Rattle.spec_model.specs.Words.{Author, Certificate, Coin, Contents, Event, Header, Message, Output, Vote}
+use Rattle.spec_model.specs.declared.admission.Admission.TheVariants.{New, Known, Refused}
+use Rattle.spec_model.specs.declared.refusal.Refusal.{Refusal}
+use Rattle.spec_model.specs.declared.refusal.Refusal.TheVariants as refusal
+use Rattle.spec_machine.specs.Machine.{answered, grown, is_missing_parents, is_ready}
 use Rattle.admission.specs.Decisions.{told, lacks_parents}
 use Rattle.admission.specs.Standing.{has_parents, OthersAreReady}
 use Rattle.admission.specs.declared.tables.answer.Answer.{Answer}

@@ -17,17 +17,17 @@ use Rattle.certify.specs.Answer as certify
 use Rattle.certify.specs.Assembled.{Assembled, is_on, has_voted, votes_weight}
 use Rattle.certify.specs.declared.added.Added.{Added}
 use Rattle.certify.specs.declared.added.Added.TheVariants.{Counted, Complete, Again, NotOurs}
-use Rattle.laws.proofs.Lists.{given_or_none}
-use Rattle.laws.proofs.Meeting.{same_number}
-use Rattle.laws.proofs.SlotsGrow.{or_none}
-use Rattle.model.specs.Holdings.{certificate_by}
-use Rattle.model.specs.Nodes.{Node, size_of}
-use Rattle.model.specs.States.{State}
-use Rattle.model.specs.Words.{Author, Certificate, Event, Header, Message, Vote}
-use Rattle.machine.specs.Machine.{counted_with, certificate_of, vote_at, grown}
-use Rattle.machine.specs.Sound.{IsSound, counts}
+use Rattle.spec_laws.proofs.Lists.{given_or_none}
+use Rattle.spec_laws.proofs.Meeting.{same_number}
+use Rattle.spec_laws.proofs.SlotsGrow.{or_none}
+use Rattle.spec_model.specs.Holdings.{certificate_by}
+use Rattle.spec_model.specs.Nodes.{Node, size_of}
+use Rattle.spec_model.specs.States.{State}
+use Rattle.spec_model.specs.Words.{Author, Certificate, Event, Header, Message, Vote}
+use Rattle.spec_machine.specs.Machine.{counted_with, certificate_of, vote_at, grown}
+use Rattle.spec_machine.specs.Sound.{IsSound, counts}
 use Rattle.admission.specs.Headers.{Headers, assembly_at, vote_in, answer_in, counted_in, IsEntry, IsHeaders, IsWith, IsAt}
-use Rattle.machine.specs.Laws.{FloorsAgree, Comes}
+use Rattle.spec_machine.specs.Laws.{FloorsAgree, Comes}
 use Rattle.admission.specs.HeaderLaws.{added_by, VoteComesTo}
 use Rattle.admission.proofs.HeadersBehind.{behind}
 use Rattle.admission.proofs.HeaderComing.{turned}

@@ -12,15 +12,15 @@ use Rattle.wire.specs.declared.message.Message.TheVariants as message
 use Rattle.certify.specs.Answer.{answer, is_again, is_too_few}
 use Rattle.certify.specs.Assembled.{Assembled, is_on}
 use Rattle.certify.specs.declared.added.Added.TheVariants.{Counted, Complete, Again, NotOurs}
-use Rattle.laws.proofs.Lists.{given_or_none}
-use Rattle.model.specs.Admitting.{is_new, is_own, vote_outputs, order_outputs, pieces}
-use Rattle.model.specs.Holdings.{is_low}
-use Rattle.model.specs.Nodes.{Node}
-use Rattle.model.specs.Slots.{certificate_digest}
-use Rattle.model.specs.States.{State, floor_in}
-use Rattle.model.specs.Words.{Certificate, Digest, Event, Vote}
-use Rattle.machine.specs.Laws.{LowIsToTheFloor}
-use Rattle.machine.specs.Machine.{answered, grown, certificate_of}
+use Rattle.spec_laws.proofs.Lists.{given_or_none}
+use Rattle.spec_model.specs.Admitting.{is_new, is_own, vote_outputs, order_outputs, pieces}
+use Rattle.spec_model.specs.Holdings.{is_low}
+use Rattle.spec_model.specs.Nodes.{Node}
+use Rattle.spec_model.specs.Slots.{certificate_digest}
+use Rattle.spec_model.specs.States.{State, floor_in}
+use Rattle.spec_model.specs.Words.{Certificate, Digest, Event, Vote}
+use Rattle.spec_machine.specs.Laws.{LowIsToTheFloor}
+use Rattle.spec_machine.specs.Machine.{answered, grown, certificate_of}
 use Rattle.admission.specs.Headers.{Headers, assembly_at, answer_in}
 use Rattle.admission.specs.HeaderLaws.{VoteComesTo, added_by}
 use Rattle.admission.proofs.Answering.{answered_as}

@@ -9,26 +9,26 @@ use Rattle.std.proofs.lemmas.Map.Views.{tells_apart}
 use Rattle.std.proofs.lemmas.Bool.{cases_Bool, eqb-true, eq-eqb, false_from_ne_true, and_parts, and_from, not-true, not-false, true≢false}
 use Rattle.std.proofs.lemmas.Grind.{common_steps}
 use Rattle.wire.specs.declared.message.Message.TheVariants as message
-use Rattle.model.specs.Admitting.{is_new, is_own, header_answer}
-use Rattle.model.specs.Giving.{unless_low}
-use Rattle.model.specs.Nodes.{Node}
-use Rattle.model.specs.Slots.{header_digest, is_of_slot}
-use Rattle.model.specs.States.{State, floor_in}
-use Rattle.model.specs.Words.{Author, Digest, Event, Header, Message}
+use Rattle.spec_model.specs.Admitting.{is_new, is_own, header_answer}
+use Rattle.spec_model.specs.Giving.{unless_low}
+use Rattle.spec_model.specs.Nodes.{Node}
+use Rattle.spec_model.specs.Slots.{header_digest, is_of_slot}
+use Rattle.spec_model.specs.States.{State, floor_in}
+use Rattle.spec_model.specs.Words.{Author, Digest, Event, Header, Message}
 use Rattle.std.proofs.lemmas.Option.{none-some}
-use Rattle.laws.proofs.Lists.{given_or_none}
-use Rattle.laws.proofs.Votes.{slot_is}
-use Rattle.machine.specs.Machine.{header_at, grown, after}
+use Rattle.spec_laws.proofs.Lists.{given_or_none}
+use Rattle.spec_laws.proofs.Votes.{slot_is}
+use Rattle.spec_machine.specs.Machine.{header_at, grown, after}
 use Rattle.votebook.specs.Slot.{slot_of}
 use Rattle.votebook.specs.Votes.{Votes, voted_in, ForgetsTo}
 use Rattle.votebook.specs.declared.slot.Slot.{Slot}
 use Rattle.votebook.specs.Slot.{slot_cmp}
 use Rattle.votebook.proofs.Lookups.{exact_slots, slots_total}
-use Rattle.machine.specs.Laws.{Comes, FloorsAgree}
+use Rattle.spec_machine.specs.Laws.{Comes, FloorsAgree}
 use Rattle.admission.specs.Laws.{VotesStay, VoteIsKept}
 use Rattle.admission.specs.Votes.{HasVotes, with_vote, is_peers_header}
 use Rattle.admission.proofs.Answering.{answered_as}
-use Rattle.machine.proofs.Floors.{low_is_to_the_floor}
+use Rattle.spec_machine.proofs.Floors.{low_is_to_the_floor}
 
 abbrev digest_of : Header → Digest
 digest_of header = header_digest header.body

@@ -1,13 +1,13 @@
 -- When a store of batches has what a state has of batches, and what it then answers.
 use Rattle.std.specs.Prelude.{◌≡◌, ℕ, IsTrue, ◌==◌, ◌&&◌, ◌||◌, not, Bool, true, false, map, Result}
 use Rattle.wire.specs.declared.message.Message.TheVariants as message
-use Rattle.model.specs.Admitting.{is_new, is_own}
-use Rattle.model.specs.Nodes.{Node}
-use Rattle.model.specs.States.{State}
-use Rattle.model.specs.Words.{Author, BatchReference, Digest, Event, Header, Message}
-use Rattle.model.specs.declared.refusal.Refusal.{Refusal}
-use Rattle.model.specs.declared.refusal.Refusal.TheVariants as refusal
-use Rattle.machine.specs.Machine.{answered, after}
+use Rattle.spec_model.specs.Admitting.{is_new, is_own}
+use Rattle.spec_model.specs.Nodes.{Node}
+use Rattle.spec_model.specs.States.{State}
+use Rattle.spec_model.specs.Words.{Author, BatchReference, Digest, Event, Header, Message}
+use Rattle.spec_model.specs.declared.refusal.Refusal.{Refusal}
+use Rattle.spec_model.specs.declared.refusal.Refusal.TheVariants as refusal
+use Rattle.spec_machine.specs.Machine.{answered, after}
 use Rattle.batchstore.specs.Stock.{Stock, has_acked, has_with, is_available, was_named}
 use Rattle.batchstore.specs.declared.refusal.StoreRefusal.{StoreRefusal}
 use Rattle.batchstore.specs.declared.refusal.StoreRefusal.TheVariants as store

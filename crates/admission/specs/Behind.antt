@@ -1,11 +1,11 @@
 -- What stays of a validator's tables behind an event.
 use Rattle.std.specs.Prelude.{◌≡◌, false, true, None}
-use Rattle.model.specs.Histories.{as_coin}
-use Rattle.model.specs.Nodes.{Node}
-use Rattle.model.specs.States.{State, floor_in}
-use Rattle.model.specs.Words.{Event}
-use Rattle.machine.specs.Laws.{Comes, LowIsToTheFloor}
-use Rattle.machine.specs.Machine.{after, certificate_of}
+use Rattle.spec_model.specs.Histories.{as_coin}
+use Rattle.spec_model.specs.Nodes.{Node}
+use Rattle.spec_model.specs.States.{State, floor_in}
+use Rattle.spec_model.specs.Words.{Event}
+use Rattle.spec_machine.specs.Laws.{Comes, LowIsToTheFloor}
+use Rattle.spec_machine.specs.Machine.{after, certificate_of}
 use Rattle.votebook.specs.Votes.{ForgetsTo}
 use Rattle.admission.specs.Headers.{Headers, IsForgotten}
 use Rattle.admission.specs.Headers as headers

@@ -4,14 +4,14 @@ use Rattle.wire.specs.declared.message.Message.TheVariants as message
 use Rattle.certify.specs.Assembled.{is_on, started}
 use Rattle.certify.specs.declared.added.Added.{Added}
 use Rattle.certify.specs.declared.added.Added.TheVariants.{Counted, Complete}
-use Rattle.model.specs.Admitting.{is_own}
-use Rattle.model.specs.Holdings.{own_vote}
-use Rattle.model.specs.Nodes.{Node}
-use Rattle.model.specs.States.{State, completed_at, floor_in}
-use Rattle.model.specs.Words.{Certificate, Event, Header, Message, Vote}
-use Rattle.machine.specs.Laws.{Comes}
-use Rattle.machine.specs.Machine.{certificate_of, grown, after, fresh}
-use Rattle.machine.specs.Sound.{IsSound}
+use Rattle.spec_model.specs.Admitting.{is_own}
+use Rattle.spec_model.specs.Holdings.{own_vote}
+use Rattle.spec_model.specs.Nodes.{Node}
+use Rattle.spec_model.specs.States.{State, completed_at, floor_in}
+use Rattle.spec_model.specs.Words.{Certificate, Event, Header, Message, Vote}
+use Rattle.spec_machine.specs.Laws.{Comes}
+use Rattle.spec_machine.specs.Machine.{certificate_of, grown, after, fresh}
+use Rattle.spec_machine.specs.Sound.{IsSound}
 use Rattle.admission.specs.Headers.{Headers, empty, assembly_at, digest_in, has_voted_in, IsHeaders, answer_in, counted_in, IsWith, IsForgotten, IsAt}
 
 -- ---- tables at states

@@ -11,9 +11,9 @@ use Rattle.certify.specs.Answer.{answer, after}
 use Rattle.certify.specs.Assembled.{Assembled, IsAssembled, has_voted}
 use Rattle.certify.specs.declared.added.Added.{Added}
 use Rattle.certify.specs.declared.added.Added.TheVariants.{NotOurs}
-use Rattle.model.specs.Nodes.{Node}
-use Rattle.model.specs.Slots.{header_digest}
-use Rattle.model.specs.States.{State}
+use Rattle.spec_model.specs.Nodes.{Node}
+use Rattle.spec_model.specs.Slots.{header_digest}
+use Rattle.spec_model.specs.States.{State}
 
 -- a table: the committee, the validator's number, and the rounds that have an own header, each with its header and the votes
 pub record Headers : Type 0 where

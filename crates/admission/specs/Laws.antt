@@ -3,13 +3,13 @@ use Rattle.std.specs.Prelude.{◌≡◌, ℕ, ◌==◌, false, true, []}
 use Rattle.std.specs.FinMap as map
 use Rattle.std.specs.Option.{option_map_or}
 use Rattle.wire.specs.declared.message.Message.TheVariants as message
-use Rattle.model.specs.Nodes.{Node}
-use Rattle.model.specs.Proposing as proposing
-use Rattle.model.specs.States.{State, has_own_batch, floor_in}
-use Rattle.model.specs.States as states
-use Rattle.model.specs.Words.{Digest, Event, Header}
-use Rattle.machine.specs.Laws.{Comes}
-use Rattle.machine.specs.Machine.{after, fresh}
+use Rattle.spec_model.specs.Nodes.{Node}
+use Rattle.spec_model.specs.Proposing as proposing
+use Rattle.spec_model.specs.States.{State, has_own_batch, floor_in}
+use Rattle.spec_model.specs.States as states
+use Rattle.spec_model.specs.Words.{Digest, Event, Header}
+use Rattle.spec_machine.specs.Laws.{Comes}
+use Rattle.spec_machine.specs.Machine.{after, fresh}
 use Rattle.batchstore.specs.Stock.{Stock, IsStock, batch_in, has_with, has_own, holds, is_available, nameable}
 use Rattle.votebook.specs.Votes.{Votes, ForgetsTo}
 use Rattle.admission.specs.Batches.{HasBatches, changes_batches}

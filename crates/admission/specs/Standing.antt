@@ -2,14 +2,14 @@
 use Rattle.std.specs.Prelude.{◌≡◌, IsTrue, Bool, true, false, Result}
 use Rattle.std.specs.Global.{Vec}
 use Rattle.wire.specs.declared.message.Message.TheVariants as message
-use Rattle.model.specs.Admitting.{is_new, IsTaken}
-use Rattle.model.specs.Nodes.{Node, IsNode}
-use Rattle.model.specs.States.{State}
-use Rattle.model.specs.Words.{Author, Digest, Event, Message, Output, Signature}
-use Rattle.model.specs.declared.admission.Admission.TheVariants.{New}
-use Rattle.model.specs.declared.refusal.Refusal.{Refusal}
-use Rattle.machine.specs.Machine.{answered, after, is_ready}
-use Rattle.machine.specs.Sound.{IsSound}
+use Rattle.spec_model.specs.Admitting.{is_new, IsTaken}
+use Rattle.spec_model.specs.Nodes.{Node, IsNode}
+use Rattle.spec_model.specs.States.{State}
+use Rattle.spec_model.specs.Words.{Author, Digest, Event, Message, Output, Signature}
+use Rattle.spec_model.specs.declared.admission.Admission.TheVariants.{New}
+use Rattle.spec_model.specs.declared.refusal.Refusal.{Refusal}
+use Rattle.spec_machine.specs.Machine.{answered, after, is_ready}
+use Rattle.spec_machine.specs.Sound.{IsSound}
 use Rattle.admission.specs.Headers as headers
 use Rattle.sequencer.specs.Sequence as sequence
 use Rattle.admission.specs.declared.step.Step.{Step}

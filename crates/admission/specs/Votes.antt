@@ -2,11 +2,11 @@
 use Rattle.std.specs.Prelude.{◌≡◌, ◌≢◌, ℕ, not, Bool, false, None}
 use Rattle.std.specs.FinMap as map
 use Rattle.wire.specs.declared.message.Message.TheVariants as message
-use Rattle.model.specs.Admitting.{is_own}
-use Rattle.model.specs.Nodes.{Node}
-use Rattle.model.specs.Slots.{header_digest}
-use Rattle.model.specs.States.{State}
-use Rattle.model.specs.Words.{Author, HeaderBody, Message}
+use Rattle.spec_model.specs.Admitting.{is_own}
+use Rattle.spec_model.specs.Nodes.{Node}
+use Rattle.spec_model.specs.Slots.{header_digest}
+use Rattle.spec_model.specs.States.{State}
+use Rattle.spec_model.specs.Words.{Author, HeaderBody, Message}
 use Rattle.votebook.specs.Slot.{slot_of}
 use Rattle.votebook.specs.Votes.{Votes, voted_in}
 

@@ -2,10 +2,10 @@
 
 ghost use Rattle.std.specs.Prelude.{◌≡◌, ◌<◌, true, false, length, None, IfOk};
 ghost use Rattle.std.specs.List.{list_all};
-ghost use Rattle.model.specs.Admitting.{batch_outputs as outputs_of, held_batch_answer};
-ghost use Rattle.model.specs.Nodes.{Node};
-ghost use Rattle.model.specs.Words.{Contents};
-ghost use Rattle.model.specs.declared.admission.Admission.TheVariants.{New};
+ghost use Rattle.spec_model.specs.Admitting.{batch_outputs as outputs_of, held_batch_answer};
+ghost use Rattle.spec_model.specs.Nodes.{Node};
+ghost use Rattle.spec_model.specs.Words.{Contents};
+ghost use Rattle.spec_model.specs.declared.admission.Admission.TheVariants.{New};
 ghost use Rattle.wire.specs.declared.message.Message.TheVariants as message;
 ghost use Rattle.batchstore.specs.Stock.{digest_of, held_at};
 ghost use Rattle.batchstore.specs.Answer.{is_full as spec_full, with_batch, with_names};
@@ -14,7 +14,7 @@ ghost use Rattle.admission.specs.Batches.{as_refusal, AnswersFrom, RefusesFrom, 
 
 use crate::step::Step;
 use batchstore::{Acked, BatchStore, StoreRefusal};
-use model::Refusal;
+use spec_model::Refusal;
 use std::alloc::{AllocError, Global};
 use wire::{Author, Batch, BatchAck, BatchReference, Digest, Header, Output};
 

@@ -2,7 +2,7 @@
 
 ghost use Rattle.admission.specs.Laws.{BatchesRead, NameableAgrees, BatchesStay, VotesStay, VoteIsKept, StartsEmpty};
 
-use machine::floors_agree;
+use spec_machine::floors_agree;
 
 /// Each look-up in a store of batches says what the state says.
 pub fn batches_read()

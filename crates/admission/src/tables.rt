@@ -9,8 +9,8 @@ mod headers;
 mod votes;
 
 ghost use Rattle.std.specs.Prelude.{◌≡◌, ◌<◌, length, IfOk};
-ghost use Rattle.model.specs.Nodes.{Node};
-ghost use Rattle.machine.specs.Machine.{fresh};
+ghost use Rattle.spec_model.specs.Nodes.{Node};
+ghost use Rattle.spec_machine.specs.Machine.{fresh};
 ghost use Rattle.votebook.specs.Votes.{ForgetsTo};
 ghost use Rattle.admission.specs.Headers.{IsForgotten};
 ghost use Rattle.admission.specs.Standing.{AreAt};

@@ -1,7 +1,7 @@
 //! The votes for the headers of other members.
 
 ghost use Rattle.std.specs.Prelude.{◌≡◌, None, OnOk, OnErr};
-ghost use Rattle.model.specs.Slots.{header_digest};
+ghost use Rattle.spec_model.specs.Slots.{header_digest};
 ghost use Rattle.votebook.specs.Votes.{voted_in};
 ghost use Rattle.admission.specs.Votes.{with_vote};
 

@@ -1,22 +1,22 @@
 -- What comes of an event.
 use Rattle.std.proofs.Common.{◌≡◌, ◌≢◌, ◌⊎◌, ℕ, ◌+◌, ◌≤◌, List, [], ◌∷◌, ◌++◌, length, inl, inr, refl, sym, ap, ◌∙◌, subst, arith}
 use Rattle.std.proofs.lemmas.Bool.{true≢false}
-use Rattle.laws.specs.Laws.{OutputsGiven}
-use Rattle.machine.specs.Machine.{answered}
-use Rattle.model.specs.Admitting.{admit, is_new, IsLegal, IsTaken}
-use Rattle.model.specs.Giving.{kept}
-use Rattle.model.specs.Histories.{History}
-use Rattle.model.specs.Holdings.{order}
-use Rattle.model.specs.Nodes.{Node}
-use Rattle.model.specs.States.{State}
-use Rattle.model.specs.Words.{Event, Output}
-use Rattle.model.specs.declared.admission.Admission.{Admission}
-use Rattle.model.specs.declared.admission.Admission.TheVariants.{New, Known, Refused}
-use Rattle.model.specs.declared.refusal.Refusal.{Refusal}
-use Rattle.model.specs.declared.refusal.Refusal.TheVariants as refusal
-use Rattle.records.specs.Records.{record_of}
-use Rattle.world.specs.World.{Waiting}
-use Rattle.world.specs.Steps.{ticketed}
+use Rattle.spec_laws.specs.Laws.{OutputsGiven}
+use Rattle.spec_machine.specs.Machine.{answered}
+use Rattle.spec_model.specs.Admitting.{admit, is_new, IsLegal, IsTaken}
+use Rattle.spec_model.specs.Giving.{kept}
+use Rattle.spec_model.specs.Histories.{History}
+use Rattle.spec_model.specs.Holdings.{order}
+use Rattle.spec_model.specs.Nodes.{Node}
+use Rattle.spec_model.specs.States.{State}
+use Rattle.spec_model.specs.Words.{Event, Output}
+use Rattle.spec_model.specs.declared.admission.Admission.{Admission}
+use Rattle.spec_model.specs.declared.admission.Admission.TheVariants.{New, Known, Refused}
+use Rattle.spec_model.specs.declared.refusal.Refusal.{Refusal}
+use Rattle.spec_model.specs.declared.refusal.Refusal.TheVariants as refusal
+use Rattle.spec_records.specs.Records.{record_of}
+use Rattle.spec_world.specs.World.{Waiting}
+use Rattle.spec_world.specs.Steps.{ticketed}
 use Rattle.validator.specs.Standing.{AreAtSound, GoesOn}
 use Rattle.book.specs.declared.book.TheConstants.{MAX_ACCEPTED}
 use Rattle.book.specs.Book.{Shown, Run, history_in, TakesNew, TakesKnown, MayRefuse, HasPlace}

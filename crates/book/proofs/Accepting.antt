@@ -3,15 +3,15 @@ use Rattle.std.proofs.Common.{◌≡◌, ◌≢◌, ℕ, ◌+◌, ◌≤◌, ◌
 use Rattle.std.specs.Prelude.{All}
 use Rattle.std.proofs.lemmas.List.{length_push, drop-append-le, map-append}
 use Rattle.std.proofs.lemmas.List.Elements.{All-weaker, All-append, All-cons, All-nil}
-use Rattle.laws.specs.Laws.{OutputsGiven}
-use Rattle.model.specs.Admitting.{admit, IsLegal}
-use Rattle.model.specs.Giving.{kept}
-use Rattle.model.specs.Holdings.{order}
-use Rattle.model.specs.Nodes.{Node}
-use Rattle.model.specs.Words.{Event, Output}
-use Rattle.model.specs.declared.admission.Admission.TheVariants.{New, Known}
-use Rattle.records.specs.Records.{record_of}
-use Rattle.world.specs.Steps.{ticketed}
+use Rattle.spec_laws.specs.Laws.{OutputsGiven}
+use Rattle.spec_model.specs.Admitting.{admit, IsLegal}
+use Rattle.spec_model.specs.Giving.{kept}
+use Rattle.spec_model.specs.Holdings.{order}
+use Rattle.spec_model.specs.Nodes.{Node}
+use Rattle.spec_model.specs.Words.{Event, Output}
+use Rattle.spec_model.specs.declared.admission.Admission.TheVariants.{New, Known}
+use Rattle.spec_records.specs.Records.{record_of}
+use Rattle.spec_world.specs.Steps.{ticketed}
 use Rattle.validator.specs.Standing.{AreAtSound, GoesOn}
 use Rattle.book.specs.declared.reached.Reached.{Reached}
 use Rattle.book.specs.Queue.{length_at, TicketsRise}

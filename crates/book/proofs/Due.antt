@@ -3,16 +3,16 @@ use Rattle.std.proofs.Common.{◌≡◌, ℕ, ◌+◌, ◌≤◌, List, [], ◌�
 use Rattle.std.specs.Prelude.{All, Contains}
 use Rattle.std.proofs.lemmas.List.{take_all, take-append-le, length_push, length-append, take-append-drop}
 use Rattle.std.proofs.lemmas.List.Elements.{All-map, All-weaker, All-append, All-head, All-tail, All-contains, All-contains_itself}
-use Rattle.laws.specs.Laws.{Begins, PutsOutGiven, OutputsGiven}
-use Rattle.model.specs.Admitting.{admit}
-use Rattle.model.specs.Giving.{MayGive}
-use Rattle.model.specs.Histories.{History}
-use Rattle.model.specs.Nodes.{Node}
-use Rattle.model.specs.Words.{Event, Output}
-use Rattle.model.specs.declared.admission.Admission.TheVariants.{New, Known}
-use Rattle.world.specs.World.{Waiting, put_out}
-use Rattle.world.specs.Steps.{ticketed}
-use Rattle.world.specs.Promise.{GoesOut, by_new, by_known}
+use Rattle.spec_laws.specs.Laws.{Begins, PutsOutGiven, OutputsGiven}
+use Rattle.spec_model.specs.Admitting.{admit}
+use Rattle.spec_model.specs.Giving.{MayGive}
+use Rattle.spec_model.specs.Histories.{History}
+use Rattle.spec_model.specs.Nodes.{Node}
+use Rattle.spec_model.specs.Words.{Event, Output}
+use Rattle.spec_model.specs.declared.admission.Admission.TheVariants.{New, Known}
+use Rattle.spec_world.specs.World.{Waiting, put_out}
+use Rattle.spec_world.specs.Steps.{ticketed}
+use Rattle.spec_world.specs.Promise.{GoesOut, by_new, by_known}
 use Rattle.book.specs.Book.{Run, IsDue, history_in, history_to, with_accepted}
 use Rattle.book.specs.Queue.{TicketsRise}
 

@@ -6,10 +6,10 @@ use Rattle.std.proofs.lemmas.List.Elements.{All-cons, All-head, All-tail}
 use Rattle.std.proofs.lemmas.List.{nil_from_length}
 use Rattle.std.proofs.lemmas.Bool.{eq-eqb, eqb-true, true≢false, leb-true}
 use Rattle.std.proofs.Math.Dec.{eqb}
-use Rattle.model.specs.Words.{Output}
-use Rattle.world.specs.Steps.{ticketed}
+use Rattle.spec_model.specs.Words.{Output}
+use Rattle.spec_world.specs.Steps.{ticketed}
 use Rattle.book.specs.declared.queue.Queued.{Queued}
-use Rattle.world.specs.World.{Waiting}
+use Rattle.spec_world.specs.World.{Waiting}
 use Rattle.book.specs.Queue.{queue_of, HasOutput, settled_head}
 
 -- where the first event goes on having an output, its first one is taken out

@@ -4,14 +4,14 @@ use Rattle.std.specs.Prelude.{All, Option, Some, None, is_some, MatchOption}
 use Rattle.std.proofs.lemmas.Bool.{true≢false}
 use Rattle.std.proofs.lemmas.List.{take-append-drop, take-append-le, take_at, drop-append-le, nil_from_length, length-drop}
 use Rattle.std.proofs.lemmas.List.Elements.{All-head}
-use Rattle.laws.specs.Laws.{Begins, GivenGrows, OrderGrows}
-use Rattle.laws.proofs.Legal.{legal-begins}
-use Rattle.model.specs.Admitting.{IsLegal}
-use Rattle.model.specs.Giving.{MayGive}
-use Rattle.model.specs.Holdings.{order}
-use Rattle.model.specs.Nodes.{Node}
-use Rattle.model.specs.Words.{Digest, Output}
-use Rattle.world.specs.World.{Waiting}
+use Rattle.spec_laws.specs.Laws.{Begins, GivenGrows, OrderGrows}
+use Rattle.spec_laws.proofs.Legal.{legal-begins}
+use Rattle.spec_model.specs.Admitting.{IsLegal}
+use Rattle.spec_model.specs.Giving.{MayGive}
+use Rattle.spec_model.specs.Holdings.{order}
+use Rattle.spec_model.specs.Nodes.{Node}
+use Rattle.spec_model.specs.Words.{Digest, Output}
+use Rattle.spec_world.specs.World.{Waiting}
 use Rattle.book.specs.Queue.{settled_head}
 use Rattle.book.specs.Book.{Shown, Run, IsDue, Stands, history_in, history_to, settled_in, GoesOutSettled}
 use Rattle.book.proofs.Due.{begins_length}

@@ -5,12 +5,12 @@ use Rattle.std.proofs.lemmas.Bool.{cases_Bool, leb-true}
 use Rattle.std.proofs.lemmas.List.{take_all, length-map, length-drop}
 use Rattle.std.proofs.lemmas.List.Elements.{All-append, All-weaker, All-head, All-tail, All-contains_itself, Contains-append_left, Contains-append_right}
 use Rattle.journal.specs.Format.{FitsGroup}
-use Rattle.model.specs.Histories.{History}
-use Rattle.model.specs.Nodes.{Node}
-use Rattle.model.specs.Words.{Event, Output}
-use Rattle.records.specs.Records.{record_of}
-use Rattle.world.specs.World.{World, Waiting, no_group, group_taken, gate_synced, group_in, put_out}
-use Rattle.world.specs.Steps.{accept, take_to, settle, release, ticketed, with_new, with_known, with_given, IsAnswered}
+use Rattle.spec_model.specs.Histories.{History}
+use Rattle.spec_model.specs.Nodes.{Node}
+use Rattle.spec_model.specs.Words.{Event, Output}
+use Rattle.spec_records.specs.Records.{record_of}
+use Rattle.spec_world.specs.World.{World, Waiting, no_group, group_taken, gate_synced, group_in, put_out}
+use Rattle.spec_world.specs.Steps.{accept, take_to, settle, release, ticketed, with_new, with_known, with_given, IsAnswered}
 use Rattle.book.specs.Book.{Shown, Stands, with_settled, TakesNew, TakesKnown, releasable}
 use Rattle.book.specs.Queue.{settled_head}
 use Rattle.book.specs.Pending.{IsLongestBeginning}

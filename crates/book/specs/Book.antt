@@ -1,21 +1,21 @@
 -- The book: what a run accepted, what of it was taken and settled, and what may go out.
 use Rattle.std.specs.Prelude.{◌≡◌, ◌⊎◌, ⊤, ℕ, ◌+◌, ◌≤◌, List, [], ◌∷◌, ◌++◌, length, map, take, drop, Option, None, Bool, true, false, IsTrue, ◌<◌, All, if◌then◌else◌}
-use Rattle.laws.specs.Laws.{Begins}
-use Rattle.model.specs.Admitting.{admit, is_new, IsLegal, IsTaken}
-use Rattle.model.specs.Giving.{kept, MayGive}
-use Rattle.model.specs.Histories.{History}
-use Rattle.model.specs.Holdings.{order}
-use Rattle.model.specs.Nodes.{Node}
-use Rattle.model.specs.States.{State}
-use Rattle.machine.specs.Machine.{answered}
-use Rattle.model.specs.Words.{Event, Output}
-use Rattle.model.specs.declared.admission.Admission.TheVariants.{New, Known, Refused}
-use Rattle.model.specs.declared.refusal.Refusal.{Refusal}
-use Rattle.model.specs.declared.refusal.Refusal.TheVariants.{Memory, Down, StoreFull}
-use Rattle.records.specs.Records.{record_of}
-use Rattle.world.specs.World.{Waiting, put_out}
-use Rattle.world.specs.Steps.{ticketed}
-use Rattle.world.specs.Promise.{GoesOut}
+use Rattle.spec_laws.specs.Laws.{Begins}
+use Rattle.spec_model.specs.Admitting.{admit, is_new, IsLegal, IsTaken}
+use Rattle.spec_model.specs.Giving.{kept, MayGive}
+use Rattle.spec_model.specs.Histories.{History}
+use Rattle.spec_model.specs.Holdings.{order}
+use Rattle.spec_model.specs.Nodes.{Node}
+use Rattle.spec_model.specs.States.{State}
+use Rattle.spec_machine.specs.Machine.{answered}
+use Rattle.spec_model.specs.Words.{Event, Output}
+use Rattle.spec_model.specs.declared.admission.Admission.TheVariants.{New, Known, Refused}
+use Rattle.spec_model.specs.declared.refusal.Refusal.{Refusal}
+use Rattle.spec_model.specs.declared.refusal.Refusal.TheVariants.{Memory, Down, StoreFull}
+use Rattle.spec_records.specs.Records.{record_of}
+use Rattle.spec_world.specs.World.{Waiting, put_out}
+use Rattle.spec_world.specs.Steps.{ticketed}
+use Rattle.spec_world.specs.Promise.{GoesOut}
 use Rattle.validator.specs.Standing as validator
 use Rattle.book.specs.declared.book.TheConstants.{MAX_ACCEPTED}
 use Rattle.book.specs.declared.reached.Reached.{Reached}

@@ -1,10 +1,10 @@
 -- The groups that a book handed over and that aren't settled yet.
 use Rattle.std.specs.Prelude.{◌≡◌, ◌⊎◌, ℕ, ◌+◌, ◌≤◌, true, List, [], ◌∷◌, length, map, drop}
-use Rattle.model.specs.Admitting.{IsLegal}
-use Rattle.model.specs.Giving.{kept}
-use Rattle.model.specs.Histories.{History}
-use Rattle.model.specs.Nodes.{Node}
-use Rattle.records.specs.Records.{record_of}
+use Rattle.spec_model.specs.Admitting.{IsLegal}
+use Rattle.spec_model.specs.Giving.{kept}
+use Rattle.spec_model.specs.Histories.{History}
+use Rattle.spec_model.specs.Nodes.{Node}
+use Rattle.spec_records.specs.Records.{record_of}
 use Rattle.journal.specs.Format.{file_with, group_bytes, stands}
 use Rattle.journal.specs.Journal.{stands_with}
 use Rattle.journal.specs.declared.layout.TheConstants.{MAX_JOURNAL_BYTES}

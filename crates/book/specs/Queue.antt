@@ -1,8 +1,8 @@
 -- The outputs that wait, each with its ticket, and how long the order is at which ticket.
 use Rattle.std.specs.Prelude.{◌≢◌, ◌≤◌, ⊤, ℕ, nat_le, All, Option, Some, None, List, [], ◌∷◌, flat_map, if◌then◌else◌}
-use Rattle.model.specs.Words.{Output}
-use Rattle.world.specs.World.{Waiting}
-use Rattle.world.specs.Steps.{ticketed}
+use Rattle.spec_model.specs.Words.{Output}
+use Rattle.spec_world.specs.World.{Waiting}
+use Rattle.spec_world.specs.Steps.{ticketed}
 use Rattle.book.specs.declared.queue.Queued.{Queued}
 use Rattle.book.specs.declared.reached.Reached.{Reached}
 

@@ -1,9 +1,9 @@
 -- What a book does is a step of its world.
 use Rattle.std.specs.Prelude.{◌≡◌, ◌⊎◌, ℕ, ◌+◌, List, length, drop, Some, All, Contains}
-use Rattle.model.specs.Nodes.{Node}
-use Rattle.model.specs.Words.{Event, Output}
-use Rattle.world.specs.World.{World, no_group, gate_synced, group_in}
-use Rattle.world.specs.Steps.{Move, accept, take_to, settle, release, IsStep}
+use Rattle.spec_model.specs.Nodes.{Node}
+use Rattle.spec_model.specs.Words.{Event, Output}
+use Rattle.spec_world.specs.World.{World, no_group, gate_synced, group_in}
+use Rattle.spec_world.specs.Steps.{Move, accept, take_to, settle, release, IsStep}
 use Rattle.book.specs.Book.{Shown, Run, Stands, with_settled, TakesNew, TakesKnown, releasable}
 use Rattle.book.specs.Pending.{IsLongestBeginning}
 

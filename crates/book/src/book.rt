@@ -3,7 +3,7 @@
 ghost use Rattle.std.specs.Prelude.{◌≡◌, ◌+◌, ◌≤◌, ◌<◌, ◌^◌, ◌++◌, ◌∷◌, [], length, IfErr, OnOk, OnErr};
 ghost use Rattle.std.specs.VecDeque.{deque_len, deque_capacity};
 ghost use Rattle.journal.specs.declared.layout.TheConstants.{LENGTH_BYTES, MAX_GROUP_BYTES};
-ghost use Rattle.records.specs.Records.{record_of};
+ghost use Rattle.spec_records.specs.Records.{record_of};
 ghost use Rattle.book.specs.declared.book.TheConstants.{MAX_ACCEPTED};
 
 use crate::pending::Pending;
@@ -91,11 +91,11 @@ impl<'a, S: Sign> Model for Book<'a, S> {
 impl<'a, S: Sign> Book<'a, S> {
     ghost use Rattle.std.specs.Prelude.{◌≢◌, ◌⊎◌, ◌∷◌, [], ◌++◌, ◌+◌, ◌≤◌, true, false, length, map, take, drop, IsTrue, IsNone, Ok, IfOk, IfErr, IfSome, OnErr, IsErrOf, ◌↔◌, is_some, if◌then◌else◌, List, ℕ};
     ghost use Rattle.header.specs.Checks.{fault_of, accepts_all};
-    ghost use Rattle.laws.specs.Laws.{Begins};
-    ghost use Rattle.model.specs.Giving.{kept};
-    ghost use Rattle.model.specs.Holdings.{order as order_of, round as round_of};
-    ghost use Rattle.model.specs.Histories.{History};
-    ghost use Rattle.model.specs.Admitting.{IsLegal};
+    ghost use Rattle.spec_laws.specs.Laws.{Begins};
+    ghost use Rattle.spec_model.specs.Giving.{kept};
+    ghost use Rattle.spec_model.specs.Holdings.{order as order_of, round as round_of};
+    ghost use Rattle.spec_model.specs.Histories.{History};
+    ghost use Rattle.spec_model.specs.Admitting.{IsLegal};
     ghost use Rattle.validator.specs.Setting.{node_of};
     ghost use Rattle.validator.specs.Standing.{AreAtSound};
     ghost use Rattle.book.specs.Pending.{IsLongestBeginning};
@@ -156,7 +156,7 @@ impl<'a, S: Sign> Book<'a, S> {
         ensures err { OnErr result (self.new ≡ self.old) }
         ensures setting { self.new.validator.setting ≡ self.old.validator.setting }
     {
-        laws::outputs_given();
+        spec_laws::outputs_given();
         event.message().limits_hold();
         if self.down {
             return Err(Refusal::Down);
@@ -265,7 +265,7 @@ impl<'a, S: Sign> Book<'a, S> {
         ensures goes_out { IfSome result (λ output. (run : Run) → Stands (node_of S.own_key S.signature_of self.old.validator.setting) run self.old
             → GoesOutSettled (node_of S.own_key S.signature_of self.old.validator.setting) run output) }
     {
-        laws::given_grows();
+        spec_laws::given_grows();
         if self.down {
             return None;
         }
@@ -332,7 +332,7 @@ impl<'a, S: Sign> Book<'a, S> {
         ensures down { IsErrOf result Refusal.Down ↔ IsTrue self.now.down }
         ensures errors { IfErr result (λ refusal. (refusal ≡ Refusal.Down) ⊎ (refusal ≡ Refusal.Memory)) }
     {
-        laws::order_grows();
+        spec_laws::order_grows();
         if self.down {
             return Err(Refusal::Down);
         }

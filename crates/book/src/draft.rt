@@ -3,7 +3,7 @@
 ghost use Rattle.std.specs.Prelude.{◌≡◌, ◌+◌, ◌≤◌, ◌++◌, vec_len, vec_capacity, drop, ◌∷◌, [], List, ℕ, length, IsTrue, IfOk, IfErr, OnOk, OnErr, ◌↔◌};
 ghost use Rattle.journal.specs.Format.{FitsGroup};
 ghost use Rattle.std.specs.Int.{w32, to_be_bytes};
-ghost use Rattle.records.specs.Records.{record_of as record_bytes};
+ghost use Rattle.spec_records.specs.Records.{record_of as record_bytes};
 ghost use Rattle.book.specs.Pending.{IsDraft};
 ghost use Rattle.book.specs.OneDraft.{one_draft};
 ghost use Rattle.journal.specs.declared.layout.TheConstants.{LENGTH_BYTES, MAX_GROUP_BYTES};

@@ -45,17 +45,17 @@ impl<'a, S: Sign> OwnBook<'a, S> {
     ghost use Rattle.std.specs.Prelude.{◌≡◌, ◌≢◌, ◌⊎◌, ◌↔◌, ◌+◌, ◌<◌, ◌≤◌, ◌==◌, drop, map, false, is_some, if◌then◌else◌, IsNone, ◌++◌, ◌∷◌, [], List, ℕ, length, true, None, Ok, IfOk, IfErr, IfSome, OnOk, OnErr, IsErrOf, IsTrue};
     ghost use Rattle.diskmodel.specs.Disk.{AtEachMoment};
     ghost use Rattle.header.specs.Checks.{fault_of, accepts_all};
-    ghost use Rattle.laws.specs.Laws.{Begins};
+    ghost use Rattle.spec_laws.specs.Laws.{Begins};
     ghost use Rattle.journal.specs.Journal.{disk_of, IsAlive};
-    ghost use Rattle.records.specs.Records.{record_of};
+    ghost use Rattle.spec_records.specs.Records.{record_of};
     ghost use Rattle.validator.specs.Setting.{node_of};
     ghost use Rattle.validator.specs.Standing.{AreAtSound};
     ghost use Rattle.book.specs.Book.{Run, Stands, run_on, with_settled, SettlesNext, TakesNew, TakesKnown, MayRefuse, GoesOutSettled, releasable, history_in, settled_in};
     ghost use Rattle.book.specs.declared.book.TheConstants.{MAX_ACCEPTED};
-    ghost use Rattle.model.specs.Admitting.{IsLegal};
-    ghost use Rattle.model.specs.Giving.{kept};
-    ghost use Rattle.model.specs.Histories.{History};
-    ghost use Rattle.model.specs.Holdings.{order as order_of, round as round_of};
+    ghost use Rattle.spec_model.specs.Admitting.{IsLegal};
+    ghost use Rattle.spec_model.specs.Giving.{kept};
+    ghost use Rattle.spec_model.specs.Histories.{History};
+    ghost use Rattle.spec_model.specs.Holdings.{order as order_of, round as round_of};
     ghost use Rattle.book.specs.OnTheWay.{AreOnTheWay, Flushes, FindsNoRoom, FailsWithRoom, IsWithOrWithout, StandsAtLegal};
     ghost use Rattle.book.specs.Pending.{IsLongestBeginning};
 

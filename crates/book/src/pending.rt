@@ -2,7 +2,7 @@
 
 ghost use Rattle.std.specs.Prelude.{◌≡◌, ◌+◌, ◌≤◌, ◌++◌, ◌∷◌, [], true, false, List, ℕ, length, IsTrue, IsNone, IfOk, IfSome, OnOk, OnErr, ◌↔◌};
 ghost use Rattle.journal.specs.declared.layout.TheConstants.{LENGTH_BYTES, MAX_GROUP_BYTES};
-ghost use Rattle.records.specs.Records.{record_of};
+ghost use Rattle.spec_records.specs.Records.{record_of};
 ghost use Rattle.book.specs.Pending.{ArePacked, IsLongestBeginning, all_records, HasRoom, HasNoRoom};
 
 use crate::draft::Draft;

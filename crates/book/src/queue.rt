@@ -2,7 +2,7 @@
 
 ghost use Rattle.std.specs.Prelude.{◌≡◌, ◌+◌, ◌≤◌, ◌<◌, ◌++◌, ◌∷◌, [], All, None, MatchOption, is_some, ℕ};
 ghost use Rattle.std.specs.VecDeque.{deque_len, deque_capacity};
-ghost use Rattle.world.specs.Steps.{ticketed};
+ghost use Rattle.spec_world.specs.Steps.{ticketed};
 ghost use Rattle.book.specs.Queue.{queue_of, HasOutput, settled_head};
 
 use std::collections::VecDeque;

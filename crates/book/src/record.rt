@@ -2,7 +2,7 @@
 
 ghost use Rattle.std.specs.Prelude.{◌≡◌, ◌++◌, ◌+◌, ◌≤◌, List, ℕ, length, OnOk, OnErr};
 ghost use Rattle.journal.specs.Format.{record_bytes};
-ghost use Rattle.records.specs.Records.{record_of};
+ghost use Rattle.spec_records.specs.Records.{record_of};
 
 use header::Checked;
 use journal::{LENGTH_BYTES, MAX_GROUP_BYTES};

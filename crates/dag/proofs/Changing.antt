@@ -8,9 +8,9 @@ use Rattle.std.proofs.lemmas.List.{length-map, append-nil, take_all}
 use Rattle.std.proofs.Math.ListN.{drop_of_length-le}
 use Rattle.std.proofs.lemmas.Option.{same_Some, none-some}
 use Rattle.committee.specs.Charter.{Charter}
-use Rattle.model.specs.Holdings.{all_held}
-use Rattle.model.specs.Slots.{Slots, reaches}
-use Rattle.laws.proofs.Lists.{given_or_none}
+use Rattle.spec_model.specs.Holdings.{all_held}
+use Rattle.spec_model.specs.Slots.{Slots, reaches}
+use Rattle.spec_laws.proofs.Lists.{given_or_none}
 use Rattle.dag.specs.Changes.{IsMarked}
 use Rattle.dag.specs.Graph.{Graph, slots_in, marked_in}
 use Rattle.dag.specs.Kept.{Rows, entry_at, graph_of, placed_of, IsKept, IsEntry}

@@ -9,14 +9,14 @@ use Rattle.std.proofs.lemmas.List.{length-drop, length-map}
 use Rattle.std.proofs.lemmas.List.Elements.{All-drop}
 use Rattle.std.proofs.lemmas.Option.{none-some}
 use Rattle.committee.specs.Charter.{Charter, numbers}
-use Rattle.model.specs.Holdings.{is_held}
-use Rattle.model.specs.Slots.{Slots, same_digest, certificate_digest, is_parent, has_path, reaches}
-use Rattle.model.specs.Words.{Certificate, ParentReference}
-use Rattle.laws.proofs.Closed.{all_stay, or_right}
-use Rattle.laws.proofs.FromRounds.{AgreeFrom, round_from}
-use Rattle.laws.proofs.Growing.{any_same}
-use Rattle.laws.proofs.Lists.{given_or_none}
-use Rattle.laws.proofs.Votes.{slot_is}
+use Rattle.spec_model.specs.Holdings.{is_held}
+use Rattle.spec_model.specs.Slots.{Slots, same_digest, certificate_digest, is_parent, has_path, reaches}
+use Rattle.spec_model.specs.Words.{Certificate, ParentReference}
+use Rattle.spec_laws.proofs.Closed.{all_stay, or_right}
+use Rattle.spec_laws.proofs.FromRounds.{AgreeFrom, round_from}
+use Rattle.spec_laws.proofs.Growing.{any_same}
+use Rattle.spec_laws.proofs.Lists.{given_or_none}
+use Rattle.spec_laws.proofs.Votes.{slot_is}
 use Rattle.dag.specs.Changes.{IsDropped}
 use Rattle.dag.specs.Graph.{Graph, IsGraph, size_in, slots_in, reaches_in}
 use Rattle.dag.specs.Kept.{Rows, entry_at, graph_of, placed_of, IsKept, IsEntry}

@@ -8,14 +8,14 @@ use Rattle.std.proofs.lemmas.Bool.{cases_Bool, and_parts, and_from, eqb-true, eq
 use Rattle.std.proofs.lemmas.Option.{same_Some, none-some, slice_get_within, get_or_from_slice_get}
 use Rattle.committee.specs.Charter.{Charter}
 use Rattle.committee.specs.declared.members.TheConstants.{MAX_MEMBERS}
-use Rattle.model.specs.Holdings.{is_held, all_held}
-use Rattle.model.specs.Slots.{Slots, same_digest, certificate_digest, is_of_slot, is_named, is_parent}
-use Rattle.model.specs.Words.{Certificate, Digest, ParentReference}
-use Rattle.laws.proofs.Closed.{or_right}
-use Rattle.laws.proofs.Growing.{AreInPlace, and_false}
-use Rattle.laws.proofs.Lists.{given_or_none}
-use Rattle.laws.proofs.Meeting.{any_to}
-use Rattle.laws.proofs.Votes.{slot_is}
+use Rattle.spec_model.specs.Holdings.{is_held, all_held}
+use Rattle.spec_model.specs.Slots.{Slots, same_digest, certificate_digest, is_of_slot, is_named, is_parent}
+use Rattle.spec_model.specs.Words.{Certificate, Digest, ParentReference}
+use Rattle.spec_laws.proofs.Closed.{or_right}
+use Rattle.spec_laws.proofs.Growing.{AreInPlace, and_false}
+use Rattle.spec_laws.proofs.Lists.{given_or_none}
+use Rattle.spec_laws.proofs.Meeting.{any_to}
+use Rattle.spec_laws.proofs.Votes.{slot_is}
 use Rattle.committee.specs.Sets.{has}
 use Rattle.dag.specs.Graph.{row_at, slots_in}
 use Rattle.dag.specs.Kept.{Rows, entry_at, graph_of, IsKept}

@@ -7,12 +7,12 @@ use Rattle.std.proofs.lemmas.Bool.{cases_Bool, cases_lt, eqb-true, le-leb}
 use Rattle.std.proofs.lemmas.List.FromFn.{length-range_with_len, get_or-range_with_len}
 use Rattle.std.proofs.lemmas.Option.{same_Some, none-some, slice_get-map, slice_get-get_or, slice_get_past}
 use Rattle.committee.specs.Charter.{Charter, IsCharter, numbers}
-use Rattle.model.specs.Holdings.{genesis}
-use Rattle.model.specs.Slots.{is_of_slot, slots_of}
-use Rattle.model.specs.Words.{Certificate}
-use Rattle.laws.proofs.Lists.{given_or_none, found_passes, Contains-nothing, Contains-cases}
-use Rattle.laws.proofs.Meeting.{mapped_from}
-use Rattle.laws.proofs.Votes.{slot_is, of_its_slot}
+use Rattle.spec_model.specs.Holdings.{genesis}
+use Rattle.spec_model.specs.Slots.{is_of_slot, slots_of}
+use Rattle.spec_model.specs.Words.{Certificate}
+use Rattle.spec_laws.proofs.Lists.{given_or_none, found_passes, Contains-nothing, Contains-cases}
+use Rattle.spec_laws.proofs.Meeting.{mapped_from}
+use Rattle.spec_laws.proofs.Votes.{slot_is, of_its_slot}
 use Rattle.dag.specs.Graph.{slots_in, marked_in}
 use Rattle.dag.specs.Kept.{Rows, entry_at, graph_of, IsKept, IsEntry}
 use Rattle.dag.specs.Rows.{first}

@@ -9,12 +9,12 @@ use Rattle.std.proofs.lemmas.List.Elements.{All-append, All-replicate, All-set}
 use Rattle.std.proofs.lemmas.Option.{same_Some}
 use Rattle.wire.specs.declared.round.TheConstants.Round.{MAX}
 use Rattle.committee.specs.Charter.{Charter}
-use Rattle.model.specs.Holdings.{is_low, is_held, all_held}
-use Rattle.model.specs.Slots.{certificate_digest, is_of_slot, slots_of}
-use Rattle.model.specs.Words.{Certificate, ParentReference}
-use Rattle.laws.proofs.Growing.{is_in}
-use Rattle.laws.proofs.Lists.{given_or_none}
-use Rattle.laws.proofs.Votes.{slot_is, of_its_slot}
+use Rattle.spec_model.specs.Holdings.{is_low, is_held, all_held}
+use Rattle.spec_model.specs.Slots.{certificate_digest, is_of_slot, slots_of}
+use Rattle.spec_model.specs.Words.{Certificate, ParentReference}
+use Rattle.spec_laws.proofs.Growing.{is_in}
+use Rattle.spec_laws.proofs.Lists.{given_or_none}
+use Rattle.spec_laws.proofs.Votes.{slot_is, of_its_slot}
 use Rattle.dag.specs.Changes.{IsWith}
 use Rattle.dag.specs.Graph.{slots_in, end_in}
 use Rattle.dag.specs.Kept.{Rows, entry_at, graph_of, placed_of, IsKept, IsEntry, AreReachedBy}

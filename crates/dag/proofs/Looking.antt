@@ -7,13 +7,13 @@ use Rattle.std.proofs.lemmas.Bool.{cases_Bool, eqb-true, lt-ltb, leb-true}
 use Rattle.std.proofs.lemmas.List.{length-map}
 use Rattle.std.proofs.lemmas.Option.{slice_get-map}
 use Rattle.committee.specs.Charter.{Charter}
-use Rattle.model.specs.Holdings.{all_held}
-use Rattle.model.specs.Slots.{Slots, is_parent, reaches}
-use Rattle.model.specs.Words.{Certificate}
-use Rattle.laws.proofs.Growing.{AreInPlace, IsIn, is_in}
-use Rattle.laws.proofs.Lists.{given_or_none}
-use Rattle.laws.proofs.Votes.{slot_is}
-use Rattle.laws.proofs.Weighing.{sum_mapped}
+use Rattle.spec_model.specs.Holdings.{all_held}
+use Rattle.spec_model.specs.Slots.{Slots, is_parent, reaches}
+use Rattle.spec_model.specs.Words.{Certificate}
+use Rattle.spec_laws.proofs.Growing.{AreInPlace, IsIn, is_in}
+use Rattle.spec_laws.proofs.Lists.{given_or_none}
+use Rattle.spec_laws.proofs.Votes.{slot_is}
+use Rattle.spec_laws.proofs.Weighing.{sum_mapped}
 use Rattle.committee.specs.Sets.{has}
 use Rattle.dag.specs.Graph.{Graph, IsGraph, size_in, slots_in, count_in, row_at, has_parent_in, reaches_in}
 use Rattle.dag.specs.Kept.{Rows, entry_at, graph_of, placed_of, IsKept}

@@ -5,12 +5,12 @@ use Rattle.std.specs.List.{list_any}
 use Rattle.std.proofs.lemmas.Bool.{and_parts, and_from, eqb-true, leb-true, le-leb}
 use Rattle.std.proofs.lemmas.Option.{same_Some}
 use Rattle.committee.specs.Charter.{numbers}
-use Rattle.model.specs.Slots.{Slots, is_of_slot, round_of, is_named, is_parent, has_path, reaches}
-use Rattle.model.specs.Words.{Certificate}
-use Rattle.laws.proofs.Growing.{AreInPlace, IsIn, is_in}
-use Rattle.laws.proofs.Lists.{Contains-made, Contains-makes}
-use Rattle.laws.proofs.Meeting.{any_to, number_in}
-use Rattle.laws.proofs.Votes.{slot_is, of_its_slot}
+use Rattle.spec_model.specs.Slots.{Slots, is_of_slot, round_of, is_named, is_parent, has_path, reaches}
+use Rattle.spec_model.specs.Words.{Certificate}
+use Rattle.spec_laws.proofs.Growing.{AreInPlace, IsIn, is_in}
+use Rattle.spec_laws.proofs.Lists.{Contains-made, Contains-makes}
+use Rattle.spec_laws.proofs.Meeting.{any_to, number_in}
+use Rattle.spec_laws.proofs.Votes.{slot_is, of_its_slot}
 use Rattle.dag.proofs.Tests.{any_from}
 
 -- a certificate that a slot of a member holds is among those of its round

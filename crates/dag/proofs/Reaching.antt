@@ -6,14 +6,14 @@ use Rattle.std.specs.Option.{option_map_or, option_or}
 use Rattle.std.proofs.lemmas.Bool.{cases_Bool, and_parts, and_from, true≢false}
 use Rattle.std.proofs.lemmas.Option.{same_Some}
 use Rattle.committee.specs.Charter.{numbers}
-use Rattle.model.specs.Holdings.{is_low, is_held, all_held}
-use Rattle.model.specs.Slots.{Slots, is_of_slot, slots_of, round_of, is_parent, reaches}
-use Rattle.model.specs.Words.{Certificate, HeaderBody}
-use Rattle.laws.proofs.Closed.{low_parent, held_stays, all_stay}
-use Rattle.laws.proofs.Growing.{AreInPlace, Extends, IsIn, is_in, and_false, reaches_same, reaches_new}
-use Rattle.laws.proofs.Lists.{given_or_none, Contains-made}
-use Rattle.laws.proofs.Meeting.{any_to}
-use Rattle.laws.proofs.Votes.{slot_is, of_its_slot}
+use Rattle.spec_model.specs.Holdings.{is_low, is_held, all_held}
+use Rattle.spec_model.specs.Slots.{Slots, is_of_slot, slots_of, round_of, is_parent, reaches}
+use Rattle.spec_model.specs.Words.{Certificate, HeaderBody}
+use Rattle.spec_laws.proofs.Closed.{low_parent, held_stays, all_stay}
+use Rattle.spec_laws.proofs.Growing.{AreInPlace, Extends, IsIn, is_in, and_false, reaches_same, reaches_new}
+use Rattle.spec_laws.proofs.Lists.{given_or_none, Contains-made}
+use Rattle.spec_laws.proofs.Meeting.{any_to}
+use Rattle.spec_laws.proofs.Votes.{slot_is, of_its_slot}
 use Rattle.dag.proofs.Tests.{same_test, any_from}
 use Rattle.dag.proofs.Paths.{in_round, parent_below, reached_first, reached_above}
 

@@ -6,12 +6,12 @@ use Rattle.std.specs.Option.{option_map_or}
 use Rattle.std.proofs.lemmas.Bool.{and_parts, and_from, true≢false}
 use Rattle.std.proofs.lemmas.Option.{same_Some, none-some, slice_get_within}
 use Rattle.committee.specs.Charter.{numbers}
-use Rattle.model.specs.Slots.{Slots, round_of, is_parent, reaches}
-use Rattle.model.specs.Words.{Certificate}
-use Rattle.laws.proofs.Growing.{AreInPlace, is_in, and_false}
-use Rattle.laws.proofs.Lists.{given_or_none, Contains-made}
-use Rattle.laws.proofs.Meeting.{any_to, number_in}
-use Rattle.laws.proofs.Votes.{slot_is}
+use Rattle.spec_model.specs.Slots.{Slots, round_of, is_parent, reaches}
+use Rattle.spec_model.specs.Words.{Certificate}
+use Rattle.spec_laws.proofs.Growing.{AreInPlace, is_in, and_false}
+use Rattle.spec_laws.proofs.Lists.{given_or_none, Contains-made}
+use Rattle.spec_laws.proofs.Meeting.{any_to, number_in}
+use Rattle.spec_laws.proofs.Votes.{slot_is}
 use Rattle.committee.specs.Sets.{has}
 use Rattle.dag.specs.Rows.{slot_at, passes_on, reach_over}
 use Rattle.dag.specs.Sets.{set_at}

@@ -5,10 +5,10 @@ use Rattle.std.specs.List.{list_any}
 use Rattle.std.specs.Str.{bytes_eq}
 use Rattle.std.proofs.lemmas.Bool.{cases_Bool}
 use Rattle.std.proofs.lemmas.Slice.Eq.{bytes_eq-Decides}
-use Rattle.model.specs.Slots.{same_digest}
-use Rattle.model.specs.Words.{Digest}
-use Rattle.laws.proofs.Proposed.{same_bytes}
-use Rattle.laws.proofs.Lists.{Contains-nothing, Contains-cases}
+use Rattle.spec_model.specs.Slots.{same_digest}
+use Rattle.spec_model.specs.Words.{Digest}
+use Rattle.spec_laws.proofs.Proposed.{same_bytes}
+use Rattle.spec_laws.proofs.Lists.{Contains-nothing, Contains-cases}
 
 -- two tests of which each passes where the other does
 pub same_test : (one other : Bool) → (one ≡ true → other ≡ true) → (other ≡ true → one ≡ true) → one ≡ other

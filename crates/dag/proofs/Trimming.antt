@@ -6,7 +6,7 @@ use Rattle.std.proofs.lemmas.List.{length-map, length-append, length-drop, lengt
 use Rattle.std.proofs.lemmas.Option.{slice_get-map, same_Some, none-some}
 use Rattle.wire.specs.declared.round.TheConstants.Round.{MAX}
 use Rattle.committee.specs.Charter.{Charter}
-use Rattle.laws.proofs.Lists.{given_or_none}
+use Rattle.spec_laws.proofs.Lists.{given_or_none}
 use Rattle.dag.specs.Graph.{Graph}
 use Rattle.dag.specs.Kept.{Rows, entry_at, graph_of, placed_of, IsKept, IsEntry}
 use Rattle.dag.specs.Rows.{slot_at, trimmed, trimmed_rows}

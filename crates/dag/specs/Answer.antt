@@ -1,10 +1,10 @@
 -- What a DAG answers a certificate: of the tests in their order the first that applies decides.
 use Rattle.std.specs.Prelude.{not, Result, Ok, Err, if◌then◌else◌}
 use Rattle.std.specs.Option.{option_map_or}
-use Rattle.model.specs.Admitting.{same_header}
-use Rattle.model.specs.Holdings.{is_low, all_held}
-use Rattle.model.specs.Slots.{same_digest, certificate_digest}
-use Rattle.model.specs.Words.{Certificate}
+use Rattle.spec_model.specs.Admitting.{same_header}
+use Rattle.spec_model.specs.Holdings.{is_low, all_held}
+use Rattle.spec_model.specs.Slots.{same_digest, certificate_digest}
+use Rattle.spec_model.specs.Words.{Certificate}
 use Rattle.dag.specs.Graph.{Graph, slots_in}
 use Rattle.dag.specs.declared.answers.Added.{Added}
 use Rattle.dag.specs.declared.answers.Added.TheVariants.{New, Known}

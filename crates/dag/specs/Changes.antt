@@ -1,8 +1,8 @@
 -- What a DAG is behind a change.
 use Rattle.std.specs.Prelude.{◌≡◌, ◌≤◌, ℕ, ◌+◌, ◌==◌, ◌&&◌, ◌||◌, nat_lt, max, Bool, false, [], ◌∷◌, is_some, None, if◌then◌else◌}
 use Rattle.std.specs.Option.{option_or}
-use Rattle.model.specs.Slots.{slots_of}
-use Rattle.model.specs.Words.{Certificate}
+use Rattle.spec_model.specs.Slots.{slots_of}
+use Rattle.spec_model.specs.Words.{Certificate}
 use Rattle.dag.specs.Graph.{Graph, slots_in, marked_in, end_in}
 
 -- one certificate more is held, in a slot that held nothing, and it has no mark; rows are made up to its round, which is the next

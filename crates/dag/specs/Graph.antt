@@ -3,9 +3,9 @@ use Rattle.std.specs.Prelude.{◌≡◌, ℕ, ◌+◌, ◌-◌, ◌<◌, ◌≤�
 use Rattle.std.specs.Option.{option_map_or}
 use Rattle.wire.specs.declared.round.TheConstants.Round.{MAX}
 use Rattle.committee.specs.Charter.{Charter, IsCharter, weight}
-use Rattle.model.specs.Holdings.{all_held}
-use Rattle.model.specs.Slots.{Slots, certificate_digest, is_of_slot, is_parent, reaches}
-use Rattle.model.specs.Words.{Author, Certificate, Digest, ParentReference}
+use Rattle.spec_model.specs.Holdings.{all_held}
+use Rattle.spec_model.specs.Slots.{Slots, certificate_digest, is_of_slot, is_parent, reaches}
+use Rattle.spec_model.specs.Words.{Author, Certificate, Digest, ParentReference}
 
 -- a certificate that is held, and whether it is marked: it lies in the history of a committed leader
 pub record Placed : Type 0 where

@@ -4,9 +4,9 @@ use Rattle.std.specs.List.{list_any}
 use Rattle.std.specs.Option.{option_map_or}
 use Rattle.wire.specs.declared.round.TheConstants.Round.{MAX}
 use Rattle.committee.specs.Charter.{Charter, IsCharter}
-use Rattle.model.specs.Holdings.{all_held}
-use Rattle.model.specs.Slots.{certificate_digest, is_of_slot, round_of, is_parent, reaches}
-use Rattle.model.specs.Words.{Certificate}
+use Rattle.spec_model.specs.Holdings.{all_held}
+use Rattle.spec_model.specs.Slots.{certificate_digest, is_of_slot, round_of, is_parent, reaches}
+use Rattle.spec_model.specs.Words.{Certificate}
 use Rattle.dag.specs.Graph.{Graph, Placed, row_at, slots_in, size_in}
 use Rattle.committee.specs.Sets.{has}
 use Rattle.dag.specs.Sets.{set_at}

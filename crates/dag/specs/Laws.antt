@@ -1,11 +1,11 @@
 -- What ties a DAG to admission, and what stays as it was where it changes.
 use Rattle.std.specs.Prelude.{◌≡◌, ◌≤◌, ◌<◌, ℕ, true, [], Ok, Err, is_some}
-use Rattle.model.specs.Admitting.{certificate_answer, order_outputs}
-use Rattle.model.specs.Nodes.{Node}
-use Rattle.model.specs.States.{State, floor_in}
-use Rattle.model.specs.Words.{Certificate}
-use Rattle.model.specs.declared.admission.Admission.TheVariants as admission
-use Rattle.model.specs.declared.refusal.Refusal.TheVariants as refusal
+use Rattle.spec_model.specs.Admitting.{certificate_answer, order_outputs}
+use Rattle.spec_model.specs.Nodes.{Node}
+use Rattle.spec_model.specs.States.{State, floor_in}
+use Rattle.spec_model.specs.Words.{Certificate}
+use Rattle.spec_model.specs.declared.admission.Admission.TheVariants as admission
+use Rattle.spec_model.specs.declared.refusal.Refusal.TheVariants as refusal
 use Rattle.dag.specs.Answer.{answer}
 use Rattle.dag.specs.Changes.{IsWith, IsDropped}
 use Rattle.dag.specs.Graph.{Graph, IsGraph, size_in, slots_in, reaches_in}

@@ -2,9 +2,9 @@
 use Rattle.std.specs.Prelude.{◌≡◌, ℕ, zero, suc, ◌+◌, ◌-◌, ◌&&◌, not, nat_le, Bool, true, false, List, [], ◌∷◌, map, length, take, Option, None, unwrap_or, option_map, option_and_then, slice_get, if◌then◌else◌}
 use Rattle.std.specs.List.{list_any, range_with_len}
 use Rattle.std.specs.Option.{option_map_or}
-use Rattle.model.specs.Holdings.{genesis}
-use Rattle.model.specs.Slots.{same_digest, certificate_digest}
-use Rattle.model.specs.Words.{ParentReference}
+use Rattle.spec_model.specs.Holdings.{genesis}
+use Rattle.spec_model.specs.Slots.{same_digest, certificate_digest}
+use Rattle.spec_model.specs.Words.{ParentReference}
 use Rattle.committee.specs.Sets.{has}
 use Rattle.dag.specs.Sets.{set_at}
 use Rattle.committee.specs.declared.sets.MemberSet.{MemberSet}

@@ -4,11 +4,11 @@ ghost use Rattle.std.specs.Prelude.{◌≡◌, ◌≢◌, ◌&&◌, nat_lt, ◌+
 ghost use Rattle.committee.specs.Charter.{numbers};
 ghost use Rattle.committee.specs.Sets.{has};
 ghost use Rattle.committee.specs.declared.members.TheConstants.{MAX_MEMBERS};
-ghost use Rattle.model.specs.Holdings.{genesis, is_low, all_held};
-ghost use Rattle.model.specs.Slots.{certificate_digest, slots_of};
+ghost use Rattle.spec_model.specs.Holdings.{genesis, is_low, all_held};
+ghost use Rattle.spec_model.specs.Slots.{certificate_digest, slots_of};
 ghost use Rattle.dag.specs.Rows.{first};
 ghost use Rattle.dag.specs.Kept.{AreReachedBy};
-ghost use Rattle.model.specs.Admitting.{same_header};
+ghost use Rattle.spec_model.specs.Admitting.{same_header};
 ghost use Rattle.dag.specs.Answer.{held_answer, answer};
 ghost use Rattle.dag.specs.Changes.{IsWith, IsMarked, IsDropped};
 ghost use Rattle.dag.specs.Graph.{IsGraph, Graph, slots_in, marked_in, end_in, count_in, stake_in, digest_in, parent_in, has_parent_in, reaches_in};

@@ -9,15 +9,15 @@ use Rattle.std.proofs.lemmas.Bool.{cases_Bool, and_parts, and_from, eqb-true, eq
 use Rattle.committee.specs.Charter.{numbers}
 use Rattle.committee.specs.Sets.{has}
 use Rattle.committee.specs.declared.sets.MemberSet.{MemberSet}
-use Rattle.model.specs.Ordering.{is_past}
-use Rattle.model.specs.Slots.{is_parent, reaches}
-use Rattle.model.specs.Words.{Certificate}
-use Rattle.laws.proofs.Lists.{given_or_none}
-use Rattle.laws.proofs.Meeting.{any_to}
-use Rattle.laws.proofs.Votes.{slot_is}
+use Rattle.spec_model.specs.Ordering.{is_past}
+use Rattle.spec_model.specs.Slots.{is_parent, reaches}
+use Rattle.spec_model.specs.Words.{Certificate}
+use Rattle.spec_laws.proofs.Lists.{given_or_none}
+use Rattle.spec_laws.proofs.Meeting.{any_to}
+use Rattle.spec_laws.proofs.Votes.{slot_is}
 use Rattle.dag.specs.Graph.{Graph, IsGraph, slots_in, size_in, has_parent_in, reaches_in}
 use Rattle.dag.proofs.Paths.{in_round, reached_level, reached_self}
-use Rattle.laws.proofs.Growing.{is_in as is_held}
+use Rattle.spec_laws.proofs.Growing.{is_in as is_held}
 use Rattle.dag.proofs.Tests.{same_test, any_from}
 use Rattle.tusk.specs.Chain.{ledger_in}
 use Rattle.flatten.specs.Sets.{is_in, is_parent_of, parents_of, orders_in, AreClosed, AreUnordered}

@@ -2,10 +2,10 @@
 use Rattle.std.proofs.Common.{◌≡◌, ℕ, ◌-◌, ◌≤◌, true, List, [], ◌∷◌, ◌++◌, Option, Some, inl, inr, ap, sym, ◌∙◌, subst, arith}
 use Rattle.std.specs.Prelude.{is_some}
 use Rattle.std.proofs.lemmas.Bool.{true≢false}
-use Rattle.laws.proofs.Lists.{given_or_none}
-use Rattle.laws.specs.Laws.{last_or}
-use Rattle.model.specs.Ordering.{is_past}
-use Rattle.model.specs.Words.{Author, Certificate}
+use Rattle.spec_laws.proofs.Lists.{given_or_none}
+use Rattle.spec_laws.specs.Laws.{last_or}
+use Rattle.spec_model.specs.Ordering.{is_past}
+use Rattle.spec_model.specs.Words.{Author, Certificate}
 use Rattle.dag.specs.Graph.{Graph, IsGraph, slots_in}
 use Rattle.tusk.specs.Chain.{ledger_in}
 use Rattle.flatten.proofs.Leaders.{has_all, link_above}

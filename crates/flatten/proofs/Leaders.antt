@@ -8,13 +8,13 @@ use Rattle.std.proofs.lemmas.List.Elements.{All-cons, All-nil, All-head, All-tai
 use Rattle.std.proofs.lemmas.Option.{same_Some}
 use Rattle.committee.specs.Charter.{numbers}
 use Rattle.committee.specs.declared.sets.MemberSet.{MemberSet}
-use Rattle.model.specs.Ordering.{is_past, segment, segments}
-use Rattle.model.specs.Slots.{Slots, certificate_digest, round_of, is_parent, has_path, reaches}
-use Rattle.model.specs.Words.{Author, Certificate, Digest}
-use Rattle.laws.proofs.Growing.{AreInPlace, IsIn, is_in as is_held}
-use Rattle.laws.proofs.Lists.{given_or_none, Contains-made}
-use Rattle.laws.proofs.Meeting.{any_to}
-use Rattle.laws.proofs.Votes.{slot_is}
+use Rattle.spec_model.specs.Ordering.{is_past, segment, segments}
+use Rattle.spec_model.specs.Slots.{Slots, certificate_digest, round_of, is_parent, has_path, reaches}
+use Rattle.spec_model.specs.Words.{Author, Certificate, Digest}
+use Rattle.spec_laws.proofs.Growing.{AreInPlace, IsIn, is_in as is_held}
+use Rattle.spec_laws.proofs.Lists.{given_or_none, Contains-made}
+use Rattle.spec_laws.proofs.Meeting.{any_to}
+use Rattle.spec_laws.proofs.Votes.{slot_is}
 use Rattle.dag.specs.Graph.{Graph, IsGraph, slots_in, marked_in, size_in, reaches_in}
 use Rattle.dag.proofs.Paths.{same_held}
 use Rattle.dag.proofs.Tests.{any_from}

@@ -6,13 +6,13 @@ use Rattle.std.specs.Option.{option_map_or}
 use Rattle.std.proofs.lemmas.Bool.{cases_Bool, eqb-true, leb-true, ltb-true, le-leb, lt-ltb}
 use Rattle.committee.specs.Charter.{Charter}
 use Rattle.committee.specs.declared.sets.MemberSet.{MemberSet}
-use Rattle.model.specs.Ordering.{is_past}
-use Rattle.model.specs.Slots.{Slots, has_path, reaches}
-use Rattle.model.specs.Words.{Certificate}
-use Rattle.laws.proofs.Growing.{and_false}
-use Rattle.laws.proofs.Lists.{given_or_none}
-use Rattle.laws.proofs.Meeting.{same_number}
-use Rattle.laws.proofs.Votes.{slot_is}
+use Rattle.spec_model.specs.Ordering.{is_past}
+use Rattle.spec_model.specs.Slots.{Slots, has_path, reaches}
+use Rattle.spec_model.specs.Words.{Certificate}
+use Rattle.spec_laws.proofs.Growing.{and_false}
+use Rattle.spec_laws.proofs.Lists.{given_or_none}
+use Rattle.spec_laws.proofs.Meeting.{same_number}
+use Rattle.spec_laws.proofs.Votes.{slot_is}
 use Rattle.dag.specs.Changes.{IsMarked}
 use Rattle.dag.specs.Graph.{Graph, IsGraph, slots_in, marked_in, size_in, reaches_in, end_in}
 use Rattle.dag.proofs.Steps.{or_false}

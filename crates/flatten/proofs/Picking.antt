@@ -10,11 +10,11 @@ use Rattle.std.proofs.lemmas.List.Elements.{filter-append}
 use Rattle.std.proofs.lemmas.List.Sums.{sum_by-cons, sum_by-append}
 use Rattle.committee.specs.Charter.{numbers}
 use Rattle.committee.specs.declared.sets.MemberSet.{MemberSet}
-use Rattle.model.specs.Ordering.{is_past, is_ordered_by, rounds_to, segment}
-use Rattle.model.specs.Slots.{certificate_digest, round_of, has_path, reaches}
-use Rattle.model.specs.Words.{Author, Certificate, Digest}
-use Rattle.laws.proofs.Lists.{given_or_none}
-use Rattle.laws.proofs.Votes.{slot_is}
+use Rattle.spec_model.specs.Ordering.{is_past, is_ordered_by, rounds_to, segment}
+use Rattle.spec_model.specs.Slots.{certificate_digest, round_of, has_path, reaches}
+use Rattle.spec_model.specs.Words.{Author, Certificate, Digest}
+use Rattle.spec_laws.proofs.Lists.{given_or_none}
+use Rattle.spec_laws.proofs.Votes.{slot_is}
 use Rattle.dag.specs.Graph.{Graph, IsGraph, slots_in, marked_in, size_in}
 use Rattle.tusk.specs.Chain.{ledger_in}
 use Rattle.flatten.specs.Segments.{is_new_to, references_in, digests_of, IsMarkedPast}

@@ -6,10 +6,10 @@ use Rattle.std.specs.List.{list_any, range_with_len}
 use Rattle.std.specs.Option.{option_map_or}
 use Rattle.std.specs.Prelude.{Option, option_map, option_and_then}
 use Rattle.std.proofs.lemmas.Bool.{cases_Bool, eqb-true, eq-eqb}
-use Rattle.model.specs.Slots.{same_digest, certificate_digest, is_named, is_parent}
-use Rattle.model.specs.Words.{Author, Certificate, Digest, ParentReference}
-use Rattle.laws.proofs.Lists.{given_or_none}
-use Rattle.laws.proofs.Votes.{slot_is}
+use Rattle.spec_model.specs.Slots.{same_digest, certificate_digest, is_named, is_parent}
+use Rattle.spec_model.specs.Words.{Author, Certificate, Digest, ParentReference}
+use Rattle.spec_laws.proofs.Lists.{given_or_none}
+use Rattle.spec_laws.proofs.Votes.{slot_is}
 use Rattle.dag.specs.Graph.{Graph, IsGraph, slots_in, has_parent_in}
 use Rattle.dag.proofs.Tests.{same_test, same_digest_sym}
 use Rattle.flatten.specs.Sets.{is_held_as, is_named_at, parents_at}

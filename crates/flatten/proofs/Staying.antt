@@ -4,12 +4,12 @@ use Rattle.std.specs.Prelude.{IfSome, not, is_some, option_map, ◌==◌, ◌&&�
 use Rattle.std.specs.Option.{option_map_or, option_or}
 use Rattle.std.proofs.lemmas.Option.{none-some}
 use Rattle.committee.specs.Charter.{Charter}
-use Rattle.model.specs.Ordering.{is_past}
-use Rattle.model.specs.Slots.{is_of_slot, slots_of, reaches}
-use Rattle.model.specs.Words.{Author, Certificate}
-use Rattle.laws.proofs.Growing.{Extends, WasHeld, is_in as is_held, reaches_same}
-use Rattle.laws.proofs.Lists.{given_or_none}
-use Rattle.laws.proofs.SlotsGrow.{or_none}
+use Rattle.spec_model.specs.Ordering.{is_past}
+use Rattle.spec_model.specs.Slots.{is_of_slot, slots_of, reaches}
+use Rattle.spec_model.specs.Words.{Author, Certificate}
+use Rattle.spec_laws.proofs.Growing.{Extends, WasHeld, is_in as is_held, reaches_same}
+use Rattle.spec_laws.proofs.Lists.{given_or_none}
+use Rattle.spec_laws.proofs.SlotsGrow.{or_none}
 use Rattle.dag.specs.Graph.{Graph, Placed, IsGraph, size_in, slots_in, marked_in, placed_at}
 use Rattle.tusk.specs.Chain.{ledger_in}
 use Rattle.tusk.proofs.Adding.{is_new, extends}

@@ -3,11 +3,11 @@ use Rattle.std.proofs.Common.{◌≡◌, ℕ, suc, ◌+◌, ◌-◌, ◌<◌, tr
 use Rattle.std.specs.Prelude.{Contains, nat_le, ◌&&◌, Option, None}
 use Rattle.std.proofs.lemmas.Bool.{and_parts, and_from, leb-true, le-leb}
 use Rattle.committee.specs.Charter.{numbers}
-use Rattle.model.specs.Ordering.{Ledger, size_in, is_past}
-use Rattle.model.specs.Slots.{Slots, round_of, is_parent, has_path, reaches}
-use Rattle.model.specs.Words.{Certificate}
-use Rattle.laws.proofs.Lists.{Contains-made}
-use Rattle.laws.proofs.Meeting.{any_to}
+use Rattle.spec_model.specs.Ordering.{Ledger, size_in, is_past}
+use Rattle.spec_model.specs.Slots.{Slots, round_of, is_parent, has_path, reaches}
+use Rattle.spec_model.specs.Words.{Certificate}
+use Rattle.spec_laws.proofs.Lists.{Contains-made}
+use Rattle.spec_laws.proofs.Meeting.{any_to}
 use Rattle.dag.proofs.Paths.{parent_below}
 use Rattle.dag.proofs.Tests.{any_from}
 

@@ -7,11 +7,11 @@ use Rattle.std.proofs.lemmas.Bool.{cases_Bool, cases_lt, leb-true, lt-ltb, trueâ
 use Rattle.std.proofs.lemmas.List.Sums.{sum_by-cons}
 use Rattle.std.proofs.lemmas.Option.{same_Some, none-some}
 use Rattle.committee.specs.declared.sets.MemberSet.{MemberSet}
-use Rattle.model.specs.Ordering.{is_past, rounds_to}
-use Rattle.model.specs.Slots.{has_path, reaches}
-use Rattle.model.specs.Words.{Author, Certificate}
-use Rattle.laws.proofs.Lists.{given_or_none}
-use Rattle.laws.proofs.Votes.{slot_is}
+use Rattle.spec_model.specs.Ordering.{is_past, rounds_to}
+use Rattle.spec_model.specs.Slots.{has_path, reaches}
+use Rattle.spec_model.specs.Words.{Author, Certificate}
+use Rattle.spec_laws.proofs.Lists.{given_or_none}
+use Rattle.spec_laws.proofs.Votes.{slot_is}
 use Rattle.dag.proofs.Paths.{reached_self, in_round}
 use Rattle.dag.specs.Graph.{Graph, IsGraph, slots_in, marked_in, size_in, reaches_in}
 use Rattle.tusk.specs.Chain.{ledger_in}

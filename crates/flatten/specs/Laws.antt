@@ -1,7 +1,7 @@
 -- What stays as it was where a certificate enters, and what each of leaders that are linked meets.
 use Rattle.std.specs.Prelude.{◌≡◌, ◌<◌, ◌-◌, ℕ, true, List, ◌∷◌, ◌++◌, Option, Some, Ok, is_some}
-use Rattle.laws.specs.Laws.{last_or}
-use Rattle.model.specs.Words.{Author, Certificate}
+use Rattle.spec_laws.specs.Laws.{last_or}
+use Rattle.spec_model.specs.Words.{Author, Certificate}
 use Rattle.dag.specs.Answer.{answer}
 use Rattle.dag.specs.Changes.{IsWith}
 use Rattle.dag.specs.Graph.{Graph, IsGraph, size_in, slots_in}

@@ -1,8 +1,8 @@
 -- What a commit of several leaders does to the order and the marks.
 use Rattle.std.specs.Prelude.{◌≡◌, ℕ, ◌≤◌, List, [], Some, is_some, true}
 use Rattle.committee.specs.declared.sets.MemberSet.{MemberSet}
-use Rattle.model.specs.Ordering.{is_past}
-use Rattle.model.specs.Words.{Author, Certificate, Digest}
+use Rattle.spec_model.specs.Ordering.{is_past}
+use Rattle.spec_model.specs.Words.{Author, Certificate, Digest}
 use Rattle.dag.specs.Graph.{Graph, slots_in, marked_in}
 use Rattle.tusk.specs.Chain.{ledger_in}
 use Rattle.flatten.specs.Segments.{leader_held}

@@ -1,10 +1,10 @@
 -- What leaders order over what a DAG holds.
 use Rattle.std.specs.Prelude.{◌≡◌, ℕ, ◌+◌, ◌-◌, ◌≤◌, ◌&&◌, nat_lt, not, cond, Bool, true, List, [], ◌∷◌, map, length, filter_map, sum_by, Option, Some, is_some, option_and_then}
 use Rattle.std.specs.Option.{option_map_or}
-use Rattle.model.specs.Ordering.{is_past, rounds_to}
-use Rattle.model.specs.Ordering as ordering
-use Rattle.model.specs.Slots.{certificate_digest}
-use Rattle.model.specs.Words.{Author, Certificate, Digest}
+use Rattle.spec_model.specs.Ordering.{is_past, rounds_to}
+use Rattle.spec_model.specs.Ordering as ordering
+use Rattle.spec_model.specs.Slots.{certificate_digest}
+use Rattle.spec_model.specs.Words.{Author, Certificate, Digest}
 use Rattle.dag.specs.Graph.{Graph, slots_in, marked_in, has_parent_in, reaches_in}
 use Rattle.tusk.specs.Chain.{ledger_in}
 

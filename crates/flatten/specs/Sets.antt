@@ -5,9 +5,9 @@ use Rattle.std.specs.Option.{option_map_or}
 use Rattle.committee.specs.Charter.{numbers}
 use Rattle.committee.specs.Sets.{has}
 use Rattle.committee.specs.declared.sets.MemberSet.{MemberSet}
-use Rattle.model.specs.Slots.{same_digest}
-use Rattle.model.specs.Ordering.{is_past}
-use Rattle.model.specs.Words.{Author, Certificate, Digest}
+use Rattle.spec_model.specs.Slots.{same_digest}
+use Rattle.spec_model.specs.Ordering.{is_past}
+use Rattle.spec_model.specs.Words.{Author, Certificate, Digest}
 use Rattle.tusk.specs.Chain.{ledger_in}
 use Rattle.dag.specs.Graph.{Graph, slots_in, marked_in, size_in, digest_in, parent_in, has_parent_in, reaches_in}
 

@@ -1,9 +1,9 @@
 //! What a commit of several leaders does.
 
 ghost use Rattle.std.specs.Prelude.{◌≡◌, ℕ, ◌-◌, ◌<◌, ◌≤◌, ◌||◌, ◌&&◌, nat_le, true, length, List, Option, Some, IfOk, slice_get};
-ghost use Rattle.model.specs.Ordering.{segments};
+ghost use Rattle.spec_model.specs.Ordering.{segments};
 ghost use Rattle.dag.specs.Graph.{slots_in, marked_in, reaches_in, end_in};
-ghost use Rattle.model.specs.Words.{Author};
+ghost use Rattle.spec_model.specs.Words.{Author};
 ghost use Rattle.tusk.specs.Chain.{ledger_in};
 ghost use Rattle.flatten.specs.Lengthening.{FitsTo};
 ghost use Rattle.flatten.specs.Segments.{leader_held, references_by, digests_of, leaders_in, AreLinked, IsMarkedPast, IsMarkedFor};

@@ -3,8 +3,8 @@
 ghost use Rattle.std.specs.Prelude.{◌≡◌, ℕ, ◌+◌, ◌-◌, ◌<◌, ◌≤◌, ◌^◌, ◌++◌, ◌&&◌, List, [], length, sum_by, not, is_some, Some, None, Option, IfSome, IfOk, OnOk};
 ghost use Rattle.std.specs.List.{range_with_len};
 ghost use Rattle.flatten.specs.Sets.{is_in, lowest_in, parents_of, orders_in, is_past_in, AreUnordered, IsTakenFrom, Leads, HasAllOf};
-ghost use Rattle.model.specs.Ordering.{segment};
-ghost use Rattle.model.specs.Words.{Author, Certificate};
+ghost use Rattle.spec_model.specs.Ordering.{segment};
+ghost use Rattle.spec_model.specs.Words.{Author, Certificate};
 ghost use Rattle.dag.specs.Graph.{slots_in};
 ghost use Rattle.tusk.specs.Chain.{ledger_in};
 ghost use Rattle.flatten.specs.Segments.{leader_held, references_in, unmarked_references_in, digests_of, IsMarkedPast, IsMarkedBefore};

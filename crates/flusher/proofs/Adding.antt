@@ -6,15 +6,15 @@ use Rattle.std.proofs.lemmas.List.{drop_at, length-map, map-append}
 use Rattle.std.proofs.lemmas.List.Elements.{All-drop}
 use Rattle.journal.specs.Format.{stands}
 use Rattle.journal.specs.Journal.{stands_with, IsBeforeOrAfter}
-use Rattle.laws.specs.Laws.{Begins}
-use Rattle.model.specs.Admitting.{IsTaken}
-use Rattle.model.specs.Histories.{History}
-use Rattle.model.specs.Nodes.{Node}
-use Rattle.records.specs.Records.{record_of}
-use Rattle.seats.specs.Views.{events}
-use Rattle.seats.specs.declared.view.Marked.{Marked}
-use Rattle.world.specs.World.{Holds}
-use Rattle.world.proofs.Recovering.{holds_same, holds_more}
+use Rattle.spec_laws.specs.Laws.{Begins}
+use Rattle.spec_model.specs.Admitting.{IsTaken}
+use Rattle.spec_model.specs.Histories.{History}
+use Rattle.spec_model.specs.Nodes.{Node}
+use Rattle.spec_records.specs.Records.{record_of}
+use Rattle.node_seats.specs.Views.{events}
+use Rattle.node_seats.specs.declared.view.Marked.{Marked}
+use Rattle.spec_world.specs.World.{Holds}
+use Rattle.spec_world.proofs.Recovering.{holds_same, holds_more}
 
 module _ (node : Node) (start : History) (settled taken : List Marked) (content : List ℕ) (held : Holds node content (start ++ events settled)) (begins : Begins settled taken) (each : All (IsTaken node) (events taken)) where
   -- the events of the group

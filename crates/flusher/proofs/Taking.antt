@@ -6,16 +6,16 @@ use Rattle.std.proofs.lemmas.List.Elements.{All-drop, All-take}
 use Rattle.journal.specs.Format.{group_bytes}
 use Rattle.journal.specs.declared.layout.TheConstants.{MAX_JOURNAL_BYTES}
 use Rattle.book.specs.Pending.{IsLongestBeginning}
-use Rattle.laws.specs.Laws.{Begins}
-use Rattle.model.specs.Admitting.{IsTaken, IsLegal}
-use Rattle.model.specs.Histories.{History}
-use Rattle.model.specs.Nodes.{Node}
-use Rattle.records.specs.Records.{record_of}
-use Rattle.seats.specs.Views.{events}
-use Rattle.seats.specs.declared.view.Marked.{Marked}
-use Rattle.seats.proofs.Beginnings.{begins_take, take_begins}
-use Rattle.shared.specs.Home.{Shared, IsFlushOf, TakesNext, taken_by, group_of, seen_by}
-use Rattle.shared.specs.declared.flush_seat.FlushSeat.{FlushSeat}
+use Rattle.spec_laws.specs.Laws.{Begins}
+use Rattle.spec_model.specs.Admitting.{IsTaken, IsLegal}
+use Rattle.spec_model.specs.Histories.{History}
+use Rattle.spec_model.specs.Nodes.{Node}
+use Rattle.spec_records.specs.Records.{record_of}
+use Rattle.node_seats.specs.Views.{events}
+use Rattle.node_seats.specs.declared.view.Marked.{Marked}
+use Rattle.node_seats.proofs.Beginnings.{begins_take, take_begins}
+use Rattle.node_shared.specs.Home.{Shared, IsFlushOf, TakesNext, taken_by, group_of, seen_by}
+use Rattle.node_shared.specs.declared.flush_seat.FlushSeat.{FlushSeat}
 use Rattle.flusher.specs.Rounds.{records_behind, IsGroupOf, TakesLongest, HasNoRoom}
 
 module _ {S : Type 0} (node : Shared S) (flush : FlushSeat) (of : IsFlushOf node flush) where

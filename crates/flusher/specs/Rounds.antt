@@ -5,17 +5,17 @@ use Rattle.journal.specs.Format.{group_bytes}
 use Rattle.journal.specs.Journal.{disk_of, IsAlive}
 use Rattle.journal.specs.declared.journal.Journal.{Journal}
 use Rattle.journal.specs.declared.layout.TheConstants.{MAX_JOURNAL_BYTES}
-use Rattle.laws.specs.Laws.{Begins}
-use Rattle.model.specs.Histories.{History}
-use Rattle.model.specs.Nodes.{Node}
-use Rattle.records.specs.Records.{record_of}
-use Rattle.world.specs.World.{Holds}
+use Rattle.spec_laws.specs.Laws.{Begins}
+use Rattle.spec_model.specs.Histories.{History}
+use Rattle.spec_model.specs.Nodes.{Node}
+use Rattle.spec_records.specs.Records.{record_of}
+use Rattle.spec_world.specs.World.{Holds}
 use Rattle.book.specs.Pending.{IsLongestBeginning}
 use Rattle.validator.specs.Setting.{Setting}
-use Rattle.seats.specs.Views.{events}
-use Rattle.seats.specs.declared.view.Marked.{Marked}
-use Rattle.shared.specs.Home.{Shared, IsFlushOf, taken_by}
-use Rattle.shared.specs.declared.flush_seat.FlushSeat.{FlushSeat}
+use Rattle.node_seats.specs.Views.{events}
+use Rattle.node_seats.specs.declared.view.Marked.{Marked}
+use Rattle.node_shared.specs.Home.{Shared, IsFlushOf, taken_by}
+use Rattle.node_shared.specs.declared.flush_seat.FlushSeat.{FlushSeat}
 use Rattle.flusher.specs.declared.flusher.Flusher.{Flusher}
 
 -- ---- what a flusher has

@@ -5,18 +5,18 @@ ghost use Rattle.diskmodel.specs.Disk.{AtEachMoment};
 ghost use Rattle.journal.specs.Format.{group_bytes};
 ghost use Rattle.journal.specs.Journal.{disk_of, IsAlive};
 ghost use Rattle.journal.specs.declared.layout.TheConstants.{MAX_JOURNAL_BYTES};
-ghost use Rattle.laws.specs.Laws.{Begins};
-ghost use Rattle.model.specs.Admitting.{IsLegal};
-ghost use Rattle.world.specs.World.{Holds};
+ghost use Rattle.spec_laws.specs.Laws.{Begins};
+ghost use Rattle.spec_model.specs.Admitting.{IsLegal};
+ghost use Rattle.spec_world.specs.World.{Holds};
 ghost use Rattle.validator.specs.Setting.{node_of};
-ghost use Rattle.seats.specs.Views.{IsSame};
-ghost use Rattle.shared.specs.Home.{IsOf, IsFlushOf, group_of, seen_by};
+ghost use Rattle.node_seats.specs.Views.{IsSame};
+ghost use Rattle.node_shared.specs.Home.{IsOf, IsFlushOf, group_of, seen_by};
 ghost use Rattle.flusher.specs.Rounds.{journal_of, seat_of, is_down, settled_in, taken_in, from_start, IsFlusherOf, TakesLongest, HoldsEither, HasNoRoom};
 
 use crate::error::FlushError;
 use diskmodel::Disk;
 use journal::{Group, Journal, JournalError};
-use shared::{FlushSeat, Node, Seat};
+use node_shared::{FlushSeat, Node, Seat};
 use sigface::Sign;
 use std::sync::Wait;
 

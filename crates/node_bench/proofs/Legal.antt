@@ -1,8 +1,8 @@
 -- A validator behind an opening stands at a history.
 use Rattle.std.proofs.Common.{◌≡◌, sym, subst}
 use Rattle.std.specs.Prelude.{Result}
-use Rattle.model.specs.Histories.{History}
-use Rattle.model.specs.Words.{Digest, Signature}
+use Rattle.spec_model.specs.Histories.{History}
+use Rattle.spec_model.specs.Words.{Digest, Signature}
 use Rattle.wire.specs.declared.keys.Key.{Key}
 use Rattle.validator.specs.Setting.{Setting, node_of}
 use Rattle.validator.specs.Standing.{Standing}

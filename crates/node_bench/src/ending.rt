@@ -2,9 +2,9 @@
 
 use book::FlushError;
 use committee::CommitteeError;
-use flusher::FlushError as RoundError;
 use header::CheckError;
 use journal::{Failed, JournalError};
+use node::FlushError as RoundError;
 use std::alloc::{AllocError, AllocFailed};
 use std::io;
 use validator::Refusal;

@@ -8,7 +8,7 @@ use crate::messages::{PEER, batch};
 use crate::rounds::{Rounds, UNSIGNED};
 use committee::Committee;
 use header::{Checked, recheck};
-use script::OWN;
+use sim_script::OWN;
 use std::alloc::Global;
 use wire::{Author, Digest, Message, Vote};
 

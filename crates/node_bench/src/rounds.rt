@@ -2,8 +2,8 @@
 
 use crate::ending::Ending;
 use committee::Committee;
-use script::signer;
 use sigface::Sign;
+use sim_script::signer;
 use std::alloc::Global;
 use std::mem;
 use wire::{

@@ -3,8 +3,8 @@
 use crate::ending::Ending;
 use crate::task::Task;
 use committee::Committee;
-use script::{OWN, member_list, signer};
 use sigface::HashSign;
+use sim_script::{OWN, member_list, signer};
 use validator::Config;
 
 /// The configuration of the node in the committee of a task.

@@ -1,8 +1,8 @@
 //! `narwhal-node`: runs a member of a committee over a journal file, with frames on standard input and output.
 #![tactic(auto)]
 
-use runner::Ending;
-pub use runner::run;
+use node_run::Ending;
+pub use node_run::run;
 use std::process::ExitCode;
 use std::{env, io};
 

@@ -2,7 +2,7 @@
 //! line a command.
 #![tactic(auto)]
 
-pub use simulator::run;
+pub use sim_run::run;
 use std::io;
 use std::process::ExitCode;
 

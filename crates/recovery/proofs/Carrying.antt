@@ -6,9 +6,9 @@ use Rattle.std.specs.Io.KnownBytes.{Appends}
 use Rattle.std.proofs.lemmas.List.{map-append, take-append-drop}
 use Rattle.std.proofs.lemmas.List.Elements.{All-head, All-tail}
 use Rattle.journal.specs.declared.journal.Journal.{Journal}
-use Rattle.model.specs.Histories.{History}
-use Rattle.model.specs.Nodes.{Node}
-use Rattle.world.specs.Text as script
+use Rattle.spec_model.specs.Histories.{History}
+use Rattle.spec_model.specs.Nodes.{Node}
+use Rattle.spec_world.specs.Text as script
 use Rattle.book.specs.Book.{Shown}
 use Rattle.committee.specs.Charter.{Charter}
 use Rattle.recovery.specs.Script.{said, script_of, Passes, IsOf, IsOpenedOf, HasRun, Breaks, IsCutShort}

@@ -11,7 +11,7 @@ use Rattle.std.proofs.lemmas.Nat.{from_be_bytes-to_be_bytes_2}
 use Rattle.std.proofs.lemmas.Option.{same_Some}
 use Rattle.committee.specs.Charter.{Charter, IsCharter, total_of}
 use Rattle.committee.proofs.StakeLemmas.{sum-bounds}
-use Rattle.records.specs.Records.{configuration_of}
+use Rattle.spec_records.specs.Records.{configuration_of}
 use Rattle.recovery.specs.Told.{members_in, has_ones, has_front, is_configuration}
 use Rattle.wire.specs.declared.keys.Author.{Author}
 use Rattle.wire.specs.declared.keys.Key.{Key}

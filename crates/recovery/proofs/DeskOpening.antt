@@ -6,13 +6,13 @@ use Rattle.journal.specs.Journal.{disk_of, IsAlive}
 use Rattle.journal.specs.declared.error.JournalError.{JournalError}
 use Rattle.journal.specs.declared.error.JournalError.TheVariants as errors
 use Rattle.journal.specs.declared.journal.Journal.{Journal}
-use Rattle.model.specs.Admitting.{IsLegal}
-use Rattle.model.specs.Giving.{kept}
-use Rattle.model.specs.Histories.{History}
-use Rattle.model.specs.Nodes.{Node}
+use Rattle.spec_model.specs.Admitting.{IsLegal}
+use Rattle.spec_model.specs.Giving.{kept}
+use Rattle.spec_model.specs.Histories.{History}
+use Rattle.spec_model.specs.Nodes.{Node}
 use Rattle.admission.specs.declared.tables.Tables.{Tables}
 use Rattle.validator.specs.Standing.{AreAtSound}
-use Rattle.world.specs.Text.{Desk, desk_on, settled_in, stop, after}
+use Rattle.spec_world.specs.Text.{Desk, desk_on, settled_in, stop, after}
 use Rattle.book.specs.Book.{Shown, Stands, run_on}
 use Rattle.recovery.specs.Faults.{ended_by}
 use Rattle.recovery.specs.Laws.{IsNoRefusal}

@@ -10,19 +10,19 @@ use Rattle.journal.specs.declared.error.JournalError.{JournalError}
 use Rattle.journal.specs.declared.error.JournalError.TheVariants as errors
 use Rattle.journal.specs.declared.journal.Journal.{Journal}
 use Rattle.journal.specs.declared.layout.TheConstants.{MAX_JOURNAL_BYTES}
-use Rattle.laws.specs.Laws.{Begins}
-use Rattle.laws.proofs.Legal.{legal-begins}
-use Rattle.model.specs.Admitting.{admit, IsLegal}
-use Rattle.model.specs.Histories.{History}
-use Rattle.model.specs.Nodes.{Node}
-use Rattle.model.specs.Words.{Event}
-use Rattle.model.specs.declared.admission.Admission.{Admission}
-use Rattle.model.specs.declared.admission.Admission.TheVariants.{New, Known, Refused}
-use Rattle.model.specs.declared.refusal.Refusal.{Refusal}
-use Rattle.model.specs.declared.refusal.Refusal.TheVariants.{Memory, Down, StoreFull}
-use Rattle.records.specs.Records.{record_of}
-use Rattle.world.specs.Steps.{ticketed}
-use Rattle.world.specs.Text.{Command, take_in, flush, Desk, settled_in, with_answer, group_of, flushed, after}
+use Rattle.spec_laws.specs.Laws.{Begins}
+use Rattle.spec_laws.proofs.Legal.{legal-begins}
+use Rattle.spec_model.specs.Admitting.{admit, IsLegal}
+use Rattle.spec_model.specs.Histories.{History}
+use Rattle.spec_model.specs.Nodes.{Node}
+use Rattle.spec_model.specs.Words.{Event}
+use Rattle.spec_model.specs.declared.admission.Admission.{Admission}
+use Rattle.spec_model.specs.declared.admission.Admission.TheVariants.{New, Known, Refused}
+use Rattle.spec_model.specs.declared.refusal.Refusal.{Refusal}
+use Rattle.spec_model.specs.declared.refusal.Refusal.TheVariants.{Memory, Down, StoreFull}
+use Rattle.spec_records.specs.Records.{record_of}
+use Rattle.spec_world.specs.Steps.{ticketed}
+use Rattle.spec_world.specs.Text.{Command, take_in, flush, Desk, settled_in, with_answer, group_of, flushed, after}
 use Rattle.book.specs.declared.book.TheConstants.{MAX_ACCEPTED}
 use Rattle.book.specs.declared.book.Receipt.{Receipt}
 use Rattle.book.specs.Pending.{IsLongestBeginning}

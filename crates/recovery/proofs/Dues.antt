@@ -7,10 +7,10 @@ use Rattle.std.specs.List.{filter}
 use Rattle.std.proofs.lemmas.Bool.{lt-leb, leb-false}
 use Rattle.std.proofs.lemmas.List.Elements.{All-nil, All-head, All-tail, All-weaker, All-cons}
 use Rattle.journal.specs.declared.journal.Journal.{Journal}
-use Rattle.model.specs.Nodes.{Node}
-use Rattle.model.specs.Words.{Output}
-use Rattle.world.specs.World.{Waiting}
-use Rattle.world.specs.Text.{Desk, due, without_due, frame_of, frames}
+use Rattle.spec_model.specs.Nodes.{Node}
+use Rattle.spec_model.specs.Words.{Output}
+use Rattle.spec_world.specs.World.{Waiting}
+use Rattle.spec_world.specs.Text.{Desk, due, without_due, frame_of, frames}
 use Rattle.book.specs.Queue.{settled_head, TicketsRise}
 use Rattle.book.specs.Book.{Shown, Run, Stands, releasable}
 use Rattle.recovery.specs.Script.{run_of, IsOf}

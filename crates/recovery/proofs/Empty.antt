@@ -7,8 +7,8 @@ use Rattle.journal.specs.Journal.{with_group, EndsClosed, IsBeforeOrAfter}
 use Rattle.journal.specs.declared.layout.TheConstants.{MAX_GROUP_RECORDS, MAX_JOURNAL_BYTES}
 use Rattle.journal.specs.declared.record.Record.{Record}
 use Rattle.journal.proofs.Walks.{walk_closed, body_stands}
-use Rattle.model.specs.Nodes.{Node}
-use Rattle.records.specs.Records.{configuration_of}
+use Rattle.spec_model.specs.Nodes.{Node}
+use Rattle.spec_records.specs.Records.{configuration_of}
 use Rattle.recovery.specs.Told.{KeepsOrBegins}
 
 abbrev Found : Type 0

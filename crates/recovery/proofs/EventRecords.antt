@@ -10,10 +10,10 @@ use Rattle.std.proofs.lemmas.Option.{same_Some, none-some}
 use Rattle.committee.specs.Charter.{Charter}
 use Rattle.diskmodel.specs.Outcomes.{AreBytes}
 use Rattle.header.specs.Checks.{fault_of, accepts_all, is_member}
-use Rattle.model.specs.Admitting.{IsTaken}
-use Rattle.model.specs.Nodes.{Node, IsNode}
-use Rattle.model.specs.Words.{Author, Event, Message}
-use Rattle.records.specs.Records.{record_of}
+use Rattle.spec_model.specs.Admitting.{IsTaken}
+use Rattle.spec_model.specs.Nodes.{Node, IsNode}
+use Rattle.spec_model.specs.Words.{Author, Event, Message}
+use Rattle.spec_records.specs.Records.{record_of}
 use Rattle.wire.specs.Reading.{message_of}
 use Rattle.wire.specs.Spelling.{spelling}
 use Rattle.wire.specs.declared.error.WireError.{WireError}

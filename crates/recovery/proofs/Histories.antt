@@ -5,12 +5,12 @@ use Rattle.std.proofs.lemmas.Bool.{cases_Bool, and_parts, and_from}
 use Rattle.std.proofs.lemmas.List.{append-nil}
 use Rattle.std.proofs.lemmas.List.Elements.{All-nil, All-cons, All-head, All-tail}
 use Rattle.journal.specs.declared.record.Record.{Record}
-use Rattle.model.specs.Admitting.{admit, is_new, each_new, IsTaken}
-use Rattle.model.specs.Histories.{History}
-use Rattle.model.specs.Nodes.{Node, IsNode}
-use Rattle.model.specs.Words.{Event}
-use Rattle.records.specs.Records.{record_of}
-use Rattle.world.specs.World.{bytes_of}
+use Rattle.spec_model.specs.Admitting.{admit, is_new, each_new, IsTaken}
+use Rattle.spec_model.specs.Histories.{History}
+use Rattle.spec_model.specs.Nodes.{Node, IsNode}
+use Rattle.spec_model.specs.Words.{Event}
+use Rattle.spec_records.specs.Records.{record_of}
+use Rattle.spec_world.specs.World.{bytes_of}
 use Rattle.recovery.specs.Told.{IsText, event_in, read_event, read_events}
 use Rattle.recovery.proofs.EventRecords.{record_read, read_record}
 use Rattle.recovery.proofs.Telling.{read_none, read_new, read_old, read_nil, read_ok, read_err}

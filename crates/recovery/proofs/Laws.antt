@@ -12,15 +12,15 @@ use Rattle.journal.specs.Format.{stands}
 use Rattle.journal.specs.declared.error.JournalError.{JournalError}
 use Rattle.journal.specs.declared.error.JournalError.TheVariants.{Damaged, ConfigMismatch}
 use Rattle.journal.specs.declared.record.Record.{Record}
-use Rattle.model.specs.Admitting.{IsTaken, IsLegal}
-use Rattle.model.specs.Histories.{History}
-use Rattle.model.specs.Nodes.{Node, IsNode}
-use Rattle.records.specs.Records.{configuration_of}
+use Rattle.spec_model.specs.Admitting.{IsTaken, IsLegal}
+use Rattle.spec_model.specs.Histories.{History}
+use Rattle.spec_model.specs.Nodes.{Node, IsNode}
+use Rattle.spec_records.specs.Records.{configuration_of}
 use Rattle.wire.specs.Fields as fields
 use Rattle.wire.specs.declared.keys.Key.{Key}
-use Rattle.world.specs.Promise.{NothingTakenBack}
-use Rattle.world.specs.Runs.{AreKeys}
-use Rattle.world.specs.World.{bytes_of, journal_of, Holds, StandsFor, as_journal, as_new}
+use Rattle.spec_world.specs.Promise.{NothingTakenBack}
+use Rattle.spec_world.specs.Runs.{AreKeys}
+use Rattle.spec_world.specs.World.{bytes_of, journal_of, Holds, StandsFor, as_journal, as_new}
 use Rattle.recovery.specs.Laws.{ToldStandsFor, WhatStandsIsTold, WorldsAreTold}
 use Rattle.recovery.specs.Told.{IsText, is_configuration, is_alone, has_ones, stakes_fault, first_fault, unless, read_events, read_journal, told}
 use Rattle.recovery.proofs.Configured.{shape_is}

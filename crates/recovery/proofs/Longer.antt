@@ -14,12 +14,12 @@ use Rattle.journal.specs.declared.error.JournalError.{JournalError}
 use Rattle.journal.specs.declared.error.JournalError.TheVariants.{Damaged, ConfigMismatch}
 use Rattle.journal.specs.declared.record.Record.{Record}
 use Rattle.journal.proofs.Walks.{stands_short}
-use Rattle.laws.proofs.Legal.{legal-begins, legal-last, Adds}
-use Rattle.model.specs.Admitting.{IsTaken, IsLegal}
-use Rattle.model.specs.Histories.{History}
-use Rattle.model.specs.Nodes.{Node, IsNode}
-use Rattle.model.specs.Words.{Event}
-use Rattle.records.specs.Records.{record_of, configuration_of}
+use Rattle.spec_laws.proofs.Legal.{legal-begins, legal-last, Adds}
+use Rattle.spec_model.specs.Admitting.{IsTaken, IsLegal}
+use Rattle.spec_model.specs.Histories.{History}
+use Rattle.spec_model.specs.Nodes.{Node, IsNode}
+use Rattle.spec_model.specs.Words.{Event}
+use Rattle.spec_records.specs.Records.{record_of, configuration_of}
 use Rattle.wire_read.proofs.Messages.{is_read}
 use Rattle.recovery.specs.Told.{checked_in, if_passed, sender_in, event_in, read_event, read_events, unless, is_configuration, is_alone, has_ones, first_fault, told}
 use Rattle.recovery.proofs.Telling.{event_is, read_new, read_nil, read_ok, read_err, journal_cons, told_records, told_damaged, ok_told}

@@ -7,9 +7,9 @@ use Rattle.journal.specs.Journal.{with_group, stands_with}
 use Rattle.journal.specs.declared.error.JournalError.{JournalError}
 use Rattle.journal.specs.declared.error.JournalError.TheVariants.{Memory, Device, Damaged, ConfigMismatch, Full}
 use Rattle.journal.specs.declared.record.Record.{Record}
-use Rattle.model.specs.Histories.{History}
-use Rattle.model.specs.Nodes.{Node}
-use Rattle.world.specs.World.{StandsFor, as_journal, as_new}
+use Rattle.spec_model.specs.Histories.{History}
+use Rattle.spec_model.specs.Nodes.{Node}
+use Rattle.spec_world.specs.World.{StandsFor, as_journal, as_new}
 use Rattle.recovery.specs.Laws.{StandsForAt, HoldsAt, IsNoRefusal}
 use Rattle.recovery.specs.Told.{IsText, HasTexts, told, Tells, StandsAt}
 use Rattle.recovery.proofs.Laws.{found_records}

@@ -7,11 +7,11 @@ use Rattle.std.proofs.lemmas.List.Sums.{sum_by-append}
 use Rattle.book.specs.Pending.{IsLongestBeginning}
 use Rattle.journal.specs.Format.{FitsGroup, body_len}
 use Rattle.journal.specs.declared.layout.TheConstants.{LENGTH_BYTES, MAX_GROUP_BYTES, MAX_GROUP_RECORDS}
-use Rattle.model.specs.Histories.{History}
-use Rattle.model.specs.Nodes.{Node}
-use Rattle.model.specs.Words.{Event}
-use Rattle.records.specs.Records.{record_of}
-use Rattle.world.specs.Text.{Command, Desk, fits_group, filled, group_of, after, due, frames, carried_out, text, desk_behind}
+use Rattle.spec_model.specs.Histories.{History}
+use Rattle.spec_model.specs.Nodes.{Node}
+use Rattle.spec_model.specs.Words.{Event}
+use Rattle.spec_records.specs.Records.{record_of}
+use Rattle.spec_world.specs.Text.{Command, Desk, fits_group, filled, group_of, after, due, frames, carried_out, text, desk_behind}
 
 -- ---- a command more
 

@@ -12,18 +12,18 @@ use Rattle.journal.specs.Journal.{with_group, IsBeforeOrAfter, StandsAsOneOf}
 use Rattle.journal.specs.declared.error.JournalError.{JournalError}
 use Rattle.journal.specs.declared.error.JournalError.TheVariants.{Memory, Device, Damaged, ConfigMismatch, Full}
 use Rattle.journal.specs.declared.record.Record.{Record}
-use Rattle.model.specs.Admitting.{admit, is_new, IsTaken, IsLegal}
-use Rattle.model.specs.Giving.{kept}
-use Rattle.model.specs.Histories.{History}
-use Rattle.model.specs.Nodes.{Node, IsNode}
-use Rattle.model.specs.Words.{Author, Event, Message}
-use Rattle.model.specs.declared.admission.Admission.{Admission}
-use Rattle.model.specs.declared.refusal.Refusal.{Refusal}
+use Rattle.spec_model.specs.Admitting.{admit, is_new, IsTaken, IsLegal}
+use Rattle.spec_model.specs.Giving.{kept}
+use Rattle.spec_model.specs.Histories.{History}
+use Rattle.spec_model.specs.Nodes.{Node, IsNode}
+use Rattle.spec_model.specs.Words.{Author, Event, Message}
+use Rattle.spec_model.specs.declared.admission.Admission.{Admission}
+use Rattle.spec_model.specs.declared.refusal.Refusal.{Refusal}
 use Rattle.admission.specs.Answers.{IsAnswer, is_new_step}
 use Rattle.admission.specs.declared.step.Step.{Step}
 use Rattle.admission.specs.declared.step.Step.TheVariants.{New, Known}
-use Rattle.machine.specs.Machine.{fresh}
-use Rattle.records.specs.Records.{configuration_of}
+use Rattle.spec_machine.specs.Machine.{fresh}
+use Rattle.spec_records.specs.Records.{configuration_of}
 use Rattle.admission.specs.declared.tables.Tables.{Tables}
 use Rattle.validator.specs.Standing.{AreAtSound}
 use Rattle.wire.specs.Reading.{Faults, message_of}

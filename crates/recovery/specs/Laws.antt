@@ -3,17 +3,17 @@ use Rattle.std.specs.Prelude.{◌≡◌, ◌⊎◌, ℕ, List, Ok, All}
 use Rattle.diskmodel.specs.Outcomes.{AreBytes}
 use Rattle.journal.specs.declared.error.JournalError.{JournalError}
 use Rattle.journal.specs.declared.error.JournalError.TheVariants.{Memory, Device}
-use Rattle.model.specs.Admitting.{IsLegal}
-use Rattle.model.specs.Giving.{kept}
-use Rattle.model.specs.Histories.{History}
-use Rattle.model.specs.Nodes.{Node, IsNode}
+use Rattle.spec_model.specs.Admitting.{IsLegal}
+use Rattle.spec_model.specs.Giving.{kept}
+use Rattle.spec_model.specs.Histories.{History}
+use Rattle.spec_model.specs.Nodes.{Node, IsNode}
 use Rattle.recovery.specs.Told.{told}
 use Rattle.admission.specs.declared.tables.Tables.{Tables}
 use Rattle.validator.specs.Standing.{AreAtSound}
-use Rattle.world.specs.Promise.{IsRecovered}
-use Rattle.world.specs.Runs.{AreKeys}
-use Rattle.world.specs.Steps.{Move, IsRun}
-use Rattle.world.specs.World.{World, Holds, StandsFor, MayStop}
+use Rattle.spec_world.specs.Promise.{IsRecovered}
+use Rattle.spec_world.specs.Runs.{AreKeys}
+use Rattle.spec_world.specs.Steps.{Move, IsRun}
+use Rattle.spec_world.specs.World.{World, Holds, StandsFor, MayStop}
 
 -- ---- the laws
 

@@ -14,14 +14,14 @@ use Rattle.journal.specs.Journal.{HaveSameRecords}
 use Rattle.journal.specs.declared.error.JournalError.{JournalError}
 use Rattle.journal.specs.declared.error.JournalError.TheVariants.{Memory, Damaged, ConfigMismatch}
 use Rattle.journal.specs.declared.record.Record.{Record}
-use Rattle.model.specs.Admitting.{admit, is_new, IsLegal}
-use Rattle.model.specs.Giving.{kept}
-use Rattle.model.specs.Histories.{History}
-use Rattle.model.specs.Nodes.{Node}
-use Rattle.model.specs.Words.{Author, Event, Message}
-use Rattle.model.specs.declared.refusal.Refusal.{Refusal}
-use Rattle.model.specs.declared.refusal.Refusal.TheVariants as refusals
-use Rattle.records.specs.Records.{configuration_of}
+use Rattle.spec_model.specs.Admitting.{admit, is_new, IsLegal}
+use Rattle.spec_model.specs.Giving.{kept}
+use Rattle.spec_model.specs.Histories.{History}
+use Rattle.spec_model.specs.Nodes.{Node}
+use Rattle.spec_model.specs.Words.{Author, Event, Message}
+use Rattle.spec_model.specs.declared.refusal.Refusal.{Refusal}
+use Rattle.spec_model.specs.declared.refusal.Refusal.TheVariants as refusals
+use Rattle.spec_records.specs.Records.{configuration_of}
 use Rattle.recovery.specs.declared.configuration.TheConstants.{SETTINGS_BYTES, KEY_BYTES}
 use Rattle.recovery.specs.declared.events.TheConstants.{EVENT, FRONT_BYTES}
 use Rattle.admission.specs.declared.tables.Tables.{Tables}

@@ -3,7 +3,7 @@
 ghost use Rattle.std.specs.Prelude.{◌≡◌, ◌+◌, ◌*◌, ◌≤◌, ◌++◌, [], ◌∷◌, length, flat_map, true, All, IfOk, OnOk};
 ghost use Rattle.committee.specs.declared.members.TheConstants.{MAX_MEMBERS};
 ghost use Rattle.journal.specs.Format.{FitsGroup};
-ghost use Rattle.records.specs.Records.{configuration_of};
+ghost use Rattle.spec_records.specs.Records.{configuration_of};
 ghost use Rattle.recovery.specs.Told.{has_ones as told_ones, has_front, is_configuration as told_configuration};
 ghost use Rattle.wire.specs.Fields.{AreBytes, EachIsByte};
 

@@ -7,7 +7,7 @@ ghost use Rattle.journal.specs.Journal.{disk_of};
 ghost use Rattle.book.specs.Book.{Run, Stands};
 ghost use Rattle.book.specs.declared.book.TheConstants.{MAX_ACCEPTED};
 ghost use Rattle.validator.specs.Setting.{node_of};
-ghost use Rattle.world.specs.Text.{take_in, flush as flush_it, stop as stop_it, frames, due, without_due, after, carried_out, Desk as ScriptDesk};
+ghost use Rattle.spec_world.specs.Text.{take_in, flush as flush_it, stop as stop_it, frames, due, without_due, after, carried_out, Desk as ScriptDesk};
 ghost use Rattle.recovery.specs.Script.{said, Passes, IsOf, IsOpenedOf, IsNotOpened, Breaks};
 ghost use Rattle.recovery.specs.Writing.{AppendsLess, AppendsPart, WritesFirst, WritesNone, WritesPartOfFirst};
 

@@ -3,9 +3,9 @@
 ghost use Rattle.std.specs.Prelude.{◌≡◌, ◌≢◌, [], true, None, All, IfOk, IfErr, IfSome, OnOk};
 ghost use Rattle.header.specs.Checks.{fault_of, accepts_all};
 ghost use Rattle.journal.specs.Format.{FailsAs};
-ghost use Rattle.model.specs.Admitting.{IsLegal};
-ghost use Rattle.model.specs.Giving.{kept};
-ghost use Rattle.model.specs.Histories.{History};
+ghost use Rattle.spec_model.specs.Admitting.{IsLegal};
+ghost use Rattle.spec_model.specs.Giving.{kept};
+ghost use Rattle.spec_model.specs.Histories.{History};
 ghost use Rattle.admission.specs.Answers.{is_new_step};
 ghost use Rattle.validator.specs.Setting.{node_of};
 ghost use Rattle.validator.specs.Standing.{AreAtSound};
@@ -120,7 +120,7 @@ pub fn replay<'a, S: Sign>(
     ensures err { IfErr result (λ error. FailsAs error (read_events (node_of S.own_key S.signature_of config.now) [] records.now)) }
     ensures texts { OnOk result (All IsText records.now) }
 {
-    machine::starts_fresh();
+    spec_machine::starts_fresh();
     config.limits_hold();
     let mut validator = Validator::new(alloc, config)?;
     for one in records {

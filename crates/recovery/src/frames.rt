@@ -2,7 +2,7 @@
 
 ghost use Rattle.std.specs.Prelude.{◌≡◌, ◌⊎◌, ◌≤◌, length, take, drop, IfOk, IfErr, OnOk, OnErr};
 ghost use Rattle.std.specs.Io.KnownBytes.{Keeps, Appends};
-ghost use Rattle.world.specs.Text.{frame_of};
+ghost use Rattle.spec_world.specs.Text.{frame_of};
 ghost use Rattle.recovery.specs.Writing.{AppendsLess};
 
 use crate::driving::DriveError;

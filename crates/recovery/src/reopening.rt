@@ -5,7 +5,7 @@ ghost use Rattle.std.specs.Str.{bytes_eq};
 ghost use Rattle.diskmodel.specs.Disk.{AtEachMoment};
 ghost use Rattle.journal.specs.Format.{stands};
 ghost use Rattle.journal.specs.Journal.{disk_of, IsAlive, IsClosedUp};
-ghost use Rattle.records.specs.Records.{configuration_of};
+ghost use Rattle.spec_records.specs.Records.{configuration_of};
 ghost use Rattle.validator.specs.Setting.{node_of};
 ghost use Rattle.recovery.specs.Laws.{StandsForAt, HoldsAt, IsLeft, AreLeftTold, IsNoRefusal};
 ghost use Rattle.recovery.specs.Told.{IsText, HasTexts, is_configuration as told_configuration, is_alone as told_alone, has_ones as told_ones, read_journal, told, Tells, StandsAt, IsToldAsOneOf, KeepsOrBegins, KeepsRecords};

@@ -21,5 +21,5 @@ pub fn what_stands_is_told()
 pub fn worlds_are_told()
     ensures { WorldsAreTold }
 {
-    world::never_takes_back();
+    spec_world::never_takes_back();
 }

@@ -3,14 +3,14 @@ use Rattle.std.proofs.Common.{◌≡◌, ℕ, ◌++◌, ◌-◌, ◌*◌, true, 
 use Rattle.std.specs.Prelude.{IfSome}
 use Rattle.std.specs.Option.{option_map_or}
 use Rattle.committee.specs.Charter.{Charter}
-use Rattle.laws.proofs.FromFloor.{held_is_enough}
-use Rattle.laws.proofs.Lengthening.{is_later}
-use Rattle.laws.proofs.OrderLonger.{is_top_of}
-use Rattle.laws.specs.Laws.{IsEnough}
-use Rattle.model.specs.Histories.{History, coins}
-use Rattle.model.specs.Holdings.{floor, ledger_of, ledger_at}
-use Rattle.model.specs.Nodes.{Node}
-use Rattle.model.specs.Ordering.{Ledger, leader, is_directly_committed, top, newer}
+use Rattle.spec_laws.proofs.FromFloor.{held_is_enough}
+use Rattle.spec_laws.proofs.Lengthening.{is_later}
+use Rattle.spec_laws.proofs.OrderLonger.{is_top_of}
+use Rattle.spec_laws.specs.Laws.{IsEnough}
+use Rattle.spec_model.specs.Histories.{History, coins}
+use Rattle.spec_model.specs.Holdings.{floor, ledger_of, ledger_at}
+use Rattle.spec_model.specs.Nodes.{Node}
+use Rattle.spec_model.specs.Ordering.{Ledger, leader, is_directly_committed, top, newer}
 use Rattle.dag.specs.Graph.{Graph, slots_in}
 use Rattle.tusk.specs.Chain.{ledger_in, slot_of, wave_of}
 use Rattle.tusk.proofs.Chains.{is_based}

@@ -6,14 +6,14 @@ use Rattle.std.proofs.lemmas.Bool.{cases_Bool, cases_lt, leb-true, le-leb, trueâ
 use Rattle.std.proofs.lemmas.Option.{same_Some, none-some}
 use Rattle.committee.specs.Charter.{IsCharter}
 use Rattle.committee.proofs.Weights.{some_of_weight}
-use Rattle.model.specs.Ordering.{Ledger, size_in, reaches_in, leader, supports, has_support, top, newer_to, newer_at, newer, last_wave}
-use Rattle.model.specs.Slots.{Slots, is_parent, reaches}
-use Rattle.model.specs.Words.{Certificate}
-use Rattle.laws.proofs.Growing.{Extends, IsIn, grown, leader_in, leader_kept, reaches_same, reaches_new}
-use Rattle.laws.proofs.Lists.{given_or_none, Contains-nothing, Contains-cases}
-use Rattle.laws.proofs.OrderLonger.{is_top_of, top_leader, top_grows, directly_committed_leader, leader_place, newer_ends}
-use Rattle.laws.proofs.Weighing.{size_some, total_some}
-use Rattle.machine.specs.Machine.{last_leader}
+use Rattle.spec_model.specs.Ordering.{Ledger, size_in, reaches_in, leader, supports, has_support, top, newer_to, newer_at, newer, last_wave}
+use Rattle.spec_model.specs.Slots.{Slots, is_parent, reaches}
+use Rattle.spec_model.specs.Words.{Certificate}
+use Rattle.spec_laws.proofs.Growing.{Extends, IsIn, grown, leader_in, leader_kept, reaches_same, reaches_new}
+use Rattle.spec_laws.proofs.Lists.{given_or_none, Contains-nothing, Contains-cases}
+use Rattle.spec_laws.proofs.OrderLonger.{is_top_of, top_leader, top_grows, directly_committed_leader, leader_place, newer_ends}
+use Rattle.spec_laws.proofs.Weighing.{size_some, total_some}
+use Rattle.spec_machine.specs.Machine.{last_leader}
 use Rattle.tusk.proofs.Chains.{newer_at_is}
 
 -- certificates that are held follow one on the other: each reaches the one before

@@ -7,17 +7,17 @@ use Rattle.std.proofs.lemmas.Grind.{common_steps}
 use Rattle.std.proofs.lemmas.Option.{same_Some, none-some}
 use Rattle.wire.specs.declared.message.Message.TheVariants as message
 use Rattle.committee.specs.Charter.{weight}
-use Rattle.model.specs.Admitting.{is_new, vote_answer, certificate_answer}
-use Rattle.model.specs.Histories.{as_coin}
-use Rattle.model.specs.Holdings.{certificate_by, is_low, all_held}
-use Rattle.model.specs.Nodes.{Node, quorum}
-use Rattle.model.specs.Slots.{Slots}
-use Rattle.model.specs.States.{State, floor_in}
-use Rattle.model.specs.Words.{Author, Certificate, Event, Header, HeaderBody, Message, Vote}
-use Rattle.laws.proofs.Lists.{given_or_none}
-use Rattle.laws.proofs.Votes.{slot_is}
-use Rattle.machine.specs.Machine.{answered, certificate_of, counted_with, grown}
-use Rattle.machine.specs.Sound.{IsSound}
+use Rattle.spec_model.specs.Admitting.{is_new, vote_answer, certificate_answer}
+use Rattle.spec_model.specs.Histories.{as_coin}
+use Rattle.spec_model.specs.Holdings.{certificate_by, is_low, all_held}
+use Rattle.spec_model.specs.Nodes.{Node, quorum}
+use Rattle.spec_model.specs.Slots.{Slots}
+use Rattle.spec_model.specs.States.{State, floor_in}
+use Rattle.spec_model.specs.Words.{Author, Certificate, Event, Header, HeaderBody, Message, Vote}
+use Rattle.spec_laws.proofs.Lists.{given_or_none}
+use Rattle.spec_laws.proofs.Votes.{slot_is}
+use Rattle.spec_machine.specs.Machine.{answered, certificate_of, counted_with, grown}
+use Rattle.spec_machine.specs.Sound.{IsSound}
 use Rattle.dag.specs.Answer.{answer}
 use Rattle.dag.specs.Graph.{slots_in}
 use Rattle.dag.specs.declared.answers.Added.TheVariants.{New}

@@ -7,18 +7,18 @@ use Rattle.std.proofs.lemmas.Bool.{cases_Bool, ltb-true}
 use Rattle.std.proofs.lemmas.List.{append-nil}
 use Rattle.std.proofs.lemmas.Option.{same_Some, none-some}
 use Rattle.committee.specs.Charter.{Charter}
-use Rattle.model.specs.Histories.{as_coin}
-use Rattle.model.specs.Nodes.{Node, IsNode}
-use Rattle.model.specs.Ordering.{Ledger, leader, top, is_past}
-use Rattle.model.specs.Slots.{Slots, is_of_slot}
-use Rattle.model.specs.States.{State, ledger_in, floor_in}
-use Rattle.model.specs.Words.{Author, Certificate, Event}
-use Rattle.laws.proofs.Closed.{floor_of}
-use Rattle.laws.proofs.Growing.{Extends, WasHeld, leader_in, reaches_same, reaches_new}
-use Rattle.laws.proofs.Lists.{given_or_none}
-use Rattle.laws.proofs.OrderGrows.{members_some}
-use Rattle.laws.proofs.OrderLonger.{top_leader, leader_place}
-use Rattle.machine.specs.Machine.{certificate_of, last_leader, grown, after}
+use Rattle.spec_model.specs.Histories.{as_coin}
+use Rattle.spec_model.specs.Nodes.{Node, IsNode}
+use Rattle.spec_model.specs.Ordering.{Ledger, leader, top, is_past}
+use Rattle.spec_model.specs.Slots.{Slots, is_of_slot}
+use Rattle.spec_model.specs.States.{State, ledger_in, floor_in}
+use Rattle.spec_model.specs.Words.{Author, Certificate, Event}
+use Rattle.spec_laws.proofs.Closed.{floor_of}
+use Rattle.spec_laws.proofs.Growing.{Extends, WasHeld, leader_in, reaches_same, reaches_new}
+use Rattle.spec_laws.proofs.Lists.{given_or_none}
+use Rattle.spec_laws.proofs.OrderGrows.{members_some}
+use Rattle.spec_laws.proofs.OrderLonger.{top_leader, leader_place}
+use Rattle.spec_machine.specs.Machine.{certificate_of, last_leader, grown, after}
 use Rattle.dag.specs.Changes.{IsWith, IsDropped}
 use Rattle.dag.specs.Graph.{Graph, IsGraph, Placed, size_in, placed_at, slots_in, marked_in}
 use Rattle.tusk.specs.Chain.{slot_of}

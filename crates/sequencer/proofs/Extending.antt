@@ -7,11 +7,11 @@ use Rattle.std.proofs.lemmas.Bool.{cases_Bool, cases_lt, and_parts, leb-true, le
 use Rattle.std.proofs.lemmas.Grind.{common_steps}
 use Rattle.std.proofs.lemmas.List.FromFn.{length-map-range_with_len}
 use Rattle.std.proofs.lemmas.Option.{none-some, slice_get-map, slice_get_past}
-use Rattle.model.specs.Holdings.{is_low, is_held}
-use Rattle.model.specs.Slots.{is_of_slot, slots_of}
-use Rattle.model.specs.Words.{Certificate, ParentReference}
-use Rattle.laws.proofs.Lists.{given_or_none}
-use Rattle.laws.proofs.Votes.{slot_is}
+use Rattle.spec_model.specs.Holdings.{is_low, is_held}
+use Rattle.spec_model.specs.Slots.{is_of_slot, slots_of}
+use Rattle.spec_model.specs.Words.{Certificate, ParentReference}
+use Rattle.spec_laws.proofs.Lists.{given_or_none}
+use Rattle.spec_laws.proofs.Votes.{slot_is}
 use Rattle.dag.specs.Answer.{answer}
 use Rattle.dag.specs.Changes.{IsWith}
 use Rattle.dag.specs.Graph.{Graph, IsGraph, Placed, row_at, placed_at, size_in, slots_in, marked_in, end_in}

@@ -5,17 +5,17 @@ use Rattle.std.specs.Prelude.{◌==◌}
 use Rattle.std.specs.Option.{option_map_or, option_or, option_to_list}
 use Rattle.std.proofs.lemmas.Bool.{cases_Bool, eqb-true, true≢false}
 use Rattle.std.proofs.lemmas.List.{append-nil, length-append}
-use Rattle.model.specs.Histories.{as_coin}
-use Rattle.model.specs.Holdings.{ledger_of}
-use Rattle.model.specs.Nodes.{Node}
-use Rattle.model.specs.Ordering.{Ledger, has_support, is_directly_committed}
-use Rattle.model.specs.Slots.{Slots, slots_of}
-use Rattle.model.specs.States.{State}
-use Rattle.model.specs.States as states
-use Rattle.model.specs.Words.{Certificate, Event}
-use Rattle.laws.proofs.Growing.{Extends}
-use Rattle.machine.specs.Machine.{certificate_of, grown}
-use Rattle.machine.specs.Sound.{IsSound}
+use Rattle.spec_model.specs.Histories.{as_coin}
+use Rattle.spec_model.specs.Holdings.{ledger_of}
+use Rattle.spec_model.specs.Nodes.{Node}
+use Rattle.spec_model.specs.Ordering.{Ledger, has_support, is_directly_committed}
+use Rattle.spec_model.specs.Slots.{Slots, slots_of}
+use Rattle.spec_model.specs.States.{State}
+use Rattle.spec_model.specs.States as states
+use Rattle.spec_model.specs.Words.{Certificate, Event}
+use Rattle.spec_laws.proofs.Growing.{Extends}
+use Rattle.spec_machine.specs.Machine.{certificate_of, grown}
+use Rattle.spec_machine.specs.Sound.{IsSound}
 use Rattle.dag.specs.Changes.{IsWith}
 use Rattle.dag.specs.Graph.{Graph, IsGraph, slots_in}
 use Rattle.tusk.specs.Chain.{ledger_in}

@@ -7,16 +7,16 @@ use Rattle.wire.specs.declared.message.Message.TheVariants as message
 use Rattle.committee.specs.Charter.{Charter, quorum_of}
 use Rattle.header.specs.Checks.{Test, test, first_failing, accepts_all, is_member, named_weight, is_signed, header_signed, body_tests}
 use Rattle.header.specs.declared.error.CheckError.TheVariants.{BadSignature}
-use Rattle.model.specs.Admitting.{IsTaken}
-use Rattle.model.specs.Nodes.{Node, IsNode, size_of}
-use Rattle.model.specs.States.{State}
-use Rattle.model.specs.Words.{Author, Certificate, Event, Header, HeaderBody, Message, ParentReference, Vote}
-use Rattle.laws.proofs.Lists.{given_or_none}
-use Rattle.laws.proofs.OrderGrows.{sound_certificate}
-use Rattle.laws.proofs.Votes.{slot_is}
-use Rattle.machine.specs.Machine.{certificate_of, counted_with}
-use Rattle.machine.specs.Sound.{IsSound}
-use Rattle.model.specs.Holdings.{certificate_by}
+use Rattle.spec_model.specs.Admitting.{IsTaken}
+use Rattle.spec_model.specs.Nodes.{Node, IsNode, size_of}
+use Rattle.spec_model.specs.States.{State}
+use Rattle.spec_model.specs.Words.{Author, Certificate, Event, Header, HeaderBody, Message, ParentReference, Vote}
+use Rattle.spec_laws.proofs.Lists.{given_or_none}
+use Rattle.spec_laws.proofs.OrderGrows.{sound_certificate}
+use Rattle.spec_laws.proofs.Votes.{slot_is}
+use Rattle.spec_machine.specs.Machine.{certificate_of, counted_with}
+use Rattle.spec_machine.specs.Sound.{IsSound}
+use Rattle.spec_model.specs.Holdings.{certificate_by}
 use Rattle.sequencer.specs.Sequence.{Sequence, ComesTo}
 use Rattle.sequencer.specs.Laws.{CertificatesAreNew}
 use Rattle.sequencer.proofs.Coming.{made_of, new_in}

@@ -7,21 +7,21 @@ use Rattle.std.proofs.lemmas.Bool.{cases_Bool}
 use Rattle.std.proofs.lemmas.List.{map-append}
 use Rattle.std.proofs.lemmas.Option.{same_Some, none-some}
 use Rattle.committee.specs.Charter.{Charter, numbers}
-use Rattle.laws.proofs.Closed.{in_place}
-use Rattle.laws.proofs.FromRounds.{AgreeFrom, newer_high, round_from}
-use Rattle.laws.proofs.Growing.{AreInPlace, IsIn, WasHeld, any_same, leader_in}
-use Rattle.laws.proofs.Lengthening.{is_later, last_is}
-use Rattle.laws.proofs.Lists.{given_or_none, Contains-first, Contains-later}
-use Rattle.laws.proofs.OrderGrows.{members_some}
-use Rattle.laws.proofs.OrderLonger.{committed_is, leader_place, newer_ends, top_leader}
-use Rattle.laws.proofs.Votes.{slot_is}
-use Rattle.laws.specs.Laws.{last_or, committed_at}
-use Rattle.model.specs.Histories.{History, coins}
-use Rattle.model.specs.Holdings.{floor, slots, ledger_of, ledger_at}
-use Rattle.model.specs.Nodes.{Node}
-use Rattle.model.specs.Ordering.{Ledger, reaches_in, is_past, leader, top, newer_to, newer_at, newer, committed, last_wave, segment}
-use Rattle.model.specs.Slots.{Slots, has_path, is_parent, reaches}
-use Rattle.model.specs.Words.{Certificate}
+use Rattle.spec_laws.proofs.Closed.{in_place}
+use Rattle.spec_laws.proofs.FromRounds.{AgreeFrom, newer_high, round_from}
+use Rattle.spec_laws.proofs.Growing.{AreInPlace, IsIn, WasHeld, any_same, leader_in}
+use Rattle.spec_laws.proofs.Lengthening.{is_later, last_is}
+use Rattle.spec_laws.proofs.Lists.{given_or_none, Contains-first, Contains-later}
+use Rattle.spec_laws.proofs.OrderGrows.{members_some}
+use Rattle.spec_laws.proofs.OrderLonger.{committed_is, leader_place, newer_ends, top_leader}
+use Rattle.spec_laws.proofs.Votes.{slot_is}
+use Rattle.spec_laws.specs.Laws.{last_or, committed_at}
+use Rattle.spec_model.specs.Histories.{History, coins}
+use Rattle.spec_model.specs.Holdings.{floor, slots, ledger_of, ledger_at}
+use Rattle.spec_model.specs.Nodes.{Node}
+use Rattle.spec_model.specs.Ordering.{Ledger, reaches_in, is_past, leader, top, newer_to, newer_at, newer, committed, last_wave, segment}
+use Rattle.spec_model.specs.Slots.{Slots, has_path, is_parent, reaches}
+use Rattle.spec_model.specs.Words.{Certificate}
 use Rattle.dag.specs.Graph.{Graph, slots_in}
 use Rattle.tusk.specs.Chain.{ledger_in, slot_of}
 use Rattle.flatten.specs.Laws.{Follows, EachFollows}

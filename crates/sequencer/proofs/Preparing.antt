@@ -5,19 +5,19 @@ use Rattle.std.specs.Option.{option_map_or, option_to_list}
 use Rattle.std.proofs.lemmas.List.{map-append, length-append}
 use Rattle.std.proofs.lemmas.Option.{same_Some, none-some}
 use Rattle.committee.specs.Charter.{Charter}
-use Rattle.model.specs.Histories.{as_coin}
-use Rattle.model.specs.Nodes.{Node, IsNode}
-use Rattle.model.specs.Ordering.{Ledger, leader, top, newer, last_wave, is_past, segments}
-use Rattle.model.specs.Slots.{Slots, certificate_digest, reaches}
-use Rattle.model.specs.States.{State}
-use Rattle.model.specs.States as states
-use Rattle.model.specs.Words.{Author, Certificate, Digest, Event}
-use Rattle.laws.proofs.Growing.{Extends, IsIn, WasHeld, leader_in, segments_same}
-use Rattle.laws.proofs.Lists.{given_or_none, Contains-first, Contains-later}
-use Rattle.laws.proofs.OrderGrows.{members_some}
-use Rattle.laws.proofs.OrderLonger.{top_leader, leader_place, newer_ends}
-use Rattle.machine.specs.Machine.{last_leader, newly_ordered, grown}
-use Rattle.machine.specs.Sound.{IsSound}
+use Rattle.spec_model.specs.Histories.{as_coin}
+use Rattle.spec_model.specs.Nodes.{Node, IsNode}
+use Rattle.spec_model.specs.Ordering.{Ledger, leader, top, newer, last_wave, is_past, segments}
+use Rattle.spec_model.specs.Slots.{Slots, certificate_digest, reaches}
+use Rattle.spec_model.specs.States.{State}
+use Rattle.spec_model.specs.States as states
+use Rattle.spec_model.specs.Words.{Author, Certificate, Digest, Event}
+use Rattle.spec_laws.proofs.Growing.{Extends, IsIn, WasHeld, leader_in, segments_same}
+use Rattle.spec_laws.proofs.Lists.{given_or_none, Contains-first, Contains-later}
+use Rattle.spec_laws.proofs.OrderGrows.{members_some}
+use Rattle.spec_laws.proofs.OrderLonger.{top_leader, leader_place, newer_ends}
+use Rattle.spec_machine.specs.Machine.{last_leader, newly_ordered, grown}
+use Rattle.spec_machine.specs.Sound.{IsSound}
 use Rattle.dag.specs.Graph.{Graph, size_in, slots_in}
 use Rattle.dag.specs.Graph as dag
 use Rattle.tusk.specs.Chain.{ledger_in, slot_of, base_of}

@@ -3,15 +3,15 @@ use Rattle.std.proofs.Common.{◌≡◌, ℕ, ◌-◌, ◌<◌, List, [], ◌∷
 use Rattle.std.specs.Prelude.{Ok}
 use Rattle.std.specs.Option.{option_map_or}
 use Rattle.std.proofs.lemmas.Option.{same_Some, none-some}
-use Rattle.model.specs.Histories.{as_coin}
-use Rattle.model.specs.Nodes.{Node, IsNode}
-use Rattle.laws.proofs.Lists.{given_or_none}
-use Rattle.model.specs.Ordering.{Ledger, newer, segments}
-use Rattle.model.specs.States.{State}
-use Rattle.model.specs.States as states
-use Rattle.model.specs.Words.{Author, Certificate, Event}
-use Rattle.machine.specs.Machine.{certificate_of, grown}
-use Rattle.machine.specs.Sound.{IsSound}
+use Rattle.spec_model.specs.Histories.{as_coin}
+use Rattle.spec_model.specs.Nodes.{Node, IsNode}
+use Rattle.spec_laws.proofs.Lists.{given_or_none}
+use Rattle.spec_model.specs.Ordering.{Ledger, newer, segments}
+use Rattle.spec_model.specs.States.{State}
+use Rattle.spec_model.specs.States as states
+use Rattle.spec_model.specs.Words.{Author, Certificate, Event}
+use Rattle.spec_machine.specs.Machine.{certificate_of, grown}
+use Rattle.spec_machine.specs.Sound.{IsSound}
 use Rattle.dag.specs.Answer.{answer}
 use Rattle.dag.specs.Changes.{IsWith}
 use Rattle.dag.specs.Graph.{Graph, IsGraph, size_in}

@@ -6,21 +6,21 @@ use Rattle.std.specs.Str.{bytes_eq}
 use Rattle.std.proofs.lemmas.Bool.{cases_Bool, and_parts, and_from, leb-true}
 use Rattle.std.proofs.lemmas.Option.{same_Some}
 use Rattle.std.proofs.lemmas.Slice.Eq.{bytes_eq-Decides}
-use Rattle.model.specs.Holdings.{is_held}
-use Rattle.model.specs.Nodes.{Node, IsNode, size_of}
-use Rattle.model.specs.Ordering.{leader, has_support, reaches_in, top, last_wave}
-use Rattle.model.specs.Slots.{Slots, same_digest, certificate_digest, is_named}
-use Rattle.model.specs.States.{State, ledger_in, floor_in}
-use Rattle.model.specs.Words.{Certificate, ParentReference}
-use Rattle.laws.proofs.Closed.{all_to, floor_of}
-use Rattle.laws.proofs.Growing.{AreInPlace, leader_in}
-use Rattle.laws.proofs.Lists.{given_or_none}
-use Rattle.laws.proofs.Meeting.{AreRooted, reaches_leader, same_number}
-use Rattle.laws.proofs.OrderGrows.{members_some, names_quorum, sound_certificate}
-use Rattle.laws.proofs.OrderLonger.{is_top_of, top_leader, leader_place, directly_committed_leader}
-use Rattle.laws.proofs.Votes.{slot_is}
-use Rattle.machine.specs.Machine.{last_leader}
-use Rattle.machine.specs.Sound.{IsSound}
+use Rattle.spec_model.specs.Holdings.{is_held}
+use Rattle.spec_model.specs.Nodes.{Node, IsNode, size_of}
+use Rattle.spec_model.specs.Ordering.{leader, has_support, reaches_in, top, last_wave}
+use Rattle.spec_model.specs.Slots.{Slots, same_digest, certificate_digest, is_named}
+use Rattle.spec_model.specs.States.{State, ledger_in, floor_in}
+use Rattle.spec_model.specs.Words.{Certificate, ParentReference}
+use Rattle.spec_laws.proofs.Closed.{all_to, floor_of}
+use Rattle.spec_laws.proofs.Growing.{AreInPlace, leader_in}
+use Rattle.spec_laws.proofs.Lists.{given_or_none}
+use Rattle.spec_laws.proofs.Meeting.{AreRooted, reaches_leader, same_number}
+use Rattle.spec_laws.proofs.OrderGrows.{members_some, names_quorum, sound_certificate}
+use Rattle.spec_laws.proofs.OrderLonger.{is_top_of, top_leader, leader_place, directly_committed_leader}
+use Rattle.spec_laws.proofs.Votes.{slot_is}
+use Rattle.spec_machine.specs.Machine.{last_leader}
+use Rattle.spec_machine.specs.Sound.{IsSound}
 use Rattle.sequencer.proofs.Chaining.{ReachFrom}
 
 same_bytes : (one other : List ℕ) → bytes_eq one other ≡ true → bytes_eq other one ≡ true

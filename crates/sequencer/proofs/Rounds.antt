@@ -5,14 +5,14 @@ use Rattle.std.proofs.lemmas.Bool.{cases_Bool, cases_lt, leb-true}
 use Rattle.std.proofs.lemmas.Option.{none-some}
 use Rattle.committee.specs.Charter.{Charter, weight, quorum_of}
 use Rattle.committee.proofs.Weights.{some_of_weight}
-use Rattle.model.specs.Holdings.{is_full}
-use Rattle.model.specs.Nodes.{Node}
-use Rattle.model.specs.Slots.{Slots}
-use Rattle.model.specs.States.{State}
-use Rattle.model.specs.Words.{Certificate}
-use Rattle.laws.proofs.Lists.{given_or_none}
-use Rattle.machine.specs.Machine.{full_to, round_in}
-use Rattle.machine.specs.Sound.{IsSound}
+use Rattle.spec_model.specs.Holdings.{is_full}
+use Rattle.spec_model.specs.Nodes.{Node}
+use Rattle.spec_model.specs.Slots.{Slots}
+use Rattle.spec_model.specs.States.{State}
+use Rattle.spec_model.specs.Words.{Certificate}
+use Rattle.spec_laws.proofs.Lists.{given_or_none}
+use Rattle.spec_machine.specs.Machine.{full_to, round_in}
+use Rattle.spec_machine.specs.Sound.{IsSound}
 use Rattle.dag.specs.Graph.{Placed, slots_in, stake_in, end_in}
 use Rattle.sequencer.specs.Sequence.{Sequence, IsAt}
 use Rattle.sequencer.proofs.Extending.{placed_within}

@@ -6,17 +6,17 @@ use Rattle.std.specs.Option.{option_map_or}
 use Rattle.std.proofs.lemmas.Bool.{cases_Bool}
 use Rattle.std.proofs.lemmas.Option.{none-some}
 use Rattle.committee.specs.Charter.{Charter}
-use Rattle.laws.specs.Laws.{HoldsFrom}
-use Rattle.model.specs.Nodes.{Node, IsNode}
-use Rattle.model.specs.Ordering.{leader, top, is_past}
-use Rattle.model.specs.Slots.{Slots, reaches}
-use Rattle.model.specs.States.{State, ledger_in, floor_in}
-use Rattle.model.specs.Words.{Author, Certificate, Event}
-use Rattle.laws.proofs.Closed.{floor_of}
-use Rattle.laws.proofs.Growing.{Extends, IsIn, WasHeld}
-use Rattle.laws.proofs.Lists.{given_or_none}
-use Rattle.machine.specs.Machine.{last_leader, grown, after}
-use Rattle.machine.specs.Sound.{IsSound}
+use Rattle.spec_laws.specs.Laws.{HoldsFrom}
+use Rattle.spec_model.specs.Nodes.{Node, IsNode}
+use Rattle.spec_model.specs.Ordering.{leader, top, is_past}
+use Rattle.spec_model.specs.Slots.{Slots, reaches}
+use Rattle.spec_model.specs.States.{State, ledger_in, floor_in}
+use Rattle.spec_model.specs.Words.{Author, Certificate, Event}
+use Rattle.spec_laws.proofs.Closed.{floor_of}
+use Rattle.spec_laws.proofs.Growing.{Extends, IsIn, WasHeld}
+use Rattle.spec_laws.proofs.Lists.{given_or_none}
+use Rattle.spec_machine.specs.Machine.{last_leader, grown, after}
+use Rattle.spec_machine.specs.Sound.{IsSound}
 use Rattle.dag.specs.Changes.{IsDropped}
 use Rattle.dag.specs.Graph.{Graph, IsGraph, size_in, slots_in, marked_in}
 use Rattle.dag.specs.Graph as dag

@@ -5,16 +5,16 @@ use Rattle.std.specs.Prelude.{nat_lt, option_map, if◌then◌else◌}
 use Rattle.std.specs.Option.{option_to_list}
 use Rattle.std.proofs.lemmas.Bool.{cases_Bool, ltb-true}
 use Rattle.std.proofs.lemmas.List.{append-nil}
-use Rattle.model.specs.Holdings.{ledger_of}
-use Rattle.model.specs.Nodes.{Node}
-use Rattle.model.specs.Ordering.{is_past, segments, floor_by}
-use Rattle.model.specs.Slots.{Slots, certificate_digest}
-use Rattle.model.specs.States.{State, ledger_in, floor_in}
-use Rattle.model.specs.Words.{Certificate, Event}
-use Rattle.laws.proofs.Lengthening.{newer_none}
-use Rattle.laws.proofs.Lists.{given_or_none}
-use Rattle.laws.proofs.SlotsGrow.{or_none}
-use Rattle.machine.specs.Machine.{certificate_of, slots_with, last_leader, newly_ordered, grown, after}
+use Rattle.spec_model.specs.Holdings.{ledger_of}
+use Rattle.spec_model.specs.Nodes.{Node}
+use Rattle.spec_model.specs.Ordering.{is_past, segments, floor_by}
+use Rattle.spec_model.specs.Slots.{Slots, certificate_digest}
+use Rattle.spec_model.specs.States.{State, ledger_in, floor_in}
+use Rattle.spec_model.specs.Words.{Certificate, Event}
+use Rattle.spec_laws.proofs.Lengthening.{newer_none}
+use Rattle.spec_laws.proofs.Lists.{given_or_none}
+use Rattle.spec_laws.proofs.SlotsGrow.{or_none}
+use Rattle.spec_machine.specs.Machine.{certificate_of, slots_with, last_leader, newly_ordered, grown, after}
 use Rattle.tusk.specs.Chain.{slot_of}
 use Rattle.sequencer.specs.Laws.{SequenceStays}
 

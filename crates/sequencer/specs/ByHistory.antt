@@ -1,12 +1,12 @@
 -- What a DAG says of a legal history, of which it holds the certificates from a round on.
 use Rattle.std.specs.Prelude.{◌≡◌, ◌≤◌, ◌*◌, ◌-◌, ◌++◌, ℕ, List, ◌∷◌, map, Option, None, Some, option_map}
-use Rattle.laws.specs.Laws.{HoldsFrom, last_or, committed_at}
-use Rattle.model.specs.Admitting.{IsLegal}
-use Rattle.model.specs.Histories.{History, coins}
-use Rattle.model.specs.Holdings.{floor, slots, ledger_at}
-use Rattle.model.specs.Nodes.{Node}
-use Rattle.model.specs.Ordering.{leader, top, newer, last_wave, segment}
-use Rattle.model.specs.Words.{Author, Certificate}
+use Rattle.spec_laws.specs.Laws.{HoldsFrom, last_or, committed_at}
+use Rattle.spec_model.specs.Admitting.{IsLegal}
+use Rattle.spec_model.specs.Histories.{History, coins}
+use Rattle.spec_model.specs.Holdings.{floor, slots, ledger_at}
+use Rattle.spec_model.specs.Nodes.{Node}
+use Rattle.spec_model.specs.Ordering.{leader, top, newer, last_wave, segment}
+use Rattle.spec_model.specs.Words.{Author, Certificate}
 use Rattle.dag.specs.Graph.{Graph, IsGraph, slots_in}
 use Rattle.tusk.specs.Chain.{ledger_in, slot_of, base_of, IsBased, IsChain, IsFrom}
 use Rattle.flatten.specs.Segments.{leader_held, AreLinked, IsMarkedPast, IsMarkedFor, IsMarkedBefore}

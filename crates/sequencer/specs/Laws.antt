@@ -1,14 +1,14 @@
 -- What stays as it is, and what ties a DAG to histories.
 use Rattle.std.specs.Prelude.{◌≡◌, ◌≤◌, ◌++◌, ℕ, List, None, ◌<◌, length, Ok, Some}
-use Rattle.laws.specs.Laws.{HoldsFrom, IsEnough}
-use Rattle.machine.specs.Laws.{SoundStays, StateStands, HeldIsEnoughNow, HeldIsEnoughBehind}
-use Rattle.machine.specs.Machine.{after, certificate_of}
-use Rattle.model.specs.Admitting.{IsLegal}
-use Rattle.model.specs.Histories.{History, as_coin}
-use Rattle.model.specs.Holdings.{floor, slots, ledger_of}
-use Rattle.model.specs.Nodes.{Node}
-use Rattle.model.specs.States.{State}
-use Rattle.model.specs.Words.{Certificate, Event}
+use Rattle.spec_laws.specs.Laws.{HoldsFrom, IsEnough}
+use Rattle.spec_machine.specs.Laws.{SoundStays, StateStands, HeldIsEnoughNow, HeldIsEnoughBehind}
+use Rattle.spec_machine.specs.Machine.{after, certificate_of}
+use Rattle.spec_model.specs.Admitting.{IsLegal}
+use Rattle.spec_model.specs.Histories.{History, as_coin}
+use Rattle.spec_model.specs.Holdings.{floor, slots, ledger_of}
+use Rattle.spec_model.specs.Nodes.{Node}
+use Rattle.spec_model.specs.States.{State}
+use Rattle.spec_model.specs.Words.{Certificate, Event}
 use Rattle.dag.specs.Answer.{answer}
 use Rattle.dag.specs.Graph.{Graph, size_in, slots_in}
 use Rattle.dag.specs.declared.answers.Added.TheVariants.{New}

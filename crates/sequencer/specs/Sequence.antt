@@ -1,12 +1,12 @@
 -- What a sequencer has, and when that is what a state has.
 use Rattle.std.specs.Prelude.{◌≡◌, ◌<◌, ℕ, ◌+◌, ◌-◌, ◌/◌, max, List, [], length, slice_get, Option, Some, None, option_map}
 use Rattle.std.specs.Option.{option_map_or}
-use Rattle.model.specs.Nodes.{Node}
-use Rattle.model.specs.Ordering.{is_past, segments}
-use Rattle.model.specs.States.{State, ledger_in, floor_in}
-use Rattle.model.specs.Words.{Author, Certificate, Digest, Event}
-use Rattle.machine.specs.Laws.{Comes}
-use Rattle.machine.specs.Machine.{grown, last_leader, newly_ordered}
+use Rattle.spec_model.specs.Nodes.{Node}
+use Rattle.spec_model.specs.Ordering.{is_past, segments}
+use Rattle.spec_model.specs.States.{State, ledger_in, floor_in}
+use Rattle.spec_model.specs.Words.{Author, Certificate, Digest, Event}
+use Rattle.spec_machine.specs.Laws.{Comes}
+use Rattle.spec_machine.specs.Machine.{grown, last_leader, newly_ordered}
 use Rattle.dag.specs.Changes.{IsDropped}
 use Rattle.dag.specs.Graph.{Graph, IsGraph, slots_in, marked_in}
 use Rattle.tusk.specs.Chain.{slot_of}

@@ -41,8 +41,8 @@ pub fn orders_by_history()
 pub(crate) fn states_go_on()
     ensures { AreKnown }
 {
-    machine::sound_stays();
-    machine::state_stands();
-    machine::held_is_enough_now();
-    machine::held_is_enough_behind();
+    spec_machine::sound_stays();
+    spec_machine::state_stands();
+    spec_machine::held_is_enough_now();
+    spec_machine::held_is_enough_behind();
 }

@@ -1,7 +1,7 @@
 //! What a certificate or a coin will add to the order.
 
 ghost use Rattle.std.specs.Prelude.{◌≡◌, ℕ, ◌<◌, length, Option, IfOk};
-ghost use Rattle.model.specs.Words.{Author};
+ghost use Rattle.spec_model.specs.Words.{Author};
 ghost use Rattle.sequencer.specs.Sequence.{prepared_digests, IsMadeOf};
 
 use dag::Dag;

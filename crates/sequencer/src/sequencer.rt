@@ -2,13 +2,13 @@
 
 ghost use Rattle.std.specs.Prelude.{◌≡◌, ℕ, ◌+◌, ◌-◌, ◌<◌, ◌≤◌, ◌++◌, length, Ok, Some, IfOk, OnOk, OnErr, vec_len, vec_capacity};
 ghost use Rattle.committee.specs.Charter.{Charter};
-ghost use Rattle.machine.specs.Machine.{certificate_of, fresh, after, round_in};
-ghost use Rattle.machine.specs.Sound.{IsSound};
-ghost use Rattle.model.specs.Histories.{as_coin};
-ghost use Rattle.model.specs.Nodes.{Node};
-ghost use Rattle.model.specs.Slots.{certificate_digest};
-ghost use Rattle.model.specs.States.{State};
-ghost use Rattle.model.specs.Words.{Event};
+ghost use Rattle.spec_machine.specs.Machine.{certificate_of, fresh, after, round_in};
+ghost use Rattle.spec_machine.specs.Sound.{IsSound};
+ghost use Rattle.spec_model.specs.Histories.{as_coin};
+ghost use Rattle.spec_model.specs.Nodes.{Node};
+ghost use Rattle.spec_model.specs.Slots.{certificate_digest};
+ghost use Rattle.spec_model.specs.States.{State};
+ghost use Rattle.spec_model.specs.Words.{Event};
 ghost use Rattle.dag.specs.Answer.{answer};
 ghost use Rattle.dag.specs.declared.answers.Added.TheVariants.{New};
 ghost use Rattle.sequencer.specs.Sequence.{IsAt, ComesTo, IsPrepared, CommitsTo, prepared_digests, wave_in};

@@ -9,17 +9,17 @@ use Rattle.std.proofs.lemmas.Option.{same_Some, none-some}
 use Rattle.std.proofs.lemmas.List.{append-nil, length-append}
 use Rattle.committee.specs.Charter.{Charter, IsCharter, weight, support_of}
 use Rattle.committee.proofs.Weights.{weight-none}
-use Rattle.model.specs.Admitting.{same_header}
-use Rattle.model.specs.Holdings.{is_low}
-use Rattle.model.specs.Ordering.{Ledger, size_in, reaches_in, leader, supports, has_support, is_directly_committed, top, newer_to}
-use Rattle.model.specs.Slots.{Slots, same_digest, certificate_digest, is_of_slot, slots_of, is_named, is_parent}
-use Rattle.model.specs.Words.{Author, Certificate}
-use Rattle.laws.proofs.Closed.{low_parent}
-use Rattle.laws.proofs.Growing.{AreInPlace, Extends, IsIn, is_in, grown, reaches_same, reaches_new, leader_kept, leader_new, leader_in, directly_committed_kept}
-use Rattle.laws.proofs.Lists.{given_or_none}
-use Rattle.laws.proofs.OrderLonger.{directly_committed_leader, leader_place}
-use Rattle.laws.proofs.Votes.{slot_is}
-use Rattle.laws.proofs.Weighing.{size_some, total_some}
+use Rattle.spec_model.specs.Admitting.{same_header}
+use Rattle.spec_model.specs.Holdings.{is_low}
+use Rattle.spec_model.specs.Ordering.{Ledger, size_in, reaches_in, leader, supports, has_support, is_directly_committed, top, newer_to}
+use Rattle.spec_model.specs.Slots.{Slots, same_digest, certificate_digest, is_of_slot, slots_of, is_named, is_parent}
+use Rattle.spec_model.specs.Words.{Author, Certificate}
+use Rattle.spec_laws.proofs.Closed.{low_parent}
+use Rattle.spec_laws.proofs.Growing.{AreInPlace, Extends, IsIn, is_in, grown, reaches_same, reaches_new, leader_kept, leader_new, leader_in, directly_committed_kept}
+use Rattle.spec_laws.proofs.Lists.{given_or_none}
+use Rattle.spec_laws.proofs.OrderLonger.{directly_committed_leader, leader_place}
+use Rattle.spec_laws.proofs.Votes.{slot_is}
+use Rattle.spec_laws.proofs.Weighing.{size_some, total_some}
 use Rattle.dag.specs.Answer.{answer, held_answer}
 use Rattle.dag.specs.Changes.{IsWith}
 use Rattle.dag.specs.Graph.{Graph, IsGraph, slots_in, has_parent_in}

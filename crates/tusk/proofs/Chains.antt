@@ -5,11 +5,11 @@ use Rattle.std.specs.Option.{option_map_or}
 use Rattle.std.proofs.lemmas.Bool.{cases_Bool, cases_lt, le-leb, true≢false}
 use Rattle.std.proofs.lemmas.Option.{slice_get_within}
 use Rattle.std.proofs.lemmas.List.{map-append}
-use Rattle.model.specs.Ordering.{Ledger, size_in, leader, is_directly_committed, top_to, top, newer_to, newer_at, newer}
-use Rattle.model.specs.Words.{Author, Certificate}
-use Rattle.laws.proofs.Growing.{AreInPlace}
-use Rattle.laws.proofs.Lists.{given_or_none}
-use Rattle.laws.proofs.OrderLonger.{is_top_of, top_above, directly_committed_leader, leader_place, newer_ends}
+use Rattle.spec_model.specs.Ordering.{Ledger, size_in, leader, is_directly_committed, top_to, top, newer_to, newer_at, newer}
+use Rattle.spec_model.specs.Words.{Author, Certificate}
+use Rattle.spec_laws.proofs.Growing.{AreInPlace}
+use Rattle.spec_laws.proofs.Lists.{given_or_none}
+use Rattle.spec_laws.proofs.OrderLonger.{is_top_of, top_above, directly_committed_leader, leader_place, newer_ends}
 use Rattle.dag.specs.Graph.{Graph}
 use Rattle.tusk.specs.Chain.{ledger_in, slot_of, wave_of, base_of, raised_to, IsBased, IsChain}
 

@@ -4,12 +4,12 @@ use Rattle.std.specs.Prelude.{nat_le, is_some}
 use Rattle.std.specs.Option.{option_map_or}
 use Rattle.std.proofs.lemmas.Bool.{le-leb}
 use Rattle.std.proofs.lemmas.List.{append_assoc, map-append, reverse-append}
-use Rattle.model.specs.Ordering.{Ledger, reaches_in, leader, newer_to}
-use Rattle.model.specs.Slots.{reaches}
-use Rattle.model.specs.Words.{Author, Certificate}
-use Rattle.laws.proofs.Growing.{AreInPlace}
-use Rattle.laws.proofs.Lists.{given_or_none}
-use Rattle.laws.proofs.Votes.{slot_is}
+use Rattle.spec_model.specs.Ordering.{Ledger, reaches_in, leader, newer_to}
+use Rattle.spec_model.specs.Slots.{reaches}
+use Rattle.spec_model.specs.Words.{Author, Certificate}
+use Rattle.spec_laws.proofs.Growing.{AreInPlace}
+use Rattle.spec_laws.proofs.Lists.{given_or_none}
+use Rattle.spec_laws.proofs.Votes.{slot_is}
 use Rattle.dag.specs.Graph as dag
 use Rattle.tusk.specs.Chain.{ledger_in, slot_of}
 use Rattle.tusk.proofs.Supporting.{IsLed}

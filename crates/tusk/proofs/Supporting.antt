@@ -5,12 +5,12 @@ use Rattle.std.specs.List.{list_any}
 use Rattle.std.specs.Option.{option_map_or}
 use Rattle.std.proofs.lemmas.Option.{same_Some, slice_get_past}
 use Rattle.std.proofs.lemmas.Bool.{cases_Bool, leb-true}
-use Rattle.laws.proofs.Growing.{AreInPlace, leader_in}
-use Rattle.laws.proofs.Lists.{given_or_none}
-use Rattle.model.specs.Ordering.{Ledger, leader, supports}
-use Rattle.model.specs.Slots.{same_digest, certificate_digest, is_parent, is_named}
-use Rattle.model.specs.Words.{Author, Certificate, Digest, ParentReference}
-use Rattle.laws.proofs.Votes.{slot_is}
+use Rattle.spec_laws.proofs.Growing.{AreInPlace, leader_in}
+use Rattle.spec_laws.proofs.Lists.{given_or_none}
+use Rattle.spec_model.specs.Ordering.{Ledger, leader, supports}
+use Rattle.spec_model.specs.Slots.{same_digest, certificate_digest, is_parent, is_named}
+use Rattle.spec_model.specs.Words.{Author, Certificate, Digest, ParentReference}
+use Rattle.spec_laws.proofs.Votes.{slot_is}
 use Rattle.dag.specs.Graph.{Graph, IsGraph, size_in, slots_in, has_parent_in, digest_in}
 use Rattle.tusk.specs.Chain.{ledger_in, coin_of, slot_of}
 use Rattle.wire.specs.declared.round.TheConstants.Round.{MAX}

@@ -1,8 +1,8 @@
 -- The leaders of waves over what a DAG holds, and those that are newer than a committed wave.
 use Rattle.std.specs.Prelude.{◌≡◌, ℕ, zero, suc, ◌+◌, ◌-◌, ◌*◌, ◌/◌, ◌<◌, true, List, [], ◌∷◌, map, Option, Some, None, IfSome, slice_get}
 use Rattle.std.specs.Option.{option_map_or}
-use Rattle.model.specs.Ordering.{Ledger, is_directly_committed, top, newer}
-use Rattle.model.specs.Words.{Author, Certificate}
+use Rattle.spec_model.specs.Ordering.{Ledger, is_directly_committed, top, newer}
+use Rattle.spec_model.specs.Words.{Author, Certificate}
 use Rattle.dag.specs.Graph.{Graph, slots_in}
 
 -- the order's parts over what a DAG holds, with these coins

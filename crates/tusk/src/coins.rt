@@ -1,8 +1,8 @@
 //! The coins, and the leaders that they choose.
 
 ghost use Rattle.std.specs.Prelude.{◌≡◌, ℕ, ◌+◌, ◌-◌, ◌*◌, ◌^◌, ◌<◌, ◌≤◌, ◌++◌, [], ◌∷◌, true, length, map, Ok, Some, option_map, IfSome, IfOk, OnOk, OnErr};
-ghost use Rattle.model.specs.Ordering.{leader, is_directly_committed, top, newer_to, newer_at};
-ghost use Rattle.model.specs.Words.{Certificate};
+ghost use Rattle.spec_model.specs.Ordering.{leader, is_directly_committed, top, newer_to, newer_at};
+ghost use Rattle.spec_model.specs.Words.{Certificate};
 ghost use Rattle.dag.specs.Answer.{answer};
 ghost use Rattle.dag.specs.Changes.{IsWith};
 ghost use Rattle.dag.specs.Graph.{Graph, slots_in};

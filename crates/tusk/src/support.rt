@@ -4,9 +4,9 @@ ghost use Rattle.std.specs.Prelude.{◌≡◌, ℕ, ◌+◌, ◌-◌, ◌*◌, �
 ghost use Rattle.std.specs.List.{list_any};
 ghost use Rattle.committee.specs.Charter.{weight, support_of};
 ghost use Rattle.committee.specs.Sets.{has};
-ghost use Rattle.model.specs.Ordering.{has_support};
-ghost use Rattle.model.specs.Slots.{same_digest, is_named};
-ghost use Rattle.model.specs.Words.{Certificate};
+ghost use Rattle.spec_model.specs.Ordering.{has_support};
+ghost use Rattle.spec_model.specs.Slots.{same_digest, is_named};
+ghost use Rattle.spec_model.specs.Words.{Certificate};
 ghost use Rattle.dag.specs.Graph.{size_in, slots_in, has_parent_in, reaches_in};
 ghost use Rattle.tusk.specs.Chain.{ledger_in, slot_of, wave_of, base_of};
 ghost use Rattle.wire.specs.declared.round.TheConstants.Round.{MAX};

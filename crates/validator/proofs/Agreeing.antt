@@ -3,13 +3,13 @@ use Rattle.std.proofs.Common.{◌≡◌, ℕ, ◌-◌, ◌^◌, Bool, true, fals
 use Rattle.std.specs.Prelude.{◌||◌, nat_lt, is_some, option_map}
 use Rattle.committee.specs.Charter.{Charter, numbers}
 use Rattle.header.specs.Making.{body_of, signed_by}
-use Rattle.model.specs.Nodes.{Node, size_of}
-use Rattle.model.specs.Proposing as proposing
-use Rattle.model.specs.Proposing.{as_parent, proposal_of, propose_of, signed}
-use Rattle.model.specs.Slots.{Slots, round_of}
-use Rattle.model.specs.States.{State}
-use Rattle.model.specs.Words.{Author, Digest, Header, Signature}
-use Rattle.machine.specs.Machine.{proposed, round_in}
+use Rattle.spec_model.specs.Nodes.{Node, size_of}
+use Rattle.spec_model.specs.Proposing as proposing
+use Rattle.spec_model.specs.Proposing.{as_parent, proposal_of, propose_of, signed}
+use Rattle.spec_model.specs.Slots.{Slots, round_of}
+use Rattle.spec_model.specs.States.{State}
+use Rattle.spec_model.specs.Words.{Author, Digest, Header, Signature}
+use Rattle.spec_machine.specs.Machine.{proposed, round_in}
 use Rattle.batchstore.specs.Stock.{Stock, nameable}
 use Rattle.dag.specs.Graph.{Graph, size_in, slots_in}
 use Rattle.sequencer.specs.Sequence.{Sequence}

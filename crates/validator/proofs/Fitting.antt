@@ -7,13 +7,13 @@ use Rattle.std.proofs.lemmas.Option.{same_Some, none-some}
 use Rattle.wire.specs.References.{digest_before, batches_rise}
 use Rattle.committee.specs.Charter.{numbers}
 use Rattle.header.specs.Making.{list_fault, batches_fault, parents_fault}
-use Rattle.model.specs.Proposing.{as_parent}
-use Rattle.model.specs.Slots.{certificate_digest}
-use Rattle.model.specs.Words.{Author, Certificate, Digest}
-use Rattle.model.proofs.Placing.{take-rises}
-use Rattle.laws.proofs.Lists.{given_or_none}
-use Rattle.laws.proofs.ProposedTaken.{all_placed-rise, few_taken, made_from}
-use Rattle.laws.proofs.Votes.{slot_is}
+use Rattle.spec_model.specs.Proposing.{as_parent}
+use Rattle.spec_model.specs.Slots.{certificate_digest}
+use Rattle.spec_model.specs.Words.{Author, Certificate, Digest}
+use Rattle.spec_model.proofs.Placing.{take-rises}
+use Rattle.spec_laws.proofs.Lists.{given_or_none}
+use Rattle.spec_laws.proofs.ProposedTaken.{all_placed-rise, few_taken, made_from}
+use Rattle.spec_laws.proofs.Votes.{slot_is}
 use Rattle.batchstore.specs.Stock.{Stock, nameable, to_name}
 use Rattle.dag.specs.Graph.{Graph, IsGraph, size_in, slots_in, digest_in}
 use Rattle.validator.specs.Proposing.{least_batches, parents_in}

@@ -5,18 +5,18 @@ use Rattle.std.proofs.lemmas.Bool.{cases_Bool, true≢false}
 use Rattle.wire.specs.Grammar.{IsMessage}
 use Rattle.wire.specs.declared.message.Message.TheVariants as message
 use Rattle.header.specs.Checks.{fault_of, accepts_all}
-use Rattle.laws.specs.Laws.{OrderGrows}
-use Rattle.laws.proofs.Legal.{legal-push}
-use Rattle.model.specs.Admitting.{is_new, IsTaken, IsLegal}
-use Rattle.model.specs.Giving.{kept}
-use Rattle.model.specs.Histories.{History}
-use Rattle.model.specs.Nodes.{Node, IsNode}
-use Rattle.model.specs.States.{State}
-use Rattle.model.specs.Words.{Certificate, Digest, Event, Header, Message, Signature}
-use Rattle.model.specs.declared.admission.Admission.{Admission}
-use Rattle.model.specs.declared.refusal.Refusal.{Refusal}
-use Rattle.machine.specs.Laws.{SoundStays, StateAnswers, StateFollows}
-use Rattle.machine.specs.Machine.{answered, after}
+use Rattle.spec_laws.specs.Laws.{OrderGrows}
+use Rattle.spec_laws.proofs.Legal.{legal-push}
+use Rattle.spec_model.specs.Admitting.{is_new, IsTaken, IsLegal}
+use Rattle.spec_model.specs.Giving.{kept}
+use Rattle.spec_model.specs.Histories.{History}
+use Rattle.spec_model.specs.Nodes.{Node, IsNode}
+use Rattle.spec_model.specs.States.{State}
+use Rattle.spec_model.specs.Words.{Certificate, Digest, Event, Header, Message, Signature}
+use Rattle.spec_model.specs.declared.admission.Admission.{Admission}
+use Rattle.spec_model.specs.declared.refusal.Refusal.{Refusal}
+use Rattle.spec_machine.specs.Laws.{SoundStays, StateAnswers, StateFollows}
+use Rattle.spec_machine.specs.Machine.{answered, after}
 use Rattle.admission.specs.Answers.{IsAnswer, is_new_step}
 use Rattle.admission.specs.declared.step.Step.{Step}
 use Rattle.admission.specs.declared.step.Step.TheVariants as step

@@ -7,16 +7,16 @@ use Rattle.std.proofs.lemmas.Bool.{true≢false}
 use Rattle.wire.specs.Batches.{batch_body}
 use Rattle.wire.specs.declared.message.Message.TheVariants as message
 use Rattle.wire.specs.declared.output.Output.TheVariants as output
-use Rattle.model.specs.Admitting.{answer, batch_answer, held_batch_answer, ack_answer, held_header_answer, voted_answer, known_header_answer, header_answer, held_answer, own_header_answer, vote_answer, held_certificate_answer, certificate_answer, coin_answer, when◌gives◌else◌, is_own, may_name, same_header, batch_outputs, header_outputs, vote_outputs, order_outputs}
-use Rattle.model.specs.Holdings.{batch_digest, is_low, is_full, all_held}
-use Rattle.model.specs.Nodes.{Node}
-use Rattle.model.specs.Slots.{same_digest, header_digest, certificate_digest}
-use Rattle.model.specs.States.{State, batch_in, has_own_batch, floor_in}
-use Rattle.model.specs.Words.{Author, BatchAck, Certificate, Coin, Contents, Digest, Event, Header, Message, Vote}
-use Rattle.model.specs.declared.admission.Admission.{Admission}
-use Rattle.model.specs.declared.admission.Admission.TheVariants.{New, Known, Refused}
-use Rattle.model.specs.declared.refusal.Refusal.TheVariants.{Memory, Down, TooOld, MissingParents, MissingBatch, Equivocation, CertConflict, DigestClash, AlreadyProposed, NotOurs, CoinOutOfTurn, CoinEarly, CoinConflict, StoreFull}
-use Rattle.model.specs.declared.refusal.Refusal.{Refusal}
+use Rattle.spec_model.specs.Admitting.{answer, batch_answer, held_batch_answer, ack_answer, held_header_answer, voted_answer, known_header_answer, header_answer, held_answer, own_header_answer, vote_answer, held_certificate_answer, certificate_answer, coin_answer, when◌gives◌else◌, is_own, may_name, same_header, batch_outputs, header_outputs, vote_outputs, order_outputs}
+use Rattle.spec_model.specs.Holdings.{batch_digest, is_low, is_full, all_held}
+use Rattle.spec_model.specs.Nodes.{Node}
+use Rattle.spec_model.specs.Slots.{same_digest, header_digest, certificate_digest}
+use Rattle.spec_model.specs.States.{State, batch_in, has_own_batch, floor_in}
+use Rattle.spec_model.specs.Words.{Author, BatchAck, Certificate, Coin, Contents, Digest, Event, Header, Message, Vote}
+use Rattle.spec_model.specs.declared.admission.Admission.{Admission}
+use Rattle.spec_model.specs.declared.admission.Admission.TheVariants.{New, Known, Refused}
+use Rattle.spec_model.specs.declared.refusal.Refusal.TheVariants.{Memory, Down, TooOld, MissingParents, MissingBatch, Equivocation, CertConflict, DigestClash, AlreadyProposed, NotOurs, CoinOutOfTurn, CoinEarly, CoinConflict, StoreFull}
+use Rattle.spec_model.specs.declared.refusal.Refusal.{Refusal}
 use Rattle.admission.specs.Answers.{IsAnswer}
 use Rattle.admission.specs.declared.step.Step.{Step}
 

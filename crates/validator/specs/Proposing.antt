@@ -4,11 +4,11 @@ use Rattle.wire.specs.declared.limits.TheConstants.{MAX_BATCHES}
 use Rattle.wire.specs.declared.round.TheConstants.Round.{MAX as MAX_ROUND}
 use Rattle.committee.specs.Charter.{numbers}
 use Rattle.header.specs.Making.{body_of, signed_by}
-use Rattle.model.specs.Nodes.{Node, IsNode}
-use Rattle.model.specs.Proposing.{as_parent}
-use Rattle.model.specs.States.{State}
-use Rattle.model.specs.Words.{Author, BatchReference, Digest, Header, ParentReference, Signature}
-use Rattle.machine.specs.Sound.{IsSound}
+use Rattle.spec_model.specs.Nodes.{Node, IsNode}
+use Rattle.spec_model.specs.Proposing.{as_parent}
+use Rattle.spec_model.specs.States.{State}
+use Rattle.spec_model.specs.Words.{Author, BatchReference, Digest, Header, ParentReference, Signature}
+use Rattle.spec_machine.specs.Sound.{IsSound}
 use Rattle.batchstore.specs.Stock.{Stock, nameable}
 use Rattle.dag.specs.Graph.{Graph, size_in, slots_in}
 use Rattle.sequencer.specs.Sequence.{Sequence}

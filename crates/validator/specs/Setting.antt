@@ -1,7 +1,7 @@
 -- What a validator is set up with, as a node.
 use Rattle.committee.specs.Charter.{Charter}
-use Rattle.model.specs.Nodes.{Node}
-use Rattle.model.specs.Words.{Author, Digest, Signature}
+use Rattle.spec_model.specs.Nodes.{Node}
+use Rattle.spec_model.specs.Words.{Author, Digest, Signature}
 use Rattle.wire.specs.declared.keys.Key.{Key}
 
 -- a member's number, its committee and its signer

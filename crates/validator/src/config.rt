@@ -1,12 +1,12 @@
 //! What a validator is set up with.
 
 ghost use Rattle.std.specs.Prelude.{◌≡◌, IfSome, IsNone, Some, slice_get};
-ghost use Rattle.model.specs.Nodes.{IsNode};
+ghost use Rattle.spec_model.specs.Nodes.{IsNode};
 ghost use Rattle.validator.specs.Setting.{node_of};
 
 use committee::Committee;
-use model::Node;
 use sigface::Sign;
+use spec_model::Node;
 use std::marker::Model;
 use wire::Author;
 
@@ -22,7 +22,7 @@ impl<S: Sign + Drop> Drop for Config<S> {
 }
 
 impl<S: Sign> Model for Config<S> {
-    ghost use Rattle.model.specs.Nodes.{IsNode};
+    ghost use Rattle.spec_model.specs.Nodes.{IsNode};
     ghost use Rattle.validator.specs.Setting.{Setting, node_of};
 
     ghost Value = { Setting S };

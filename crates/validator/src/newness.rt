@@ -1,10 +1,10 @@
 //! Which events would be new.
 
 ghost use Rattle.std.specs.Prelude.{◌≡◌};
-ghost use Rattle.model.specs.Admitting.{is_new};
-ghost use Rattle.model.specs.Nodes.{Node};
-ghost use Rattle.model.specs.States.{State};
-ghost use Rattle.machine.specs.Machine.{answered};
+ghost use Rattle.spec_model.specs.Admitting.{is_new};
+ghost use Rattle.spec_model.specs.Nodes.{Node};
+ghost use Rattle.spec_model.specs.States.{State};
+ghost use Rattle.spec_machine.specs.Machine.{answered};
 ghost use Rattle.admission.specs.Standing.{Meets, MeetSome};
 
 use crate::taking::given;

@@ -1,7 +1,7 @@
 //! The certificates that a header names.
 
 ghost use Rattle.std.specs.Prelude.{◌≡◌, IfOk, option_map};
-ghost use Rattle.model.specs.Proposing.{as_parent};
+ghost use Rattle.spec_model.specs.Proposing.{as_parent};
 ghost use Rattle.dag.specs.Graph.{slots_in};
 ghost use Rattle.validator.specs.Proposing.{parents_in};
 

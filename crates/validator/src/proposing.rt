@@ -1,9 +1,9 @@
 //! What a validator proposes.
 
 ghost use Rattle.std.specs.Prelude.{◌≡◌, ◌-◌, IfOk};
-ghost use Rattle.model.specs.Nodes.{Node};
-ghost use Rattle.model.specs.States.{State};
-ghost use Rattle.machine.specs.Machine.{proposed};
+ghost use Rattle.spec_model.specs.Nodes.{Node};
+ghost use Rattle.spec_model.specs.States.{State};
+ghost use Rattle.spec_machine.specs.Machine.{proposed};
 ghost use Rattle.validator.specs.Proposing.{AreAt, free_round as free_in, header_in_round};
 
 use crate::making::signed;

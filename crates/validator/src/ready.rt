@@ -1,9 +1,9 @@
 //! Which events lack no parent.
 
 ghost use Rattle.std.specs.Prelude.{◌≡◌};
-ghost use Rattle.model.specs.Nodes.{Node};
-ghost use Rattle.model.specs.States.{State};
-ghost use Rattle.machine.specs.Machine.{is_ready};
+ghost use Rattle.spec_model.specs.Nodes.{Node};
+ghost use Rattle.spec_model.specs.States.{State};
+ghost use Rattle.spec_machine.specs.Machine.{is_ready};
 ghost use Rattle.admission.specs.Standing.{Meets, MeetSome};
 
 use crate::taking::given;

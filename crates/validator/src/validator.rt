@@ -2,14 +2,14 @@
 
 ghost use Rattle.std.specs.Prelude.{◌≡◌, ◌≢◌, ◌+◌, ◌≤◌, true, false, not, None, IfOk, IfErr, IfSome};
 ghost use Rattle.header.specs.Checks.{fault_of, accepts_all};
-ghost use Rattle.model.specs.Admitting.{admit, is_new, IsLegal};
-ghost use Rattle.model.specs.Giving.{kept, unless_low};
-ghost use Rattle.model.specs.Histories.{History};
-ghost use Rattle.model.specs.Holdings.{order as order_of, round as round_of, floor as floor_of, voted_digest};
-ghost use Rattle.model.specs.Nodes.{IsNode};
-ghost use Rattle.model.specs.Proposing.{propose as propose_of};
-ghost use Rattle.model.specs.States.{State, floor_in};
-ghost use Rattle.machine.specs.Machine.{answered, after, fresh, is_missing_parents, is_ready, proposed, round_in};
+ghost use Rattle.spec_model.specs.Admitting.{admit, is_new, IsLegal};
+ghost use Rattle.spec_model.specs.Giving.{kept, unless_low};
+ghost use Rattle.spec_model.specs.Histories.{History};
+ghost use Rattle.spec_model.specs.Holdings.{order as order_of, round as round_of, floor as floor_of, voted_digest};
+ghost use Rattle.spec_model.specs.Nodes.{IsNode};
+ghost use Rattle.spec_model.specs.Proposing.{propose as propose_of};
+ghost use Rattle.spec_model.specs.States.{State, floor_in};
+ghost use Rattle.spec_machine.specs.Machine.{answered, after, fresh, is_missing_parents, is_ready, proposed, round_in};
 ghost use Rattle.admission.specs.Answers.{IsAnswer, RefusesAs, is_new_step};
 ghost use Rattle.validator.specs.Setting.{node_of};
 ghost use Rattle.validator.specs.Standing.{AreAtSound, GoesOn, IsNewThere, StandSomewhere};
@@ -67,7 +67,7 @@ impl<'a, S: Sign> Validator<'a, S> {
         ensures setting { IfOk result (λ made. made.setting ≡ config.now) }
         ensures at { IfOk result (λ made. AreAtSound (node_of S.own_key S.signature_of config.now) made.tables (fresh (node_of S.own_key S.signature_of config.now))) }
     {
-        machine::fresh_is_sound();
+        spec_machine::fresh_is_sound();
         config.limits_hold();
         let tables = Tables::new(alloc, config.committee(), config.own())?;
         Ok(Validator {
@@ -117,10 +117,10 @@ impl<'a, S: Sign> Validator<'a, S> {
             → AreAtSound (node_of S.own_key S.signature_of self.old.setting) self.old.tables (kept (node_of S.own_key S.signature_of self.old.setting) history)
             → GoesOn (node_of S.own_key S.signature_of self.old.setting) history event self.new.tables }
     {
-        machine::sound_stays();
-        machine::state_answers();
-        machine::state_follows();
-        laws::order_grows();
+        spec_machine::sound_stays();
+        spec_machine::state_answers();
+        spec_machine::state_follows();
+        spec_laws::order_grows();
         self.config.limits_hold();
         event.message().limits_hold();
         take(&mut self.tables, self.alloc, self.config.signer(), event)
@@ -145,7 +145,7 @@ impl<'a, S: Sign> Validator<'a, S> {
             → result ≡ round_of (node_of S.own_key S.signature_of self.now.setting) history }
         ensures limit { result ≤ MAX + 1 }
     {
-        machine::state_proposes();
+        spec_machine::state_proposes();
         self.tables.sequencer().round()
     }
 
@@ -158,7 +158,7 @@ impl<'a, S: Sign> Validator<'a, S> {
             → AreAtSound (node_of S.own_key S.signature_of self.now.setting) self.now.tables (kept (node_of S.own_key S.signature_of self.now.setting) history)
             → result ≡ floor_of (node_of S.own_key S.signature_of self.now.setting) history }
     {
-        machine::state_proposes();
+        spec_machine::state_proposes();
         self.tables.floor()
     }
 
@@ -182,7 +182,7 @@ impl<'a, S: Sign> Validator<'a, S> {
             → AreAtSound (node_of S.own_key S.signature_of self.now.setting) self.now.tables (kept (node_of S.own_key S.signature_of self.now.setting) history)
             → result ≡ not (is_missing_parents (admit (node_of S.own_key S.signature_of self.now.setting) history event.now)) }
     {
-        machine::state_is_ready();
+        spec_machine::state_is_ready();
         self.config.limits_hold();
         event.message().limits_hold();
         is_ready(&self.tables, event)
@@ -197,7 +197,7 @@ impl<'a, S: Sign> Validator<'a, S> {
             → AreAtSound (node_of S.own_key S.signature_of self.now.setting) self.now.tables (kept (node_of S.own_key S.signature_of self.now.setting) history)
             → result ≡ is_new (admit (node_of S.own_key S.signature_of self.now.setting) history event.now) }
     {
-        machine::state_answers();
+        spec_machine::state_answers();
         self.config.limits_hold();
         event.message().limits_hold();
         is_new(&self.tables, event)
@@ -217,8 +217,8 @@ impl<'a, S: Sign> Validator<'a, S> {
             → IfSome found (IsNewThere (node_of S.own_key S.signature_of self.now.setting) state)) }
     {
         self.config.limits_hold();
-        machine::sound_proposes();
-        machine::state_proposes();
+        spec_machine::sound_proposes();
+        spec_machine::state_proposes();
         let tables = &self.tables;
         propose(
             self.alloc,

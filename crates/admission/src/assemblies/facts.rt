@@ -2,7 +2,7 @@
 
 ghost use Rattle.admission.specs.HeaderLaws.{StartsFresh, VotesAgree, HeaderComes, VoteComes, OthersCome};
 
-use machine::floors_agree;
+use spec_machine::floors_agree;
 
 /// A table with no header is at the fresh state.
 pub fn starts_fresh()

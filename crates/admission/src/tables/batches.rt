@@ -2,7 +2,7 @@
 
 ghost use Rattle.std.specs.Prelude.{◌≡◌, true, false};
 ghost use Rattle.wire.specs.declared.message.Message.TheVariants as message;
-ghost use Rattle.model.specs.Words.{Contents};
+ghost use Rattle.spec_model.specs.Words.{Contents};
 ghost use Rattle.batchstore.specs.Stock.{digest_of};
 ghost use Rattle.admission.specs.Answers.{is_new_step};
 ghost use Rattle.admission.specs.Standing.{IsNew, MeetSome, Answers, Refuses, GoOn};
@@ -11,7 +11,7 @@ use crate::batches::{is_new_ack, is_new_batch, take_ack, take_batch};
 use crate::step::Step;
 use crate::tables::Tables;
 use crate::tables::facts::others_stay;
-use model::Refusal;
+use spec_model::Refusal;
 use std::alloc::Global;
 use wire::{Batch, BatchAck, Digest};
 

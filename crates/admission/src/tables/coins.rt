@@ -2,12 +2,12 @@
 
 ghost use Rattle.std.specs.Prelude.{◌≡◌, ◌+◌, ◌*◌, ◌++◌, true, false, Some, IfOk, OnOk, OnErr};
 ghost use Rattle.wire.specs.declared.message.Message.TheVariants as message;
-ghost use Rattle.model.specs.Admitting.{order_outputs};
-ghost use Rattle.model.specs.Histories.{as_coin};
-ghost use Rattle.model.specs.Nodes.{Node};
-ghost use Rattle.model.specs.States.{State};
-ghost use Rattle.model.specs.Words.{Event};
-ghost use Rattle.machine.specs.Machine.{grown, after};
+ghost use Rattle.spec_model.specs.Admitting.{order_outputs};
+ghost use Rattle.spec_model.specs.Histories.{as_coin};
+ghost use Rattle.spec_model.specs.Nodes.{Node};
+ghost use Rattle.spec_model.specs.States.{State};
+ghost use Rattle.spec_model.specs.Words.{Event};
+ghost use Rattle.spec_machine.specs.Machine.{grown, after};
 ghost use Rattle.sequencer.specs.Sequence.{ComesTo, IsAt};
 ghost use Rattle.admission.specs.Answers.{is_new_step};
 ghost use Rattle.admission.specs.Decisions.{is_full_in, next_decision, coin_decision};
@@ -17,8 +17,8 @@ use crate::step::Step;
 use crate::tables::Tables;
 use crate::tables::answer::{Answer, is_new, new_step};
 use crate::tables::facts::others_stay;
-use model::{Outputs, Refusal};
 use sequencer::Sequencer;
+use spec_model::{Outputs, Refusal};
 use std::alloc::{AllocError, Global};
 use wire::{Author, Coin, Output, Round};
 

@@ -15,7 +15,7 @@ pub fn others_are_ready()
 pub(crate) fn others_stay()
     ensures { OthersStay }
 {
-    machine::low_is_to_the_floor();
+    spec_machine::low_is_to_the_floor();
     batches_stay();
     votes_stay();
     others_come();

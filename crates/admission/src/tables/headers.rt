@@ -2,7 +2,7 @@
 
 ghost use Rattle.std.specs.Prelude.{◌≡◌, ◌∷◌, [], true, false, None, IfOk, OnOk, OnErr};
 ghost use Rattle.wire.specs.declared.message.Message.TheVariants as message;
-ghost use Rattle.model.specs.Slots.{header_digest};
+ghost use Rattle.spec_model.specs.Slots.{header_digest};
 ghost use Rattle.admission.specs.Answers.{is_new_step};
 ghost use Rattle.admission.specs.Decisions.{is_own_of, voted_by, voted_decision, free_decision, header_decision, vote_by, new_header_outputs, known_header_outputs};
 ghost use Rattle.admission.specs.Standing.{IsReady, IsNew, MeetSome, AnswersBy, RefusesBy, GoOnBy};
@@ -15,8 +15,8 @@ use crate::tables::Tables;
 use crate::tables::answer::{Answer, is_new, known_step, lacks_parents, new_step};
 use crate::tables::facts::others_stay;
 use crate::votes::keep_vote;
-use model::Refusal;
 use sigface::Sign;
+use spec_model::Refusal;
 use std::alloc::{AllocError, Global};
 use wire::{Author, Digest, Header, Output, Vote, certificate_digest};
 

@@ -3,7 +3,7 @@ use Rattle.std.specs.Prelude.{◌&&◌, not, if◌then◌else◌}
 use Rattle.std.specs.Option.{option_eq}
 use mathlib.Core.Bool.{beq}
 use Rattle.wire.specs.declared.message.Message.TheVariants as message
-use Rattle.model.specs.Admitting.{is_new}
+use Rattle.spec_model.specs.Admitting.{is_new}
 use Rattle.batchstore.specs.Stock.{has_own, holds}
 use Rattle.admission.proofs.Answering.{answered_as, new_if_uncounted}
 use Rattle.admission.proofs.batches.is_new_ack.Goals as goal

@@ -1,7 +1,7 @@
 use Rattle.std.proofs.Common.{ap, sym, ◌∙◌}
 use Rattle.std.specs.Prelude.{not}
 use Rattle.wire.specs.declared.message.Message.TheVariants as message
-use Rattle.model.specs.Admitting.{is_new}
+use Rattle.spec_model.specs.Admitting.{is_new}
 use Rattle.batchstore.specs.Stock.{batch_in}
 use Rattle.admission.proofs.Answering.{answered_as, held_is_known, new_if_room}
 use Rattle.admission.proofs.batches.is_new_batch.Goals as goal

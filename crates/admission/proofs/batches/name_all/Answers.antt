@@ -1,6 +1,6 @@
 use Rattle.std.proofs.Common.{◌≡◌, true, ap, sym, subst, ◌∙◌}
 use Rattle.wire.specs.declared.message.Message.TheVariants as message
-use Rattle.model.specs.Admitting.{is_new, header_answer}
+use Rattle.spec_model.specs.Admitting.{is_new, header_answer}
 use Rattle.batchstore.specs.Answer.{with_names}
 use Rattle.admission.specs.Batches.{HasBatches}
 use Rattle.admission.proofs.Answering.{answered_as, after_as, named_own}

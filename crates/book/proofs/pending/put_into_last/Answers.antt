@@ -1,7 +1,7 @@
 use Rattle.std.proofs.Common.{◌≡◌, List, ℕ, ◌++◌, ◌∷◌, [], ap, sym, ◌∙◌, subst}
 use Rattle.std.specs.Prelude.{OnOk, Result, Ok, Err}
 use Rattle.journal.specs.Format.{FitsGroup}
-use Rattle.records.specs.Records.{record_of}
+use Rattle.spec_records.specs.Records.{record_of}
 use Rattle.book.proofs.Drafts.{push_same}
 use Rattle.book.proofs.pending.put_into_last.Goals as goal
 

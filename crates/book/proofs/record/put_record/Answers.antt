@@ -1,7 +1,7 @@
 use Rattle.std.proofs.Common.{◌≡◌, ◌∷◌, ◌++◌, [], List, ℕ, ap, ◌∙◌, arith}
 use Rattle.std.specs.Int.{w16, w32, to_be_bytes}
 use Rattle.journal.specs.Format.{record_bytes}
-use Rattle.records.specs.Records.{record_of}
+use Rattle.spec_records.specs.Records.{record_of}
 use Rattle.wire.specs.Spelling.{spelling}
 use Rattle.book.proofs.Recording.{behind_three, whole_behind, part_behind}
 use Rattle.book.proofs.record.put_record.Goals as goal

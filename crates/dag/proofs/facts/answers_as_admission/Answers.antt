@@ -1,14 +1,14 @@
 use Rattle.std.proofs.Common.{◌≡◌, ◌∙◌, Bool, true, false, List, [], Option, Some, None, ap, sym, refl}
 use Rattle.std.specs.Prelude.{not, Result, Ok, Err, if◌then◌else◌}
 use Rattle.std.specs.Option.{option_map_or}
-use Rattle.model.specs.Admitting.{certificate_answer, held_certificate_answer, order_outputs, same_header, when◌gives◌else◌}
-use Rattle.model.specs.Holdings.{is_low, all_held}
-use Rattle.model.specs.Slots.{Slots, same_digest, certificate_digest}
-use Rattle.model.specs.States.{floor_in}
-use Rattle.model.specs.Words.{Certificate, Output}
-use Rattle.model.specs.declared.admission.Admission.{Admission}
-use Rattle.model.specs.declared.admission.Admission.TheVariants as admission
-use Rattle.model.specs.declared.refusal.Refusal.TheVariants as refusal
+use Rattle.spec_model.specs.Admitting.{certificate_answer, held_certificate_answer, order_outputs, same_header, when◌gives◌else◌}
+use Rattle.spec_model.specs.Holdings.{is_low, all_held}
+use Rattle.spec_model.specs.Slots.{Slots, same_digest, certificate_digest}
+use Rattle.spec_model.specs.States.{floor_in}
+use Rattle.spec_model.specs.Words.{Certificate, Output}
+use Rattle.spec_model.specs.declared.admission.Admission.{Admission}
+use Rattle.spec_model.specs.declared.admission.Admission.TheVariants as admission
+use Rattle.spec_model.specs.declared.refusal.Refusal.TheVariants as refusal
 use Rattle.dag.specs.Answer.{held_answer, answer}
 use Rattle.dag.specs.Graph.{slots_in}
 use Rattle.dag.specs.declared.answers.Added.{Added}

@@ -1,10 +1,10 @@
 use Rattle.std.proofs.Common.{◌∙◌, ℕ, Bool, false, length, Option, inl, inr, ap, sym}
 use Rattle.std.specs.Option.{option_map_or}
 use Rattle.committee.specs.Charter.{Charter}
-use Rattle.model.specs.Slots.{Slots, reaches}
-use Rattle.model.specs.Words.{Certificate}
-use Rattle.laws.proofs.Growing.{is_in}
-use Rattle.laws.proofs.Lists.{given_or_none}
+use Rattle.spec_model.specs.Slots.{Slots, reaches}
+use Rattle.spec_model.specs.Words.{Certificate}
+use Rattle.spec_laws.proofs.Growing.{is_in}
+use Rattle.spec_laws.proofs.Lists.{given_or_none}
 use Rattle.dag.specs.Graph.{size_in, slots_in}
 use Rattle.dag.proofs.Answering.{is_new}
 use Rattle.dag.proofs.Reaching.{IsMore, stays, old_reaches}

@@ -3,7 +3,7 @@ use Rattle.std.proofs.Math.Path.{fun_ext}
 use Rattle.std.specs.Prelude.{flat_map, Bool}
 use Rattle.std.specs.List.{range_with_len}
 use Rattle.committee.specs.Sets.{has}
-use Rattle.model.specs.Words.{Digest}
+use Rattle.spec_model.specs.Words.{Digest}
 use Rattle.flatten.specs.Sets.{is_in, digests_at}
 use Rattle.flatten.proofs.Ranges.{lists_more}
 use Rattle.flatten.proofs.digests.put_digests.Goals as goal

@@ -4,7 +4,7 @@ use Rattle.std.specs.Option.{option_to_list}
 use Rattle.std.specs.List.{range_with_len}
 use Rattle.std.proofs.lemmas.List.{append-nil}
 use Rattle.committee.specs.Sets.{has}
-use Rattle.model.specs.Words.{Digest}
+use Rattle.spec_model.specs.Words.{Digest}
 use Rattle.dag.specs.Graph.{digest_in}
 use Rattle.flatten.proofs.Ranges.{made_more}
 use Rattle.flatten.proofs.digests.put_round.Goals as goal

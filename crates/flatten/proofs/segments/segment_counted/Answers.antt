@@ -1,9 +1,9 @@
 use Rattle.std.proofs.Common.{◌≡◌, ◌+◌, ◌-◌, List, [], ◌++◌, Some, ap, ◌∙◌, arith}
-use Rattle.model.specs.Words.{Certificate, Digest}
+use Rattle.spec_model.specs.Words.{Certificate, Digest}
 use Rattle.dag.specs.Graph.{slots_in}
 use Rattle.tusk.specs.Chain.{ledger_in}
 use Rattle.flatten.specs.Segments.{leader_held, digests_of}
-use Rattle.model.specs.Ordering.{segment}
+use Rattle.spec_model.specs.Ordering.{segment}
 use Rattle.flatten.specs.Sets.{lowest_in, AreUnordered, Leads}
 use Rattle.flatten.proofs.Taking.{AreFirst, chained_sets, chained_reads, first_sets, first_reads}
 use Rattle.flatten.proofs.segments.segment_counted.Goals as goal

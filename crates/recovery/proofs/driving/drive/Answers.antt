@@ -6,7 +6,7 @@ use Rattle.std.proofs.lemmas.Iterator.Adapters.{YieldsList-from_vec}
 use Rattle.std.proofs.lemmas.List.{length_push}
 use Rattle.std.proofs.lemmas.Result.{err_from_is_err_and}
 use Rattle.validator.specs.Setting.{node_of}
-use Rattle.world.specs.Text as script
+use Rattle.spec_world.specs.Text as script
 use Rattle.recovery.specs.Script.{said, script_of, HasRun}
 use Rattle.recovery.proofs.Carrying.{IsCarriedOut, first_carried, next_carried, cut_short, all_carried, script_parts, script_push, passes_at}
 use Rattle.recovery.proofs.driving.drive.Goals as goal

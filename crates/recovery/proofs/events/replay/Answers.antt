@@ -4,9 +4,9 @@ use Rattle.std.proofs.lemmas.List.{take_all, drop_all}
 use Rattle.std.proofs.lemmas.List.Elements.{All-nil, All-more}
 use Rattle.std.proofs.lemmas.Result.{err_from_is_err_and}
 use Rattle.journal.specs.Format.{FailsAs}
-use Rattle.model.specs.Admitting.{IsLegal}
-use Rattle.model.specs.Giving.{kept}
-use Rattle.model.specs.Histories.{History}
+use Rattle.spec_model.specs.Admitting.{IsLegal}
+use Rattle.spec_model.specs.Giving.{kept}
+use Rattle.spec_model.specs.Histories.{History}
 use Rattle.validator.specs.Setting.{node_of}
 use Rattle.validator.specs.Standing.{AreAtSound}
 use Rattle.recovery.specs.Told.{IsText, read_event, StandsAt}

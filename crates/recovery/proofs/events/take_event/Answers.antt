@@ -1,6 +1,6 @@
 use Rattle.std.proofs.Common.{◌≡◌, ◌++◌, ◌∷◌, [], Some, sym, ◌∙◌}
 use Rattle.std.proofs.lemmas.Result.{on_ok_weaker}
-use Rattle.model.specs.Admitting.{admit}
+use Rattle.spec_model.specs.Admitting.{admit}
 use Rattle.validator.specs.Setting.{node_of}
 use Rattle.recovery.specs.Told.{event_in, read_event}
 use Rattle.recovery.proofs.Telling.{read_none, read_new, read_old, new_answer, old_answer, fails_by, err_weaker}

@@ -4,7 +4,7 @@ use Rattle.std.specs.Io.KnownBytes.{Appends}
 use Rattle.std.specs.Int.{w32, to_be_bytes}
 use Rattle.std.proofs.lemmas.Result.{on_ok_weaker}
 use Rattle.wire.specs.Outputs.{output_bytes}
-use Rattle.world.specs.Text.{frame_of}
+use Rattle.spec_world.specs.Text.{frame_of}
 use Rattle.recovery.specs.Writing.{AppendsLess}
 use Rattle.recovery.proofs.Appending.{part_front, part_behind, less_none, on_err, on_err_more}
 use Rattle.recovery.proofs.frames.write_frame.Goals as goal

@@ -2,7 +2,7 @@ use Rattle.std.proofs.Common.{◌≡◌, true, false, None, ap, ◌∙◌, rules
 use borrow.Author.Rules.{in_lives}
 use Rattle.std.specs.Str.{bytes_eq}
 use Rattle.journal.specs.declared.error.JournalError.TheVariants.{Damaged, ConfigMismatch}
-use Rattle.records.specs.Records.{configuration_of}
+use Rattle.spec_records.specs.Records.{configuration_of}
 use Rattle.validator.specs.Setting.{node_of}
 use Rattle.recovery.specs.Told.{has_ones, first_fault}
 use Rattle.recovery.proofs.Telling.{ok_weaker, err_weaker, fault_shape, fault_stakes, fault_other, fault_none, behind_fault, stands_behind, fails_behind}

@@ -4,7 +4,7 @@ use Rattle.std.proofs.Common.{◌<◌, ◌+◌, length}
 use Rattle.journal.specs.Format.{group_bytes, stands}
 use Rattle.journal.specs.declared.layout.TheConstants.{MAX_JOURNAL_BYTES}
 use Rattle.journal.specs.Journal.{disk_of, IsBeforeOrAfter, stands_with}
-use Rattle.records.specs.Records.{configuration_of}
+use Rattle.spec_records.specs.Records.{configuration_of}
 use Rattle.validator.specs.Setting.{node_of}
 use Rattle.recovery.specs.Told.{is_configuration, told, KeepsOrBegins}
 use Rattle.diskmodel.proofs.Clock.{started, weaker}

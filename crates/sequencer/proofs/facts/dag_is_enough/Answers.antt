@@ -1,4 +1,4 @@
-use Rattle.laws.proofs.FromFloor.{held_is_enough}
+use Rattle.spec_laws.proofs.FromFloor.{held_is_enough}
 use Rattle.dag.specs.Graph.{slots_in}
 use Rattle.sequencer.proofs.facts.dag_is_enough.Goals as goal
 

@@ -1,6 +1,6 @@
 use Rattle.std.proofs.Common.{ap}
 use Rattle.committee.specs.Charter.{Charter}
-use Rattle.model.specs.Ordering.{Ledger}
+use Rattle.spec_model.specs.Ordering.{Ledger}
 use Rattle.dag.specs.Graph.{slots_in}
 use Rattle.sequencer.proofs.facts.is_ledger_of.Goals as goal
 

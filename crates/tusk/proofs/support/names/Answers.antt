@@ -1,8 +1,8 @@
 use Rattle.std.proofs.Common.{◌∙◌, List, ap}
 use Rattle.std.specs.Prelude.{◌==◌, ◌&&◌}
 use Rattle.std.specs.List.{list_any}
-use Rattle.model.specs.Slots.{same_digest}
-use Rattle.model.specs.Words.{ParentReference}
+use Rattle.spec_model.specs.Slots.{same_digest}
+use Rattle.spec_model.specs.Words.{ParentReference}
 use Rattle.tusk.proofs.Supporting.{named_in}
 use Rattle.tusk.proofs.support.names.Goals as goal
 

@@ -2,7 +2,7 @@ use Rattle.std.proofs.Common.{◌∙◌, ap, sym, ℕ, List, Some, None}
 use Rattle.std.specs.Prelude.{option_map}
 use Rattle.certify.specs.Assembled.{Assembled}
 use Rattle.admission.specs.Headers.{Headers}
-use Rattle.model.specs.Slots.{header_digest}
+use Rattle.spec_model.specs.Slots.{header_digest}
 use Rattle.admission.proofs.Looking.{looked}
 use Rattle.admission.proofs.assemblies.Assemblies.digest.Goals as goal
 

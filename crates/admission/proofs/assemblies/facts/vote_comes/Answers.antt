@@ -1,6 +1,6 @@
 use Rattle.std.proofs.Common.{sym, subst}
-use Rattle.model.specs.Words.{Message}
-use Rattle.machine.specs.Laws.{Comes}
+use Rattle.spec_model.specs.Words.{Message}
+use Rattle.spec_machine.specs.Laws.{Comes}
 use Rattle.admission.specs.HeaderLaws.{VoteComesTo}
 use Rattle.admission.proofs.VoteComing.{vote_comes}
 use Rattle.admission.proofs.assemblies.facts.vote_comes.Goals as goal

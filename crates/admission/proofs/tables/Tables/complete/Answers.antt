@@ -1,11 +1,11 @@
 use Rattle.std.proofs.Common.{ℕ, ◌++◌, ◌∷◌, List, [], Some, ap, sym, subst, ◌∙◌}
 use Rattle.wire.specs.declared.message.Message.TheVariants as message
 use Rattle.wire.specs.declared.output.Output.TheVariants as output
-use Rattle.model.specs.Admitting.{order_outputs, vote_outputs}
-use Rattle.model.specs.Slots.{certificate_digest}
-use Rattle.model.specs.Words.{Certificate, Output}
-use Rattle.model.specs.declared.admission.Admission.TheVariants as admission
-use Rattle.machine.specs.Machine.{grown}
+use Rattle.spec_model.specs.Admitting.{order_outputs, vote_outputs}
+use Rattle.spec_model.specs.Slots.{certificate_digest}
+use Rattle.spec_model.specs.Words.{Certificate, Output}
+use Rattle.spec_model.specs.declared.admission.Admission.TheVariants as admission
+use Rattle.spec_machine.specs.Machine.{grown}
 use Rattle.admission.specs.Headers.{IsForgotten, IsWith, counted_in}
 use Rattle.certify.specs.declared.added.Added.{Added}
 use Rattle.dag.specs.Graph.{slots_in}

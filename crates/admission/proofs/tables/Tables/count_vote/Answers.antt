@@ -1,6 +1,6 @@
 use Rattle.std.proofs.Common.{ℕ, ap, sym, subst}
 use Rattle.wire.specs.declared.message.Message.TheVariants as message
-use Rattle.model.specs.Histories.{as_coin}
+use Rattle.spec_model.specs.Histories.{as_coin}
 use Rattle.admission.specs.Headers.{IsForgotten, IsWith, counted_in}
 use Rattle.certify.specs.declared.added.Added.{Added}
 use Rattle.admission.specs.Batches.{changes_batches}

@@ -1,8 +1,8 @@
 use Rattle.std.proofs.Common.{[], ap, ◌∙◌}
 use Rattle.std.specs.Prelude.{not}
 use Rattle.wire.specs.declared.message.Message.TheVariants as message
-use Rattle.model.specs.Admitting.{order_outputs}
-use Rattle.machine.specs.Machine.{grown}
+use Rattle.spec_model.specs.Admitting.{order_outputs}
+use Rattle.spec_machine.specs.Machine.{grown}
 use Rattle.admission.specs.Decisions.{lacks_parents, certificate_decision}
 use Rattle.admission.proofs.Answered.{certificate_answered}
 use Rattle.admission.proofs.Readying.{ready_is_told}

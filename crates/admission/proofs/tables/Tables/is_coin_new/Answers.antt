@@ -1,7 +1,7 @@
 use Rattle.std.proofs.Common.{[], ap, ◌∙◌}
 use Rattle.wire.specs.declared.message.Message.TheVariants as message
-use Rattle.model.specs.Admitting.{order_outputs}
-use Rattle.machine.specs.Machine.{grown}
+use Rattle.spec_model.specs.Admitting.{order_outputs}
+use Rattle.spec_machine.specs.Machine.{grown}
 use Rattle.admission.specs.Decisions.{told, is_new_decision, coin_decision}
 use Rattle.admission.proofs.Answered.{coin_answered}
 use Rattle.admission.proofs.Closing.{newness_is_told}

@@ -1,7 +1,7 @@
 use Rattle.std.proofs.Common.{ap, ◌∙◌}
 use Rattle.wire.specs.declared.message.Message.TheVariants as message
-use Rattle.model.specs.Admitting.{vote_outputs}
-use Rattle.machine.specs.Machine.{grown}
+use Rattle.spec_model.specs.Admitting.{vote_outputs}
+use Rattle.spec_machine.specs.Machine.{grown}
 use Rattle.dag.specs.Graph.{slots_in}
 use Rattle.admission.specs.Decisions.{is_new_decision, vote_decision, known_outputs}
 use Rattle.admission.proofs.Answered.{vote_answered}

@@ -1,7 +1,7 @@
 use Rattle.std.proofs.Common.{◌≡◌, ℕ, [], ap, sym, subst, ◌∙◌}
 use Rattle.committee.specs.Charter.{Charter}
-use Rattle.model.specs.Words.{Author}
-use Rattle.machine.specs.Machine.{fresh}
+use Rattle.spec_model.specs.Words.{Author}
+use Rattle.spec_machine.specs.Machine.{fresh}
 use Rattle.votebook.specs.Votes.{Votes}
 use Rattle.batchstore.specs.Stock.{Stock}
 use Rattle.admission.specs.Headers.{Headers, empty}

@@ -1,11 +1,11 @@
 use Rattle.std.proofs.Common.{◌≡◌, ℕ, true, Some, ap, sym, subst, ◌∙◌}
 use Rattle.std.specs.Prelude.{not}
 use Rattle.wire.specs.declared.message.Message.TheVariants as message
-use Rattle.model.specs.Admitting.{is_own}
-use Rattle.model.specs.Histories.{as_coin}
-use Rattle.model.specs.Holdings.{own_vote}
-use Rattle.model.specs.Words.{Author, Digest, Header, Signature, Vote}
-use Rattle.machine.specs.Machine.{certificate_of}
+use Rattle.spec_model.specs.Admitting.{is_own}
+use Rattle.spec_model.specs.Histories.{as_coin}
+use Rattle.spec_model.specs.Holdings.{own_vote}
+use Rattle.spec_model.specs.Words.{Author, Digest, Header, Signature, Vote}
+use Rattle.spec_machine.specs.Machine.{certificate_of}
 use Rattle.certify.specs.Assembled.{started}
 use Rattle.admission.specs.Headers.{IsForgotten, IsWith}
 use Rattle.admission.specs.Votes.{is_peers_header}

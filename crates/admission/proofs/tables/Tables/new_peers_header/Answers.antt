@@ -1,10 +1,10 @@
 use Rattle.std.proofs.Common.{◌≡◌, ℕ, true, false, ap, sym, subst, ◌∙◌}
 use Rattle.std.specs.Prelude.{not}
 use Rattle.wire.specs.declared.message.Message.TheVariants as message
-use Rattle.model.specs.Admitting.{is_own}
-use Rattle.model.specs.Histories.{as_coin}
-use Rattle.model.specs.Words.{Author}
-use Rattle.machine.specs.Machine.{after, certificate_of}
+use Rattle.spec_model.specs.Admitting.{is_own}
+use Rattle.spec_model.specs.Histories.{as_coin}
+use Rattle.spec_model.specs.Words.{Author}
+use Rattle.spec_machine.specs.Machine.{after, certificate_of}
 use Rattle.votebook.specs.Votes.{Votes, ForgetsTo}
 use Rattle.admission.specs.HeaderLaws.{is_other}
 use Rattle.admission.specs.Batches.{changes_batches}

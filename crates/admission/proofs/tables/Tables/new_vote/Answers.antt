@@ -1,9 +1,9 @@
 use Rattle.std.proofs.Common.{◌≡◌, ◌⊎◌, ap, sym, ◌∙◌, subst}
 use Rattle.wire.specs.declared.message.Message.TheVariants as message
-use Rattle.model.specs.Admitting.{vote_outputs}
-use Rattle.model.specs.Histories.{as_coin}
-use Rattle.model.specs.declared.admission.Admission.TheVariants as admission
-use Rattle.machine.specs.Machine.{grown}
+use Rattle.spec_model.specs.Admitting.{vote_outputs}
+use Rattle.spec_model.specs.Histories.{as_coin}
+use Rattle.spec_model.specs.declared.admission.Admission.TheVariants as admission
+use Rattle.spec_machine.specs.Machine.{grown}
 use Rattle.dag.specs.Graph.{slots_in}
 use Rattle.admission.specs.Decisions.{vote_decision, known_outputs}
 use Rattle.admission.proofs.Answered.{vote_answered}

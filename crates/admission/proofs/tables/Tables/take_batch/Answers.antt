@@ -1,7 +1,7 @@
 use Rattle.std.proofs.Common.{ap}
 use Rattle.wire.specs.declared.message.Message.TheVariants as message
-use Rattle.model.specs.Histories.{as_coin}
-use Rattle.machine.specs.Machine.{certificate_of}
+use Rattle.spec_model.specs.Histories.{as_coin}
+use Rattle.spec_machine.specs.Machine.{certificate_of}
 use Rattle.admission.specs.Votes.{is_peers_header}
 use Rattle.admission.specs.HeaderLaws.{is_other}
 use Rattle.admission.proofs.Closing.{comes_of}

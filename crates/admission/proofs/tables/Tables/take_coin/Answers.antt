@@ -1,8 +1,8 @@
 use Rattle.std.proofs.Common.{◌≡◌, true, [], ap, sym, ◌∙◌}
 use Rattle.std.specs.Prelude.{Ok}
 use Rattle.wire.specs.declared.message.Message.TheVariants as message
-use Rattle.model.specs.Admitting.{is_new, order_outputs}
-use Rattle.machine.specs.Machine.{answered, grown}
+use Rattle.spec_model.specs.Admitting.{is_new, order_outputs}
+use Rattle.spec_machine.specs.Machine.{answered, grown}
 use Rattle.admission.specs.Decisions.{told, coin_decision}
 use Rattle.admission.specs.declared.tables.answer.Answer.TheVariants.{New}
 use Rattle.admission.proofs.Answered.{coin_answered}

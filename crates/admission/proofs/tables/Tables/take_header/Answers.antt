@@ -1,6 +1,6 @@
 use Rattle.std.proofs.Common.{ap, sym, ◌∙◌}
 use Rattle.std.specs.Prelude.{Ok}
-use Rattle.model.specs.Words.{Digest, Signature}
+use Rattle.spec_model.specs.Words.{Digest, Signature}
 use Rattle.admission.specs.Decisions.{told, header_decision, new_header_outputs, known_header_outputs}
 use Rattle.admission.proofs.Answered.{header_answered}
 use Rattle.admission.proofs.Closing.{refused_answer, refused_refuses, known_answer, known_not_new, known_refuses, new_answer, new_refuses, went}

@@ -1,11 +1,11 @@
 use Rattle.std.proofs.Common.{List, ap, sym, ◌∙◌}
 use Rattle.std.specs.Prelude.{Ok}
 use Rattle.wire.specs.declared.message.Message.TheVariants as message
-use Rattle.model.specs.Admitting.{is_new, vote_outputs}
-use Rattle.model.specs.Nodes.{Node}
-use Rattle.model.specs.States.{State}
-use Rattle.model.specs.Words.{Output, Vote}
-use Rattle.machine.specs.Machine.{grown}
+use Rattle.spec_model.specs.Admitting.{is_new, vote_outputs}
+use Rattle.spec_model.specs.Nodes.{Node}
+use Rattle.spec_model.specs.States.{State}
+use Rattle.spec_model.specs.Words.{Output, Vote}
+use Rattle.spec_machine.specs.Machine.{grown}
 use Rattle.dag.specs.Graph.{slots_in}
 use Rattle.admission.specs.Decisions.{told, vote_decision, known_outputs}
 use Rattle.admission.specs.declared.tables.Tables.{Tables}

@@ -1,10 +1,10 @@
 use Rattle.std.proofs.Common.{◌≡◌, ◌++◌, List, length, drop, refl, ◌∙◌, ap, sym}
 use Rattle.std.proofs.lemmas.List.{drop_at}
 use Rattle.std.proofs.lemmas.Result.{on_ok_weaker}
-use Rattle.model.specs.Admitting.{pieces}
-use Rattle.model.specs.States.{ledger_in}
-use Rattle.model.specs.Words.{Digest}
-use Rattle.machine.specs.Machine.{grown, newly_ordered}
+use Rattle.spec_model.specs.Admitting.{pieces}
+use Rattle.spec_model.specs.States.{ledger_in}
+use Rattle.spec_model.specs.Words.{Digest}
+use Rattle.spec_machine.specs.Machine.{grown, newly_ordered}
 use Rattle.admission.proofs.tables.certificates.hold_certificate.Goals as goal
 
 pub returns-clause-outputs : goal.returns-clause-outputs

@@ -1,7 +1,7 @@
 use Rattle.std.proofs.Common.{◌≡◌, ℕ, List, ap, ◌∙◌}
 use Rattle.wire.specs.Digests.{certificate_digest_of}
-use Rattle.model.specs.Slots.{certificate_digest}
-use Rattle.model.specs.Words.{Digest, Signature, Vote}
+use Rattle.spec_model.specs.Slots.{certificate_digest}
+use Rattle.spec_model.specs.Words.{Digest, Signature, Vote}
 use Rattle.admission.proofs.tables.headers.vote_for.Goals as goal
 
 pub returns : goal.returns

@@ -7,16 +7,16 @@ use Rattle.header.specs.Checks.{fault_of, accepts_all}
 use Rattle.std.specs.Prelude.{Ok}
 use Rattle.admission.specs.Answers.{IsAnswer, is_new_step}
 use Rattle.admission.specs.declared.step.Step.{Step}
-use Rattle.machine.specs.Machine.{answered}
-use Rattle.model.specs.Admitting.{admit, IsTaken}
-use Rattle.model.specs.Giving.{kept}
-use Rattle.model.specs.Histories.{History}
-use Rattle.model.specs.Holdings.{order}
-use Rattle.model.specs.Nodes.{Node}
-use Rattle.model.specs.Words.{Digest, Event, Message, Output}
-use Rattle.records.specs.Records.{record_of}
-use Rattle.world.specs.World.{Waiting}
-use Rattle.world.specs.Steps.{ticketed}
+use Rattle.spec_machine.specs.Machine.{answered}
+use Rattle.spec_model.specs.Admitting.{admit, IsTaken}
+use Rattle.spec_model.specs.Giving.{kept}
+use Rattle.spec_model.specs.Histories.{History}
+use Rattle.spec_model.specs.Holdings.{order}
+use Rattle.spec_model.specs.Nodes.{Node}
+use Rattle.spec_model.specs.Words.{Digest, Event, Message, Output}
+use Rattle.spec_records.specs.Records.{record_of}
+use Rattle.spec_world.specs.World.{Waiting}
+use Rattle.spec_world.specs.Steps.{ticketed}
 use Rattle.validator.specs.Setting.{Setting, node_of}
 use Rattle.validator.specs.Standing.{AreAtSound}
 use Rattle.book.specs.declared.queue.Queued.{Queued}

@@ -1,5 +1,5 @@
 use Rattle.std.proofs.Common.{refl, subst, true}
-use Rattle.model.specs.Nodes.{Node}
+use Rattle.spec_model.specs.Nodes.{Node}
 use Rattle.validator.specs.Setting.{node_of}
 use Rattle.book.specs.Queue.{queue_of}
 use Rattle.book.specs.Book.{Shown, Run, Stands}

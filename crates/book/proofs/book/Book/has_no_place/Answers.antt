@@ -1,6 +1,6 @@
 use Rattle.std.proofs.Common.{◌≡◌, inr, sym, ◌∙◌, subst}
 use Rattle.std.specs.Prelude.{IsTrue}
-use Rattle.model.specs.Admitting.{admit, is_new}
+use Rattle.spec_model.specs.Admitting.{admit, is_new}
 use Rattle.validator.specs.Setting.{node_of}
 use Rattle.book.specs.declared.book.TheConstants.{MAX_ACCEPTED}
 use Rattle.book.specs.Book.{Shown, Run, Stands, history_in, HasPlace}

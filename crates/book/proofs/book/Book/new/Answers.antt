@@ -1,7 +1,7 @@
 use Rattle.std.proofs.Common.{length, false, refl, ap}
 use Rattle.std.specs.Prelude.{List}
-use Rattle.model.specs.Nodes.{Node}
-use Rattle.model.specs.Words.{Digest}
+use Rattle.spec_model.specs.Nodes.{Node}
+use Rattle.spec_model.specs.Words.{Digest}
 use Rattle.validator.specs.Setting.{node_of}
 use Rattle.book.specs.Queue.{queue_of}
 use Rattle.book.specs.Book.{Shown}

@@ -1,7 +1,7 @@
 use Rattle.std.proofs.Common.{◌≡◌, List, drop, ◌∙◌, subst}
-use Rattle.model.specs.Holdings.{order}
-use Rattle.model.specs.Words.{Digest}
-use Rattle.model.specs.Nodes.{Node}
+use Rattle.spec_model.specs.Holdings.{order}
+use Rattle.spec_model.specs.Words.{Digest}
+use Rattle.spec_model.specs.Nodes.{Node}
 use Rattle.validator.specs.Setting.{node_of}
 use Rattle.book.specs.Book.{Shown, Run, Stands, settled_in, history_in}
 use Rattle.book.specs.Queue.{queue_of}

@@ -1,10 +1,10 @@
 use Rattle.std.proofs.Common.{◌≡◌, List, refl, sym, ap, ◌∙◌, subst}
 use Rattle.std.specs.Prelude.{Option, None, IfSome, if◌then◌else◌}
-use Rattle.model.specs.Words.{Output}
-use Rattle.model.specs.Nodes.{Node}
+use Rattle.spec_model.specs.Words.{Output}
+use Rattle.spec_model.specs.Nodes.{Node}
 use Rattle.validator.specs.Setting.{node_of}
 use Rattle.book.specs.Queue.{queue_of, settled_head}
-use Rattle.world.specs.World.{Waiting}
+use Rattle.spec_world.specs.World.{Waiting}
 use Rattle.book.specs.Book.{Shown, Run, Stands, releasable, GoesOutSettled}
 use Rattle.book.proofs.Flushing.{stands_released}
 use Rattle.book.proofs.Queueing.{released_is}

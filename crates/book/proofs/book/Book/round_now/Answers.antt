@@ -1,5 +1,5 @@
 use Rattle.std.proofs.Common.{◌≡◌, subst}
-use Rattle.model.specs.Holdings.{round}
+use Rattle.spec_model.specs.Holdings.{round}
 use Rattle.validator.specs.Setting.{node_of}
 use Rattle.book.specs.Book.{Shown, Run, Stands, history_in}
 use Rattle.book.proofs.book.Book.round_now.Goals as goal

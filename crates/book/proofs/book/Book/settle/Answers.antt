@@ -1,7 +1,7 @@
 use Rattle.std.proofs.Common.{◌+◌, ℕ, List, length, drop, map, refl, subst, ap}
-use Rattle.laws.specs.Laws.{Begins}
-use Rattle.model.specs.Nodes.{Node}
-use Rattle.records.specs.Records.{record_of}
+use Rattle.spec_laws.specs.Laws.{Begins}
+use Rattle.spec_model.specs.Nodes.{Node}
+use Rattle.spec_records.specs.Records.{record_of}
 use Rattle.validator.specs.Setting.{node_of}
 use Rattle.book.specs.Queue.{queue_of}
 use Rattle.book.specs.Book.{Shown, Run, Stands, with_settled}

@@ -1,7 +1,7 @@
 use Rattle.std.proofs.Common.{◌≡◌, ◌+◌, ℕ, List, length, take, drop, map, ap, subst}
 use Rattle.std.specs.Prelude.{Option, IfSome}
-use Rattle.records.specs.Records.{record_of}
-use Rattle.model.specs.Nodes.{Node}
+use Rattle.spec_records.specs.Records.{record_of}
+use Rattle.spec_model.specs.Nodes.{Node}
 use Rattle.validator.specs.Setting.{node_of}
 use Rattle.book.specs.Queue.{queue_of}
 use Rattle.book.specs.Pending.{IsLongestBeginning}

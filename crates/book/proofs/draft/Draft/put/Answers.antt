@@ -1,7 +1,7 @@
 use Rattle.std.proofs.Common.{◌≡◌, List, ℕ, ◌++◌, ◌∷◌, [], take, ap, sym, subst, ◌∙◌, arith}
 use Rattle.std.proofs.lemmas.List.{take_at}
 use Rattle.journal.specs.Format.{FitsGroup}
-use Rattle.records.specs.Records.{record_of}
+use Rattle.spec_records.specs.Records.{record_of}
 use Rattle.book.specs.OneDraft.{records_of_draft}
 use Rattle.book.proofs.Drafts.{records_put}
 use Rattle.book.proofs.draft.Draft.put.Goals as goal

@@ -1,6 +1,6 @@
 use Rattle.std.proofs.Common.{List, ℕ, sym, subst}
 use Rattle.book.specs.Book.{Shown}
-use Rattle.model.specs.Nodes.{Node}
+use Rattle.spec_model.specs.Nodes.{Node}
 use Rattle.validator.specs.Setting.{Setting, node_of}
 use Rattle.book.specs.OnTheWay.{AreOnTheWay, StandsSomewhere}
 use Rattle.book.proofs.OnTheWay.{some_way, way_somewhere, way_accepted}

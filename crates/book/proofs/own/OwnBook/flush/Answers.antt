@@ -4,10 +4,10 @@ use Rattle.journal.specs.Format.{group_bytes}
 use Rattle.journal.specs.Journal.{disk_of, IsBeforeOrAfter}
 use Rattle.journal.specs.declared.error.JournalError.{JournalError}
 use Rattle.journal.specs.declared.layout.TheConstants.{MAX_JOURNAL_BYTES}
-use Rattle.laws.specs.Laws.{Begins}
-use Rattle.records.specs.Records.{record_of}
+use Rattle.spec_laws.specs.Laws.{Begins}
+use Rattle.spec_records.specs.Records.{record_of}
 use Rattle.book.specs.Book.{Shown, Run, Stands, with_settled, SettlesNext}
-use Rattle.model.specs.Nodes.{Node}
+use Rattle.spec_model.specs.Nodes.{Node}
 use Rattle.validator.specs.Setting.{Setting, node_of}
 use Rattle.book.specs.OnTheWay.{AreOnTheWay, HasRoomFor, IsWithOrWithout}
 use Rattle.book.specs.Pending.{IsLongestBeginning}

@@ -1,7 +1,7 @@
 use Rattle.std.proofs.Common.{◌≡◌, subst}
 use Rattle.std.specs.Prelude.{drop, IfOk}
 use Rattle.book.specs.Book.{Run, Stands, settled_in}
-use Rattle.model.specs.Holdings.{order as order_of}
+use Rattle.spec_model.specs.Holdings.{order as order_of}
 use Rattle.validator.specs.Setting.{node_of}
 use Rattle.book.proofs.own.OwnBook.order.Goals as goal
 

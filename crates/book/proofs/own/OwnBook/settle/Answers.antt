@@ -1,6 +1,6 @@
 use Rattle.std.proofs.Common.{◌∷◌, List, ℕ, length, ap, sym, subst}
 use Rattle.book.specs.Book.{Shown, SettlesNext, with_settled}
-use Rattle.model.specs.Nodes.{Node}
+use Rattle.spec_model.specs.Nodes.{Node}
 use Rattle.validator.specs.Setting.{Setting, node_of}
 use Rattle.book.specs.OnTheWay.{AreOnTheWay, StandsSomewhere}
 use Rattle.book.proofs.OnTheWay.{way_settled}

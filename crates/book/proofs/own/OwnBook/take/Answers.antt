@@ -1,7 +1,7 @@
 use Rattle.std.proofs.Common.{◌∷◌, [], ◌++◌, List, ℕ, sym, subst}
 use Rattle.std.specs.Prelude.{IfOk, IfSome}
 use Rattle.book.specs.Book.{Shown}
-use Rattle.model.specs.Nodes.{Node}
+use Rattle.spec_model.specs.Nodes.{Node}
 use Rattle.validator.specs.Setting.{Setting, node_of}
 use Rattle.book.specs.OnTheWay.{AreOnTheWay, StandsSomewhere}
 use Rattle.book.proofs.OnTheWay.{way_took, took_somewhere, setting_stays}

@@ -1,5 +1,5 @@
 use Rattle.std.proofs.Common.{subst, arith}
-use Rattle.records.specs.Records.{record_of}
+use Rattle.spec_records.specs.Records.{record_of}
 use Rattle.book.specs.Pending.{HasRoom, HasNoRoom}
 use Rattle.book.proofs.Packs.{packed_in_last, packed_behind, one_fits}
 use Rattle.book.proofs.pending.Pending.put.Goals as goal

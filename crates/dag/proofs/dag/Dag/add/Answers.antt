@@ -1,6 +1,6 @@
 use Rattle.std.proofs.Common.{◌∙◌, ℕ, List, ap}
 use Rattle.wire.specs.Digests.{certificate_digest_of}
-use Rattle.model.specs.Words.{Digest}
+use Rattle.spec_model.specs.Words.{Digest}
 use Rattle.dag.proofs.dag.Dag.add.Goals as goal
 
 pub add_digested-requires-clause-digested : goal.add_digested-requires-clause-digested

@@ -1,5 +1,5 @@
 use Rattle.std.proofs.Common.{◌≡◌, ◌∙◌, ℕ, ap, sym, false, Some, None}
-use Rattle.model.specs.Holdings.{is_low}
+use Rattle.spec_model.specs.Holdings.{is_low}
 use Rattle.dag.specs.Graph.{Graph, slots_in}
 use Rattle.dag.specs.Kept.{entry_at}
 use Rattle.dag.proofs.Answering.{answer_held, answer_free}

@@ -1,7 +1,7 @@
 use Rattle.std.proofs.Common.{◌≡◌, ◌∙◌, ℕ, ap, sym, Some, None}
 use Rattle.std.specs.Prelude.{option_map}
-use Rattle.model.specs.Slots.{certificate_digest}
-use Rattle.model.specs.Words.{Certificate}
+use Rattle.spec_model.specs.Slots.{certificate_digest}
+use Rattle.spec_model.specs.Words.{Certificate}
 use Rattle.dag.specs.Graph.{Graph, digest_in}
 use Rattle.dag.specs.Kept.{entry_at}
 use Rattle.dag.proofs.Entries.{entry_seen, nothing_seen}

@@ -1,8 +1,8 @@
 use Rattle.std.proofs.Common.{◌≡◌, ◌-◌, ◌∙◌, ℕ, List, ap, sym, true, false, arith}
 use Rattle.std.specs.Prelude.{nat_lt, nat_le, ◌&&◌}
 use Rattle.std.specs.List.{list_all}
-use Rattle.model.specs.Holdings.{all_held}
-use Rattle.model.specs.Words.{ParentReference}
+use Rattle.spec_model.specs.Holdings.{all_held}
+use Rattle.spec_model.specs.Words.{ParentReference}
 use Rattle.dag.specs.Graph.{Graph, slots_in}
 use Rattle.dag.specs.Kept.{graph_of, entry_at}
 use Rattle.dag.specs.Rows.{names}

@@ -1,6 +1,6 @@
 use Rattle.std.proofs.Common.{◌≡◌, ◌<◌, ◌-◌, ◌∙◌, Some, [], length, ap, sym, refl, subst, false, true, arith}
 use Rattle.std.specs.Prelude.{All, get_or}
-use Rattle.model.specs.Holdings.{all_held}
+use Rattle.spec_model.specs.Holdings.{all_held}
 use Rattle.dag.specs.Changes.{IsWith}
 use Rattle.dag.specs.Graph.{Graph, slots_in}
 use Rattle.dag.specs.Kept.{Rows, graph_of, IsKept}

@@ -3,8 +3,8 @@ use Rattle.std.specs.Prelude.{◌&&◌, ◌==◌, All, Result, Ok, Err, IfOk}
 use Rattle.std.specs.List.{list_any}
 use Rattle.committee.specs.Sets.{has}
 use Rattle.committee.specs.declared.members.TheConstants.{MAX_MEMBERS}
-use Rattle.model.specs.Holdings.{all_held}
-use Rattle.model.specs.Words.{ParentReference}
+use Rattle.spec_model.specs.Holdings.{all_held}
+use Rattle.spec_model.specs.Words.{ParentReference}
 use Rattle.dag.specs.Graph.{Graph, slots_in}
 use Rattle.dag.specs.Kept.{graph_of, entry_at, reached_over, AreReachedBy}
 use Rattle.dag.specs.Rows.{names, row_of, reach_over}

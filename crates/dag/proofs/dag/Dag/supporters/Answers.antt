@@ -2,7 +2,7 @@ use Rattle.std.proofs.Common.{◌≡◌, ◌<◌, ◌+◌, ◌-◌, ◌∙◌, �
 use Rattle.std.specs.Prelude.{nat_lt, ◌&&◌}
 use Rattle.committee.specs.Sets.{has}
 use Rattle.committee.specs.declared.sets.MemberSet.{MemberSet}
-use Rattle.laws.proofs.Lists.{given_or_none}
+use Rattle.spec_laws.proofs.Lists.{given_or_none}
 use Rattle.dag.specs.Graph.{Graph, slots_in, has_parent_in}
 use Rattle.dag.proofs.Entries.{of_members}
 use Rattle.dag.proofs.Looking.{all_in, one_in, one_out}

@@ -1,7 +1,7 @@
 use Rattle.std.proofs.Common.{◌≡◌, true, false, List, Option, Some, ap, sym, refl, ◌∙◌, slice_get, get_or}
 use Rattle.std.specs.Prelude.{◌||◌, ◌&&◌}
 use Rattle.std.proofs.lemmas.Option.{slice_get-get_or}
-use Rattle.laws.proofs.Growing.{and_false}
+use Rattle.spec_laws.proofs.Growing.{and_false}
 use Rattle.committee.specs.Sets.{has}
 use Rattle.dag.specs.Rows.{passes_on}
 use Rattle.committee.specs.declared.sets.MemberSet.{MemberSet}

@@ -1,7 +1,7 @@
 use Rattle.std.proofs.Common.{◌≡◌, ℕ, suc, ◌+◌, ◌-◌, ◌≤◌, [], ◌∷◌, drop, length, slice_get, Option, Some, refl, ap, sym, ◌∙◌, subst, arith, add-one}
 use Rattle.std.proofs.lemmas.Option.{slice_get_read}
-use Rattle.model.specs.Ordering.{segments}
-use Rattle.model.specs.Words.{Author}
+use Rattle.spec_model.specs.Ordering.{segments}
+use Rattle.spec_model.specs.Words.{Author}
 use Rattle.tusk.specs.Chain.{ledger_in}
 use Rattle.flatten.specs.Segments.{leader_held, references_by, digests_of, leaders_in, AreLinked, IsMarkedFor}
 use Rattle.flatten.specs.Sets.{lowest_in}

@@ -1,6 +1,6 @@
 use Rattle.std.proofs.Common.{ℕ, drop, [], Option}
-use Rattle.model.specs.Words.{Author}
-use Rattle.model.specs.Ordering.{segments}
+use Rattle.spec_model.specs.Words.{Author}
+use Rattle.spec_model.specs.Ordering.{segments}
 use Rattle.tusk.specs.Chain.{ledger_in}
 use Rattle.flatten.specs.Segments.{leader_held, references_by, digests_of, leaders_in, AreLinked, IsMarkedFor}
 use Rattle.flatten.proofs.Leaders.{before_at, IsBehind}

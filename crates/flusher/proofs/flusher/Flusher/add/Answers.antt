@@ -1,10 +1,10 @@
 use Rattle.std.proofs.Common.{◌≡◌, true, false, List, ℕ, sym, ◌∙◌, subst}
 use Rattle.journal.specs.Format.{stands}
 use Rattle.journal.specs.Journal.{disk_of, stands_with, IsBeforeOrAfter}
-use Rattle.seats.specs.declared.view.Marked.{Marked}
-use Rattle.world.specs.World.{Holds}
+use Rattle.node_seats.specs.declared.view.Marked.{Marked}
+use Rattle.spec_world.specs.World.{Holds}
 use Rattle.validator.specs.Setting.{node_of}
-use Rattle.shared.specs.Home.{taken_by}
+use Rattle.node_shared.specs.Home.{taken_by}
 use Rattle.flusher.specs.Rounds.{from_start, HoldsEither}
 use Rattle.flusher.proofs.Adding.{holds_taken, holds_either}
 use Rattle.diskmodel.proofs.Clock.{weaker}

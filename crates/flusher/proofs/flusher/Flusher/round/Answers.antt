@@ -1,9 +1,9 @@
 use Rattle.std.proofs.Common.{rules, ◌≡◌, inr, ℕ, ◌+◌, List, length, sym, ap, ◌∙◌, subst}
 use Rattle.validator.specs.Setting.{node_of}
-use Rattle.laws.specs.Laws.{Begins}
-use Rattle.seats.proofs.Beginnings.{begins_same, begins_trans}
-use Rattle.shared.specs.Home.{IsFlushOf, taken_by}
-use Rattle.world.specs.World.{Holds}
+use Rattle.spec_laws.specs.Laws.{Begins}
+use Rattle.node_seats.proofs.Beginnings.{begins_same, begins_trans}
+use Rattle.node_shared.specs.Home.{IsFlushOf, taken_by}
+use Rattle.spec_world.specs.World.{Holds}
 use Rattle.flusher.specs.Rounds.{IsFlusherOf, from_start}
 use Rattle.book.proofs.Options.{of_some}
 use Rattle.flusher.proofs.Taking.{rests_at, takes_none, takes_some, size_some, takes_as, is_none}

@@ -4,7 +4,7 @@ use Rattle.header.specs.Checks.{fault_of, accepts_all}
 use Rattle.journal.specs.Journal.{disk_of}
 use Rattle.journal.specs.declared.journal.Journal.{Journal}
 use Rattle.validator.specs.Setting.{Setting, node_of}
-use Rattle.world.specs.Text.{Desk, after, take_in, flush, Command as ScriptCommand}
+use Rattle.spec_world.specs.Text.{Desk, after, take_in, flush, Command as ScriptCommand}
 use Rattle.recovery.specs.Script.{said, Passes, IsOf, Breaks}
 use Rattle.recovery.specs.declared.driving.Command.{Command}
 use Rattle.recovery.proofs.Telling.{ok_weaker, err_weaker}

@@ -5,7 +5,7 @@ use Rattle.std.specs.Io.KnownBytes.{Appends}
 use Rattle.std.proofs.lemmas.Result.{err_from_is_err_and}
 use Rattle.journal.specs.Journal.{disk_of}
 use Rattle.validator.specs.Setting.{Setting, node_of}
-use Rattle.world.specs.Text.{Desk, after, due, without_due, frames}
+use Rattle.spec_world.specs.Text.{Desk, after, due, without_due, frames}
 use Rattle.recovery.specs.Script.{said, IsOf}
 use Rattle.recovery.specs.Writing.{AppendsLess}
 use Rattle.recovery.proofs.Appending.{part_none, part_less, not_at_disk}

@@ -4,9 +4,9 @@ use Rattle.std.proofs.lemmas.Result.{err_from_is_err_and}
 use Rattle.journal.specs.Journal.{disk_of, IsBeforeOrAfter}
 use Rattle.journal.specs.declared.error.JournalError.{JournalError}
 use Rattle.journal.specs.declared.journal.Journal.{Journal}
-use Rattle.records.specs.Records.{record_of}
+use Rattle.spec_records.specs.Records.{record_of}
 use Rattle.validator.specs.Setting.{node_of}
-use Rattle.world.specs.Text.{flush, after}
+use Rattle.spec_world.specs.Text.{flush, after}
 use Rattle.book.specs.Pending.{IsLongestBeginning}
 use Rattle.book.specs.Book.{Shown, Run, Stands, with_taken}
 use Rattle.recovery.specs.Faults.{ended_by}

@@ -1,7 +1,7 @@
 use Rattle.std.proofs.Common.{◌≡◌, ◌<◌, sym, ◌∙◌, subst}
 use Rattle.validator.specs.Setting.{node_of}
 use Rattle.journal.specs.Journal.{disk_of}
-use Rattle.world.specs.Text.{flush}
+use Rattle.spec_world.specs.Text.{flush}
 use Rattle.recovery.proofs.Desks.{breaks_at}
 use Rattle.recovery.proofs.desk.Desk.flushed.Goals as goal
 

@@ -1,7 +1,7 @@
 use Rattle.std.proofs.Common.{sym, ap, ◌∙◌, subst}
-use Rattle.model.specs.Admitting.{IsLegal}
-use Rattle.model.specs.Giving.{kept}
-use Rattle.model.specs.Histories.{History}
+use Rattle.spec_model.specs.Admitting.{IsLegal}
+use Rattle.spec_model.specs.Giving.{kept}
+use Rattle.spec_model.specs.Histories.{History}
 use Rattle.validator.specs.Setting.{Setting, node_of}
 use Rattle.validator.specs.Standing.{AreAtSound}
 use Rattle.book.specs.Book.{Stands, run_on}

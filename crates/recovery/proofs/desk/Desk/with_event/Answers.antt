@@ -1,7 +1,7 @@
 use Rattle.std.proofs.Common.{ap, ◌∙◌}
 use Rattle.validator.specs.Setting.{node_of}
 use Rattle.journal.specs.Journal.{disk_of}
-use Rattle.world.specs.Text.{take_in}
+use Rattle.spec_world.specs.Text.{take_in}
 use Rattle.recovery.proofs.Desks.{same_breaks, breaks_at}
 use Rattle.recovery.proofs.desk.Desk.with_event.Goals as goal
 

@@ -2,7 +2,7 @@ use Rattle.std.proofs.Common.{ℕ, List, Option, refl, sym, ap, ◌∙◌, subst
 use Rattle.std.specs.Io.KnownBytes.{Appends}
 use Rattle.journal.specs.declared.journal.Journal.{Journal}
 use Rattle.validator.specs.Setting.{Setting, node_of}
-use Rattle.world.specs.Text.{due, without_due, frames}
+use Rattle.spec_world.specs.Text.{due, without_due, frames}
 use Rattle.book.specs.Book.{Shown, Run, Stands}
 use Rattle.recovery.specs.Script.{IsOf}
 use Rattle.recovery.proofs.Appending.{on_err}

@@ -4,7 +4,7 @@ use Rattle.dag.specs.Changes.{IsDropped}
 use Rattle.dag.specs.Graph.{Graph, slots_in}
 use Rattle.flatten.specs.Lengthening.{Made}
 use Rattle.flatten.specs.Segments.{leader_held, IsMarkedPast}
-use Rattle.model.specs.Words.{Author}
+use Rattle.spec_model.specs.Words.{Author}
 use Rattle.sequencer.specs.Sequence.{Sequence, IsCommitted, CommitsTo}
 use Rattle.sequencer.proofs.sequencer.Sequencer.commit.Goals as goal
 

@@ -1,6 +1,6 @@
 use Rattle.std.proofs.Common.{◌≡◌, ◌<◌, ◌∙◌, List, ◌++◌, ap, sym, subst}
 use Rattle.dag.specs.Graph.{size_in}
-use Rattle.model.specs.Words.{Digest}
+use Rattle.spec_model.specs.Words.{Digest}
 use Rattle.sequencer.specs.Sequence.{Sequence, ComesTo, IsPrepared, prepared_digests}
 use Rattle.sequencer.proofs.Committing.{held_on}
 use Rattle.sequencer.proofs.sequencer.Sequencer.hold.Goals as goal

@@ -1,7 +1,7 @@
 use Rattle.std.proofs.Common.{◌<◌, List, ℕ, subst, sym}
 use Rattle.std.proofs.lemmas.Result.{IfOk-weaker}
 use Rattle.dag.specs.Graph.{size_in}
-use Rattle.model.specs.Words.{Author}
+use Rattle.spec_model.specs.Words.{Author}
 use Rattle.sequencer.specs.Sequence.{Sequence, ComesTo, IsPrepared, IsMadeOf}
 use Rattle.sequencer.proofs.Ready.{ready_for}
 use Rattle.sequencer.proofs.sequencer.Sequencer.prepare.Goals as goal

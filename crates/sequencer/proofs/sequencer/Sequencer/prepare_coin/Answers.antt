@@ -1,6 +1,6 @@
 use Rattle.std.proofs.Common.{List, ℕ, subst, sym}
 use Rattle.std.proofs.lemmas.Result.{IfOk-weaker}
-use Rattle.model.specs.Words.{Author}
+use Rattle.spec_model.specs.Words.{Author}
 use Rattle.sequencer.specs.Sequence.{Sequence, ComesTo, IsPrepared, IsMadeOf}
 use Rattle.sequencer.proofs.Ready.{ready_with}
 use Rattle.sequencer.proofs.sequencer.Sequencer.prepare_coin.Goals as goal

@@ -1,5 +1,5 @@
 use Rattle.std.proofs.Common.{◌≡◌, ◌∙◌, List, ◌++◌, ap, sym, subst}
-use Rattle.model.specs.Words.{Digest}
+use Rattle.spec_model.specs.Words.{Digest}
 use Rattle.sequencer.specs.Sequence.{Sequence, ComesTo, IsPrepared, prepared_digests}
 use Rattle.sequencer.proofs.Committing.{pushed_on}
 use Rattle.sequencer.proofs.sequencer.Sequencer.push.Goals as goal

@@ -1,8 +1,8 @@
 use Rattle.std.proofs.Common.{◌∙◌, ℕ, [], ap, map}
 use Rattle.std.specs.Option.{option_map_or}
 use Rattle.std.proofs.lemmas.Result.{IfOk-weaker}
-use Rattle.laws.proofs.Weighing.{size_some}
-use Rattle.model.specs.Ordering.{newer_at}
+use Rattle.spec_laws.proofs.Weighing.{size_some}
+use Rattle.spec_model.specs.Ordering.{newer_at}
 use Rattle.tusk.proofs.Chains.{chain_all, is_based}
 use Rattle.tusk.proofs.coins.Coins.chain_from.Goals as goal
 use Rattle.tusk.specs.Chain.{ledger_in, slot_of, wave_of}

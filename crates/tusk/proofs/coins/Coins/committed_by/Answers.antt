@@ -1,6 +1,6 @@
 use Rattle.std.proofs.Common.{◌≡◌, ◌≢◌, ◌+◌, ◌-◌, ◌*◌, ◌/◌, ◌<◌, ◌∙◌, ℕ, ap, sym, arith, map}
 use Rattle.std.proofs.lemmas.Result.{IfOk-weaker}
-use Rattle.model.specs.Ordering.{newer_to}
+use Rattle.spec_model.specs.Ordering.{newer_to}
 use Rattle.tusk.proofs.Adding.{is_new, extends, no_leader, enough_with, certificate_some, certificate_none, not_enough}
 use Rattle.tusk.proofs.Supporting.{led_by, led_by_none}
 use Rattle.tusk.proofs.coins.Coins.committed_by.Goals as goal

@@ -1,9 +1,9 @@
 use Rattle.std.proofs.Common.{◌≡◌, ◌+◌, ◌-◌, ◌∙◌, ◌∷◌, ◌++◌, [], ℕ, false, length, ap, sym, arith, map}
 use Rattle.std.specs.Option.{option_map_or}
 use Rattle.std.proofs.lemmas.Result.{IfOk-weaker}
-use Rattle.laws.proofs.Growing.{is_in}
-use Rattle.laws.proofs.Weighing.{size_some}
-use Rattle.model.specs.Ordering.{has_support, newer_to}
+use Rattle.spec_laws.proofs.Growing.{is_in}
+use Rattle.spec_laws.proofs.Weighing.{size_some}
+use Rattle.spec_model.specs.Ordering.{has_support, newer_to}
 use Rattle.dag.specs.Graph.{slots_in}
 use Rattle.tusk.proofs.Adding.{same_slots, one_coin, coin_last, grows_some, grows_none}
 use Rattle.tusk.proofs.Chains.{top_within}

@@ -1,6 +1,6 @@
 use Rattle.std.proofs.Common.{◌∙◌, ap, sym, false}
 use Rattle.std.specs.Option.{option_map_or}
-use Rattle.model.specs.Ordering.{has_support}
+use Rattle.spec_model.specs.Ordering.{has_support}
 use Rattle.tusk.proofs.Supporting.{led_by}
 use Rattle.tusk.proofs.coins.Coins.is_committed.Goals as goal
 use Rattle.tusk.specs.Chain.{ledger_in}

@@ -1,8 +1,8 @@
 use Rattle.std.proofs.Common.{◌≡◌, ◌+◌, ◌-◌, ◌≤◌, ◌∙◌, ◌++◌, ℕ, suc, List, [], ap, sym, arith, reverse, map}
 use Rattle.std.specs.Prelude.{is_some}
 use Rattle.std.specs.Option.{option_map_or}
-use Rattle.model.specs.Ordering.{newer_to}
-use Rattle.model.specs.Words.{Author}
+use Rattle.spec_model.specs.Ordering.{newer_to}
+use Rattle.spec_model.specs.Words.{Author}
 use Rattle.dag.specs.Graph.{slots_in}
 use Rattle.tusk.proofs.Downwards.{newer_slots, step_taken, step_missed, step_passed, step_last}
 use Rattle.tusk.proofs.Supporting.{led_by, led_by_none}

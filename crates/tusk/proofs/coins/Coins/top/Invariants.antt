@@ -1,5 +1,5 @@
 use Rattle.std.proofs.Common.{◌≡◌, ◌-◌}
-use Rattle.model.specs.Ordering.{top, top_to}
+use Rattle.spec_model.specs.Ordering.{top, top_to}
 use Rattle.tusk.specs.Chain.{ledger_in}
 use Rattle.tusk.proofs.coins.Coins.top.Given as goal
 

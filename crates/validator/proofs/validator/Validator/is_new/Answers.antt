@@ -1,12 +1,12 @@
 use Rattle.std.proofs.Common.{◌≡◌, None, ap, sym, subst, ◌∙◌}
 use Rattle.wire.specs.Grammar.{IsMessage}
 use Rattle.header.specs.Checks.{fault_of, accepts_all}
-use Rattle.machine.specs.Machine.{answered}
-use Rattle.model.specs.Admitting.{is_new}
-use Rattle.model.specs.Giving.{kept}
-use Rattle.model.specs.Nodes.{Node}
-use Rattle.model.specs.States.{State}
-use Rattle.model.specs.Words.{Message}
+use Rattle.spec_machine.specs.Machine.{answered}
+use Rattle.spec_model.specs.Admitting.{is_new}
+use Rattle.spec_model.specs.Giving.{kept}
+use Rattle.spec_model.specs.Nodes.{Node}
+use Rattle.spec_model.specs.States.{State}
+use Rattle.spec_model.specs.Words.{Message}
 use Rattle.admission.specs.declared.tables.Tables.{Tables}
 use Rattle.validator.specs.Setting.{node_of}
 use Rattle.validator.specs.Standing.{AreAtSound}

@@ -1,6 +1,6 @@
 use Rattle.std.proofs.Common.{ap, sym}
-use Rattle.machine.specs.Machine.{fresh}
-use Rattle.model.specs.Nodes.{Node}
+use Rattle.spec_machine.specs.Machine.{fresh}
+use Rattle.spec_model.specs.Nodes.{Node}
 use Rattle.validator.specs.Setting.{node_of}
 use Rattle.validator.proofs.validator.Validator.new.Goals as goal
 

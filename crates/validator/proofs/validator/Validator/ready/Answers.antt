@@ -1,11 +1,11 @@
 use Rattle.std.proofs.Common.{◌≡◌, None, ap, subst, ◌∙◌}
 use Rattle.wire.specs.Grammar.{IsMessage}
 use Rattle.header.specs.Checks.{fault_of, accepts_all}
-use Rattle.machine.specs.Machine.{is_ready}
-use Rattle.model.specs.Giving.{kept}
-use Rattle.model.specs.Nodes.{Node}
-use Rattle.model.specs.States.{State}
-use Rattle.model.specs.Words.{Message}
+use Rattle.spec_machine.specs.Machine.{is_ready}
+use Rattle.spec_model.specs.Giving.{kept}
+use Rattle.spec_model.specs.Nodes.{Node}
+use Rattle.spec_model.specs.States.{State}
+use Rattle.spec_model.specs.Words.{Message}
 use Rattle.admission.specs.declared.tables.Tables.{Tables}
 use Rattle.validator.specs.Setting.{node_of}
 use Rattle.validator.specs.Standing.{AreAtSound}

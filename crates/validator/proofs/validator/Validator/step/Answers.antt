@@ -1,14 +1,14 @@
 use Rattle.std.proofs.Common.{◌≡◌, None, ap, sym, subst, ◌∙◌}
 use Rattle.wire.specs.Grammar.{IsMessage}
 use Rattle.header.specs.Checks.{fault_of, accepts_all}
-use Rattle.model.specs.Admitting.{admit, IsLegal}
-use Rattle.model.specs.Giving.{kept}
-use Rattle.model.specs.Histories.{History}
-use Rattle.model.specs.declared.admission.Admission.{Admission}
-use Rattle.machine.specs.Machine.{answered, after, grown}
-use Rattle.model.specs.Nodes.{Node}
-use Rattle.model.specs.States.{State}
-use Rattle.model.specs.Words.{Digest, Message, Signature}
+use Rattle.spec_model.specs.Admitting.{admit, IsLegal}
+use Rattle.spec_model.specs.Giving.{kept}
+use Rattle.spec_model.specs.Histories.{History}
+use Rattle.spec_model.specs.declared.admission.Admission.{Admission}
+use Rattle.spec_machine.specs.Machine.{answered, after, grown}
+use Rattle.spec_model.specs.Nodes.{Node}
+use Rattle.spec_model.specs.States.{State}
+use Rattle.spec_model.specs.Words.{Digest, Message, Signature}
 use Rattle.admission.specs.Answers.{IsAnswer, RefusesAs}
 use Rattle.admission.specs.Standing.{Meets}
 use Rattle.admission.specs.declared.tables.Tables.{Tables}

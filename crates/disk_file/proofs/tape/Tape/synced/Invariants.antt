@@ -1,0 +1,6 @@
+use Rattle.std.proofs.Common.{◌∷◌, ◌++◌, []}
+use Rattle.diskmodel.specs.declared.call.Call.TheVariants.{Synced}
+use Rattle.disk_file.proofs.tape.Tape.synced.Given as goal
+
+abbrev pub ghosts-turn : goal.ghosts-turn
+ghosts-turn a = record { next = record a.self.now { calls = a.self.now.calls ++ Synced ∷ [] } }

@@ -1,0 +1,32 @@
+-- What clauses see of a disk over a file.
+use Rattle.std.specs.Prelude.{◌≡◌, Bool, true, false, List, ℕ, IsSome, Result, IsErr, OnOk, OnErr}
+use Rattle.diskmodel.specs.declared.disk.DiskFault.{DiskFault}
+use Rattle.disk_file.specs.declared.story.Story.{Story}
+use Rattle.disk_file.specs.declared.disk.FileDisk.{FileDisk}
+use Rattle.disk_file.specs.Stories.{held, MayLeave}
+
+-- the bytes that it was opened with, its calls since, and how often one has failed
+abbrev pub story_of : FileDisk → Story
+story_of disk = disk.tape
+
+-- what a read gives
+abbrev pub content_of : FileDisk → List ℕ
+content_of disk = held disk.tape
+
+-- what a stop may leave at this moment
+abbrev pub CanStopAt : FileDisk → List ℕ → Type 0
+CanStopAt disk found = MayLeave disk.tape found
+
+-- whether a call has failed
+abbrev pub is_down : FileDisk → Bool
+is_down disk = disk.is_down
+
+-- no byte was written since it was opened
+abbrev pub IsReadable : FileDisk → Type 0
+IsReadable disk = IsSome disk.mirror
+
+-- once a call has failed each one fails, and no other takes it down
+pub record StaysDown {T : Type 0} (old new : FileDisk) (result : Result T DiskFault) : Type 0 where
+  pub fails : is_down old ≡ true → IsErr result
+  pub falls : OnErr result (is_down new ≡ true)
+  pub stands : OnOk result (is_down new ≡ false)

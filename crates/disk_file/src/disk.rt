@@ -1,0 +1,267 @@
+//! The disk.
+
+ghost use Rattle.std.specs.Prelude.{◌≡◌, ◌+◌, ◌^◌, ◌<◌, ◌≤◌, ◌∷◌, ◌++◌, [], ℕ, true, false, length, take, drop, IfOk, IfSome, OnOk, OnErr, Ok, IsOk};
+ghost use Rattle.diskmodel.specs.Disk.{written, IsTorn, IsCut, ComesBy, NoneNew, LeavesOnly, HasCause};
+ghost use Rattle.diskmodel.specs.declared.call.Call.TheVariants.{Wrote, Cut, Synced};
+ghost use Rattle.std.proofs.Props.{props};
+ghost use Rattle.disk_file.specs.Stories.{Adds, SameCalls, begun, failing, IsSound, held, TimePasses};
+
+use crate::error::OpenError;
+use crate::opening::{open_alone, read_all, sync_folder};
+use crate::tape::Tape;
+use diskmodel::{Disk, DiskFault};
+use std::alloc::{AllocError, Global};
+use std::fs::File;
+use std::io;
+use std::os::unix::fs::FileExt;
+use std::rt::Files;
+
+/// A disk over a regular file, which it has alone: no other can open the file as a disk until this one is dropped.
+///
+/// Once a call has failed each later one fails too: open the file again. The length is kept and never asked for. The bytes are
+/// read when the file is opened, and a read answers from these until the first write, which gives up their memory: from then on
+/// a read of one byte or more fails. So no memory grows with what is written.
+///
+/// The contracts speak of a record, which no memory holds: the bytes that were read at the opening, and the calls since. What a
+/// read gives and what a stop may leave is what the model of a disk makes of that record. That the real file is so is the
+/// premise, which nothing here proves:
+/// - Each method makes the call of the system that it records, which has to be read in the code, and that call does what its name
+///   says: a write that succeeds has put these bytes at this place, a cut has set the length, and one that fails has done any part
+///   of that.
+/// - A sync that succeeds has made the bytes and the length firm on the device. What is read at the opening, behind a sync, is
+///   firm too. Where a sync has failed some systems answer the next one as if it had made up for that: start the machine anew
+///   then before the file is opened again.
+/// - Nobody else writes the file. Its lock holds off other disks, and nothing else.
+/// - What the next opening reads, whatever ended this disk, is among what a stop may leave.
+pub struct FileDisk {
+    file: File,
+    tape: Tape,
+    len: u64,
+    mirror: Option<Vec<u8>>,
+    is_down: bool,
+    ghost sound: { IsSound tape },
+    ghost length_is: { len ≡ length (held tape) },
+    ghost mirrors: { IfSome mirror (λ bytes. bytes.items ≡ held tape) } by { Prim.hlevel props },
+}
+
+impl Drop for FileDisk {
+    fn drop(self) {
+        let FileDisk {
+            file: _,
+            tape: _,
+            len: _,
+            mirror: _,
+            is_down: _,
+        } = self;
+    }
+}
+
+impl FileDisk {
+    ghost use Rattle.disk_file.specs.Files.{story_of, content_of, CanStopAt, is_down, IsReadable, StaysDown};
+
+    /// Opens the file at this path for one owner; where there is nothing an empty one is made. The file and its folder are synced
+    /// before it is read, so that it is there after a power cut and all that was read is firm.
+    ///
+    /// # Errors
+    /// `NotAFile` where something else than a regular file is there, as a folder or a link; `InUse` where another process has the
+    /// file as a disk, or another disk of this one; `Memory` where its bytes, or the record, find none; else `Device`.
+    pub fn open<R: Files<File = File>>(
+        rt: &R,
+        alloc: Global,
+        path: &str,
+    ) -> Result<FileDisk, OpenError>
+        ensures begun { IfOk result (λ disk. story_of disk ≡ begun (content_of disk)) }
+        ensures firm { IfOk result (λ disk. LeavesOnly (content_of disk) (CanStopAt disk)) }
+        ensures up { IfOk result (λ disk. is_down disk ≡ false) }
+        ensures readable { IfOk result IsReadable }
+    {
+        let file = open_alone(rt, path)?;
+        file.sync_all()?;
+        sync_folder(rt, path)?;
+        let bytes = read_all(alloc, &file)?;
+        Ok(FileDisk::begin(alloc, file, bytes)?)
+    }
+
+    /// The disk over a synced file that holds these bytes.
+    fn begin(alloc: Global, file: File, bytes: Vec<u8>) -> Result<FileDisk, AllocError>
+        ensures story { IfOk result (λ disk. story_of disk ≡ begun bytes.items) }
+        ensures up { IfOk result (λ disk. is_down disk ≡ false) }
+        ensures readable { IfOk result IsReadable }
+    {
+        Ok(FileDisk {
+            file,
+            tape: Tape::new(alloc, &bytes)?,
+            len: bytes.len() as u64,
+            mirror: Some(bytes),
+            is_down: false,
+        })
+    }
+
+    /// Counts a failure.
+    fn fault(&mut self) -> DiskFault
+        ensures story { story_of self.new ≡ failing (story_of self.old) }
+        ensures calls { SameCalls (story_of self.old) (story_of self.new) }
+        ensures down { is_down self.new ≡ true }
+        ensures readable { IsReadable self.old → IsReadable self.new }
+    {
+        self.is_down = true;
+        self.tape.failed();
+        DiskFault
+    }
+
+    /// Fails once a call has failed.
+    fn fail_if_down(&mut self) -> Result<(), DiskFault>
+        ensures ok { OnOk result ((self.new ≡ self.old) × (is_down self.old ≡ false)) }
+        ensures err { OnErr result (story_of self.new ≡ failing (story_of self.old)) }
+        ensures down { StaysDown self.old self.new result }
+        ensures is_down { OnErr result (is_down self.old ≡ true) }
+        ensures calls { SameCalls (story_of self.old) (story_of self.new) }
+        ensures readable { IsReadable self.old → IsReadable self.new }
+    {
+        if self.is_down {
+            return Err(self.fault());
+        }
+        Ok(())
+    }
+
+    /// Counts a failure of the system.
+    fn counted(&mut self, outcome: io::Result<()>) -> Result<(), DiskFault>
+        ensures ok { OnOk result (self.new ≡ self.old) }
+        ensures err { OnErr result ((is_down self.new ≡ true) × (story_of self.new ≡ failing (story_of self.old))) }
+        ensures calls { SameCalls (story_of self.old) (story_of self.new) }
+        ensures readable { IsReadable self.old → IsReadable self.new }
+    {
+        match outcome {
+            Ok(()) => Ok(()),
+            Err(_) => Err(self.fault()),
+        }
+    }
+}
+
+impl Disk for FileDisk {
+    ghost use Rattle.diskmodel.specs.Outcomes.{IsOutcome, IsOutcomeSince, counts_last, only_last};
+    ghost use Rattle.disk_file.specs.Stories.{held, MayLeave};
+    ghost use Rattle.disk_file.specs.Files.{story_of, content_of, CanStopAt, is_down, IsReadable, StaysDown};
+
+    ghost content = { λ disk. held disk.tape };
+
+    ghost outcome = { λ disk. IsOutcome disk.tape.first disk.tape.calls };
+
+    ghost clock = { λ disk. length disk.tape.calls };
+
+    ghost outcome_since = { λ disk. IsOutcomeSince disk.tape.first disk.tape.calls };
+
+    ghost faults = { λ disk. disk.tape.faults };
+
+    ghost content_is_outcome = { λ disk. disk.sound.possible };
+
+    ghost counts_now = { λ disk t c. counts_last disk.tape.first disk.tape.calls t c };
+
+    ghost only_now = { λ disk c. only_last disk.tape.first disk.tape.calls c };
+
+    fn len(&mut self) -> Result<u64, DiskFault>
+        ensures value { IfOk result (λ len. len ≡ length (content_of self.old)) }
+        ensures content { content_of self.new ≡ content_of self.old }
+        ensures outcomes { NoneNew (CanStopAt self.old) (CanStopAt self.new) }
+        ensures time { TimePasses (story_of self.old) (story_of self.new) }
+        ensures cause { HasCause (story_of self.old).faults (story_of self.new).faults result }
+
+        // It fails only behind another failure.
+        ensures down { StaysDown self.old self.new result }
+        ensures succeeds { is_down self.old ≡ false → result ≡ Ok (length (content_of self.old)) }
+        ensures unchanged { OnOk result (self.new ≡ self.old) }
+    {
+        self.fail_if_down()?;
+        Ok(self.len)
+    }
+
+    fn read_at(&mut self, at: u64, buffer: &mut [u8]) -> Result<(), DiskFault>
+        requires { at + length buffer.old ≤ length (content_of self.old) }
+        ensures bytes { OnOk result (buffer.new ≡ take (length buffer.old) (drop at (content_of self.old))) }
+        ensures content { content_of self.new ≡ content_of self.old }
+        ensures outcomes { NoneNew (CanStopAt self.old) (CanStopAt self.new) }
+        ensures time { TimePasses (story_of self.old) (story_of self.new) }
+        ensures cause { HasCause (story_of self.old).faults (story_of self.new).faults result }
+
+        // It fails only behind another failure, or where a byte was written.
+        ensures down { StaysDown self.old self.new result }
+        ensures succeeds { is_down self.old ≡ false → IsReadable self.old → IsOk result }
+        ensures unchanged { OnOk result (self.new ≡ self.old) }
+    {
+        self.fail_if_down()?;
+        if buffer.is_empty() {
+            return Ok(());
+        }
+        let Some(bytes) = &self.mirror else {
+            return Err(self.fault());
+        };
+        let at = at as usize;
+        buffer.copy_from_slice(&bytes[at..at + buffer.len()]);
+        Ok(())
+    }
+
+    fn write_at(&mut self, at: u64, bytes: &[u8]) -> Result<(), DiskFault>
+        requires { at ≤ length (content_of self.old) }
+        ensures content { OnOk result (content_of self.new ≡ written (content_of self.old) at bytes.now) }
+        ensures outcomes { ComesBy (IsTorn at (length bytes.now)) (CanStopAt self.old) (CanStopAt self.new) }
+        ensures time { TimePasses (story_of self.old) (story_of self.new) }
+        ensures cause { HasCause (story_of self.old).faults (story_of self.new).faults result }
+        ensures recorded { OnOk result (Adds (Wrote at bytes.now) (story_of self.old) (story_of self.new)) }
+
+        // A write that fails may have had any part of its effect.
+        ensures noted { is_down self.old ≡ false → at + length bytes.now < 2 ^ 64 → (story_of self.new).calls ≡ (story_of self.old).calls ++ Wrote at bytes.now ∷ [] }
+        ensures down { StaysDown self.old self.new result }
+    {
+        self.fail_if_down()?;
+        let Some(end) = at.checked_add(bytes.len() as u64) else {
+            return Err(self.fault());
+        };
+        // A write that fails may have had any part of its effect, so it is noted all the same.
+        self.mirror = None;
+        self.len = self.len.max(end);
+        self.tape.wrote(at, bytes);
+        let outcome = self.file.write_all_at(bytes, at);
+        self.counted(outcome)
+    }
+
+    fn cut(&mut self, len: u64) -> Result<(), DiskFault>
+        requires { len ≤ length (content_of self.old) }
+        ensures content { OnOk result (content_of self.new ≡ take len (content_of self.old)) }
+        ensures outcomes { ComesBy (IsCut len) (CanStopAt self.old) (CanStopAt self.new) }
+        ensures time { TimePasses (story_of self.old) (story_of self.new) }
+        ensures cause { HasCause (story_of self.old).faults (story_of self.new).faults result }
+        ensures recorded { OnOk result (Adds (Cut len) (story_of self.old) (story_of self.new)) }
+        ensures noted { is_down self.old ≡ false → (story_of self.new).calls ≡ (story_of self.old).calls ++ Cut len ∷ [] }
+        ensures down { StaysDown self.old self.new result }
+        ensures readable { IsReadable self.old → IsReadable self.new }
+    {
+        self.fail_if_down()?;
+        if let Some(bytes) = &mut self.mirror {
+            bytes.truncate(len as usize);
+        }
+        self.len = len;
+        self.tape.cut(len);
+        let outcome = self.file.set_len(len);
+        self.counted(outcome)
+    }
+
+    fn sync(&mut self) -> Result<(), DiskFault>
+        ensures firm { OnOk result (LeavesOnly (content_of self.old) (CanStopAt self.new)) }
+        ensures content { content_of self.new ≡ content_of self.old }
+        ensures outcomes { NoneNew (CanStopAt self.old) (CanStopAt self.new) }
+        ensures time { TimePasses (story_of self.old) (story_of self.new) }
+        ensures cause { HasCause (story_of self.old).faults (story_of self.new).faults result }
+        ensures recorded { OnOk result (Adds Synced (story_of self.old) (story_of self.new)) }
+
+        // One that fails makes nothing firm.
+        ensures err { OnErr result (SameCalls (story_of self.old) (story_of self.new)) }
+        ensures down { StaysDown self.old self.new result }
+        ensures readable { IsReadable self.old → IsReadable self.new }
+    {
+        self.fail_if_down()?;
+        let outcome = self.file.sync_data();
+        self.counted(outcome)?;
+        self.tape.synced();
+        Ok(())
+    }
+}

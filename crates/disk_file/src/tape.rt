@@ -1,0 +1,121 @@
+//! The record of the calls on a file, which only contracts read: the view of the one seat of a table. No memory grows with it.
+
+ghost use Rattle.std.specs.Prelude.{◌≡◌, ℕ, ◌+◌, List, [], ◌∷◌, ◌++◌, IfOk};
+ghost use Rattle.diskmodel.specs.declared.call.Call.TheVariants.{Wrote, Cut, Synced};
+ghost use Rattle.disk_file.specs.Stories.{Adds, begun, failing};
+
+use crate::story::Story;
+use atomic_table::{Play, Seat, Table, TableRule};
+use std::alloc::{AllocError, Global};
+use std::marker::{Brand, Model, PhantomData};
+
+// The table's one word, which no step changes.
+const WORD: usize = 0;
+
+/// What the record says from a step on. Each call of `Tape::turn` picks it.
+pub trait Turn {
+    ghost use Rattle.disk_file.specs.declared.story.Story.{Story};
+
+    ghost next: { Story };
+}
+
+impl Turn for Brand {
+    ghost use Rattle.std.specs.Prelude.{[]};
+    ghost use Rattle.disk_file.specs.Stories.{begun};
+
+    ghost next = { begun [] };
+}
+
+/// The step by which the record says something else.
+pub struct Turned<N> {
+    next: PhantomData<N>,
+}
+
+impl<N: Turn> Play<(), Story> for Turned<N> {
+    ghost use Rattle.std.specs.Prelude.{◌≡◌};
+
+    ghost then = { λ step before found later. later ≡ (N.next, before.1) };
+}
+
+/// The rule allows anything, as there is one seat.
+pub struct AnyStory;
+
+impl TableRule<(), Story, ()> for AnyStory {
+    ghost use Rattle.std.specs.Prelude.{⊤, []};
+    ghost use Rattle.disk_file.specs.Stories.{begun};
+
+    ghost holds = { λ key state. ⊤ };
+
+    ghost first = { λ key. begun [] };
+}
+
+/// The record. Contracts see it as a story.
+pub struct Tape {
+    table: Table<(), Story, (), AnyStory, Global>,
+    seat: Seat<(), Story>,
+}
+
+impl Drop for Tape {
+    fn drop(self) {
+        let Tape { table: _, seat: _ } = self;
+    }
+}
+
+impl Model for Tape {
+    ghost use Rattle.std.specs.Prelude.{◌≡◌};
+    ghost use Rattle.disk_file.specs.declared.story.Story.{Story};
+
+    ghost Value = { Story };
+
+    ghost view = { λ t. t.seat.me.0 };
+
+    ghost invariant = { λ t. (t.seat.table_id ≡ t.table.shared.table_id) × (t.table.shared.table_id.words ≡ 1) };
+}
+
+impl Tape {
+    /// The record of a file that begins with these bytes. `AllocError` where memory was refused.
+    pub fn new(alloc: Global, bytes: &[u8]) -> Result<Tape, AllocError>
+        ensures { IfOk result (λ tape. tape ≡ begun bytes.now) }
+    {
+        let (table, seat) = Table::of_words(alloc, &[0], &())?;
+        let mut tape = Tape { table, seat };
+        tape.turn::<Brand, &[u8]>(bytes);
+        Ok(tape)
+    }
+
+    /// These bytes were written at this place.
+    pub fn wrote(&mut self, at: u64, bytes: &[u8])
+        ensures { Adds (Wrote at bytes.now) self.old self.new }
+    {
+        self.turn::<Brand, (u64, &[u8])>((at, bytes));
+    }
+
+    /// The file was cut to this length.
+    pub fn cut(&mut self, len: u64)
+        ensures { Adds (Cut len) self.old self.new }
+    {
+        self.turn::<Brand, u64>(len);
+    }
+
+    /// The file was synced.
+    pub fn synced(&mut self)
+        ensures { Adds Synced self.old self.new }
+    {
+        self.turn::<Brand, ()>(());
+    }
+
+    /// A call has failed.
+    pub fn failed(&mut self)
+        ensures { self.new ≡ failing self.old }
+    {
+        self.turn::<Brand, ()>(());
+    }
+
+    // From then on it says what the call picks, which may name what it is given.
+    fn turn<N: Turn, T: Copy>(&mut self, _given: T)
+        ensures { self.new ≡ N.next }
+    {
+        let table = &self.table;
+        table.shared.load::<Turned<N>>(&mut self.seat, WORD);
+    }
+}

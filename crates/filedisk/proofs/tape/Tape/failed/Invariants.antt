@@ -1,5 +1,0 @@
-use Rattle.filedisk.specs.Stories.{failing}
-use Rattle.filedisk.proofs.tape.Tape.failed.Given as goal
-
-abbrev pub ghosts-turn : goal.ghosts-turn
-ghosts-turn a = record { next = failing a.self.now }

@@ -1,5 +1,0 @@
-use Rattle.filedisk.specs.Stories.{begun}
-use Rattle.filedisk.proofs.tape.Tape.new.Given as goal
-
-abbrev pub ghosts-turn : goal.ghosts-turn
-ghosts-turn a = record { next = begun a._given.now }

@@ -1,6 +1,0 @@
-use Rattle.laws.proofs.Given.{given_grows}
-use Rattle.laws.proofs.OrderGrows.{order_grows}
-use Rattle.laws.proofs.given_grows.Goals as goal
-
-pub returns : goal.returns
-returns c = given_grows order_grows

@@ -1,5 +1,0 @@
-use Rattle.laws.proofs.FromFloor.{held_is_enough}
-use Rattle.laws.proofs.held_is_enough.Goals as goal
-
-pub returns : goal.returns
-returns c = held_is_enough

@@ -1,5 +1,0 @@
-use Rattle.laws.proofs.Votes.{one_vote}
-use Rattle.laws.proofs.one_vote.Goals as goal
-
-pub returns : goal.returns
-returns c = one_vote

@@ -1,5 +1,0 @@
-use Rattle.laws.proofs.Lengthening.{order_lengthens}
-use Rattle.laws.proofs.order_lengthens.Goals as goal
-
-pub returns : goal.returns
-returns c = order_lengthens

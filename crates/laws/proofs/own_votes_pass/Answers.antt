@@ -1,5 +1,0 @@
-use Rattle.laws.proofs.Proposed.{own_votes_pass}
-use Rattle.laws.proofs.own_votes_pass.Goals as goal
-
-pub returns : goal.returns
-returns c = own_votes_pass

@@ -1,5 +1,0 @@
-use Rattle.laws.proofs.ProposedTaken.{proposals_are_legal}
-use Rattle.laws.proofs.proposals_are_legal.Goals as goal
-
-pub returns : goal.returns
-returns c = proposals_are_legal

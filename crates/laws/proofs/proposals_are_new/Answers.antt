@@ -1,5 +1,0 @@
-use Rattle.laws.proofs.Proposed.{proposals_are_new}
-use Rattle.laws.proofs.proposals_are_new.Goals as goal
-
-pub returns : goal.returns
-returns c = proposals_are_new

@@ -1,5 +1,0 @@
-use Rattle.laws.proofs.SlotsGrow.{slots_grow}
-use Rattle.laws.proofs.slots_grow.Goals as goal
-
-pub returns : goal.returns
-returns c = slots_grow

@@ -1,5 +1,0 @@
-use Rattle.machine.proofs.Deciding.{answers_alike}
-use Rattle.machine.proofs.answers_alike.Goals as goal
-
-pub returns : goal.returns
-returns c = answers_alike

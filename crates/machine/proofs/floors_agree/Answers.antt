@@ -1,5 +1,0 @@
-use Rattle.machine.proofs.Floors.{floors_agree}
-use Rattle.machine.proofs.floors_agree.Goals as goal
-
-pub returns : goal.returns
-returns c = floors_agree

@@ -1,5 +1,0 @@
-use Rattle.machine.proofs.FreshSound.{fresh_is_sound}
-use Rattle.machine.proofs.fresh_is_sound.Goals as goal
-
-pub returns : goal.returns
-returns c = fresh_is_sound

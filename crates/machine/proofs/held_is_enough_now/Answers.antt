@@ -1,5 +1,0 @@
-use Rattle.machine.proofs.Enough.{held_is_enough_now}
-use Rattle.machine.proofs.held_is_enough_now.Goals as goal
-
-pub returns : goal.returns
-returns c = held_is_enough_now

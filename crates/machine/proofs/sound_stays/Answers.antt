@@ -1,5 +1,0 @@
-use Rattle.machine.proofs.Staying.{sound_stays}
-use Rattle.machine.proofs.sound_stays.Goals as goal
-
-pub returns : goal.returns
-returns c = sound_stays

@@ -1,5 +1,0 @@
-use Rattle.machine.proofs.Answering.{state_answers}
-use Rattle.machine.proofs.state_answers.Goals as goal
-
-pub returns : goal.returns
-returns c = state_answers

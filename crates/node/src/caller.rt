@@ -1,0 +1,190 @@
+//! What a thread calls a node with.
+
+ghost use Rattle.std.specs.Prelude.{◌≡◌, ◌⊎◌, None, [], not, drop, length, IsOk, IfOk, IfErr, IfSome};
+ghost use Rattle.header.specs.Checks.{fault_of, accepts_all};
+ghost use Rattle.spec_laws.specs.Laws.{Begins};
+ghost use Rattle.spec_machine.specs.Machine.{is_missing_parents};
+ghost use Rattle.spec_model.specs.Admitting.{admit, IsLegal};
+ghost use Rattle.spec_model.specs.Giving.{MayGive, unless_low};
+ghost use Rattle.spec_model.specs.Holdings.{order as order_of, round as round_of, floor as floor_of, voted_digest};
+ghost use Rattle.spec_model.specs.Proposing.{propose as propose_of};
+ghost use Rattle.validator.specs.Setting.{node_of};
+ghost use Rattle.node_seats.specs.Views.{IsSame};
+ghost use Rattle.node_shared.specs.Answers.{Submits, IsPutOutBy};
+ghost use Rattle.node_shared.specs.Home.{IsOf, seen_by, firm_by};
+ghost use Rattle.node.specs.Callers.{StaysWith};
+
+use header::Checked;
+use node_shared::{Node, Receipt, Refusal, Seat};
+use sigface::Sign;
+use std::alloc::AllocError;
+use std::marker::Model;
+use std::sync::Wait;
+use validator::Config;
+use wire::{Author, Digest, Header, Output, Round};
+
+/// A node with its configuration, which contracts see, and a seat of it. Each call is the node's of its name, with this seat.
+pub struct Caller<'n, 'a, S: Sign> {
+    node: &'n Node<'a, S>,
+    config: &'a Config<S>,
+    seat: Seat,
+}
+
+impl<'n, 'a, S: Sign> Drop for Caller<'n, 'a, S> {
+    fn drop(self) {
+        let Caller {
+            node: _,
+            config: _,
+            seat: _,
+        } = self;
+    }
+}
+
+impl<'n, 'a, S: Sign> Model for Caller<'n, 'a, S> {
+    ghost use Rattle.node.specs.Callers.{Calling, IsCalling};
+
+    ghost Value = { Calling S };
+
+    ghost view = { λ c. record { setting = c.config.now; node = c.node.now; seat = c.seat } };
+
+    ghost invariant = { λ c. IsCalling (record { setting = c.config.now; node = c.node.now; seat = c.seat }) };
+}
+
+impl<'n, 'a, S: Sign> Caller<'n, 'a, S> {
+    /// A caller of a node of this configuration, with a seat of it.
+    pub fn new(node: &'n Node<'a, S>, config: &'a Config<S>, seat: Seat) -> Caller<'n, 'a, S>
+        requires of { IsOf node.now seat }
+        requires setting { node.now.setting ≡ config.now }
+        ensures setting { result.setting ≡ config.now }
+        ensures node { result.node ≡ node.now }
+        ensures seat { result.seat ≡ seat }
+    {
+        Caller { node, config, seat }
+    }
+
+    /// The configuration, which is the node's.
+    pub fn config(&self) -> &'a Config<S>
+        ensures config { result.now ≡ self.now.setting }
+        ensures node { self.now.node.setting ≡ self.now.setting }
+    {
+        self.config
+    }
+
+    /// A caller more, which has seen what this one has and has made no call. It takes no memory.
+    pub fn split(&mut self) -> Result<Caller<'n, 'a, S>, AllocError>
+        ensures ok { IsOk result }
+        ensures same { self.new ≡ self.old }
+        ensures other { IfOk result (λ other. StaysWith self.old other) }
+        ensures knows { IfOk result (λ other. (other.seat.view.seen ≡ self.old.seat.view.seen) × (other.seat.view.firm ≡ self.old.seat.view.firm) × (other.seat.view.mine ≡ [])) }
+    {
+        let seat = self.node.split(&mut self.seat)?;
+        Ok(Caller::new(self.node, self.config, seat))
+    }
+
+    /// Takes an event that passed the checks under the node's committee, behind all that was accepted. The caller has then seen all of
+    /// that, and a new event is one of its own.
+    pub fn submit<R: Wait>(&mut self, rt: &R, event: Checked) -> Result<Receipt, Refusal>
+        requires passed { fault_of self.old.setting.charter accepts_all event ≡ None }
+        ensures stays { StaysWith self.old self.new }
+        ensures same { (self.new.seat.id ≡ self.old.seat.id) × (self.new.seat.view.number ≡ self.old.seat.view.number) }
+        ensures firm { self.new.seat.view.firm ≡ self.old.seat.view.firm }
+        ensures submits { Submits (node_of S.own_key S.signature_of self.old.node.setting) event self.old.seat.view self.new.seat.view result }
+    {
+        self.node.submit(rt, &mut self.seat, event)
+    }
+
+    /// The next output that may go out.
+    pub fn collect<R: Wait>(&mut self, rt: &R) -> Option<Output>
+        ensures stays { StaysWith self.old self.new }
+        ensures same { IsSame self.old.seat self.new.seat }
+        ensures more { Begins self.old.seat.view.firm self.new.seat.view.firm }
+        ensures seen { Begins self.old.seat.view.seen self.new.seat.view.seen }
+        ensures within { Begins self.new.seat.view.firm self.new.seat.view.seen }
+        ensures goes_out { IfSome result (λ output. MayGive (node_of S.own_key S.signature_of self.old.node.setting) (firm_by self.new.seat) output) }
+        ensures put_out { IfSome result (λ output. IsPutOutBy (node_of S.own_key S.signature_of self.old.node.setting) self.new.seat.view output) }
+    {
+        self.node.collect(rt, &mut self.seat)
+    }
+
+    /// The settled order from a place on.
+    pub fn order<R: Wait>(&mut self, rt: &R, from: u64) -> Result<Vec<Digest>, Refusal>
+        ensures stays { StaysWith self.old self.new }
+        ensures same { IsSame self.old.seat self.new.seat }
+        ensures more { Begins self.old.seat.view.firm self.new.seat.view.firm }
+        ensures seen { Begins self.old.seat.view.seen self.new.seat.view.seen }
+        ensures within { Begins self.new.seat.view.firm self.new.seat.view.seen }
+        ensures order { IfOk result (λ digests. digests.items ≡ drop from (order_of (node_of S.own_key S.signature_of self.old.node.setting) (firm_by self.new.seat))) }
+        ensures errors { IfErr result (λ refusal. (refusal ≡ Refusal.Down) ⊎ (refusal ≡ Refusal.Memory)) }
+    {
+        self.node.order(rt, &mut self.seat, from)
+    }
+
+    /// The header that has the vote of an author and round, unless that is low.
+    pub fn peek_voted<R: Wait>(&mut self, rt: &R, author: Author, round: Round) -> Option<Digest>
+        ensures stays { StaysWith self.old self.new }
+        ensures same { IsSame self.old.seat self.new.seat }
+        ensures firm { self.new.seat.view.firm ≡ self.old.seat.view.firm }
+        ensures more { Begins self.old.seat.view.seen self.new.seat.view.seen }
+        ensures voted { result ≡ unless_low (floor_of (node_of S.own_key S.signature_of self.old.node.setting) (seen_by self.new.seat)) round (voted_digest (seen_by self.new.seat) round author.0) }
+    {
+        self.node.peek_voted(rt, &mut self.seat, author, round)
+    }
+
+    /// The round behind all that was accepted.
+    pub fn round_now<R: Wait>(&mut self, rt: &R) -> u64
+        ensures stays { StaysWith self.old self.new }
+        ensures same { IsSame self.old.seat self.new.seat }
+        ensures firm { self.new.seat.view.firm ≡ self.old.seat.view.firm }
+        ensures more { Begins self.old.seat.view.seen self.new.seat.view.seen }
+        ensures round { result ≡ round_of (node_of S.own_key S.signature_of self.old.node.setting) (seen_by self.new.seat) }
+    {
+        self.node.round_now(rt, &mut self.seat)
+    }
+
+    /// Whether the parents of a certificate, which passed the checks under the node's committee, are held.
+    pub fn ready<R: Wait>(&mut self, rt: &R, event: &Checked) -> bool
+        requires passed { fault_of self.old.setting.charter accepts_all event.now ≡ None }
+        ensures stays { StaysWith self.old self.new }
+        ensures same { IsSame self.old.seat self.new.seat }
+        ensures firm { self.new.seat.view.firm ≡ self.old.seat.view.firm }
+        ensures more { Begins self.old.seat.view.seen self.new.seat.view.seen }
+        ensures ready { result ≡ not (is_missing_parents (admit (node_of S.own_key S.signature_of self.old.node.setting) (seen_by self.new.seat) event.now)) }
+    {
+        self.node.ready(rt, &mut self.seat, event)
+    }
+
+    /// The header that the validator proposes, if it proposes one.
+    pub fn propose<R: Wait>(&mut self, rt: &R) -> Result<Option<Header>, AllocError>
+        ensures stays { StaysWith self.old self.new }
+        ensures same { IsSame self.old.seat self.new.seat }
+        ensures firm { self.new.seat.view.firm ≡ self.old.seat.view.firm }
+        ensures more { Begins self.old.seat.view.seen self.new.seat.view.seen }
+        ensures header { IfOk result (λ found. found ≡ propose_of (node_of S.own_key S.signature_of self.old.node.setting) (seen_by self.new.seat)) }
+    {
+        self.node.propose(rt, &mut self.seat)
+    }
+
+    /// How many events were accepted since the node began, all of which the caller has then seen. It waits for nobody.
+    pub fn accepted(&mut self) -> u64
+        ensures stays { StaysWith self.old self.new }
+        ensures same { IsSame self.old.seat self.new.seat }
+        ensures firm { self.new.seat.view.firm ≡ self.old.seat.view.firm }
+        ensures more { Begins self.old.seat.view.seen self.new.seat.view.seen }
+        ensures count { result ≡ length self.new.seat.view.seen }
+        ensures legal { IsLegal (node_of S.own_key S.signature_of self.old.node.setting) (seen_by self.new.seat) }
+    {
+        self.node.accepted(&mut self.seat)
+    }
+
+    /// How many of these are settled, which the caller then knows. It waits for nobody.
+    pub fn synced(&mut self) -> u64
+        ensures stays { StaysWith self.old self.new }
+        ensures same { IsSame self.old.seat self.new.seat }
+        ensures more { Begins self.old.seat.view.firm self.new.seat.view.firm }
+        ensures seen { Begins self.old.seat.view.seen self.new.seat.view.seen }
+        ensures within { Begins self.new.seat.view.firm self.new.seat.view.seen }
+        ensures count { result ≡ length self.new.seat.view.firm }
+    {
+        self.node.synced(&mut self.seat)
+    }
+}

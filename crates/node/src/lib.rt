@@ -1,0 +1,102 @@
+//! A node that threads share, and its flusher, after what is on a disk, and what threads call them with.
+#![tactic(auto)]
+
+mod caller;
+mod rounds;
+
+ghost use Rattle.std.specs.Prelude.{◌≡◌, ◌≢◌, ◌⊎◌, ◌<◌, [], false, Ok, IfOk, IfErr};
+ghost use Rattle.diskmodel.specs.Disk.{AtEachMoment};
+ghost use Rattle.journal.specs.Journal.{disk_of, IsAlive, IsClosedUp};
+ghost use Rattle.spec_model.specs.Admitting.{IsLegal};
+ghost use Rattle.spec_model.specs.Giving.{kept};
+ghost use Rattle.spec_world.specs.World.{Holds};
+ghost use Rattle.validator.specs.Setting.{node_of};
+ghost use Rattle.validator.specs.Standing.{AreAtSound};
+ghost use Rattle.recovery.specs.Told.{told, Tells, IsToldAsOneOf, KeepsRecords};
+ghost use Rattle.node_shared.specs.Home.{IsOf};
+ghost use Rattle.flusher.specs.Rounds.{journal_of, is_down, settled_in, taken_in, IsFlusherOf};
+
+pub use caller::Caller;
+use diskmodel::Disk;
+pub use flusher::{FlushError, Flusher};
+use journal::{Failed, Journal, JournalError};
+use node_shared::Start;
+pub use node_shared::{Node, Receipt, Refusal, Seat};
+use recovery::reopen;
+pub use rounds::Rounds;
+use sigface::Sign;
+use std::alloc::Global;
+use std::marker::Brand;
+use validator::{Config, Validator};
+
+/// Opens a node on a disk: the node, a seat of it, and its flusher. The node begins at the history that the disk is told as, and
+/// the seat has seen nothing since.
+///
+/// # Errors
+/// Those of `reopen`, and `Memory` where a growth was refused to the node. The disk is handed back.
+pub fn start<'a, S: Sign, D: Disk>(
+    alloc: Global,
+    config: &'a Config<S>,
+    disk: D,
+) -> Result<(Node<'a, S>, Seat, Flusher<D>), Failed<JournalError, D>>
+    ensures setting { IfOk result (λ started. started.0.setting ≡ config.now) }
+    ensures begins { IfOk result (λ started. told (node_of S.own_key S.signature_of config.now) (D.content disk) ≡ Ok started.0.start) }
+    ensures seat { IfOk result (λ started. IsOf started.0 started.1) }
+    ensures nothing { IfOk result (λ started. (started.1.view.seen ≡ []) × (started.1.view.firm ≡ []) × (started.1.view.mine ≡ [])) }
+    ensures flusher { IfOk result (λ started. IsFlusherOf (node_of S.own_key S.signature_of) D.content D.outcome started.0 started.2) }
+    ensures up { IfOk result (λ started. is_down started.2 ≡ false) }
+    ensures nothing_settled { IfOk result (λ started. (settled_in started.2 ≡ []) × (taken_in started.2 ≡ [])) }
+
+    // Each refusal but those of memory and of the disk is what the bytes are told as.
+    ensures err { IfErr result (λ failed. failed.error ≢ JournalError.Device → Tells failed.error (told (node_of S.own_key S.signature_of config.now) (D.content disk))) }
+    ensures never_full { IfErr result (λ failed. failed.error ≢ JournalError.Full) }
+
+    // It answers Device exactly where the disk has failed.
+    ensures device { IfErr result (λ failed. failed.error ≡ JournalError.Device → D.faults disk < D.faults failed.disk) }
+    ensures no_fault { IfOk result (λ started. D.faults (disk_of (journal_of started.2)) ≡ D.faults disk) }
+    ensures no_fault_err { IfErr result (λ failed. failed.error ≢ JournalError.Device → D.faults failed.disk ≡ D.faults disk) }
+
+    // Only a failure of the disk or of the memory leaves other bytes than there were, but for those behind the closed gate.
+    ensures unchanged { IfErr result (λ failed. failed.error ≢ JournalError.Device → failed.error ≢ JournalError.Memory → (D.content failed.disk ≡ D.content disk) ⊎ IsClosedUp (D.content disk) (D.content failed.disk)) }
+
+    // A stop at any moment of the call leaves what is told as one outcome from before it is.
+    ensures any_moment { IfOk result (λ started. AtEachMoment D.clock D.outcome_since disk (disk_of (journal_of started.2)) (IsToldAsOneOf (node_of S.own_key S.signature_of config.now) (D.outcome disk))) }
+    ensures any_moment_err { IfErr result (λ failed. AtEachMoment D.clock D.outcome_since disk failed.disk (IsToldAsOneOf (node_of S.own_key S.signature_of config.now) (D.outcome disk))) }
+
+    // It leaves the records, whoever's they are and whatever it answers, or where there are none the configuration alone.
+    // What it leaves that stands for no records is an outcome from before it, byte for byte.
+    ensures keeps { IfOk result (λ started. AtEachMoment D.clock D.outcome_since disk (disk_of (journal_of started.2)) (KeepsRecords (node_of S.own_key S.signature_of config.now) (D.outcome disk))) }
+    ensures keeps_err { IfErr result (λ failed. AtEachMoment D.clock D.outcome_since disk failed.disk (KeepsRecords (node_of S.own_key S.signature_of config.now) (D.outcome disk))) }
+{
+    let (validator, journal) = reopen(alloc, config, disk)?;
+    begin::<Brand, S, D>(alloc, validator, journal)
+}
+
+// The node over a validator and a journal that were opened.
+fn begin<'a, H: Start, S: Sign, D: Disk>(
+    alloc: Global,
+    validator: Validator<'a, S>,
+    journal: Journal<D>,
+) -> Result<(Node<'a, S>, Seat, Flusher<D>), Failed<JournalError, D>>
+    requires legal { IsLegal (node_of S.own_key S.signature_of validator.setting) H.history }
+    requires at { AreAtSound (node_of S.own_key S.signature_of validator.setting) validator.tables (kept (node_of S.own_key S.signature_of validator.setting) H.history) }
+    requires alive { IsAlive D.content D.outcome journal }
+    requires holds { Holds (node_of S.own_key S.signature_of validator.setting) (D.content (disk_of journal)) H.history }
+    ensures setting { IfOk result (λ started. started.0.setting ≡ validator.entry.setting) }
+    ensures begins { IfOk result (λ started. started.0.start ≡ H.history) }
+    ensures seat { IfOk result (λ started. IsOf started.0 started.1) }
+    ensures nothing { IfOk result (λ started. (started.1.view.seen ≡ []) × (started.1.view.firm ≡ []) × (started.1.view.mine ≡ [])) }
+    ensures flusher { IfOk result (λ started. IsFlusherOf (node_of S.own_key S.signature_of) D.content D.outcome started.0 started.2) }
+    ensures up { IfOk result (λ started. is_down started.2 ≡ false) }
+    ensures nothing_settled { IfOk result (λ started. (settled_in started.2 ≡ []) × (taken_in started.2 ≡ [])) }
+    ensures journal { IfOk result (λ started. journal_of started.2 ≡ journal) }
+    ensures err { IfErr result (λ failed. (failed.error ≡ JournalError.Memory) × (failed.disk ≡ disk_of journal)) }
+{
+    match Node::new::<H>(alloc, validator) {
+        Ok((node, seat, flush_seat)) => Ok((node, seat, Flusher::new(journal, flush_seat))),
+        Err(_) => Err(Failed {
+            error: JournalError::Memory,
+            disk: journal.into_disk(),
+        }),
+    }
+}

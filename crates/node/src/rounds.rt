@@ -1,0 +1,116 @@
+//! What a thread flushes a node with.
+
+ghost use Rattle.std.specs.Prelude.{◌≡◌, ◌≢◌, ◌⊎◌, ◌↔◌, ◌+◌, ◌<◌, [], false, length, IsOk, IfOk, IfErr, IsErrOf, IsTrue, OnOk, OnErr};
+ghost use Rattle.diskmodel.specs.Disk.{AtEachMoment};
+ghost use Rattle.journal.specs.Journal.{disk_of};
+ghost use Rattle.spec_laws.specs.Laws.{Begins};
+ghost use Rattle.validator.specs.Setting.{node_of};
+ghost use Rattle.node_seats.specs.Views.{IsSame};
+ghost use Rattle.node_shared.specs.Home.{IsOf};
+ghost use Rattle.flusher.specs.Rounds.{journal_of, is_down, settled_in, taken_in, IsFlusherOf, TakesLongest, HoldsEither, HasNoRoom};
+
+use crate::caller::Caller;
+use diskmodel::Disk;
+use flusher::{FlushError, Flusher};
+use node_shared::{Node, Seat};
+use sigface::Sign;
+use std::alloc::AllocError;
+use std::marker::Model;
+use std::sync::Wait;
+use validator::Config;
+
+/// A node's flusher, with the seat that it calls the node with. Contracts see all three.
+pub struct Rounds<'n, 'a, S: Sign, D: Disk> {
+    node: &'n Node<'a, S>,
+    seat: Seat,
+    flusher: Flusher<D>,
+}
+
+impl<'n, 'a, S: Sign, D: Disk + Drop> Drop for Rounds<'n, 'a, S, D> {
+    fn drop(self) {
+        let Rounds {
+            node: _,
+            seat: _,
+            flusher: _,
+        } = self;
+    }
+}
+
+impl<'n, 'a, S: Sign, D: Disk> Model for Rounds<'n, 'a, S, D> {
+    ghost use Rattle.validator.specs.Setting.{node_of};
+    ghost use Rattle.node_shared.specs.Home.{IsOf};
+    ghost use Rattle.flusher.specs.Rounds.{IsFlusherOf};
+    ghost use Rattle.node.specs.Callers.{Flushing};
+
+    ghost Value = { Flushing S D };
+
+    ghost view = { λ r. record { node = r.node.now; seat = r.seat; flusher = r.flusher } };
+
+    ghost invariant = { λ r. IsOf r.node.now r.seat × IsFlusherOf (node_of S.own_key S.signature_of) D.content D.outcome r.node.now r.flusher };
+}
+
+impl<'n, 'a, S: Sign, D: Disk> Rounds<'n, 'a, S, D> {
+    /// The flusher of a node, with a seat of the node.
+    pub fn new(node: &'n Node<'a, S>, seat: Seat, flusher: Flusher<D>) -> Rounds<'n, 'a, S, D>
+        requires of { IsOf node.now seat }
+        requires flusher { IsFlusherOf (node_of S.own_key S.signature_of) D.content D.outcome node.now flusher }
+        ensures node { result.node ≡ node.now }
+        ensures seat { result.seat ≡ seat }
+        ensures flusher { result.flusher ≡ flusher }
+    {
+        Rounds {
+            node,
+            seat,
+            flusher,
+        }
+    }
+
+    /// A caller of the node, whose configuration this is, which has seen what the flusher's seat has. It takes no memory.
+    pub fn caller(&mut self, config: &'a Config<S>) -> Result<Caller<'n, 'a, S>, AllocError>
+        requires setting { self.old.node.setting ≡ config.now }
+        ensures ok { IsOk result }
+        ensures same { self.new ≡ self.old }
+        ensures setting { IfOk result (λ caller. caller.setting ≡ config.now) }
+        ensures node { IfOk result (λ caller. caller.node ≡ self.old.node) }
+        ensures knows { IfOk result (λ caller. (caller.seat.view.seen ≡ self.old.seat.view.seen) × (caller.seat.view.firm ≡ self.old.seat.view.firm) × (caller.seat.view.mine ≡ [])) }
+    {
+        let seat = self.node.split(&mut self.seat)?;
+        Ok(Caller::new(self.node, config, seat))
+    }
+
+    /// One round, as the flusher's. Answers how many records were brought to the disk, 0 where all had been.
+    pub fn round<R: Wait>(&mut self, rt: &R) -> Result<u64, FlushError>
+        ensures node { self.new.node ≡ self.old.node }
+        ensures same { IsSame self.old.seat self.new.seat }
+        ensures more { Begins self.old.seat.view.seen self.new.seat.view.seen }
+        ensures more_firm { Begins self.old.seat.view.firm self.new.seat.view.firm }
+        ensures down { IsErrOf result FlushError.Down ↔ IsTrue (is_down self.old.flusher) }
+        ensures no_change { IsErrOf result FlushError.Down → self.new ≡ self.old }
+        ensures goes_down { IsTrue (is_down self.new.flusher) → (IsErrOf result FlushError.Device) ⊎ (IsErrOf result FlushError.Full) ⊎ (IsErrOf result FlushError.Down) }
+        ensures takes_down { (IsErrOf result FlushError.Device) ⊎ (IsErrOf result FlushError.Full) → IsTrue (is_down self.new.flusher) }
+        ensures takes { (IsErrOf result FlushError.Down) ⊎ (IsErrOf result FlushError.Memory) ⊎ TakesLongest self.old.seat.view.seen (settled_in self.old.flusher) (taken_in self.new.flusher) }
+        ensures memory { IsErrOf result FlushError.Memory → (journal_of self.new.flusher ≡ journal_of self.old.flusher) × (taken_in self.new.flusher ≡ settled_in self.old.flusher) }
+        ensures any_moment { IsErrOf result FlushError.Down ⊎ AtEachMoment D.clock D.outcome_since (disk_of (journal_of self.old.flusher)) (disk_of (journal_of self.new.flusher)) (HoldsEither (node_of S.own_key S.signature_of) self.old.node (settled_in self.old.flusher) (taken_in self.new.flusher)) }
+        ensures settles { IfOk result (λ count. (length (taken_in self.new.flusher) ≡ length (settled_in self.old.flusher) + count) × (settled_in self.new.flusher ≡ taken_in self.new.flusher) × (self.new.seat.view.firm ≡ taken_in self.new.flusher)) }
+        ensures not_settled { OnErr result (settled_in self.new.flusher ≡ settled_in self.old.flusher) }
+        ensures full { is_down self.old.flusher ≡ false → IsErrOf result FlushError.Full ↔ HasNoRoom (D.content (disk_of (journal_of self.old.flusher))) (settled_in self.old.flusher) (taken_in self.new.flusher) }
+        ensures full_same { IsErrOf result FlushError.Full → journal_of self.new.flusher ≡ journal_of self.old.flusher }
+        ensures device { IsErrOf result FlushError.Device → D.faults (disk_of (journal_of self.old.flusher)) < D.faults (disk_of (journal_of self.new.flusher)) }
+        ensures no_fault { OnOk result (D.faults (disk_of (journal_of self.new.flusher)) ≡ D.faults (disk_of (journal_of self.old.flusher))) }
+        ensures no_fault_err { IfErr result (λ error. error ≢ FlushError.Device → D.faults (disk_of (journal_of self.new.flusher)) ≡ D.faults (disk_of (journal_of self.old.flusher))) }
+    {
+        self.flusher.round(rt, self.node, &mut self.seat)
+    }
+
+    /// Gives the disk back.
+    pub fn into_disk(self) -> D
+        ensures { result ≡ disk_of (journal_of self.entry.flusher) }
+    {
+        let Rounds {
+            node: _,
+            seat: _,
+            flusher,
+        } = self;
+        flusher.into_journal().into_disk()
+    }
+}

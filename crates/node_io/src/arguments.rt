@@ -1,0 +1,41 @@
+//! The own number, as an argument gives it.
+
+ghost use Rattle.std.specs.Prelude.{◌≡◌, ◌≢◌, ◌<◌, ◌^◌, ◌+◌, ◌*◌, ◌-◌, [], All, IfSome, IsNone};
+ghost use Rattle.node_io.specs.Numbers.{IsDigit, number_of};
+
+use wire::Author;
+
+/// The number that decimal digits are, as that of a member. None of a text with anything else or nothing in it, and of a number that
+/// two bytes don't hold.
+#[tactic(auto, using(crate::proofs::Digits::number_grows))]
+pub fn own_of(text: &str) -> Option<Author>
+    ensures digits { IfSome result (λ own. All IsDigit text.now × (text.now ≢ [])) }
+    ensures value { IfSome result (λ own. own.0 ≡ number_of 0 text.now) }
+    ensures none { IsNone result → All IsDigit text.now → text.now ≢ [] → number_of 0 text.now < 2 ^ 16 → ⊥ }
+{
+    let mut rest = text.as_bytes();
+    if rest.is_empty() {
+        return None;
+    }
+    let mut number: u16 = 0;
+    while let Some((digit, behind)) = rest.split_first() {
+        number = with_digit(number, *digit)?;
+        rest = behind;
+    }
+    Some(Author(number))
+}
+
+// A number with a digit behind it.
+fn with_digit(number: u16, digit: u8) -> Option<u16>
+    ensures some { IfSome result (λ longer. IsDigit digit × (longer ≡ number * 10 + (digit - 48))) }
+    ensures none { IsNone result → IsDigit digit → number * 10 + (digit - 48) < 2 ^ 16 → ⊥ }
+{
+    if !digit.is_ascii_digit() {
+        return None;
+    }
+    let longer = number as u32 * 10 + (digit - b'0') as u32;
+    if longer > u16::MAX as u32 {
+        return None;
+    }
+    Some(longer as u16)
+}

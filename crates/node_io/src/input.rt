@@ -1,0 +1,195 @@
+//! The bodies of the frames of a stream, as they are read.
+
+ghost use Rattle.std.specs.Prelude.{◌≡◌, ◌≢◌, ◌⊎◌, ◌++◌, ◌∷◌, [], List, Vec, ℕ, None, Some, Err, IfOk, IfErr, IsErrOf, OnOk, OnErr, if◌then◌else◌};
+ghost use Rattle.std.specs.Io.KnownBytes.{IsAtEnd};
+ghost use Rattle.std.specs.declared.alloc.Global.{Global};
+ghost use Rattle.wire_read.specs.Frames.{bodies_bytes};
+ghost use Rattle.node_io.specs.Cutting.{Takes, BreaksWith, Cuts, ReadsAndCuts, TakesNothing, end_behind};
+
+use std::alloc::{AllocError, Global};
+use std::io::{ErrorKind, Read};
+use std::marker::Model;
+use wire::WireError;
+use wire_read::FrameReader;
+
+/// Bytes that are read at once, at most.
+const PIECE_BYTES: usize = 65_536;
+
+/// Why no more frames come.
+#[derive(Clone, Copy, Debug, PartialEq, Eq)]
+pub enum End {
+    /// The stream has ended behind a whole frame.
+    Whole,
+    /// It can't be read, a length in it is refused, or it has ended within a frame.
+    Broken,
+    /// Memory was refused.
+    Memory,
+}
+
+/// A stream of frames. Contracts see what it is read from, what is held of the next frame, and why no more frames come.
+pub struct Input<I: Read + Drop> {
+    alloc: Global,
+    reader: I,
+    piece: Vec<u8>,
+    frames: FrameReader,
+    /// What is answered next.
+    end: Option<End>,
+}
+
+impl<I: Read + Drop> Drop for Input<I> {
+    fn drop(self) {
+        let Input {
+            alloc: _,
+            reader: _,
+            piece: _,
+            frames: _,
+            end: _,
+        } = self;
+    }
+}
+
+impl<I: Read + Drop> Model for Input<I> {
+    ghost use Rattle.std.specs.Prelude.{◌<◌, vec_len};
+    ghost use Rattle.node_io.specs.Cutting.{Stream};
+
+    ghost Value = { Stream I };
+
+    ghost view = { λ i. record { reader = i.reader; held = i.frames; end = i.end } };
+
+    ghost invariant = { λ i. 0 < vec_len i.piece };
+}
+
+impl<I: Read + Drop> Input<I> {
+    /// A stream of which nothing was read. `AllocError` where a growth was refused.
+    pub fn new(alloc: Global, reader: I) -> Result<Input<I>, AllocError>
+        ensures { IfOk result (λ input. input ≡ record { reader = reader; held = []; end = None }) }
+    {
+        Ok(Input {
+            alloc,
+            reader,
+            piece: vec![in alloc; 0; PIECE_BYTES]?,
+            frames: FrameReader::new(alloc),
+            end: None,
+        })
+    }
+
+    /// The bodies of the frames that the next piece of the stream completes. It reads once, so it waits only where nothing is there.
+    /// Once no more frames come, none ever do.
+    pub fn next(&mut self) -> Result<Vec<Vec<u8>>, End>
+        ensures again { (end : End) → self.old.end ≡ Some end → (result ≡ Err end) × (self.new ≡ self.old) }
+        ensures ok { IfOk result (λ bodies. ReadsAndCuts I.remaining self.old self.new (bodies_bytes bodies.items)) }
+        ensures err { IfErr result (λ end. self.new.end ≡ Some end) }
+        ensures nothing { OnErr result (self.old.end ≡ None → TakesNothing I.remaining self.old self.new) }
+        ensures whole { IsErrOf result End.Whole → self.old.end ≡ None → IsAtEnd (I.remaining self.new.reader) × (self.old.held ≡ []) }
+    {
+        if let Some(end) = self.end {
+            return Err(end);
+        }
+        let found = self.read();
+        if let Err(end) = &found {
+            self.end = Some(*end);
+        }
+        found
+    }
+
+    // The same, where no end was found yet.
+    fn read(&mut self) -> Result<Vec<Vec<u8>>, End>
+        requires { self.old.end ≡ None }
+        ensures ok { IfOk result (λ bodies. ReadsAndCuts I.remaining self.old self.new (bodies_bytes bodies.items)) }
+        ensures nothing { OnErr result (TakesNothing I.remaining self.old self.new) }
+        ensures whole { IsErrOf result End.Whole → IsAtEnd (I.remaining self.new.reader) × (self.old.held ≡ []) }
+    {
+        match self.reader.read(&mut self.piece) {
+            Ok(0) => Err(end_at_stop(self.frames.is_empty())),
+            Ok(count) => {
+                let (bodies, end) = cut(self.alloc, &mut self.frames, &self.piece[..count]);
+                self.end = end;
+                Ok(bodies)
+            }
+            Err(error) => match end_after(error.kind()) {
+                Some(end) => Err(end),
+                None => Ok(Vec::new(self.alloc)),
+            },
+        }
+    }
+}
+
+// The bodies of the frames that a piece completes, and why no more come, if they don't.
+fn cut(alloc: Global, frames: &mut FrameReader, piece: &[u8]) -> (Vec<Vec<u8>>, Option<End>)
+    ensures { Cuts frames.old piece.now (bodies_bytes result.0.items) frames.new result.1 }
+{
+    match frames.feed(piece) {
+        Ok(bodies) => (bodies, None),
+        Err(WireError::Memory) => (Vec::new(alloc), Some(End::Memory)),
+        Err(_) => bodies_before_fault(alloc, frames, piece),
+    }
+}
+
+// The bodies in front of the length that is refused, and why no more come. A refusal takes nothing of what it is fed, so each byte is
+// fed by itself.
+fn bodies_before_fault(
+    alloc: Global,
+    frames: &mut FrameReader,
+    piece: &[u8],
+) -> (Vec<Vec<u8>>, Option<End>)
+    ensures { Cuts frames.old piece.now (bodies_bytes result.0.items) frames.new result.1 }
+{
+    let mut all = Vec::new(alloc);
+    let mut rest = piece;
+    while let Some((byte, behind)) = rest.split_first() {
+        match add_bodies(frames, *byte, &mut all) {
+            Ok(()) => rest = behind,
+            Err(end) => return (all, Some(end)),
+        }
+    }
+    (all, None)
+}
+
+// Adds the bodies of the frames that a byte completes.
+fn add_bodies(frames: &mut FrameReader, byte: u8, all: &mut Vec<Vec<u8>>) -> Result<(), End>
+    ensures ok { OnOk result ((more : List (Vec ℕ Global)) × (all.new.items ≡ all.old.items ++ more) × Takes frames.old (byte ∷ []) (bodies_bytes more) frames.new) }
+    ensures err { IfErr result (λ end. (end ≡ End.Memory) ⊎ ((end ≡ End.Broken) × (frames.new ≡ frames.old) × BreaksWith frames.old (byte ∷ []))) }
+    ensures same { OnErr result (all.new.items ≡ all.old.items) }
+{
+    match frames.feed(&[byte]) {
+        Ok(mut bodies) => match all.append(&mut bodies) {
+            Ok(()) => Ok(()),
+            Err(_) => Err(End::Memory),
+        },
+        Err(error) => Err(end_of(error)),
+    }
+}
+
+// Why no more frames come behind what a reader of frames refused.
+fn end_of(error: WireError) -> End
+    ensures { result ≡ end_behind error }
+{
+    match error {
+        WireError::Memory => End::Memory,
+        _ => End::Broken,
+    }
+}
+
+// Why no more frames come where the stream stops, behind a whole frame or within one.
+fn end_at_stop(is_behind_frame: bool) -> End
+    ensures { result ≡ (if is_behind_frame then End.Whole else End.Broken) }
+{
+    if is_behind_frame {
+        End::Whole
+    } else {
+        End::Broken
+    }
+}
+
+// Why no more frames come where a read fails; none where it was interrupted, which is to be made again.
+fn end_after(kind: ErrorKind) -> Option<End>
+    ensures interrupted { kind ≡ ErrorKind.Interrupted → result ≡ None }
+    ensures memory { kind ≡ ErrorKind.OutOfMemory → result ≡ Some End.Memory }
+    ensures other { kind ≢ ErrorKind.Interrupted → kind ≢ ErrorKind.OutOfMemory → result ≡ Some End.Broken }
+{
+    match kind {
+        ErrorKind::Interrupted => None,
+        ErrorKind::OutOfMemory => Some(End::Memory),
+        _ => Some(End::Broken),
+    }
+}

@@ -1,0 +1,80 @@
+//! The makers of the node's own batches.
+
+ghost use Rattle.std.specs.Prelude.{◌≡◌, ◌≢◌, ◌≤◌, ◌<◌, ◌↔◌, [], Some, IfOk, IfErr, IsErr, IsErrOf, OnErr, length, slice_get};
+ghost use Rattle.wire.specs.Batches.{Contents};
+ghost use Rattle.wire.specs.declared.limits.TheConstants.{MAX_TRANSACTION_BYTES};
+ghost use Rattle.node_io.specs.Makers.{fresh_makers, IsPushed, IsSealed};
+
+use batchmaker::{BatchMaker, MakeError};
+use committee::Committee;
+use header::CheckError;
+use std::alloc::{AllocError, Global};
+use std::marker::Model;
+use wire::{Author, Batch};
+
+/// A maker of batches for each worker of a committee. Contracts see what each of them has gathered, in the order of the workers.
+pub struct Makers {
+    makers: Vec<BatchMaker>,
+}
+
+impl Drop for Makers {
+    fn drop(self) {
+        let Makers { makers: _ } = self;
+    }
+}
+
+impl Model for Makers {
+    ghost use Rattle.std.specs.Prelude.{List};
+    ghost use Rattle.wire.specs.Batches.{Contents};
+
+    ghost Value = { List Contents };
+
+    ghost view = { λ m. m.makers.items };
+}
+
+impl Makers {
+    /// The makers of a member, with no transaction. `AllocError` where a growth was refused.
+    pub fn new(alloc: Global, committee: &Committee, own: Author) -> Result<Makers, AllocError>
+        ensures { IfOk result (λ makers. makers ≡ fresh_makers own committee.now.workers) }
+    {
+        let mut makers = Vec::new(alloc);
+        for worker in 0..committee.workers() {
+            makers.push(BatchMaker::new(alloc, own, worker)?)?;
+        }
+        Ok(Makers { makers })
+    }
+
+    /// `UnknownWorker` where the committee has no such worker.
+    pub fn test(&self, worker: u16) -> Result<(), CheckError>
+        ensures err { IfErr result (λ error. error ≡ CheckError.UnknownWorker) }
+        ensures known { IsErr result ↔ (length self.now ≤ worker) }
+    {
+        if (worker as usize) < self.makers.len() {
+            Ok(())
+        } else {
+            Err(CheckError::UnknownWorker)
+        }
+    }
+
+    /// Adds a transaction to the open batch of a worker, who is known. Where that has no room for it, gives the batch, and the
+    /// transaction begins the next one. `TooBig` where it has more than `MAX_TRANSACTION_BYTES`.
+    pub fn push(&mut self, worker: u16, transaction: &[u8]) -> Result<Option<Batch>, MakeError>
+        requires { worker < length self.old }
+        ensures ok { IfOk result (λ full. IsPushed worker transaction.now full self.old self.new) }
+        ensures too_big { IsErrOf result MakeError.TooBig ↔ (MAX_TRANSACTION_BYTES < length transaction.now) }
+        ensures err { OnErr result (self.new ≡ self.old) }
+    {
+        self.makers[worker as usize].push(transaction)
+    }
+
+    /// The open batch of a worker, who is known, or none where it has no transaction; afterwards none of it is open. `AllocError`
+    /// where a growth was refused.
+    pub fn seal(&mut self, worker: u16) -> Result<Option<Batch>, AllocError>
+        requires { worker < length self.old }
+        ensures ok { IfOk result (λ sealed. IsSealed worker sealed self.old self.new) }
+        ensures memory { OnErr result ((maker : Contents) → slice_get self.old worker ≡ Some maker → maker.transactions ≢ []) }
+        ensures err { OnErr result (self.new ≡ self.old) }
+    {
+        self.makers[worker as usize].seal()
+    }
+}

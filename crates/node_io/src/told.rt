@@ -1,0 +1,70 @@
+//! Why a frame is refused, as it is told.
+
+ghost use Rattle.std.specs.Prelude.{◌≡◌};
+ghost use Rattle.node_io.specs.Tellings.{of_make};
+ghost use Rattle.node_io.specs.declared.told.Told.TheVariants.{Unread, Unchecked, Refused};
+ghost use Rattle.wire.specs.declared.error.WireError.TheVariants.{Memory};
+
+use batchmaker::MakeError;
+use header::CheckError;
+use spec_model::Refusal;
+use std::alloc::AllocError;
+use thiserror::Error;
+use wire::WireError;
+
+/// Why what a frame brought is refused. Printed as the kind of the refusal, its number and its name.
+#[derive(Clone, Copy, Debug, PartialEq, Eq, Error)]
+pub enum Told {
+    /// It can't be read.
+    #[error("unread {0}")]
+    Unread(WireError),
+    /// It fails a check.
+    #[error("unchecked {0}")]
+    Unchecked(CheckError),
+    /// The node refuses it.
+    #[error("refused {0}")]
+    Refused(Refusal),
+}
+
+impl From<WireError> for Told {
+    ghost from_gives = { λ error told. told ≡ Unread error };
+
+    fn from(error: WireError) -> Told {
+        Told::Unread(error)
+    }
+}
+
+impl From<CheckError> for Told {
+    ghost from_gives = { λ error told. told ≡ Unchecked error };
+
+    fn from(error: CheckError) -> Told {
+        Told::Unchecked(error)
+    }
+}
+
+impl From<Refusal> for Told {
+    ghost from_gives = { λ refusal told. told ≡ Refused refusal };
+
+    fn from(refusal: Refusal) -> Told {
+        Told::Refused(refusal)
+    }
+}
+
+impl From<AllocError> for Told {
+    ghost from_gives = { λ _ told. told ≡ Unread Memory };
+
+    fn from(_: AllocError) -> Told {
+        Told::Unread(WireError::Memory)
+    }
+}
+
+impl From<MakeError> for Told {
+    ghost from_gives = { λ error told. told ≡ of_make error };
+
+    fn from(error: MakeError) -> Told {
+        match error {
+            MakeError::Memory => Told::Unread(WireError::Memory),
+            MakeError::TooBig => Told::Unread(WireError::TooMany),
+        }
+    }
+}

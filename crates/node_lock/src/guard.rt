@@ -1,0 +1,164 @@
+//! The lock.
+
+ghost use Rattle.std.specs.Prelude.{◌≡◌, [], IfOk, IsTrue, IsFalse};
+ghost use Rattle.node_lock.specs.Home.{Holds, Takes};
+
+use crate::rule::{Enter, Fits, Give, Home, Take, Told};
+use crate::turn::Turn;
+use atomic_table::{Refused, Seat, Table};
+use std::alloc::{AllocError, Global};
+use std::hint;
+use std::marker::{Brand, Model};
+use std::sync::Wait;
+
+// The lock's one word, and its one slot.
+const WORD: usize = 0;
+
+const SLOT: usize = 0;
+
+const FREE: u64 = 0;
+
+const TAKEN: u64 = 1;
+
+// Somebody has the value, and somebody else may sleep until it is back.
+const WANTED: u64 = 2;
+
+// How often the value is tried for before a sleep, each time behind twice as many pauses as the time before: some tens of
+// microseconds, which is what a sleep and who wakes it cost.
+const TRIES: u32 = 10;
+
+fn pause(times: u32) {
+    for _ in 0..times {
+        hint::spin_loop();
+    }
+}
+
+/// A lock round a value. Contracts see which lock it is, and its key.
+pub struct Lock<T, K, F: Fits<T, K>> {
+    table: Table<Option<T>, (), K, Home<F>, Global>,
+}
+
+impl<T: Drop, K: Drop, F: Fits<T, K>> Drop for Lock<T, K, F> {
+    fn drop(self) {
+        let Lock { table: _ } = self;
+    }
+}
+
+impl<T, K, F: Fits<T, K>> Model for Lock<T, K, F> {
+    ghost use Rattle.std.specs.Prelude.{◌≡◌};
+    ghost use Rattle.node_lock.specs.Doors.{Door, coded_door};
+
+    ghost Value = { Door K };
+
+    ghost coded = { coded_door K.code };
+
+    ghost view = { λ l. record { id = l.table.shared.table_id; key = l.table.shared.key } };
+
+    ghost invariant = { λ l. (l.table.shared.table_id.words ≡ 1) × (l.table.shared.table_id.slots ≡ 1) };
+}
+
+impl<T: Drop, K, F: Fits<T, K>> Lock<T, K, F> {
+    /// A lock round a value. `AllocError` where a growth was refused: the value is given up with it.
+    pub fn new(alloc: Global, value: T, about: &K) -> Result<Lock<T, K, F>, AllocError>
+        requires { F.fits about.now value }
+        ensures { IfOk result (λ lock. lock.key ≡ about.now) }
+    {
+        let mut slots = Vec::with_capacity(alloc, 1)?;
+        slots.push_reserved(Some(value));
+        match Table::new(alloc, &[FREE], slots, about) {
+            Ok((table, _)) => Ok(Lock { table }),
+            Err(Refused { slots: _ }) => Err(AllocError),
+        }
+    }
+}
+
+impl<T, K, F: Fits<T, K>> Lock<T, K, F> {
+    /// Waits until nobody else has the value, and takes it.
+    pub fn acquire<R: Wait>(&self, rt: &R) -> (Turn<T>, T)
+        ensures of { result.0 ≡ self.now.id }
+        ensures fits { F.fits self.now.key result.1 }
+    {
+        let (_, mut seat) = self.table.shared.load_new_seat::<Enter>(WORD);
+        if self.take_soon(&mut seat) {
+            return self.open(seat);
+        }
+        for _ in rt.forever() {
+            // The word stays `WANTED` with the value, as others may sleep still.
+            if self.take_wanted::<Brand>(&mut seat) == FREE {
+                return self.open(seat);
+            }
+            self.table.shared.park(rt, WORD, WANTED as u32);
+        }
+        unreachable!()
+    }
+
+    /// Gives the value back.
+    pub fn release(&self, turn: Turn<T>, value: T)
+        requires of { turn ≡ self.now.id }
+        requires fits { F.fits self.now.key value }
+    {
+        let Turn { mut seat } = turn;
+        let shared = &self.table.shared;
+        // The value is home before the word says so.
+        let emptied = shared.exchange(&mut seat, SLOT, Some(value));
+        let None = emptied else { unreachable!() };
+        let found = shared.swap::<Give>(&mut seat, WORD, FREE);
+        if found == WANTED {
+            shared.wake_one(WORD);
+        }
+    }
+
+    // Tries for a while, and more and more seldom: who has the value then mostly takes it again, and has all of it in its
+    // cache. It looks before it tries, since a try takes the word's cache line from who will release. Says whether it was taken.
+    fn take_soon(&self, seat: &mut Seat<Option<T>, ()>) -> bool
+        requires of { seat.old.table_id ≡ self.now.id }
+        requires empty { seat.old.me.1 ≡ [] }
+        ensures of { seat.new.table_id ≡ self.now.id }
+        ensures taken { IsTrue result → Holds (F.fits self.now.key) seat.new.me }
+        ensures not_taken { IsFalse result → seat.new.me.1 ≡ [] }
+    {
+        for doublings in 0..TRIES {
+            if self.table.shared.peek(WORD) == FREE && self.take_free::<Brand>(seat) == FREE {
+                return true;
+            }
+            pause(1 << doublings);
+        }
+        false
+    }
+
+    // Each answers the word as it was.
+    fn take_free<W: Told<T>>(&self, seat: &mut Seat<Option<T>, ()>) -> u64
+        requires of { seat.old.table_id ≡ self.now.id }
+        requires empty { seat.old.me.1 ≡ [] }
+        requires told { (value : T) → F.fits self.now.key value → W.told value }
+        ensures of { seat.new.table_id ≡ self.now.id }
+        ensures takes { Takes W.told result seat.old.me seat.new.me }
+    {
+        self.table
+            .shared
+            .compare_exchange::<Take<W>>(seat, WORD, FREE, TAKEN)
+    }
+
+    fn take_wanted<W: Told<T>>(&self, seat: &mut Seat<Option<T>, ()>) -> u64
+        requires of { seat.old.table_id ≡ self.now.id }
+        requires empty { seat.old.me.1 ≡ [] }
+        requires told { (value : T) → F.fits self.now.key value → W.told value }
+        ensures of { seat.new.table_id ≡ self.now.id }
+        ensures takes { Takes W.told result seat.old.me seat.new.me }
+    {
+        self.table.shared.swap::<Take<W>>(seat, WORD, WANTED)
+    }
+
+    // Moves the value out of the slot that the seat has taken.
+    fn open(&self, mut seat: Seat<Option<T>, ()>) -> (Turn<T>, T)
+        requires of { seat.table_id ≡ self.now.id }
+        requires held { Holds (F.fits self.now.key) seat.me }
+        ensures of { result.0 ≡ self.now.id }
+        ensures fits { F.fits self.now.key result.1 }
+    {
+        let Some(value) = self.table.shared.exchange(&mut seat, SLOT, None) else {
+            unreachable!()
+        };
+        (Turn { seat }, value)
+    }
+}

@@ -1,0 +1,142 @@
+-- An event that is submitted behind a look.
+use Rattle.std.proofs.Common.{◌≡◌, [], ◌∷◌, ◌++◌, Bool, true, false, Result, Ok, Err, Option, Some, None, refl, sym, subst, ap, ◌∙◌, inl, inr}
+use Rattle.std.specs.Prelude.{not, is_some}
+use Rattle.header.specs.Digested.{certificate_digest_in}
+use Rattle.spec_machine.specs.Machine.{is_missing_parents}
+use Rattle.node_seats.specs.Views.{events, IsSame}
+use Rattle.node_shared.specs.Home.{seen_by}
+use Rattle.book.specs.declared.book.Receipt.{Receipt}
+use Rattle.spec_laws.specs.Laws.{Begins}
+use Rattle.spec_model.specs.Admitting.{admit}
+use Rattle.spec_model.specs.Histories.{History}
+use Rattle.spec_model.specs.Nodes.{Node}
+use Rattle.spec_model.specs.Words.{Event}
+use Rattle.spec_model.specs.declared.refusal.Refusal.{Refusal}
+use Rattle.node_seats.specs.declared.view.View.{View}
+use Rattle.node_seats.proofs.Beginnings.{begins_same, begins_trans, begins_more}
+use Rattle.node_seats.specs.Views.{mark}
+use Rattle.node_shared.specs.Answers.{Submits}
+use Rattle.header.specs.declared.error.CheckError.{CheckError}
+use Rattle.node_io.specs.declared.told.Told.{Told}
+use Rattle.node_io.specs.declared.told.Told.TheVariants.{Unchecked}
+use Rattle.node.specs.Callers.{Calling}
+use Rattle.node_run.specs.declared.caller.Taken.{Taken}
+use Rattle.node_run.specs.declared.caller.Taken.TheVariants.{Waits}
+use Rattle.node_run.specs.Taking.{Handles, IsSubmitted, LacksParents, MayBeSubmitted}
+
+pub not_true : (b : Bool) → not b ≡ true → b ≡ false
+not_true true is = sym is
+not_true false is = cc
+
+pub not_false : (b : Bool) → not b ≡ false → b ≡ true
+not_false true is = cc
+not_false false is = sym is
+
+-- What is said of a call, of the view that a look left, is said of the view before it.
+pub submits_since : (node : Node) (event : Event) (before mid later : View) (answer : Result Receipt Refusal)
+    → mid.start ≡ before.start → mid.number ≡ before.number → mid.mine ≡ before.mine → Begins before.seen mid.seen
+    → Submits node event mid later answer → Submits node event before later answer
+submits_since node event before mid later (Ok receipt) start number mine more submits = record {
+  all = submits.all;
+  more = begins_trans before.seen mid.seen submits.all more submits.more;
+  new = λ new. let added = submits.new new in record {
+    outputs = added.outputs;
+    answer = rw (← start) added.answer;
+    room = added.room;
+    seen = rw (← number) added.seen;
+    mine = rw (← mine) added.mine;
+    ticket = added.ticket;
+  };
+  known = λ known. let there = submits.known known in record {
+    outputs = there.outputs;
+    answer = rw (← start) there.answer;
+    seen = there.seen;
+    mine = rw (← mine) there.mine;
+    ticket = there.ticket;
+  };
+  refused = tt;
+  same = tt;
+}
+submits_since node event before mid later (Err refusal) start number mine more submits = record {
+  all = submits.all;
+  more = begins_trans before.seen mid.seen submits.all more submits.more;
+  new = tt;
+  known = tt;
+  refused = rw (← start) submits.refused;
+  same = let same = submits.same in (same.0, same.1 ∙ mine);
+}
+
+-- a call has seen no less than before
+pub submits_more : (node : Node) (event : Event) (before later : View) (answer : Result Receipt Refusal) → Submits node event before later answer → Begins before.seen later.seen
+submits_more node event before later (Ok receipt) submits = by receipt.new refl
+  where
+    by : (b : Bool) → receipt.new ≡ b → Begins before.seen later.seen
+    by true is = let added = submits.new is in subst (Begins before.seen) (sym added.seen) (begins_more before.seen submits.all (mark before.number event ∷ []) submits.more)
+    by false is = let there = submits.known is in subst (Begins before.seen) (sym there.seen) submits.more
+submits_more node event before later (Err refusal) submits = let same = submits.same in subst (Begins before.seen) (sym same.0) submits.more
+
+-- the checks' first fault is told
+pub unchecked : {S : Type 0} (node : Node) (event : Event) (before : Calling S) (fault : Option CheckError) (error : CheckError)
+    → fault ≡ Some error → Handles node fault event before before (Err (Unchecked error))
+unchecked node event before fault error is = record {
+  unchecked = λ other there.
+      let both : Some error ≡ Some other = sym is ∙ there in
+      let same : error ≡ other = cc in
+      (ap (λ e. Err (Unchecked e)) same, refl);
+  checked = λ none. let bad : Some error ≡ None = sym is ∙ none in absurd cc;
+}
+
+-- a certificate that lacks a parent waits
+pub waits : {S : Type 0} (node : Node) (event : Event) (before later : Calling S) (fault : Option CheckError)
+    → fault ≡ None → LacksParents node event later → IsSame before.seat later.seat → Handles node fault event before later (Ok (Waits event))
+waits node event before later fault is lacks same = record {
+  unchecked = λ other there. let bad : Some other ≡ None = sym there ∙ is in absurd cc;
+  checked = λ _. inl (lacks, same, refl);
+}
+
+-- any other event is submitted
+pub submitted : {S : Type 0} (node : Node) (event : Event) (before later : Calling S) (fault : Option CheckError) (told : Result Taken Told)
+    → fault ≡ None → MayBeSubmitted node event before later → IsSubmitted node event before later told → Handles node fault event before later told
+submitted node event before later fault told is goes done = record {
+  unchecked = λ other there. let bad : Some other ≡ None = sym there ∙ is in absurd cc;
+  checked = λ _. inr (goes, done);
+}
+
+-- behind a look
+pub submitted_since : {S : Type 0} (node : Node) (event : Event) (before mid later : Calling S) (told : Result Taken Told)
+    → mid.seat.view.start ≡ before.seat.view.start → mid.seat.view.number ≡ before.seat.view.number → mid.seat.view.mine ≡ before.seat.view.mine
+    → Begins before.seat.view.seen mid.seat.view.seen → IsSubmitted node event mid later told → IsSubmitted node event before later told
+submitted_since node event before mid later told start number mine more done = record {
+  answer = done.answer;
+  submits = submits_since node event before.seat.view mid.seat.view later.seat.view done.answer start number mine more done.submits;
+  is = done.is;
+}
+
+-- no certificate has to be looked for
+pub other_goes : {S : Type 0} (node : Node) (event : Event) (before : Calling S) → certificate_digest_in event.message ≡ None → MayBeSubmitted node event before before
+other_goes node event before none = record {
+  looked = before.seat.view.seen;
+  more = begins_same before.seat.view.seen;
+  less = begins_same before.seat.view.seen;
+  goes = λ is. let bad : false ≡ true = ap is_some (sym none) ∙ is in absurd cc;
+}
+
+-- what lacked no parent when the caller looked may go
+pub ready_goes : {S : Type 0} (node : Node) (event : Event) (before later : Calling S) → later.seat.view.start ≡ before.seat.view.start → Begins before.seat.view.seen later.seat.view.seen
+    → is_missing_parents (admit node (seen_by later.seat) event) ≡ false → MayBeSubmitted node event before later
+ready_goes node event before later start more lacks_none = record {
+  looked = later.seat.view.seen;
+  more = more;
+  less = begins_same later.seat.view.seen;
+  goes = λ _. subst (λ (first : History). is_missing_parents (admit node (first ++ events later.seat.view.seen) event) ≡ false) start lacks_none;
+}
+
+-- a look counts for a call that goes on behind it
+pub goes_yet : {S : Type 0} (node : Node) (event : Event) (before mid later : Calling S) → MayBeSubmitted node event before mid → Begins mid.seat.view.seen later.seat.view.seen
+    → MayBeSubmitted node event before later
+goes_yet node event before mid later goes more = record {
+  looked = goes.looked;
+  more = goes.more;
+  less = begins_trans goes.looked mid.seat.view.seen later.seat.view.seen goes.less more;
+  goes = goes.goes;
+}

@@ -1,0 +1,12 @@
+use Rattle.std.proofs.Common.{◌≡◌}
+use Rattle.journal.specs.Journal.{disk_of}
+use Rattle.spec_laws.specs.Laws.{Begins}
+use Rattle.flusher.specs.Rounds.{journal_of, is_down}
+use Rattle.node_run.proofs.flushing.flush_pending.Given as goal
+
+abbrev pub invariant-loop : goal.invariant-loop
+invariant-loop g l =
+    (goal.iterator-loop g).can_next l.iterator' × (goal.iterator-loop g).is_finite l.iterator'
+    × (g.D.Disk.faults (disk_of (journal_of l.rounds.flusher)) ≡ g.D.Disk.faults (disk_of (journal_of l.initial.rounds.flusher)))
+    × (is_down l.rounds.flusher ≡ is_down l.initial.rounds.flusher)
+    × Begins l.initial.rounds.seat.view.seen l.rounds.seat.view.seen

@@ -1,0 +1,48 @@
+-- What goes to a node's writer.
+use Rattle.std.specs.Prelude.{◌≤◌, length, take, ◌≡◌, ◌⊎◌, ℕ, true, false, List, ◌++◌, Option, All}
+use Rattle.std.specs.List.{flat_map}
+use Rattle.std.specs.Io.KnownBytes.{Keeps, Appends}
+use Rattle.spec_laws.specs.Laws.{Begins}
+use Rattle.spec_model.specs.Giving.{MayGive}
+use Rattle.spec_model.specs.Nodes.{Node}
+use Rattle.spec_model.specs.Words.{Output}
+use Rattle.node_io.specs.declared.faults.Faults.{Faults}
+use Rattle.node_seats.specs.Views.{events}
+use Rattle.node_seats.specs.declared.view.Marked.{Marked}
+use Rattle.node_seats.specs.declared.view.View.{View}
+use Rattle.spec_world.specs.Promise.{GoesOut}
+use Rattle.spec_world.specs.Text.{frame_of}
+use Rattle.spec_world.specs.World.{put_out}
+
+-- Bytes were to go to a writer. Once it has failed nothing goes to it; else they stand behind what it has, unless it fails, or memory was
+-- refused for them. No other fault is told.
+pub record Puts (bytes : List ℕ) (before later : Faults) (old new : Option (List ℕ)) : Type 0 where
+  pub broken : before.output ≡ true → (later.output ≡ true) × Keeps old new
+  pub memory : before.memory ≡ true → later.memory ≡ true
+  pub fine : later.output ≡ false
+      → ((later ≡ before) × Appends old new bytes) ⊎ ((later ≡ record before { memory = true }) × Keeps old new)
+  pub others : later ≡ record before { output = later.output; memory = later.memory }
+
+-- an output was put out at what a seat knows as settled, or knew of it before, and may be given out there
+pub record MayGo (node : Node) (view : View) (output : Output) : Type 0 where
+  pub settled : List Marked
+  pub begins : Begins settled view.firm
+  pub may : MayGive node (view.start ++ events settled) output
+  pub count : ℕ
+  pub within : count ≤ length settled
+  pub put_out : GoesOut node (view.start ++ events (take count settled)) (put_out output)
+
+-- an output that might go went to a writer
+pub record WritesNext (May : Output → Type 0) (before later : Faults) (old new : Option (List ℕ)) : Type 0 where
+  pub output : Output
+  pub may : May output
+  pub puts : Puts (frame_of output) before later old new
+
+-- All that went to the writer, unless it failed, are frames of outputs that might go. No fault is told but the writer's and want of memory.
+pub record WritesOnly (May : Output → Type 0) (before later : Faults) (old new : Option (List ℕ)) : Type 0 where
+  pub broken : before.output ≡ true → (later.output ≡ true) × Keeps old new
+  pub memory : before.memory ≡ true → later.memory ≡ true
+  pub outputs : List Output
+  pub each : All May outputs
+  pub written : later.output ≡ false → Appends old new (flat_map frame_of outputs)
+  pub others : later ≡ record before { output = later.output; memory = later.memory }

@@ -1,0 +1,198 @@
+//! What a thread calls a node with.
+
+ghost use Rattle.std.specs.Prelude.{◌≡◌, None, Err, true, false, IsSome, IfOk, IfSome, OnErr};
+ghost use Rattle.header.specs.Digested.{certificate_digest_in};
+ghost use Rattle.header.specs.Checks.{fault_of, accepts_all};
+ghost use Rattle.spec_laws.specs.Laws.{Begins};
+ghost use Rattle.spec_machine.specs.Machine.{is_missing_parents};
+ghost use Rattle.spec_model.specs.Admitting.{admit};
+ghost use Rattle.spec_model.specs.Giving.{MayGive};
+ghost use Rattle.node_seats.specs.Views.{IsSame};
+ghost use Rattle.node_io.specs.declared.told.Told.TheVariants.{Refused};
+ghost use Rattle.node_shared.specs.Answers.{IsPutOutBy};
+ghost use Rattle.node_shared.specs.Home.{seen_by, firm_by};
+ghost use Rattle.sigface.specs.Pair.{is_pair_signature};
+ghost use Rattle.node.specs.Callers.{StaysWith};
+ghost use Rattle.validator.specs.Setting.{node_of};
+ghost use Rattle.node_run.specs.Taking.{Handles, HandlesAgain, IsSubmitted, IsProposed, LacksParents, MayBeSubmitted, OnlyLooks, is_told_new};
+
+use header::{Checked, check, recheck};
+use node::Refusal;
+use node_io::{Told, passes};
+use sigface::{HashVerify, Sign};
+use std::alloc::AllocError;
+use std::marker::Model;
+use std::sync::Wait;
+use validator::Config;
+use wire::{Author, Message, Output};
+
+/// What came of a message.
+#[derive(Drop)]
+pub(crate) enum Taken {
+    /// The event was new.
+    New,
+    /// The event was known: its outputs go out again.
+    Known,
+    /// A certificate whose parents aren't held yet.
+    Waits(Checked),
+}
+
+/// A caller of a node, for messages that aren't checked yet. Contracts see the caller that it calls with.
+#[derive(Drop)]
+pub(crate) struct Caller<'n, 'a, S: Sign> {
+    node: node::Caller<'n, 'a, S>,
+}
+
+impl<'n, 'a, S: Sign> Model for Caller<'n, 'a, S> {
+    ghost use Rattle.node.specs.Callers.{Calling};
+
+    ghost Value = { Calling S };
+
+    ghost view = { λ c. c.node };
+}
+
+impl<'n, 'a, S: Sign> Caller<'n, 'a, S> {
+    /// This caller.
+    pub(crate) fn new(node: node::Caller<'n, 'a, S>) -> Caller<'n, 'a, S>
+        ensures { result ≡ node.entry }
+    {
+        Caller { node }
+    }
+
+    /// The configuration.
+    pub(crate) fn config(&self) -> &Config<S>
+        ensures { result.now ≡ self.now.setting }
+    {
+        self.node.config()
+    }
+
+    /// Checks a message from its sender, and submits it unless it is a certificate that has to wait.
+    pub(crate) fn take<R: Wait>(
+        &mut self,
+        rt: &R,
+        sender: Author,
+        message: Message,
+    ) -> Result<Taken, Told>
+        ensures stays { StaysWith self.old self.new }
+        ensures handles { Handles (node_of S.own_key S.signature_of self.old.node.setting) (fault_of self.old.setting.charter is_pair_signature (record { sender = sender; message = message })) (record { sender = sender; message = message }) self.old self.new result }
+    {
+        let event = match check(self.node.config().committee(), &HashVerify, sender, message) {
+            Ok(event) => event,
+            Err(error) => return Err(Told::Unchecked(error)),
+        };
+        if !self.may_go(rt, &event) {
+            return Ok(Taken::Waits(event));
+        }
+        submit(rt, &mut self.node, event)
+    }
+
+    // Whether an event may be submitted at once: it is no certificate, or one that lacks no parent.
+    fn may_go<R: Wait>(&mut self, rt: &R, event: &Checked) -> bool
+        requires passed { fault_of self.old.setting.charter accepts_all event.now ≡ None }
+        ensures stays { StaysWith self.old self.new }
+        ensures same { IsSame self.old.seat self.new.seat }
+        ensures firm { self.new.seat.view.firm ≡ self.old.seat.view.firm }
+        ensures more { Begins self.old.seat.view.seen self.new.seat.view.seen }
+        ensures waits { result ≡ false → LacksParents (node_of S.own_key S.signature_of self.old.node.setting) event.now self.new }
+        ensures goes { result ≡ true → MayBeSubmitted (node_of S.own_key S.signature_of self.old.node.setting) event.now self.old self.new }
+    {
+        match event.certificate_digest() {
+            Some(_) => self.node.ready(rt, event),
+            None => true,
+        }
+    }
+
+    /// Whether a waiting certificate is ready.
+    pub(crate) fn is_ready<R: Wait>(&mut self, rt: &R, event: &Checked) -> bool
+        ensures stays { StaysWith self.old self.new }
+        ensures same { IsSame self.old.seat self.new.seat }
+        ensures firm { self.new.seat.view.firm ≡ self.old.seat.view.firm }
+        ensures more { Begins self.old.seat.view.seen self.new.seat.view.seen }
+        ensures checked { result ≡ true → fault_of self.old.setting.charter accepts_all event.now ≡ None }
+        ensures ready { result ≡ true → is_missing_parents (admit (node_of S.own_key S.signature_of self.old.node.setting) (seen_by self.new.seat) event.now) ≡ false }
+        ensures lacks { IsSome (certificate_digest_in event.now.message) → fault_of self.old.setting.charter accepts_all event.now ≡ None → result ≡ false
+            → is_missing_parents (admit (node_of S.own_key S.signature_of self.old.node.setting) (seen_by self.new.seat) event.now) ≡ true }
+    {
+        passes(self.node.config().committee(), event) && self.node.ready(rt, event)
+    }
+
+    /// Submits what has waited.
+    pub(crate) fn take_waiting<R: Wait>(&mut self, rt: &R, event: Checked) -> Result<Taken, Told>
+        ensures stays { StaysWith self.old self.new }
+        ensures handles { HandlesAgain (node_of S.own_key S.signature_of self.old.node.setting) (fault_of self.old.setting.charter accepts_all event) event self.old self.new result }
+    {
+        let sender = event.sender();
+        let event = recheck(self.node.config().committee(), sender, event.into_message())?;
+        submit(rt, &mut self.node, event)
+    }
+
+    /// Submits the header that the validator proposes, if it proposes one. Says whether that was new. `AllocError` where memory was
+    /// refused.
+    pub(crate) fn propose<R: Wait>(&mut self, rt: &R) -> Result<bool, AllocError>
+        ensures stays { StaysWith self.old self.new }
+        ensures proposed { IfOk result (λ new. IsProposed (node_of S.own_key S.signature_of self.old.node.setting) self.old self.new new) }
+        ensures memory { OnErr result (self.new.seat.view.mine ≡ self.old.seat.view.mine) }
+    {
+        let Some(header) = self.node.propose(rt)? else {
+            return Ok(false);
+        };
+        let (committee, own) = (self.node.config().committee(), self.node.config().own());
+        let Ok(event) = recheck(committee, own, Message::Header(header)) else {
+            return Ok(false);
+        };
+        newness(submit(rt, &mut self.node, event))
+    }
+
+    /// `Down` where the node is down.
+    pub(crate) fn test_up<R: Wait>(&mut self, rt: &R) -> Result<(), Told>
+        ensures stays { StaysWith self.old self.new }
+        ensures looks { OnlyLooks self.old.seat self.new.seat }
+        ensures down { OnErr result (result ≡ Err (Refused Refusal.Down)) }
+    {
+        // There is no such place in the order, so nothing is copied.
+        match self.node.order(rt, u64::MAX) {
+            Err(Refusal::Down) => Err(Told::Refused(Refusal::Down)),
+            _ => Ok(()),
+        }
+    }
+
+    /// The next output that may go out.
+    pub(crate) fn collect<R: Wait>(&mut self, rt: &R) -> Option<Output>
+        ensures stays { StaysWith self.old self.new }
+        ensures same { IsSame self.old.seat self.new.seat }
+        ensures more { Begins self.old.seat.view.firm self.new.seat.view.firm }
+        ensures goes_out { IfSome result (λ output. MayGive (node_of S.own_key S.signature_of self.old.node.setting) (firm_by self.new.seat) output) }
+        ensures put_out { IfSome result (λ output. IsPutOutBy (node_of S.own_key S.signature_of self.old.node.setting) self.new.seat.view output) }
+    {
+        self.node.collect(rt)
+    }
+}
+
+fn submit<S: Sign, R: Wait>(
+    rt: &R,
+    node: &mut node::Caller<'_, '_, S>,
+    event: Checked,
+) -> Result<Taken, Told>
+    requires { fault_of node.old.setting.charter accepts_all event ≡ None }
+    ensures stays { StaysWith node.old node.new }
+    ensures submitted { IsSubmitted (node_of S.own_key S.signature_of node.old.node.setting) event node.old node.new result }
+{
+    let receipt = node.submit(rt, event)?;
+    if receipt.new {
+        Ok(Taken::New)
+    } else {
+        Ok(Taken::Known)
+    }
+}
+
+// Whether it is told that a proposal was new. A node that is down refuses it, and the run says so at its end.
+fn newness(told: Result<Taken, Told>) -> Result<bool, AllocError>
+    ensures ok { IfOk result (λ new. new ≡ is_told_new told) }
+    ensures err { OnErr result (told ≡ Err (Refused Refusal.Memory)) }
+{
+    match told {
+        Ok(Taken::New) => Ok(true),
+        Err(Told::Refused(Refusal::Memory)) => Err(AllocError),
+        _ => Ok(false),
+    }
+}

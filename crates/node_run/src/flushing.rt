@@ -1,0 +1,94 @@
+//! The thread that brings records to the disk.
+
+ghost use Rattle.std.specs.Prelude.{◌≡◌, ◌≢◌, ◌⊎◌, ◌↔◌, ◌<◌, true, false, Some, None, IsSome, IfSome, IsTrue};
+ghost use Rattle.journal.specs.Journal.{disk_of};
+ghost use Rattle.flusher.specs.Rounds.{journal_of, is_down, settled_in, taken_in, HasNoRoom, TakesLongest};
+ghost use Rattle.node_run.specs.Ends.{faults_behind};
+
+use crate::bell::Bell;
+use diskmodel::Disk;
+use journal::JournalError;
+use node::{FlushError, Rounds};
+use node_io::Faults;
+use sigface::Sign;
+use std::sync::Wait;
+
+/// What the thread leaves.
+#[derive(Drop)]
+pub(crate) struct Flushed<D: Disk> {
+    pub(crate) faults: Faults,
+    pub(crate) disk: D,
+}
+
+/// Brings all records to the disk each time that the first bell is rung, and then rings the second, until the first is closed and all
+/// records are there.
+pub(crate) fn flush_all<S: Sign, D: Disk, R: Wait>(
+    rt: &R,
+    mut rounds: Rounds<'_, '_, S, D>,
+    pending: &Bell,
+    settled: &Bell,
+) -> Flushed<D>
+    ensures device { result.faults.journal ≡ Some JournalError.Device → D.faults (disk_of (journal_of rounds.entry.flusher)) < D.faults result.disk }
+    ensures no_fault { result.faults.journal ≢ Some JournalError.Device → D.faults result.disk ≡ D.faults (disk_of (journal_of rounds.entry.flusher)) }
+    ensures others { (result.faults.output ≡ false) × (result.faults.input ≡ false) }
+{
+    let mut faults = Faults::none();
+    for _ in rt.forever() {
+        let may_go_on = pending.wait(rt);
+        faults = faults.and(flush_pending(rt, &mut rounds, settled));
+        if !may_go_on {
+            break;
+        }
+    }
+    settled.close(rt);
+    Flushed {
+        faults,
+        disk: rounds.into_disk(),
+    }
+}
+
+// Rounds until all records are on the disk, or one fails.
+fn flush_pending<S: Sign, D: Disk, R: Wait>(
+    rt: &R,
+    rounds: &mut Rounds<'_, '_, S, D>,
+    settled: &Bell,
+) -> Faults
+    ensures device { result.journal ≡ Some JournalError.Device → D.faults (disk_of (journal_of rounds.old.flusher)) < D.faults (disk_of (journal_of rounds.new.flusher)) }
+    ensures no_fault { result.journal ≢ Some JournalError.Device → D.faults (disk_of (journal_of rounds.new.flusher)) ≡ D.faults (disk_of (journal_of rounds.old.flusher)) }
+
+    // A round that takes the node down is told as the journal's fault: the disk's, or that the group has no place.
+    ensures down { is_down rounds.old.flusher ≡ false → IsSome result.journal ↔ IsTrue (is_down rounds.new.flusher) }
+    ensures stays { IsTrue (is_down rounds.old.flusher) → (result.journal ≡ None) × IsTrue (is_down rounds.new.flusher) }
+    ensures which { IfSome result.journal (λ error. (error ≡ JournalError.Device) ⊎ (error ≡ JournalError.Full)) }
+    ensures full { is_down rounds.old.flusher ≡ false → result.journal ≡ Some JournalError.Full → HasNoRoom (D.content (disk_of (journal_of rounds.new.flusher))) (settled_in rounds.new.flusher) (taken_in rounds.new.flusher) }
+
+    // Unless the node is down or memory was refused, of some list of what was accepted, with all of it that the seat had seen before,
+    // nothing more fits a group behind what is settled.
+    ensures all { is_down rounds.new.flusher ≡ false → result.memory ≡ false → TakesLongest rounds.old.seat.view.seen (settled_in rounds.new.flusher) (settled_in rounds.new.flusher) }
+    // Behind want of memory nothing is taken that isn't settled.
+    ensures memory { result.memory ≡ true → taken_in rounds.new.flusher ≡ settled_in rounds.new.flusher }
+    ensures others { (result.output ≡ false) × (result.input ≡ false) }
+{
+    for _ in rt.forever() {
+        let round = rounds.round(rt);
+        settled.ring(rt);
+        match round {
+            Ok(0) => return Faults::none(),
+            Ok(_) => (),
+            Err(error) => return faults_of(error),
+        }
+    }
+    unreachable!()
+}
+
+// What a round that failed means for the run. That of a node which is down was told before.
+fn faults_of(error: FlushError) -> Faults
+    ensures { result ≡ faults_behind error }
+{
+    match error {
+        FlushError::Memory => Faults::of_memory(),
+        FlushError::Device => Faults::of_journal(JournalError::Device),
+        FlushError::Full => Faults::of_journal(JournalError::Full),
+        FlushError::Down => Faults::none(),
+    }
+}

@@ -1,0 +1,199 @@
+//! What is done with the frames.
+
+ghost use Rattle.std.specs.Prelude.{◌≡◌, ◌≢◌, [], true, false, None, Ok, IfOk, IfErr, IfSome, OnOk, OnErr};
+ghost use Rattle.header.specs.Checks.{fault_of};
+ghost use Rattle.header.specs.Digested.{certificate_digest_in};
+ghost use Rattle.node_io.specs.Makers.{fresh_makers};
+ghost use Rattle.sigface.specs.Pair.{is_pair_signature};
+ghost use Rattle.node.specs.Callers.{StaysWith};
+ghost use Rattle.validator.specs.Setting.{node_of};
+ghost use Rattle.node_run.specs.Bringing.{Brings, CantWait, Enters, own_batch};
+ghost use Rattle.node_run.specs.Ends.{told_of_wait};
+ghost use Rattle.node_run.specs.Taking.{OnlyLooks};
+
+use crate::bell::Bell;
+use crate::caller::{Caller, Taken};
+use header::Checked;
+use node_io::{Makers, Request, Told, request_of};
+use sigface::Sign;
+use std::alloc::{AllocError, Global};
+use std::io::Write;
+use std::sync::Wait;
+use validator::Refusal;
+use waiter::{MAX_WAITING, WaitRefusal, Waiter};
+use wire::{Author, Batch, Message};
+
+/// Who takes what frames bring.
+#[derive(Drop)]
+pub(crate) struct Intake<'n, 'a, S: Sign> {
+    alloc: Global,
+    caller: Caller<'n, 'a, S>,
+    waiter: Waiter,
+    makers: Makers,
+    pending: &'n Bell,
+    was_refused_memory: bool,
+}
+
+impl<'n, 'a, S: Sign> Intake<'n, 'a, S> {
+    /// The bell is rung where there is something to flush or to give out. `AllocError` where a growth was refused.
+    pub(crate) fn new(
+        alloc: Global,
+        caller: Caller<'n, 'a, S>,
+        pending: &'n Bell,
+    ) -> Result<Intake<'n, 'a, S>, AllocError>
+        ensures caller { IfOk result (λ intake. intake.caller ≡ caller.entry) }
+        ensures makers { IfOk result (λ intake. intake.makers ≡ fresh_makers caller.entry.setting.own caller.entry.setting.charter.workers) }
+        ensures fresh { IfOk result (λ intake. (intake.waiter ≡ []) × (intake.was_refused_memory ≡ false)) }
+    {
+        let config = caller.config();
+        let makers = Makers::new(alloc, config.committee(), config.own())?;
+        Ok(Intake {
+            alloc,
+            caller,
+            waiter: Waiter::new(alloc),
+            makers,
+            pending,
+            was_refused_memory: false,
+        })
+    }
+
+    /// Whether memory was refused outside an event.
+    pub(crate) fn was_refused_memory(&self) -> bool
+        ensures { result ≡ self.now.was_refused_memory }
+    {
+        self.was_refused_memory
+    }
+
+    /// Takes what a frame of this body brings, and writes a line for each refusal.
+    pub(crate) fn take<R: Wait, E: Write>(&mut self, rt: &R, body: &[u8], errors: &mut E) {
+        match self.answer(rt, body) {
+            Ok(true) => self.follow(rt, errors),
+            Ok(false) => (),
+            Err(told) => write_line(errors, told),
+        }
+    }
+
+    /// Takes what follows from a new record: first what the validator proposes, then the certificate that is ready, as long as there
+    /// is one.
+    pub(crate) fn follow<R: Wait, E: Write>(&mut self, rt: &R, errors: &mut E) {
+        for _ in 0..=MAX_WAITING {
+            self.propose(rt);
+            let Some(event) = self.next_ready(rt) else {
+                return;
+            };
+            match self.caller.take_waiting(rt, event) {
+                Ok(_) => self.pending.ring(rt),
+                Err(told) => write_line(errors, told),
+            }
+        }
+    }
+
+    // Whether what a frame of this body brings is a new record.
+    fn answer<R: Wait>(&mut self, rt: &R, body: &[u8]) -> Result<bool, Told> {
+        match request_of(self.alloc, body)? {
+            Request::Message { sender, message } => self.submit(rt, sender, message),
+            Request::Transaction { worker, bytes } => {
+                self.makers.test(worker)?;
+                self.caller.test_up(rt)?;
+                let batch = self.makers.push(worker, bytes)?;
+                self.submit_batch(rt, batch)
+            }
+            Request::Seal { worker } => {
+                self.makers.test(worker)?;
+                self.caller.test_up(rt)?;
+                let batch = self.makers.seal(worker)?;
+                self.submit_batch(rt, batch)
+            }
+        }
+    }
+
+    // Submits a batch of the node's own, if one was given.
+    fn submit_batch<R: Wait>(&mut self, rt: &R, batch: Option<Batch>) -> Result<bool, Told>
+        ensures makers { self.new.makers ≡ self.old.makers }
+        ensures mark { self.new.was_refused_memory ≡ self.old.was_refused_memory }
+        ensures stays { StaysWith self.old.caller self.new.caller }
+        ensures none { batch ≡ None → (result ≡ Ok false) × (self.new ≡ self.old) }
+        ensures some { IfSome batch (λ given. Brings (node_of S.own_key S.signature_of self.old.caller.node.setting) (fault_of self.old.caller.setting.charter is_pair_signature (own_batch self.old.caller.setting.own given)) (own_batch self.old.caller.setting.own given) self.old.caller self.new.caller self.old.waiter self.new.waiter result) }
+    {
+        match batch {
+            Some(batch) => {
+                let own = self.caller.config().own();
+                self.submit(rt, own, Message::Batch(batch))
+            }
+            None => Ok(false),
+        }
+    }
+
+    fn submit<R: Wait>(&mut self, rt: &R, sender: Author, message: Message) -> Result<bool, Told>
+        ensures makers { self.new.makers ≡ self.old.makers }
+        ensures mark { self.new.was_refused_memory ≡ self.old.was_refused_memory }
+        ensures stays { StaysWith self.old.caller self.new.caller }
+        ensures brings { Brings (node_of S.own_key S.signature_of self.old.caller.node.setting) (fault_of self.old.caller.setting.charter is_pair_signature (record { sender = sender; message = message })) (record { sender = sender; message = message }) self.old.caller self.new.caller self.old.waiter self.new.waiter result }
+    {
+        match self.caller.take(rt, sender, message) {
+            Ok(Taken::New) => {
+                self.pending.ring(rt);
+                Ok(true)
+            }
+            Ok(Taken::Known) => {
+                self.pending.ring(rt);
+                Ok(false)
+            }
+            Ok(Taken::Waits(event)) => self.offer(rt, event),
+            Err(told) => Err(told),
+        }
+    }
+
+    // Lets a certificate wait. That is no new record.
+    fn offer<R: Wait>(&mut self, rt: &R, event: Checked) -> Result<bool, Told>
+        requires { certificate_digest_in event.message ≢ None }
+        ensures makers { self.new.makers ≡ self.old.makers }
+        ensures mark { self.new.was_refused_memory ≡ self.old.was_refused_memory }
+        ensures stays { StaysWith self.old.caller self.new.caller }
+        ensures looks { OnlyLooks self.old.caller.seat self.new.caller.seat }
+        ensures never_new { result ≢ Ok true }
+        ensures ok { OnOk result (Enters event self.old.waiter self.new.waiter) }
+        ensures err { OnErr result (self.new.waiter ≡ self.old.waiter) }
+        ensures why { IfErr result (CantWait event self.old.waiter) }
+    {
+        if let Err(told) = self.caller.test_up(rt) {
+            return Err(told);
+        }
+        match self.waiter.offer(event) {
+            Ok(()) => Ok(false),
+            Err(refusal) => Err(told_of_wait(refusal)),
+        }
+    }
+
+    // Takes what the validator proposes. The mark is set only where no event of the caller's was accepted, and stays.
+    fn propose<R: Wait>(&mut self, rt: &R)
+        ensures memory { self.new.was_refused_memory ≢ self.old.was_refused_memory → self.new.caller.seat.view.mine ≡ self.old.caller.seat.view.mine }
+        ensures stays { self.old.was_refused_memory ≡ true → self.new.was_refused_memory ≡ true }
+    {
+        match self.caller.propose(rt) {
+            Ok(true) => self.pending.ring(rt),
+            Ok(false) => (),
+            Err(AllocError) => self.was_refused_memory = true,
+        }
+    }
+
+    fn next_ready<R: Wait>(&mut self, rt: &R) -> Option<Checked> {
+        let caller = &mut self.caller;
+        self.waiter.next_ready(|event| caller.is_ready(rt, event))
+    }
+}
+
+// Where a line can't be written nobody is told.
+fn write_line<E: Write>(errors: &mut E, told: Told) {
+    let _ = writeln!(errors, "{told}");
+}
+
+// What is told of a certificate that can't wait: that memory was refused, or why it would have had to.
+fn told_of_wait(refusal: WaitRefusal) -> Told
+    ensures { result ≡ told_of_wait refusal }
+{
+    match refusal {
+        WaitRefusal::Memory => Told::Refused(Refusal::Memory),
+        _ => Told::Refused(Refusal::MissingParents),
+    }
+}

@@ -1,0 +1,17 @@
+//! A node that runs: it reads frames, takes what they bring under a lock, brings it to a disk and writes what may go out, each in
+//! a thread of its own.
+#![tactic(auto)]
+
+mod bell;
+mod caller;
+mod flushing;
+mod intake;
+mod member;
+mod opening;
+mod reading;
+mod running;
+mod threads;
+mod writing;
+
+pub use node_io::Ending;
+pub use running::{run, run_over};

@@ -1,0 +1,48 @@
+//! A member's node over its disk.
+
+use crate::bell::Bells;
+use crate::threads::{Desks, run_threads};
+use diskmodel::Disk;
+use journal::Failed;
+use node::{Rounds, start};
+use node_io::Ending;
+use sigface::Sign;
+use std::alloc::Global;
+use std::io::{Read, Write};
+use std::sync::Wait;
+use std::thread::Threads;
+use validator::Config;
+
+/// Opens a member's node on its disk and runs it. Answers how that ended, and the disk, if it wasn't lost with a thread that couldn't
+/// be made.
+pub(crate) fn run_member<R, S, D, I, W, E>(
+    rt: &R,
+    alloc: Global,
+    config: &Config<S>,
+    disk: D,
+    reader: I,
+    writer: W,
+    errors: &mut E,
+) -> (Ending, Option<D>)
+where
+    R: Threads + Wait + Sync,
+    S: Sign + Send + Sync + Drop,
+    D: Disk + Drop + Send,
+    I: Read + Drop,
+    W: Write + Drop + Send,
+    E: Write,
+{
+    let (node, seat, flusher) = match start(alloc, config, disk) {
+        Ok(started) => started,
+        Err(Failed { error, disk }) => return (Ending::from(error), Some(disk)),
+    };
+    let bells = Bells::new();
+    let mut rounds = Rounds::new(&node, seat, flusher);
+    match Desks::new(alloc, config, &bells, &mut rounds, reader, writer, errors) {
+        Ok(desks) => {
+            let (faults, disk) = run_threads(rt, rounds, desks);
+            (faults.ending(), disk)
+        }
+        Err(_) => (Ending::Memory, Some(rounds.into_disk())),
+    }
+}

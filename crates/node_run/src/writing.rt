@@ -1,0 +1,142 @@
+//! The thread that writes what goes out.
+
+ghost use Rattle.std.specs.Prelude.{◌≡◌, ◌≤◌, ◌++◌, true, false, None, length, OnOk};
+ghost use Rattle.std.specs.Int.{w32, to_be_bytes};
+ghost use Rattle.std.specs.Io.Buffered.{writer_contents};
+ghost use Rattle.std.specs.Io.KnownBytes.{Appends, Keeps};
+ghost use Rattle.spec_laws.specs.Laws.{Begins};
+ghost use Rattle.node_seats.specs.Views.{IsSame};
+ghost use Rattle.node.specs.Callers.{StaysWith};
+ghost use Rattle.validator.specs.Setting.{node_of};
+ghost use Rattle.wire.specs.declared.limits.TheConstants.{MAX_FRAME_BYTES};
+ghost use Rattle.spec_world.specs.Text.{frame_of};
+ghost use Rattle.node_run.specs.Writing.{Puts, MayGo, WritesNext, WritesOnly};
+
+use crate::bell::Bell;
+use crate::caller::Caller;
+use node_io::Faults;
+use sigface::Sign;
+use std::alloc::{AllocError, Global};
+use std::io::{self, BufWriter, Write};
+use std::sync::Wait;
+use wire::{Output, encode_output};
+
+/// Where outputs go. Where one can't be written none is from then on.
+#[derive(Drop)]
+struct Sink<W: Write + Drop> {
+    alloc: Global,
+    writer: BufWriter<W>,
+    faults: Faults,
+}
+
+/// Writes a frame of each output that may go out, each time that the bell is rung, until it is closed and all are written.
+pub(crate) fn write_outputs<S: Sign, W: Write + Drop, R: Wait>(
+    rt: &R,
+    alloc: Global,
+    mut caller: Caller<'_, '_, S>,
+    writer: BufWriter<W>,
+    settled: &Bell,
+) -> Faults
+    ensures { (result.journal ≡ None) × (result.input ≡ false) }
+{
+    let mut sink = Sink {
+        alloc,
+        writer,
+        faults: Faults::none(),
+    };
+    for _ in rt.forever() {
+        let may_go_on = settled.wait(rt);
+        write_due(rt, &mut caller, &mut sink);
+        if !may_go_on {
+            break;
+        }
+    }
+    sink.faults
+}
+
+// Writes what may go out now.
+fn write_due<S: Sign, W: Write + Drop, R: Wait>(
+    rt: &R,
+    caller: &mut Caller<'_, '_, S>,
+    sink: &mut Sink<W>,
+)
+    ensures stays { StaysWith caller.old caller.new }
+    ensures same { IsSame caller.old.seat caller.new.seat }
+    ensures more { Begins caller.old.seat.view.firm caller.new.seat.view.firm }
+    ensures only { WritesOnly (MayGo (node_of S.own_key S.signature_of caller.old.node.setting) caller.new.seat.view) sink.old.faults sink.new.faults (writer_contents W.contents sink.old.writer) (writer_contents W.contents sink.new.writer) }
+{
+    for _ in rt.forever() {
+        if !write_next(rt, caller, sink) {
+            return sink.flush();
+        }
+    }
+    unreachable!()
+}
+
+// Writes the next output that may go out. Says whether there was one.
+fn write_next<S: Sign, W: Write + Drop, R: Wait>(
+    rt: &R,
+    caller: &mut Caller<'_, '_, S>,
+    sink: &mut Sink<W>,
+) -> bool
+    ensures stays { StaysWith caller.old caller.new }
+    ensures same { IsSame caller.old.seat caller.new.seat }
+    ensures more { Begins caller.old.seat.view.firm caller.new.seat.view.firm }
+    ensures next { result ≡ true → WritesNext (MayGo (node_of S.own_key S.signature_of caller.old.node.setting) caller.new.seat.view) sink.old.faults sink.new.faults (writer_contents W.contents sink.old.writer) (writer_contents W.contents sink.new.writer) }
+    ensures none { result ≡ false → sink.new ≡ sink.old }
+{
+    match caller.collect(rt) {
+        Some(output) => {
+            sink.put(output);
+            true
+        }
+        None => false,
+    }
+}
+
+impl<W: Write + Drop> Sink<W> {
+    // Puts the frame of an output behind what was written, and lets go of it.
+    fn put(&mut self, output: Output)
+        ensures { Puts (frame_of output) self.old.faults self.new.faults (writer_contents W.contents self.old.writer) (writer_contents W.contents self.new.writer) }
+    {
+        self.put_output(&output);
+    }
+
+    fn put_output(&mut self, output: &Output)
+        ensures { Puts (frame_of output.now) self.old.faults self.new.faults (writer_contents W.contents self.old.writer) (writer_contents W.contents self.new.writer) }
+    {
+        match encode_output(self.alloc, output) {
+            Ok(bytes) => self.put_frame(&bytes),
+            Err(AllocError) => self.faults.memory = true,
+        }
+    }
+
+    fn put_frame(&mut self, bytes: &[u8])
+        requires { length bytes.now ≤ MAX_FRAME_BYTES }
+        ensures { Puts (to_be_bytes w32 (length bytes.now) ++ bytes.now) self.old.faults self.new.faults (writer_contents W.contents self.old.writer) (writer_contents W.contents self.new.writer) }
+    {
+        if !self.faults.output {
+            let written = write_frame(&mut self.writer, bytes);
+            self.faults.output = written.is_err();
+        }
+    }
+
+    fn flush(&mut self)
+        ensures bytes { Keeps (writer_contents W.contents self.old.writer) (writer_contents W.contents self.new.writer) }
+        ensures broken { self.old.faults.output ≡ true → self.new.faults.output ≡ true }
+        ensures faults { self.new.faults ≡ record self.old.faults { output = self.new.faults.output } }
+    {
+        if !self.faults.output {
+            self.faults.output = self.writer.flush().is_err();
+        }
+    }
+}
+
+// A frame is a length in four bytes, and so many bytes.
+fn write_frame<W: Write>(writer: &mut W, bytes: &[u8]) -> io::Result<()>
+    requires { length bytes.now ≤ MAX_FRAME_BYTES }
+    ensures { OnOk result (Appends (W.contents writer.old) (W.contents writer.new) (to_be_bytes w32 (length bytes.now) ++ bytes.now)) }
+{
+    writer.write_all(&(bytes.len() as u32).to_be_bytes())?;
+    writer.write_all(bytes)
+}

@@ -1,0 +1,82 @@
+-- That a step keeps the rule.
+use Rattle.std.proofs.Common.{◌≡◌, ◌≢◌, inl, inr, ⊎_elim, ℕ, zero, suc, ◌≤◌, ◌<◌, true, false, List, [], ◌∷◌, ◌++◌, length, take, set, refl, ap, sym, ◌∙◌, subst, arith}
+use Rattle.std.proofs.lemmas.List.{length-set}
+use mathlib.Core.Option.{some, some-injective, some-ne-none}
+use lib.ListN.{get_elem?}
+use Rattle.atomic_table.proofs.Lists.{at_set}
+use Rattle.spec_laws.specs.Laws.{Begins}
+use Rattle.spec_model.specs.Histories.{History}
+use Rattle.node_seats.specs.declared.view.Marked.{Marked}
+use Rattle.node_seats.specs.declared.view.View.{View}
+use Rattle.node_seats.specs.Views.{events, events_by, fresh_view}
+use Rattle.node_seats.specs.Rule.{Fits, IsKept, Holds}
+use Rattle.node_seats.proofs.Beginnings.{begins_trans}
+
+pub there : {X : Type 0} (xs : List X) (i : ℕ) (x : X) → get_elem? xs i ≡ some x → i < length xs
+there [] i x at = absurd (some-ne-none x (sym at))
+there (y ∷ ys) zero x at = omega arith
+there (y ∷ ys) (suc i) x at = let rest = there ys i x at in omega (arith, rest)
+
+pub not_here : {X : Type 0} (xs : List X) (i : ℕ) (x : X) → length xs ≤ i → get_elem? xs i ≡ some x → ⊥
+not_here xs i x past at = let inside = there xs i x at in omega (arith, past, inside)
+
+-- what a seat knows stays so where the lists grow and nothing of its own is added
+pub fits_longer : (start : History) (accepted settled longer firmer : List Marked) (number : ℕ) (view : View) → Fits start accepted settled number view
+    → Begins accepted longer → Begins settled firmer → events_by number longer ≡ events_by number accepted → Fits start longer firmer number view
+fits_longer start accepted settled longer firmer number view fits more firm same = record {
+  start_is = fits.start_is;
+  number_is = fits.number_is;
+  seen = begins_trans view.seen accepted longer fits.seen more;
+  firm = begins_trans view.firm settled firmer fits.firm firm;
+  firm_seen = fits.firm_seen;
+  told = begins_trans view.told accepted longer fits.told more;
+  told_firm = begins_trans view.told_firm settled firmer fits.told_firm firm;
+  mine = same ∙ fits.mine;
+}
+
+module _ (Legal : History → Type 0) (words : List ℕ) (views : List View) where
+  -- a live seat is at a table on which a node has begun
+  pub kept_at : (id : ℕ) (view : View) → Holds Legal words views → get_elem? views id ≡ some view → view.live ≡ true → IsKept Legal words views
+  kept_at id view holds at live =
+      elim holds [
+        | inr kept ↦ kept
+        | inl fresh ↦ absurd (no_life id (subst (λ (l : List View). get_elem? l id ≡ some view) fresh.1 at))
+      ]
+    where
+      no_life : (id : ℕ) → get_elem? (fresh_view ∷ []) id ≡ some view → ⊥
+      no_life zero at = let is : fresh_view ≡ view = some-injective _ _ at in let bad : false ≡ true = ap (λ (v : View). v.live) is ∙ live in absurd cc
+      no_life (suc i) at = absurd (some-ne-none view (sym at))
+
+  module _ (kept : IsKept Legal words views) (id : ℕ) (before later : View) (at : get_elem? views id ≡ some before) (begun : later.fresh ≡ false)
+      (accepted settled : List Marked)
+      (more : Begins kept.accepted accepted) (firmer : Begins kept.settled settled) (begins : Begins settled accepted)
+      (legal : (count : ℕ) → Legal (kept.start ++ events (take count accepted)))
+      (others : (number : ℕ) → number ≢ id → events_by number accepted ≡ events_by number kept.accepted)
+      (mine : later.live ≡ true → Fits kept.start accepted settled id later)
+    where
+      -- a seat's step after which the lists are these, and it knows this
+      pub step_keeps : IsKept Legal (length accepted ∷ length settled ∷ []) (set views id later)
+      step_keeps = record {
+        start = kept.start;
+        accepted = accepted;
+        settled = settled;
+        words_are = refl;
+        begins = begins;
+        legal = legal;
+        nobody = λ number past.
+            let inside = there views id before at in
+            let size = length-set views id later in
+            others number (omega (arith, past, inside, size)) ∙ kept.nobody number (omega (arith, past, size));
+        begun = λ number view here.
+            ⊎_elim (λ (t : (number ≡ id) × (later ≡ view)). subst (λ (v : View). v.fresh ≡ false) t.1 begun)
+            (λ (t : (number ≢ id) × (get_elem? views number ≡ some view)). kept.begun number view t.1)
+            (at_set views id number later view here);
+        fits = λ number view here live.
+            ⊎_elim
+            (λ (t : (number ≡ id) × (later ≡ view)).
+            subst (λ (v : View). Fits kept.start accepted settled number v) t.1
+            (subst (λ (n : ℕ). Fits kept.start accepted settled n later) (sym t.0) (mine (subst (λ (v : View). v.live ≡ true) (sym t.1) live))))
+            (λ (t : (number ≢ id) × (get_elem? views number ≡ some view)).
+            fits_longer kept.start kept.accepted kept.settled accepted settled number view (kept.fits number view t.1 live) more firmer (others number t.0))
+            (at_set views id number later view here);
+      }

@@ -1,0 +1,394 @@
+-- Each kind of step keeps the rule, and tells what its play says.
+use Rattle.std.proofs.Common.{◌≡◌, ◌≢◌, ◌⊎◌, inl, inr, ⊎_elim, ℕ, zero, suc, ◌≤◌, ◌+◌, true, false, List, [], ◌∷◌, ◌++◌, length, take, min, set, refl, ap, sym, ◌∙◌, subst, arith, length-append, length-take}
+use Rattle.std.specs.Prelude.{slice_index, slice_set, ◌==◌}
+use Rattle.std.proofs.lemmas.List.{append-nil, take-append-le, take_all}
+use native.Mathlib.Decide.{dec_le}
+use mathlib.Core.Option.{some, some-injective, some-ne-none}
+use lib.ListN.{get_elem?}
+use prog.Atomic.{either}
+use Rattle.atomic_table.specs.Table.{State, Me, Act, keeps, Allows, Splits, Joins}
+use Rattle.atomic_table.proofs.Lists.{at_set, set_again, exchanged}
+use Rattle.spec_laws.specs.Laws.{Begins}
+use Rattle.spec_model.specs.Histories.{History}
+use Rattle.spec_model.specs.Words.{Event}
+use Rattle.node_seats.specs.declared.view.Marked.{Marked}
+use Rattle.node_seats.specs.declared.view.View.{View}
+use Rattle.node_seats.specs.Views.{mark, events, events_by, fresh_view, first_view, newcomer, informed, spent}
+use Rattle.node_seats.specs.Rule.{Fits, IsKept, IsFresh, Holds}
+use Rattle.node_seats.specs.Plays.{Looks, Reads, Accepts, Settles, with_event, with_firm}
+use Rattle.node_seats.proofs.Beginnings.{begins_same, begins_nothing, begins_trans, begins_whole, begins_more, shorter_begins, take_begins, begins_take}
+use Rattle.node_seats.proofs.Keeping.{there, kept_at, step_keeps}
+use Rattle.node_seats.proofs.Marks.{by_same, by_other, events_push}
+
+-- of two beginnings of a list a longer one, the first where they are alike
+pub record Longer (one other all : List Marked) : Type 0 where
+  pub list : List Marked
+  pub one_begins : Begins one list
+  pub other_begins : Begins other list
+  pub begins : Begins list all
+  pub same : length other ≤ length one → list ≡ one
+
+longer : (one other all : List Marked) → Begins one all → Begins other all → Longer one other all
+longer one other all first second =
+    elim (dec_le (length other) (length one)) [
+      | yes less ↦ record { list = one; one_begins = begins_same one; other_begins = shorter_begins other one all second first less; begins = first; same = λ _. refl }
+      | no more ↦ record {
+        list = other;
+        one_begins = shorter_begins one other all first second (omega (arith, more));
+        other_begins = begins_same other;
+        begins = second;
+        same = λ less. absurd (more less);
+      }
+    ]
+
+-- the last of a list with one more is the new one
+at_end : (xs : List View) (x y : View) (j : ℕ) → get_elem? (xs ++ x ∷ []) j ≡ some y → (get_elem? xs j ≡ some y) ⊎ ((j ≡ length xs) × (x ≡ y))
+at_end [] x y zero at = inr (refl, some-injective _ _ at)
+at_end [] x y (suc j) at = absurd (some-ne-none y (sym at))
+at_end (z ∷ zs) x y zero at = inl at
+at_end (z ∷ zs) x y (suc j) at = ⊎_elim inl (λ (t : (j ≡ length zs) × (x ≡ y)). inr (ap suc t.0, t.1)) (at_end zs x y j at)
+
+-- a word that is written as it was
+same_words : (ws : List ℕ) (a b : ℕ) (word : ℕ) → ws ≡ a ∷ b ∷ [] → slice_set ws word (slice_index ws word) ≡ ws
+same_words ws a b zero is = rw is refl
+same_words ws a b (suc zero) is = rw is refl
+same_words ws a b (suc (suc k)) is = rw is refl
+
+module _ {S : Type 0} (Legal : History → Type 0) where
+  abbrev pub Rule : State S View → Type 0
+  Rule state = Holds Legal state.words state.views
+
+  -- what a seat knows doesn't count where it isn't live
+  module _ (state : State S View) (kept : IsKept Legal state.words state.views) (id : ℕ) (before later : View) (at : get_elem? state.views id ≡ some before) (begun : later.fresh ≡ false)
+      (mine : later.live ≡ true → Fits kept.start kept.accepted kept.settled id later)
+    where
+      -- a step that changes no list
+      pub stays : IsKept Legal state.words (set state.views id later)
+      stays = subst (λ (ws : List ℕ). IsKept Legal ws (set state.views id later)) (sym kept.words_are)
+          (step_keeps Legal state.words state.views kept id before later at begun kept.accepted kept.settled (begins_same kept.accepted) (begins_same kept.settled) kept.begins kept.legal (λ number apart. refl) mine)
+
+  first_count : (state : State S View) (kept : IsKept Legal state.words state.views) → length kept.accepted ≡ slice_index state.words 0
+  first_count state kept = sym (ap (λ (ws : List ℕ). slice_index ws 0) kept.words_are)
+
+  second_count : (state : State S View) (kept : IsKept Legal state.words state.views) → length kept.settled ≡ slice_index state.words 1
+  second_count state kept = sym (ap (λ (ws : List ℕ). slice_index ws 1) kept.words_are)
+
+  -- what all of it being legal says of all that was accepted
+  all_legal : (state : State S View) (kept : IsKept Legal state.words state.views) → Legal (kept.start ++ events kept.accepted)
+  all_legal state kept = subst (λ (l : List Marked). Legal (kept.start ++ events l)) (take_all (length kept.accepted) kept.accepted (omega arith)) (kept.legal (length kept.accepted))
+
+  module _ (state : State S View) (id : ℕ) (me : Me S View) (Judged : History → Type 0) (live : me.0.live ≡ true) (holds : Rule state) (at : get_elem? state.views id ≡ some me.0) where
+    pub looked : (judge : (history : History) → Legal history → Judged history)
+        → (w : View) × (IsKept Legal state.words (set state.views id w)) × Looks Judged me.0 (slice_index state.words 0) w
+    looked judge =
+        let kept = kept_at Legal state.words state.views id me.0 holds at live in
+        let fits = kept.fits id me.0 at live in
+        let w : View = record me.0 { seen = kept.accepted } in (
+          w,
+          stays state kept id me.0 w at (kept.begun id me.0 at) (λ _. record {
+            start_is = fits.start_is;
+            number_is = fits.number_is;
+            seen = begins_same kept.accepted;
+            firm = fits.firm;
+            firm_seen = begins_trans me.0.firm me.0.seen kept.accepted fits.firm_seen fits.seen;
+            told = fits.told;
+            told_firm = fits.told_firm;
+            mine = fits.mine;
+          }),
+          record {
+            rest = refl;
+            seen = fits.seen;
+            told = fits.told;
+            count_is = first_count state kept;
+            judged = judge (me.0.start ++ events kept.accepted) (subst (λ (h : History). Legal (h ++ events kept.accepted)) (sym fits.start_is) (all_legal state kept));
+          },
+        )
+
+    pub read : (w : View) × (IsKept Legal state.words (set state.views id w)) × Reads me.0 (slice_index state.words 1) w
+    read =
+        let kept = kept_at Legal state.words state.views id me.0 holds at live in
+        let fits = kept.fits id me.0 at live in
+        let more = longer me.0.seen kept.settled kept.accepted fits.seen kept.begins in
+        let w : View = record me.0 { seen = more.list; firm = kept.settled } in (
+          w,
+          stays state kept id me.0 w at (kept.begun id me.0 at) (λ _. record {
+            start_is = fits.start_is;
+            number_is = fits.number_is;
+            seen = more.begins;
+            firm = begins_same kept.settled;
+            firm_seen = more.other_begins;
+            told = fits.told;
+            told_firm = fits.told_firm;
+            mine = fits.mine;
+          }),
+          record { rest = refl; firm = fits.firm; told = fits.told_firm; firm_seen = more.other_begins; seen = more.one_begins; same = more.same; count_is = second_count state kept },
+        )
+
+  module _ (slots id : ℕ) (me : Me S View) where
+    pub looks : (Judged : History → Type 0) → me.0.live ≡ true → ((history : History) → Legal history → Judged history)
+        → Allows Rule slots id me 0 (λ n. n) (λ n later. Looks Judged me.0 n later.0 × (later.1 ≡ me.1))
+    looks Judged live judge state holds sizes at word =
+        let kept = kept_at Legal state.words state.views id me.0 holds at live in
+        let found = looked state id me Judged live holds at judge in
+        (found.0, keeps, tt, inr (subst (λ (ws : List ℕ). IsKept Legal ws (set state.views id found.0)) (sym (same_words state.words _ _ 0 kept.words_are)) found.1), (found.2, refl))
+
+    pub reads : me.0.live ≡ true → Allows Rule slots id me 1 (λ n. n) (λ n later. Reads me.0 n later.0 × (later.1 ≡ me.1))
+    reads live state holds sizes at word =
+        let kept = kept_at Legal state.words state.views id me.0 holds at live in
+        let found = read state id me (λ h. Unit {0}) live holds at in
+        (found.0, keeps, tt, inr (subst (λ (ws : List ℕ). IsKept Legal ws (set state.views id found.0)) (sym (same_words state.words _ _ 1 kept.words_are)) found.1), (found.2, refl))
+
+    pub numbers : me.0.live ≡ true → Allows Rule slots id me 0 (λ n. n) (λ n later. later ≡ (record me.0 { numbered = true; number = later.0.number }, me.1))
+    numbers live state holds sizes at word =
+        let kept = kept_at Legal state.words state.views id me.0 holds at live in
+        let fits = kept.fits id me.0 at live in
+        let w : View = record me.0 { numbered = true; number = id } in
+        let after = stays state kept id me.0 w at (kept.begun id me.0 at) (λ _. record {
+          start_is = fits.start_is;
+          number_is = λ _. refl;
+          seen = fits.seen;
+          firm = fits.firm;
+          firm_seen = fits.firm_seen;
+          told = fits.told;
+          told_firm = fits.told_firm;
+          mine = fits.mine;
+        }) in
+        (w, keeps, tt, inr (subst (λ (ws : List ℕ). IsKept Legal ws (set state.views id w)) (sym (same_words state.words _ _ 0 kept.words_are)) after), refl)
+
+    -- the first seat is told where the node begins
+    pub opens : (start : History) → me.0 ≡ fresh_view → Legal start → Allows Rule slots id me 0 (λ n. n) (λ n later. later ≡ (first_view start, me.1))
+    opens start fresh legal state holds sizes at word = (first_view start, keeps, tt, inr (begun holds), refl)
+      where
+        at_fresh : get_elem? state.views id ≡ some fresh_view
+        at_fresh = subst (λ (v : View). get_elem? state.views id ≡ some v) fresh at
+
+        only : IsFresh state.words state.views → id ≡ 0
+        only is = let inside = there state.views id me.0 at in let size : length state.views ≡ 1 = ap length is.1 in omega (arith, inside, size)
+
+        started : (number : ℕ) (view : View) → get_elem? (first_view start ∷ []) number ≡ some view → (number ≡ 0) × (first_view start ≡ view)
+        started zero view here = (refl, some-injective _ _ here)
+        started (suc n) view here = absurd (some-ne-none view (sym here))
+
+        first_fits : Fits start [] [] 0 (first_view start)
+        first_fits = record {
+          start_is = refl;
+          number_is = λ _. refl;
+          seen = begins_same [];
+          firm = begins_same [];
+          firm_seen = begins_same [];
+          told = begins_same [];
+          told_firm = begins_same [];
+          mine = refl;
+        }
+
+        nothing_taken : (count : ℕ) → start ++ events (take count []) ≡ start
+        nothing_taken zero = append-nil start
+        nothing_taken (suc count) = append-nil start
+
+        first_kept : IsKept Legal (0 ∷ 0 ∷ []) (first_view start ∷ [])
+        first_kept = record {
+          start = start;
+          accepted = [];
+          settled = [];
+          words_are = refl;
+          begins = begins_same [];
+          legal = λ count. subst Legal (sym (nothing_taken count)) legal;
+          nobody = λ number past. refl;
+          begun = λ number view here. subst (λ (v : View). v.fresh ≡ false) (started number view here).1 refl;
+          fits = λ number view here live.
+              let is = started number view here in
+              subst (λ (v : View). Fits start [] [] number v) is.1 (subst (λ (n : ℕ). Fits start [] [] n (first_view start)) (sym is.0) first_fits);
+        }
+
+        begun : Rule state → IsKept Legal (slice_set state.words 0 (slice_index state.words 0)) (set state.views id (first_view start))
+        begun (inl is) =
+            subst (λ (ws : List ℕ). IsKept Legal (slice_set ws 0 (slice_index ws 0)) (set state.views id (first_view start))) (sym is.0)
+            (subst (λ (vs : List View). IsKept Legal (0 ∷ 0 ∷ []) (set vs id (first_view start))) (sym is.1)
+            (subst (λ (n : ℕ). IsKept Legal (0 ∷ 0 ∷ []) (set (fresh_view ∷ []) n (first_view start))) (sym (only is)) first_kept))
+        begun (inr kept) = let bad : true ≡ false = kept.begun id fresh_view at_fresh in absurd cc
+
+    -- an event is accepted, if the seat has seen all that was
+    pub accepts : (old : ℕ) (event : Event) → me.0.live ≡ true → me.0.numbered ≡ true → old ≤ length me.0.seen
+        → (length me.0.seen ≡ old → Legal (me.0.start ++ (events me.0.seen ++ event ∷ [])))
+        → Allows Rule slots id me 0 (λ n. either (n == old) (old + 1) n) (λ n later. Accepts old event me.0 n later.0 × (later.1 ≡ me.1))
+    accepts old event live numbered enough legal state holds sizes at word = exchanged (slice_index state.words 0) old (old + 1) After won lost
+      where
+        kept : IsKept Legal state.words state.views
+        kept = kept_at Legal state.words state.views id me.0 holds at live
+
+        fits : Fits kept.start kept.accepted kept.settled id me.0
+        fits = kept.fits id me.0 at live
+
+        After : ℕ → Type 0
+        After n = (w : View) × (a : Act S) × Rattle.atomic_table.specs.Table.Valid state.homes me.1 a × Rule (Rattle.atomic_table.specs.Table.stepped state 0 n id me.1 w a)
+            × (Accepts old event me.0 (slice_index state.words 0) w × (Rattle.atomic_table.specs.Table.carried_after me.1 a ≡ me.1))
+
+        lost : slice_index state.words 0 ≢ old → After (slice_index state.words 0)
+        lost apart =
+            let found = looked state id me (λ h. Unit {0}) live holds at (λ h l. tt) in (
+              found.0,
+              keeps,
+              tt,
+              inr (subst (λ (ws : List ℕ). IsKept Legal ws (set state.views id found.0)) (sym (same_words state.words _ _ 0 kept.words_are)) found.1),
+              (record { won = λ same. absurd (apart same); lost = λ _. found.2 }, refl),
+            )
+
+        won : slice_index state.words 0 ≡ old → After (old + 1)
+        won same =
+            let count : length kept.accepted ≡ old = first_count state kept ∙ same in
+            let all : me.0.seen ≡ kept.accepted = begins_whole me.0.seen kept.accepted fits.seen (omega (arith, count, enough)) in
+            let size : length me.0.seen ≡ old = ap length all ∙ count in
+            let mine : me.0.number ≡ id = fits.number_is numbered in
+            let more : List Marked = kept.accepted ++ mark me.0.number event ∷ [] in
+            let w : View = with_event me.0 event in
+            let seen : w.seen ≡ more = ap (λ (l : List Marked). l ++ mark me.0.number event ∷ []) all in
+            let grown : Begins kept.accepted more = record { rest = mark me.0.number event ∷ []; parts = refl } in
+            let through : (n : ℕ) → Legal (kept.start ++ events (take n more)) = λ n.
+            elim (dec_le n (length kept.accepted)) [
+              | yes less ↦ subst (λ (l : List Marked). Legal (kept.start ++ events l)) (sym (take-append-le n kept.accepted (mark me.0.number event ∷ []) less)) (kept.legal n)
+              | no past ↦
+                  let whole : take n more ≡ more = take_all n more (omega (arith, past, length-append kept.accepted (mark me.0.number event ∷ []))) in
+                  let is : me.0.start ++ (events me.0.seen ++ event ∷ []) ≡ kept.start ++ events (take n more) =
+                  ap (λ (h : History). h ++ (events me.0.seen ++ event ∷ [])) fits.start_is
+                  ∙ ap (λ (h : History). kept.start ++ h) (sym (events_push me.0.number event me.0.seen) ∙ ap events (seen ∙ sym whole)) in
+                  subst Legal is (legal size)
+            ] in
+            let after = step_keeps Legal state.words state.views kept id me.0 w at (kept.begun id me.0 at) more kept.settled grown (begins_same kept.settled) (begins_more kept.settled kept.accepted (mark me.0.number event ∷ []) kept.begins) through
+            (λ number apart. by_other number me.0.number event kept.accepted (λ is. apart (is ∙ mine)))
+            (λ _. record {
+              start_is = fits.start_is;
+              number_is = fits.number_is;
+              seen = subst (λ (l : List Marked). Begins w.seen l) seen (begins_same w.seen);
+              firm = fits.firm;
+              firm_seen = begins_more me.0.firm me.0.seen (mark me.0.number event ∷ []) fits.firm_seen;
+              told = begins_more me.0.told kept.accepted (mark me.0.number event ∷ []) fits.told;
+              told_firm = fits.told_firm;
+              mine = subst (λ (n : ℕ). events_by id (kept.accepted ++ mark n event ∷ []) ≡ me.0.mine ++ event ∷ []) (sym mine) (by_same id event kept.accepted ∙ ap (λ (h : History). h ++ event ∷ []) fits.mine);
+            }) in
+            let words : slice_set state.words 0 (old + 1) ≡ length more ∷ length kept.settled ∷ [] =
+            ap (λ (ws : List ℕ). slice_set ws 0 (old + 1)) kept.words_are ∙ ap (λ (n : ℕ). n ∷ length kept.settled ∷ []) (omega (arith, count, length-append kept.accepted (mark me.0.number event ∷ []))) in
+            (w, keeps, tt, inr (subst (λ (ws : List ℕ). IsKept Legal ws (set state.views id w)) (sym words) after), (record { won = λ _. (size, refl); lost = λ apart. absurd (apart same) }, refl))
+
+    -- events are settled that the seat has seen
+    pub settles : (old new : ℕ) → me.0.live ≡ true → old ≤ length me.0.firm → old ≤ new → new ≤ length me.0.seen
+        → Allows Rule slots id me 1 (λ n. either (n == old) new n) (λ n later. Settles old new me.0 n later.0 × (later.1 ≡ me.1))
+    settles old new live enough more most state holds sizes at word = exchanged (slice_index state.words 1) old new After won lost
+      where
+        kept : IsKept Legal state.words state.views
+        kept = kept_at Legal state.words state.views id me.0 holds at live
+
+        fits : Fits kept.start kept.accepted kept.settled id me.0
+        fits = kept.fits id me.0 at live
+
+        After : ℕ → Type 0
+        After n = (w : View) × (a : Act S) × Rattle.atomic_table.specs.Table.Valid state.homes me.1 a × Rule (Rattle.atomic_table.specs.Table.stepped state 1 n id me.1 w a)
+            × (Settles old new me.0 (slice_index state.words 1) w × (Rattle.atomic_table.specs.Table.carried_after me.1 a ≡ me.1))
+
+        lost : slice_index state.words 1 ≢ old → After (slice_index state.words 1)
+        lost apart =
+            let found = read state id me (λ h. Unit {0}) live holds at in (
+              found.0,
+              keeps,
+              tt,
+              inr (subst (λ (ws : List ℕ). IsKept Legal ws (set state.views id found.0)) (sym (same_words state.words _ _ 1 kept.words_are)) found.1),
+              (record { won = λ same. absurd (apart same); lost = λ _. found.2 }, refl),
+            )
+
+        won : slice_index state.words 1 ≡ old → After new
+        won same =
+            let count : length kept.settled ≡ old = second_count state kept ∙ same in
+            let all : me.0.firm ≡ kept.settled = begins_whole me.0.firm kept.settled fits.firm (omega (arith, count, enough)) in
+            let size : length me.0.firm ≡ old = ap length all ∙ count in
+            let firm : List Marked = take new me.0.seen in
+            let w : View = with_firm me.0 new in
+            let long : length firm ≡ new = let is : length firm ≡ min new (length me.0.seen) = length-take new me.0.seen in omega (arith, is, most) in
+            let grown : Begins kept.settled firm = subst (λ (l : List Marked). Begins l firm) all (begins_take me.0.firm me.0.seen new fits.firm_seen (omega (arith, size, more))) in
+            let within : Begins firm kept.accepted = begins_trans firm me.0.seen kept.accepted (take_begins new me.0.seen) fits.seen in
+            let after = step_keeps Legal state.words state.views kept id me.0 w at (kept.begun id me.0 at) kept.accepted firm (begins_same kept.accepted) grown within kept.legal (λ number apart. refl)
+            (λ _. record {
+              start_is = fits.start_is;
+              number_is = fits.number_is;
+              seen = fits.seen;
+              firm = begins_same firm;
+              firm_seen = take_begins new me.0.seen;
+              told = fits.told;
+              told_firm = begins_trans me.0.told_firm kept.settled firm fits.told_firm grown;
+              mine = fits.mine;
+            }) in
+            let words : slice_set state.words 1 new ≡ length kept.accepted ∷ length firm ∷ [] =
+            ap (λ (ws : List ℕ). slice_set ws 1 new) kept.words_are ∙ ap (λ (n : ℕ). length kept.accepted ∷ n ∷ []) (sym long) in
+            (w, keeps, tt, inr (subst (λ (ws : List ℕ). IsKept Legal ws (set state.views id w)) (sym words) after), (record { won = λ _. (size, refl); lost = λ apart. absurd (apart same) }, refl))
+
+  -- ---- one seat made two, and two made one
+
+  pub splits : (id : ℕ) (view : View) → view.live ≡ true → Splits {S = S} Rule id view view (newcomer view)
+  splits id view live state holds at = inr (subst (λ (vs : List View). IsKept Legal state.words (vs ++ newcomer view ∷ [])) (sym (set_again state.views id view at)) more)
+    where
+      kept : IsKept Legal state.words state.views
+      kept = kept_at Legal state.words state.views id view holds at live
+
+      fits : Fits kept.start kept.accepted kept.settled id view
+      fits = kept.fits id view at live
+
+      new_fits : (number : ℕ) → length state.views ≤ number → Fits kept.start kept.accepted kept.settled number (newcomer view)
+      new_fits number past = record {
+        start_is = fits.start_is;
+        number_is = λ bad. absurd cc;
+        seen = fits.seen;
+        firm = fits.firm;
+        firm_seen = fits.firm_seen;
+        told = begins_nothing kept.accepted;
+        told_firm = begins_nothing kept.settled;
+        mine = kept.nobody number past;
+      }
+
+      more : IsKept Legal state.words (state.views ++ newcomer view ∷ [])
+      more = record {
+        start = kept.start;
+        accepted = kept.accepted;
+        settled = kept.settled;
+        words_are = kept.words_are;
+        begins = kept.begins;
+        legal = kept.legal;
+        nobody = λ number past. kept.nobody number (omega (arith, past, length-append state.views (newcomer view ∷ [])));
+        begun = λ number other here.
+            ⊎_elim (λ was. kept.begun number other was) (λ (t : (number ≡ length state.views) × (newcomer view ≡ other)). subst (λ (v : View). v.fresh ≡ false) t.1 (kept.begun id view at))
+            (at_end state.views (newcomer view) other number here);
+        fits = λ number other here alive.
+            ⊎_elim (λ was. kept.fits number other was alive)
+            (λ (t : (number ≡ length state.views) × (newcomer view ≡ other)). subst (λ (v : View). Fits kept.start kept.accepted kept.settled number v) t.1 (new_fits number (omega (arith, t.0))))
+            (at_end state.views (newcomer view) other number here);
+      }
+
+  pub joins : (id : ℕ) (view : View) (other : ℕ) (from : View) → view.live ≡ true → from.live ≡ true → Joins {S = S} Rule id view other from (informed view from) spent
+  joins id view other from live alive state holds at apart there = inr last
+    where
+      kept : IsKept Legal state.words state.views
+      kept = kept_at Legal state.words state.views id view holds at live
+
+      fits : Fits kept.start kept.accepted kept.settled id view
+      fits = kept.fits id view at live
+
+      theirs : Fits kept.start kept.accepted kept.settled other from
+      theirs =
+          ⊎_elim (λ (t : (other ≡ id) × (informed view from ≡ from)). absurd (apart t.0))
+          (λ (t : (other ≢ id) × (get_elem? state.views other ≡ some from)). kept.fits other from t.1 alive)
+          (at_set state.views id other (informed view from) from there)
+
+      told : IsKept Legal state.words (set state.views id (informed view from))
+      told = stays state kept id view (informed view from) at (kept.begun id view at) (λ _. record {
+        start_is = fits.start_is;
+        number_is = fits.number_is;
+        seen = fits.seen;
+        firm = fits.firm;
+        firm_seen = fits.firm_seen;
+        told = theirs.seen;
+        told_firm = theirs.firm;
+        mine = fits.mine;
+      })
+
+      between : State S View
+      between = record { words = state.words; homes = state.homes; views = set state.views id (informed view from) }
+
+      last : IsKept Legal state.words (set (set state.views id (informed view from)) other spent)
+      last = stays between told other from spent there refl (λ bad. absurd cc)

@@ -1,0 +1,55 @@
+-- What stays of a seat over several steps.
+use Rattle.std.proofs.Common.{◌≡◌, ◌≤◌, length, sym, ap, ◌∙◌, arith}
+use Rattle.spec_laws.specs.Laws.{Begins}
+use Rattle.node_seats.specs.Sights.{Sight}
+use Rattle.node_seats.specs.Views.{IsSame, informed}
+use Rattle.node_seats.specs.declared.view.View.{View}
+use Rattle.node_seats.proofs.Beginnings.{begins_length}
+
+-- two steps leave a seat the same that each of them leaves the same
+pub same_then : (one two three : Sight) → IsSame one two → IsSame two three → IsSame one three
+same_then one two three first second = record {
+  table = second.table ∙ first.table;
+  id = second.id ∙ first.id;
+  live = second.live ∙ first.live;
+  numbered = second.numbered ∙ first.numbered;
+  number = second.number ∙ first.number;
+  start = second.start ∙ first.start;
+  mine = second.mine ∙ first.mine;
+}
+
+-- a seat that has seen more, and knows more as settled, is the same
+pub same_seat : (before later : Sight) → (later.table ≡ before.table) × (later.id ≡ before.id) → later.view ≡ record before.view { seen = later.view.seen; firm = later.view.firm } → IsSame before later
+same_seat before later of rest = record {
+  table = of.0;
+  id = of.1;
+  live = ap (λ v. v.live) rest;
+  numbered = ap (λ v. v.numbered) rest;
+  number = ap (λ v. v.number) rest;
+  start = ap (λ v. v.start) rest;
+  mine = ap (λ v. v.mine) rest;
+}
+
+-- and one that was told what another knows
+pub same_told : (before later : Sight) (other : View) → later ≡ record before { view = informed before.view other } → IsSame before later
+same_told before later other told = record {
+  table = ap (λ s. s.table) told;
+  id = ap (λ s. s.id) told;
+  live = ap (λ s. s.view.live) told;
+  numbered = ap (λ s. s.view.numbered) told;
+  number = ap (λ s. s.view.number) told;
+  start = ap (λ s. s.view.start) told;
+  mine = ap (λ s. s.view.mine) told;
+}
+
+-- a look changes nothing of what is known as settled
+pub looked : (before later : View) → later ≡ record before { seen = later.seen } → later ≡ record before { seen = later.seen; firm = later.firm }
+looked before later rest = rest ∙ sym (ap (λ f. record before { seen = later.seen; firm = f }) (ap (λ v. v.firm) rest))
+
+-- a seat that saw nothing more while no more was settled than it had seen at first still sees that, where a turn adds nothing
+pub still_seen : (first before later : View) → Begins first.seen before.seen → Begins before.firm later.firm → (length before.firm ≤ length first.seen → before.seen ≡ first.seen)
+    → (length later.firm ≤ length before.seen → later.seen ≡ before.seen) → length later.firm ≤ length first.seen → later.seen ≡ first.seen
+still_seen first before later seen firm so_far turn few =
+    let more = begins_length before.firm later.firm firm in
+    let longer = begins_length first.seen before.seen seen in
+    turn (omega (arith, few, longer)) ∙ so_far (omega (arith, few, more))

@@ -1,0 +1,12 @@
+use Rattle.std.proofs.Common.{◌≡◌}
+use Rattle.spec_laws.specs.Laws.{Begins}
+use Rattle.node_seats.specs.Views.{IsSame}
+use Rattle.node_seats.proofs.words.Words.catch_up.Given as goal
+
+abbrev pub invariant-loop : goal.invariant-loop
+invariant-loop g l =
+    (goal.iterator-loop g).can_next l.iterator' × (goal.iterator-loop g).is_finite l.iterator'
+    × (l.other ≡ l.initial.other)
+    × IsSame l.initial.seat l.seat
+    × (l.seat.view.firm ≡ l.initial.seat.view.firm)
+    × Begins l.initial.seat.view.seen l.seat.view.seen

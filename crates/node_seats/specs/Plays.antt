@@ -1,0 +1,44 @@
+-- What each kind of step tells the seat that makes it.
+use Rattle.std.specs.Prelude.{◌≡◌, ◌≢◌, ◌≤◌, ℕ, [], ◌∷◌, ◌++◌, length, take}
+use Rattle.spec_laws.specs.Laws.{Begins}
+use Rattle.spec_model.specs.Histories.{History}
+use Rattle.spec_model.specs.Words.{Event}
+use Rattle.node_seats.specs.declared.view.View.{View}
+use Rattle.node_seats.specs.Views.{events, mark}
+
+-- the seat has now seen all that was accepted, which are so many events; nothing else that it knows has changed
+pub record Looks (Judged : History → Type 0) (before : View) (count : ℕ) (later : View) : Type 0 where
+  pub rest : later ≡ record before { seen = later.seen }
+  pub seen : Begins before.seen later.seen
+  pub told : Begins before.told later.seen
+  pub count_is : length later.seen ≡ count
+  pub judged : Judged (later.start ++ events later.seen)
+
+-- the seat knows now all that is settled, which are so many events, and has seen these
+pub record Reads (before : View) (count : ℕ) (later : View) : Type 0 where
+  pub rest : later ≡ record before { seen = later.seen; firm = later.firm }
+  pub firm : Begins before.firm later.firm
+  pub told : Begins before.told_firm later.firm
+  pub firm_seen : Begins later.firm later.seen
+  pub seen : Begins before.seen later.seen
+  pub same : length later.firm ≤ length before.seen → later.seen ≡ before.seen
+  pub count_is : length later.firm ≡ count
+
+-- the event is accepted behind all that the seat has seen
+abbrev pub with_event : View → Event → View
+with_event view event = record view { seen = view.seen ++ mark view.number event ∷ []; mine = view.mine ++ event ∷ [] }
+
+-- where the first word was this number, the event is accepted, behind exactly what the seat had seen; else the seat has looked
+pub record Accepts (old : ℕ) (event : Event) (before : View) (count : ℕ) (later : View) : Type 0 where
+  pub won : count ≡ old → (length before.seen ≡ old) × (later ≡ with_event before event)
+  pub lost : count ≢ old → Looks (λ history. Unit {0}) before count later
+
+-- so many of the events that the seat has seen are settled
+abbrev pub with_firm : View → ℕ → View
+with_firm view count = record view { firm = take count view.seen }
+
+-- where the second word was this number, so many of the events that the seat has seen are settled, which before were exactly those
+-- that it knew as settled; else the seat has read
+pub record Settles (old new : ℕ) (before : View) (count : ℕ) (later : View) : Type 0 where
+  pub won : count ≡ old → (length before.firm ≡ old) × (later ≡ with_firm before new)
+  pub lost : count ≢ old → Reads before count later

@@ -1,0 +1,15 @@
+-- What contracts see of a seat.
+use Rattle.std.specs.Prelude.{ℕ}
+use Rattle.atomic_table.specs.Seated.{TableId}
+use Rattle.node_seats.specs.declared.view.View.{View}
+
+-- whose words they are, the seat's number there, and what it knows
+pub record Sight : Type 0 where
+  pub table : TableId
+  pub id : ℕ
+  pub view : View
+
+-- which words they are, and what they were made with
+pub record Place (K : Type 0) : Type 0 where
+  pub table : TableId
+  pub key : K

@@ -1,0 +1,57 @@
+-- Events with the numbers of the seats that brought them, and what seats know of them.
+use Rattle.std.specs.Prelude.{◌≡◌, ℕ, true, false, ◌==◌, List, [], map}
+use Rattle.std.specs.List.{filter}
+use Rattle.spec_model.specs.Histories.{History}
+use Rattle.spec_model.specs.Words.{Event}
+use Rattle.wire.specs.declared.message.Message.TheVariants as message
+use Rattle.node_seats.specs.Sights.{Sight}
+use Rattle.node_seats.specs.declared.view.Marked.{Marked}
+use Rattle.node_seats.specs.declared.view.View.{View}
+
+-- an event that the seat of this number brought
+abbrev pub mark : ℕ → Event → Marked
+mark number event = record { by = number; event = event }
+
+-- the events, oldest first
+abbrev pub events : List Marked → History
+events marked = map (λ one. one.event) marked
+
+-- those that the seat of this number brought
+abbrev pub events_by : ℕ → List Marked → History
+events_by number marked = map (λ one. one.event) (filter (λ one. one.by == number) marked)
+
+-- a seat before the history is named at which its node begins
+abbrev pub fresh_view : View
+fresh_view = record { live = false; fresh = true; numbered = false; number = 0; start = []; seen = []; firm = []; mine = []; told = []; told_firm = [] }
+
+-- the first seat of a node that begins at this history
+abbrev pub first_view : History → View
+first_view start = record { live = true; fresh = false; numbered = true; number = 0; start = start; seen = []; firm = []; mine = []; told = []; told_firm = [] }
+
+-- a seat that knows what this one does and has brought nothing; it doesn't know its number yet
+abbrev pub newcomer : View → View
+newcomer view = record { live = view.live; fresh = view.fresh; numbered = false; number = 0; start = view.start; seen = view.seen; firm = view.firm; mine = []; told = []; told_firm = [] }
+
+-- a seat that was told what another one knows
+abbrev pub informed : View → View → View
+informed view other = record view { told = other.seen; told_firm = other.firm }
+
+-- one that another seat took in
+abbrev pub spent : View
+spent = record { live = false; fresh = false; numbered = false; number = 0; start = []; seen = []; firm = []; mine = []; told = []; told_firm = [] }
+
+-- an event, for where none is meant
+abbrev pub no_event : Event
+no_event = record { sender = record { 0 = 0 }; message = message.Coin (record { wave = 0; value = 0 }) }
+
+-- ---- what a step leaves of a seat
+
+-- it is the same seat, at the same words, with the events that it brought
+pub record IsSame (before later : Sight) : Type 0 where
+  pub table : later.table ≡ before.table
+  pub id : later.id ≡ before.id
+  pub live : later.view.live ≡ before.view.live
+  pub numbered : later.view.numbered ≡ before.view.numbered
+  pub number : later.view.number ≡ before.view.number
+  pub start : later.view.start ≡ before.view.start
+  pub mine : later.view.mine ≡ before.view.mine

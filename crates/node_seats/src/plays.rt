@@ -1,0 +1,133 @@
+//! The kinds of step on the words, and what each tells the seat that makes it.
+
+use crate::view::View;
+use atomic_table::{Join, Play, Split};
+use std::marker::{Brand, PhantomData};
+
+/// The history at which a node begins. Each call of `Words::new` picks it.
+pub trait Start {
+    ghost use Rattle.spec_model.specs.Histories.{History};
+
+    ghost history: { History };
+}
+
+/// The event that is accepted. Each call of `Words::accept` picks it.
+pub trait Call {
+    ghost use Rattle.spec_model.specs.Words.{Event};
+
+    ghost event: { Event };
+}
+
+/// What holds of each legal history. Each call of `Words::look` picks it.
+pub trait Judge {
+    ghost use Rattle.spec_model.specs.Histories.{History};
+
+    ghost judged: { History → Type 0 };
+}
+
+/// The first seat is told at which history its node begins.
+pub struct Opens<H> {
+    start: PhantomData<H>,
+}
+
+impl<H: Start> Play<(), View> for Opens<H> {
+    ghost use Rattle.std.specs.Prelude.{◌≡◌};
+    ghost use Rattle.node_seats.specs.Views.{first_view};
+
+    ghost then = { λ step before found later. later ≡ (first_view H.history, before.1) };
+}
+
+/// A seat is told its number.
+pub struct Numbers;
+
+impl Play<(), View> for Numbers {
+    ghost use Rattle.std.specs.Prelude.{◌≡◌, true};
+
+    ghost then = { λ step before found later. later ≡ (record before.0 { numbered = true; number = later.0.number }, before.1) };
+}
+
+/// A seat sees all that was accepted.
+pub struct Looked<J> {
+    judge: PhantomData<J>,
+}
+
+impl<J: Judge> Play<(), View> for Looked<J> {
+    ghost use Rattle.std.specs.Prelude.{◌≡◌};
+    ghost use Rattle.node_seats.specs.Plays.{Looks};
+
+    ghost then = { λ step before found later. Looks J.judged before.0 found later.0 × (later.1 ≡ before.1) };
+}
+
+/// A seat knows all that is settled.
+pub struct Read;
+
+impl Play<(), View> for Read {
+    ghost use Rattle.std.specs.Prelude.{◌≡◌};
+    ghost use Rattle.node_seats.specs.Plays.{Reads};
+
+    ghost then = { λ step before found later. Reads before.0 found later.0 × (later.1 ≡ before.1) };
+}
+
+/// An event is accepted, if no other was that the seat hasn't seen.
+pub struct Accepted<C> {
+    call: PhantomData<C>,
+}
+
+impl<C: Call> Play<(), View> for Accepted<C> {
+    ghost use Rattle.std.specs.Prelude.{◌≡◌};
+    ghost use Rattle.node_seats.specs.Plays.{Accepts};
+
+    ghost then = { λ step before found later. Accepts step.first C.event before.0 found later.0 × (later.1 ≡ before.1) };
+}
+
+/// Events are settled.
+pub struct Settled;
+
+impl Play<(), View> for Settled {
+    ghost use Rattle.std.specs.Prelude.{◌≡◌};
+    ghost use Rattle.node_seats.specs.Plays.{Settles};
+
+    ghost then = { λ step before found later. Settles step.first step.second before.0 found later.0 × (later.1 ≡ before.1) };
+}
+
+/// One seat tells another what it knows: a newcomer is split from it, and taken in by the other.
+pub struct Tells;
+
+impl Split<View> for Tells {
+    ghost use Rattle.node_seats.specs.Views.{newcomer};
+
+    ghost left = { λ view. view };
+
+    ghost right = { newcomer };
+}
+
+impl Join<View> for Tells {
+    ghost use Rattle.node_seats.specs.Views.{informed, spent as nothing};
+
+    ghost both = { informed };
+
+    ghost spent = { nothing };
+}
+
+impl Start for Brand {
+    ghost use Rattle.std.specs.Prelude.{[]};
+
+    ghost history = { [] };
+}
+
+impl Call for Brand {
+    ghost use Rattle.node_seats.specs.Views.{no_event};
+
+    ghost event = { no_event };
+}
+
+impl Judge for Brand {
+    ghost judged = { λ history. Unit {0} };
+}
+
+/// Where nothing is to be said of a history.
+pub struct Anything;
+
+impl Judge for Anything {
+    ghost judged = { λ history. Unit {0} };
+}

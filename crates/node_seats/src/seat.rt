@@ -1,0 +1,26 @@
+//! The seat.
+
+use crate::view::View;
+use std::marker::Model;
+
+/// What a thread steps with: which words are meant, its number there, and what it knows. It has no bytes.
+pub struct Seat {
+    pub(crate) place: atomic_table::Seat<(), View>,
+}
+
+impl Drop for Seat {
+    fn drop(self) {
+        let Seat { place: _ } = self;
+    }
+}
+
+impl Model for Seat {
+    ghost use Rattle.std.specs.Prelude.{◌≡◌, []};
+    ghost use Rattle.node_seats.specs.Sights.{Sight};
+
+    ghost Value = { Sight };
+
+    ghost view = { λ s. record { table = s.place.table_id; id = s.place.id; view = s.place.me.0 } };
+
+    ghost invariant = { λ s. s.place.me.1 ≡ [] };
+}

@@ -1,0 +1,112 @@
+//! How two seats come to know the same.
+
+ghost use Rattle.std.specs.Prelude.{◌≡◌, ◌≤◌, ◌<◌, ◌+◌, ◌^◌, ◌++◌, ◌∷◌, [], true, length, take};
+ghost use Rattle.spec_model.specs.Histories.{History};
+ghost use Rattle.spec_laws.specs.Laws.{Begins};
+ghost use Rattle.node_seats.specs.Views.{events, mark, IsSame};
+
+use crate::plays::{Anything, Call, Judge};
+use crate::rule::Law;
+use crate::seat::Seat;
+use crate::words::Words;
+use std::sync::Wait;
+
+impl<K, L: Law<K>> Words<K, L> {
+    /// Looks until the seat has seen exactly what another has, which are so many events.
+    pub fn catch_up<R: Wait>(&self, rt: &R, seat: &mut Seat, other: &mut Seat, count: u64)
+        requires seat { (seat.old.table ≡ self.now.table) × (seat.old.view.live ≡ true) }
+        requires other { (other.old.table ≡ self.now.table) × (other.old.view.live ≡ true) }
+        requires count { length other.old.view.seen ≡ count }
+        ensures other { other.new ≡ other.old }
+        ensures same { IsSame seat.old seat.new }
+        ensures firm { seat.new.view.firm ≡ seat.old.view.firm }
+        ensures seen { seat.new.view.seen ≡ other.old.view.seen }
+        ensures more { Begins seat.old.view.seen seat.new.view.seen }
+    {
+        for _ in rt.forever() {
+            self.tell(other, seat);
+            if self.look::<Anything>(seat) == count {
+                return;
+            }
+        }
+        unreachable!()
+    }
+
+    /// Reads until the seat knows exactly what another does as settled, which are so many events.
+    pub fn catch_up_firm<R: Wait>(&self, rt: &R, seat: &mut Seat, other: &mut Seat, count: u64)
+        requires seat { (seat.old.table ≡ self.now.table) × (seat.old.view.live ≡ true) }
+        requires other { (other.old.table ≡ self.now.table) × (other.old.view.live ≡ true) }
+        requires count { length other.old.view.firm ≡ count }
+        ensures other { other.new ≡ other.old }
+        ensures same { IsSame seat.old seat.new }
+        ensures firm { seat.new.view.firm ≡ other.old.view.firm }
+        ensures more { Begins seat.old.view.firm seat.new.view.firm }
+        ensures firm_seen { Begins seat.new.view.firm seat.new.view.seen }
+        ensures seen { Begins seat.old.view.seen seat.new.view.seen }
+        ensures stays { count ≤ length seat.old.view.seen → seat.new.view.seen ≡ seat.old.view.seen }
+    {
+        for _ in rt.forever() {
+            self.tell(other, seat);
+            if self.read(seat) == count {
+                return;
+            }
+        }
+        unreachable!()
+    }
+
+    /// Tries until the event is accepted behind what the seat has seen.
+    pub fn raise<C: Call, R: Wait>(&self, rt: &R, seat: &mut Seat, from: u64)
+        requires of { seat.old.table ≡ self.now.table }
+        requires live { (seat.old.view.live ≡ true) × (seat.old.view.numbered ≡ true) }
+        requires seen { length seat.old.view.seen ≡ from }
+        requires room { from + 1 < 2 ^ 64 }
+        requires legal { L.legal self.now.key (seat.old.view.start ++ (events seat.old.view.seen ++ C.event ∷ [])) }
+        ensures same { (seat.new.table ≡ seat.old.table) × (seat.new.id ≡ seat.old.id) × (seat.new.view.live ≡ true) × (seat.new.view.numbered ≡ true) × (seat.new.view.number ≡ seat.old.view.number) × (seat.new.view.start ≡ seat.old.view.start) }
+        ensures firm { seat.new.view.firm ≡ seat.old.view.firm }
+        ensures seen { seat.new.view.seen ≡ seat.old.view.seen ++ mark seat.old.view.number C.event ∷ [] }
+        ensures mine { seat.new.view.mine ≡ seat.old.view.mine ++ C.event ∷ [] }
+    {
+        for _ in rt.forever() {
+            if self.accept::<C>(seat, from) == from {
+                return;
+            }
+        }
+        unreachable!()
+    }
+
+    /// Tries until so many of the events that the seat has seen are settled, where those that it knows as settled are.
+    pub fn raise_firm<R: Wait>(&self, rt: &R, seat: &mut Seat, from: u64, to: u64)
+        requires of { seat.old.table ≡ self.now.table }
+        requires live { seat.old.view.live ≡ true }
+        requires firm { length seat.old.view.firm ≡ from }
+        requires rising { from ≤ to }
+        requires seen { to ≤ length seat.old.view.seen }
+        ensures same { IsSame seat.old seat.new }
+        ensures seen { seat.new.view.seen ≡ seat.old.view.seen }
+        ensures firm { seat.new.view.firm ≡ take to seat.old.view.seen }
+    {
+        for _ in rt.forever() {
+            if self.settle(seat, from, to) == from {
+                return;
+            }
+        }
+        unreachable!()
+    }
+
+    /// Two looks, behind which the second seat has seen all that the first has. The answer is how many events these are that the
+    /// second has seen.
+    pub fn meet<J: Judge>(&self, first: &mut Seat, second: &mut Seat) -> u64
+        requires first { (first.old.table ≡ self.now.table) × (first.old.view.live ≡ true) }
+        requires second { (second.old.table ≡ self.now.table) × (second.old.view.live ≡ true) }
+        requires judge { (history : History) → L.legal self.now.key history → J.judged history }
+        ensures first { IsSame first.old first.new × Begins first.old.view.seen first.new.view.seen × (first.new.view.firm ≡ first.old.view.firm) }
+        ensures second { IsSame second.old second.new × Begins second.old.view.seen second.new.view.seen × (second.new.view.firm ≡ second.old.view.firm) }
+        ensures meets { Begins first.new.view.seen second.new.view.seen }
+        ensures count { result ≡ length second.new.view.seen }
+        ensures judged { J.judged (second.new.view.start ++ events second.new.view.seen) }
+    {
+        self.look::<Anything>(first);
+        self.tell(first, second);
+        self.look::<J>(second)
+    }
+}

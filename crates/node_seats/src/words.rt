@@ -1,0 +1,136 @@
+//! The two words.
+
+ghost use Rattle.std.specs.Prelude.{◌≡◌, ◌+◌, ◌≤◌, ◌<◌, ◌^◌, ◌++◌, ◌∷◌, [], true, length, IfOk};
+ghost use Rattle.spec_model.specs.Histories.{History};
+ghost use Rattle.node_seats.specs.Views.{events, first_view, fresh_view, newcomer, informed};
+ghost use Rattle.node_seats.specs.Plays.{Looks, Reads, Accepts, Settles};
+ghost use Rattle.node_seats.specs.Sights.{Sight};
+
+use crate::plays::{Accepted, Call, Judge, Looked, Numbers, Opens, Read, Settled, Start, Tells};
+use crate::rule::{Kept, Law};
+use crate::seat::Seat;
+use crate::view::View;
+use atomic_table::Table;
+use std::alloc::{AllocError, Global};
+use std::marker::Model;
+
+// The words: how many events were accepted, and how many of these are settled.
+const ACCEPTED: usize = 0;
+
+const SYNCED: usize = 1;
+
+/// How many events were accepted, and how many of these are settled, since a node began. Each seat at them knows beginnings
+/// of the two lists, which no word of memory has.
+pub struct Words<K, L: Law<K>> {
+    table: Table<(), View, K, Kept<L>, Global>,
+}
+
+impl<K: Drop, L: Law<K>> Drop for Words<K, L> {
+    fn drop(self) {
+        let Words { table: _ } = self;
+    }
+}
+
+impl<K, L: Law<K>> Model for Words<K, L> {
+    ghost use Rattle.std.specs.Prelude.{◌≡◌};
+    ghost use Rattle.node_seats.specs.Sights.{Place};
+
+    ghost Value = { Place K };
+
+    ghost view = { λ w. record { table = w.table.shared.table_id; key = w.table.shared.key } };
+
+    ghost invariant = { λ w. w.table.shared.table_id.words ≡ 2 };
+}
+
+impl<K, L: Law<K>> Words<K, L> {
+    /// Two words at 0, and the first seat at them. `AllocError` where a growth was refused.
+    pub fn new<H: Start>(alloc: Global, about: &K) -> Result<(Words<K, L>, Seat), AllocError>
+        requires legal { L.legal about.now H.history }
+        ensures key { IfOk result (λ made. made.0.key ≡ about.now) }
+        ensures place { IfOk result (λ made. made.1.table ≡ made.0.table) }
+        ensures view { IfOk result (λ made. made.1.view ≡ first_view H.history) }
+    {
+        let (table, mut place) = Table::of_words(alloc, &[0, 0], about)?;
+        table.shared.load::<Opens<H>>(&mut place, ACCEPTED);
+        Ok((Words { table }, Seat { place }))
+    }
+
+    /// Another seat, which has seen what this one has and has brought no event.
+    pub fn split(&self, seat: &mut Seat) -> Seat
+        requires of { seat.old.table ≡ self.now.table }
+        requires live { seat.old.view.live ≡ true }
+        ensures same { seat.new ≡ seat.old }
+        ensures of { result.table ≡ self.now.table }
+        ensures view { result.view ≡ record (newcomer seat.old.view) { numbered = true; number = result.view.number } }
+    {
+        let mut place = self.table.shared.split_seat::<Tells>(&mut seat.place);
+        self.table.shared.load::<Numbers>(&mut place, ACCEPTED);
+        Seat { place }
+    }
+
+    /// Tells a seat what another one knows. It takes it in at its next look.
+    pub fn tell(&self, from: &mut Seat, to: &mut Seat)
+        requires from { (from.old.table ≡ self.now.table) × (from.old.view.live ≡ true) }
+        requires to { (to.old.table ≡ self.now.table) × (to.old.view.live ≡ true) }
+        ensures same { from.new ≡ from.old }
+        ensures told { to.new ≡ record to.old { view = informed to.old.view from.old.view } }
+    {
+        let place = self.table.shared.split_seat::<Tells>(&mut from.place);
+        self.table.shared.join_seat::<Tells>(&mut to.place, place);
+    }
+
+    /// How many events were accepted. The seat has then seen all of these.
+    pub fn look<J: Judge>(&self, seat: &mut Seat) -> u64
+        requires of { seat.old.table ≡ self.now.table }
+        requires live { seat.old.view.live ≡ true }
+        requires judge { (history : History) → L.legal self.now.key history → J.judged history }
+        ensures of { (seat.new.table ≡ seat.old.table) × (seat.new.id ≡ seat.old.id) }
+        ensures looks { Looks J.judged seat.old.view result seat.new.view }
+    {
+        self.table
+            .shared
+            .load::<Looked<J>>(&mut seat.place, ACCEPTED)
+    }
+
+    /// How many events are settled. The seat then knows these as settled, and has seen them.
+    pub fn read(&self, seat: &mut Seat) -> u64
+        requires of { seat.old.table ≡ self.now.table }
+        requires live { seat.old.view.live ≡ true }
+        ensures of { (seat.new.table ≡ seat.old.table) × (seat.new.id ≡ seat.old.id) }
+        ensures reads { Reads seat.old.view result seat.new.view }
+    {
+        self.table.shared.load::<Read>(&mut seat.place, SYNCED)
+    }
+
+    /// Where so many events were accepted, the call's event is accepted behind them, and the answer is that number. Else
+    /// it is how many were accepted, and the seat has seen these.
+    pub fn accept<C: Call>(&self, seat: &mut Seat, from: u64) -> u64
+        requires of { seat.old.table ≡ self.now.table }
+        requires live { (seat.old.view.live ≡ true) × (seat.old.view.numbered ≡ true) }
+        requires seen { from ≤ length seat.old.view.seen }
+        requires room { from + 1 < 2 ^ 64 }
+        requires legal { length seat.old.view.seen ≡ from → L.legal self.now.key (seat.old.view.start ++ (events seat.old.view.seen ++ C.event ∷ [])) }
+        ensures of { (seat.new.table ≡ seat.old.table) × (seat.new.id ≡ seat.old.id) }
+        ensures accepts { Accepts from C.event seat.old.view result seat.new.view }
+    {
+        self.table
+            .shared
+            .compare_exchange::<Accepted<C>>(&mut seat.place, ACCEPTED, from, from + 1)
+    }
+
+    /// Where so many events are settled, those up to the other number are settled too, and the answer is the first number.
+    /// Else it is how many are settled, and the seat knows these as settled.
+    pub fn settle(&self, seat: &mut Seat, from: u64, to: u64) -> u64
+        requires of { seat.old.table ≡ self.now.table }
+        requires live { seat.old.view.live ≡ true }
+        requires firm { from ≤ length seat.old.view.firm }
+        requires rising { from ≤ to }
+        requires seen { to ≤ length seat.old.view.seen }
+        ensures of { (seat.new.table ≡ seat.old.table) × (seat.new.id ≡ seat.old.id) }
+        ensures settles { Settles from to seat.old.view result seat.new.view }
+    {
+        self.table
+            .shared
+            .compare_exchange::<Settled>(&mut seat.place, SYNCED, from, to)
+    }
+}

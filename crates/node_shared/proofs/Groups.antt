@@ -1,0 +1,128 @@
+-- Groups that a flush seat takes and settles.
+use Rattle.std.proofs.Common.{◌≡◌, ℕ, ◌+◌, ◌-◌, ◌≤◌, List, [], length, map, take, drop, refl, sym, ap, ◌∙◌, subst, arith}
+use Rattle.std.proofs.lemmas.List.{take_at, take-append-le, take-map, take_all, length-map, length-drop}
+use Rattle.spec_laws.specs.Laws.{Begins}
+use Rattle.spec_model.specs.Histories.{History}
+use Rattle.spec_model.specs.Nodes.{Node}
+use Rattle.spec_records.specs.Records.{record_of}
+use Rattle.validator.specs.Setting.{Setting}
+use Rattle.node_seats.specs.Sights.{Sight}
+use Rattle.node_seats.specs.Views.{events, IsSame}
+use Rattle.node_seats.specs.declared.view.Marked.{Marked}
+use Rattle.node_seats.proofs.Beginnings.{begins_length, begins_whole, begins_same}
+use Rattle.book.specs.Book.{Shown, Run, Stands, with_taken, with_settled, SettlesNext}
+use Rattle.book.specs.Pending.{IsLongestBeginning}
+use Rattle.node_shared.specs.Home.{Shared, IsAtHome, IsFlushOf, IsTied, TakesNext, taken_by, group_of, run_of}
+use Rattle.node_shared.specs.declared.flush_seat.FlushSeat.{FlushSeat}
+use Rattle.node_shared.proofs.Standing.{of_same, at_home}
+
+-- what begins a list is so many of its first elements
+begins_is_take : {X : Type 0} (one all : List X) (count : ℕ) → Begins one all → length one ≡ count → one ≡ take count all
+begins_is_take one all count begins size = sym (take_at one begins.rest count size) ∙ ap (take count) (sym begins.parts)
+
+-- a list of no more than so many
+nothing_behind : {X Y : Type 0} (f : X → Y) (xs : List X) (count : ℕ) → map f (drop count xs) ≡ [] → length xs ≤ count
+nothing_behind f xs count none = omega (arith, ap length none, length-map (drop count xs) f, length-drop count xs)
+
+-- the first elements of what grows stay
+pub same_front : {X : Type 0} (one other : List X) (count : ℕ) → Begins one other → count ≤ length one → take count other ≡ take count one
+same_front one other count begins within =
+    ap (take count) begins.parts ∙ take-append-le count one begins.rest within
+
+module _ {S : Type 0} (shared : Shared S) (node_of : Setting S → Node) (seat : Sight) (book : Shown S) (flush : FlushSeat) (home : IsAtHome node_of shared seat book) (tied : IsTied shared seat book flush) where
+  -- the run at which the book stands
+  abbrev pub run : Run
+  run = run_of seat.view home.taken
+
+  seen_events : events flush.seat.view.seen ≡ events seat.view.seen
+  seen_events = ap events tied.seen
+
+  size : length (events seat.view.seen) ≡ length flush.seat.view.seen
+  size = ap length (sym seen_events) ∙ length-map flush.seat.view.seen (λ (one : Marked). one.event)
+
+  settled_size : length (events seat.view.firm) ≡ flush.settled
+  settled_size = sym home.stands.settled ∙ tied.settled
+
+  taken_size : length home.taken ≡ flush.taken
+  taken_size = sym home.stands.taken ∙ tied.taken
+
+  -- what of it is taken is what the flush seat has taken
+  pub taken_is : home.taken ≡ events (taken_by flush)
+  taken_is =
+      begins_is_take home.taken (events seat.view.seen) flush.taken home.stands.taken_begins taken_size ∙ ap (take flush.taken) (sym seen_events)
+      ∙ take-map (λ (one : Marked). one.event) flush.taken flush.seat.view.seen
+
+  -- a group that the book hands over is the next one
+  module _ (later : Shown S) (group : List (List ℕ)) (rests : flush.taken ≡ flush.settled) (longest : IsLongestBeginning book.pending group later.pending)
+      (is : later ≡ record book { pending = later.pending; taken = book.taken + length group })
+      (stands : (run : Run) → Stands (node_of book.validator.setting) run book → Stands (node_of book.validator.setting) (with_taken run (length group)) later)
+      (records : (run : Run) → Stands (node_of book.validator.setting) run book → group ≡ map record_of (drop (length run.taken) (with_taken run (length group)).taken)) where
+    behind : Stands (node_of shared.setting) (with_taken run (length group)) later
+    behind =
+        subst (λ (s : Setting S). (r : Run) → Stands (node_of s) r book → Stands (node_of s) (with_taken r (length group)) later) home.setting stands run home.stands
+
+    counted : later.taken ≡ flush.settled + length group
+    counted = ap (λ (b : Shown S). b.taken) is ∙ ap (λ (n : ℕ). n + length group) (tied.taken ∙ rests)
+
+    pub home_taken : IsAtHome node_of shared seat later
+    home_taken = at_home shared node_of seat later (with_taken run (length group)) (ap (λ (b : Shown S). b.validator.setting) is ∙ home.setting) home.of_node behind refl refl refl
+
+    within : later.taken ≤ length flush.seat.view.seen
+    within =
+        let is_in : length (with_taken run (length group)).taken ≤ length (events seat.view.seen) = begins_length _ _ behind.taken_begins in
+        omega (arith, is_in, behind.taken, size)
+
+    pub flush_taken : IsFlushOf shared (record flush { taken = later.taken })
+    flush_taken = record {
+      of_node = tied.flush_of.of_node;
+      settled = tied.flush_of.settled;
+      rising = omega (arith, counted);
+      seen = within;
+      begins = tied.flush_of.begins;
+    }
+
+    pub takes_next : TakesNext (record flush { taken = later.taken }) group
+    takes_next = record {
+      rest = later.pending;
+      longest = subst (λ (l : List (List ℕ)). IsLongestBeginning l group later.pending) (home.stands.pending ∙ λ i. map record_of (drop ((taken_size ∙ rests) i) (sym seen_events i))) longest;
+      counts = counted;
+      is =
+          subst (λ (s : Setting S). (r : Run) → Stands (node_of s) r book → group ≡ map record_of (drop (length r.taken) (with_taken r (length group)).taken)) home.setting records run home.stands
+          ∙ (λ i. map record_of (drop ((taken_size ∙ rests) i) (take (length home.taken + length group) (sym seen_events i))))
+          ∙ ap (λ (n : ℕ). map record_of (drop flush.settled (take n (events flush.seat.view.seen)))) (ap (λ (n : ℕ). n + length group) (taken_size ∙ rests) ∙ sym counted)
+          ∙ ap (λ (l : History). map record_of (drop flush.settled l)) (take-map (λ (one : Marked). one.event) later.taken flush.seat.view.seen);
+    }
+
+  -- where nothing is pending all is settled
+  pub all_settled : flush.taken ≡ flush.settled → book.pending ≡ [] → flush.seat.view.firm ≡ flush.seat.view.seen
+  all_settled rests none =
+      let less : length (events seat.view.seen) ≤ length home.taken = nothing_behind record_of (events seat.view.seen) (length home.taken) (sym home.stands.pending ∙ none) in
+      begins_whole flush.seat.view.firm flush.seat.view.seen tied.flush_of.begins (omega (arith, less, size, taken_size, rests, tied.flush_of.settled))
+
+  -- the group that the flush seat has taken may be settled
+  module _ (synced : List (List ℕ)) (is : synced ≡ group_of flush) where
+    are : synced ≡ map record_of (drop (length run.settled) run.taken)
+    are = is ∙ λ i. map record_of (drop (sym settled_size i) (sym taken_is i))
+
+    begins : Begins synced (map record_of (drop (length run.settled) run.taken))
+    begins = subst (λ (l : List (List ℕ)). Begins synced l) are (begins_same synced)
+
+    pub settles_next : SettlesNext (node_of book.validator.setting) book synced
+    settles_next = subst (λ (s : Setting S). SettlesNext (node_of s) book synced) (sym home.setting) (run, home.stands, begins)
+
+    all_of_it : take (length run.settled + length synced) run.taken ≡ events (taken_by flush)
+    all_of_it =
+        let less : length (events seat.view.firm) ≤ length home.taken = begins_length _ _ home.stands.settled_begins in
+        let count : length synced ≡ length (drop (length run.settled) run.taken) = ap length are ∙ length-map (drop (length run.settled) run.taken) record_of in
+        let left : length (drop (length run.settled) run.taken) ≡ length run.taken - length run.settled = length-drop (length run.settled) run.taken in
+        take_all (length run.settled + length synced) run.taken (omega (arith, less, count, left)) ∙ taken_is
+
+    -- and the book is at home again once its seat knows it
+    pub home_settled : (later : Shown S) (behind : Sight) → later.validator.setting ≡ book.validator.setting
+        → ((run : Run) → Stands (node_of book.validator.setting) run book → Begins synced (map record_of (drop (length run.settled) run.taken)) → Stands (node_of book.validator.setting) (with_settled run (length synced)) later)
+        → IsSame seat behind → behind.view.seen ≡ seat.view.seen → behind.view.firm ≡ taken_by flush → IsAtHome node_of shared behind later
+    home_settled later behind setting stands same seen firm =
+        let there = subst (λ (s : Setting S). (r : Run) → Stands (node_of s) r book → Begins synced (map record_of (drop (length r.settled) r.taken)) → Stands (node_of s) (with_settled r (length synced)) later)
+        home.setting stands run home.stands begins in
+        at_home shared node_of behind later (with_settled run (length synced)) (setting ∙ home.setting) (of_same shared seat behind home.of_node same) there (sym same.start)
+        (ap events (sym seen)) (all_of_it ∙ ap events (sym firm))

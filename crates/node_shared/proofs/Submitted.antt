@@ -1,0 +1,137 @@
+-- An event that a seat submits.
+use Rattle.std.proofs.Common.{◌≡◌, inl, inr, ℕ, ◌+◌, ◌≤◌, true, false, List, [], ◌∷◌, ◌++◌, length, Ok, Err, sym, ap, ◌∙◌, subst, arith, length-append}
+use Rattle.std.proofs.lemmas.List.{length-map}
+use Rattle.spec_laws.specs.Laws.{Begins}
+use Rattle.spec_model.specs.Admitting.{admit, IsLegal}
+use Rattle.spec_model.specs.Histories.{History}
+use Rattle.spec_model.specs.Nodes.{Node}
+use Rattle.spec_model.specs.Words.{Event}
+use Rattle.spec_model.specs.declared.refusal.Refusal.{Refusal}
+use Rattle.spec_model.specs.declared.refusal.Refusal.TheVariants.{Memory, Down, TooOld, MissingParents, MissingBatch, Equivocation, CertConflict, DigestClash, AlreadyProposed, NotOurs, CoinOutOfTurn, CoinEarly, CoinConflict, StoreFull}
+use Rattle.validator.specs.Setting.{Setting}
+use Rattle.node_seats.specs.Sights.{Sight}
+use Rattle.node_seats.specs.Views.{events, mark, IsSame}
+use Rattle.node_seats.specs.declared.view.Marked.{Marked}
+use Rattle.node_seats.specs.declared.view.View.{View}
+use Rattle.node_seats.proofs.Marks.{events_push}
+use Rattle.book.specs.Book.{Shown, Run, Stands, TakesNew, TakesKnown, MayRefuse, with_accepted}
+use Rattle.book.specs.declared.book.Receipt.{Receipt}
+use Rattle.book.specs.declared.book.TheConstants.{MAX_ACCEPTED}
+use Rattle.node_shared.specs.Home.{Shared, IsAtHome, run_of}
+use Rattle.node_shared.specs.Answers.{Submits, MayRefuseAt}
+use Rattle.node_shared.proofs.Standing.{of_same, at_home}
+
+module _ {S : Type 0} (shared : Shared S) (node_of : Setting S → Node) (seat : Sight) (book later : Shown S) (event : Event) (home : IsAtHome node_of shared seat book) where
+  -- the run at which the book stood
+  abbrev pub run : Run
+  run = run_of seat.view home.taken
+
+  module _ (takes : TakesNew (node_of book.validator.setting) book later event) where
+    pub here : TakesNew (node_of shared.setting) book later event
+    here = subst (λ (s : Setting S). TakesNew (node_of s) book later event) home.setting takes
+
+    -- with it all that was accepted is legal
+    pub legal_with : (start : History) (seen : List Marked) → start ≡ seat.view.start → seen ≡ seat.view.seen → IsLegal (node_of shared.setting) (start ++ (events seen ++ event ∷ []))
+    legal_with start seen began same =
+        subst (λ (h : History). IsLegal (node_of shared.setting) (h ++ (events seen ++ event ∷ []))) (sym began)
+        (subst (λ (l : List Marked). IsLegal (node_of shared.setting) (seat.view.start ++ (events l ++ event ∷ []))) (sym same) (here.stands run home.stands).legal)
+
+    -- and the book is at home again once its seat has seen it
+    pub home_with : (behind : Sight) (by : ℕ) → later.validator.setting ≡ book.validator.setting → IsSame seat behind → behind.view.seen ≡ seat.view.seen ++ mark by event ∷ [] → behind.view.firm ≡ seat.view.firm
+        → IsAtHome node_of shared behind later
+    home_with behind by setting same seen firm =
+        at_home shared node_of behind later (with_accepted run event) (setting ∙ home.setting) (of_same shared seat behind home.of_node same) (here.stands run home.stands) (sym same.start)
+        (sym (events_push by event seat.view.seen) ∙ ap events (sym seen)) (ap events (sym firm))
+
+    -- the answer
+    pub submits_new : (before behind : View) (receipt : Receipt) → before.start ≡ seat.view.start → Begins before.seen seat.view.seen → receipt.new ≡ true → receipt.ticket ≡ later.accepted → receipt.ticket ≤ MAX_ACCEPTED
+        → behind.seen ≡ seat.view.seen ++ mark before.number event ∷ [] → behind.mine ≡ before.mine ++ event ∷ []
+        → Submits (node_of shared.setting) event before behind (Ok receipt)
+    submits_new before behind receipt began more is_new ticket limit seen mine = record {
+      all = seat.view.seen;
+      more = more;
+      new = λ _. record {
+        outputs = here.outputs;
+        answer = ap (λ (h : History). admit (node_of shared.setting) (h ++ events seat.view.seen) event) began ∙ here.answer run home.stands;
+        room =
+            let stood : book.accepted ≡ length (events seat.view.seen) = home.stands.accepted in
+            let same : length (events seat.view.seen) ≡ length seat.view.seen = length-map seat.view.seen (λ (one : Marked). one.event) in
+            omega (arith, stood, same, ticket, limit, here.accepted);
+        seen = seen;
+        mine = mine;
+        ticket =
+            let size : length behind.seen ≡ length seat.view.seen + 1 = ap length seen ∙ length-append seat.view.seen (mark before.number event ∷ []) in
+            let stood : book.accepted ≡ length (events seat.view.seen) = home.stands.accepted in
+            let same : length (events seat.view.seen) ≡ length seat.view.seen = length-map seat.view.seen (λ (one : Marked). one.event) in
+            omega (arith, size, stood, same, ticket, here.accepted);
+      };
+      known = λ old. let bad : true ≡ false = sym is_new ∙ old in absurd cc;
+      refused = tt;
+      same = tt;
+    }
+
+  -- a known one
+  module _ (takes : TakesKnown (node_of book.validator.setting) book later event) where
+    pub was : TakesKnown (node_of shared.setting) book later event
+    was = subst (λ (s : Setting S). TakesKnown (node_of s) book later event) home.setting takes
+
+    pub home_known : IsAtHome node_of shared seat later
+    home_known = record { setting = ap (λ (b : Shown S). b.validator.setting) was.is ∙ home.setting; of_node = home.of_node; taken = home.taken; stands = was.stands run home.stands }
+
+    pub submits_known : (before behind : View) (receipt : Receipt) → before.start ≡ seat.view.start → Begins before.seen seat.view.seen → receipt.new ≡ false → receipt.ticket ≡ later.accepted
+        → behind.seen ≡ seat.view.seen → behind.mine ≡ before.mine
+        → Submits (node_of shared.setting) event before behind (Ok receipt)
+    submits_known before behind receipt began more is_known ticket seen mine = record {
+      all = seat.view.seen;
+      more = more;
+      new = λ new. let bad : false ≡ true = sym is_known ∙ new in absurd cc;
+      known = λ _. record {
+        outputs = was.outputs;
+        answer = ap (λ (h : History). admit (node_of shared.setting) (h ++ events seat.view.seen) event) began ∙ was.answer run home.stands;
+        seen = seen;
+        mine = mine;
+        ticket =
+            let size : length behind.seen ≡ length seat.view.seen = ap length seen in
+            let stood : book.accepted ≡ length (events seat.view.seen) = home.stands.accepted in
+            let same : length (events seat.view.seen) ≡ length seat.view.seen = length-map seat.view.seen (λ (one : Marked). one.event) in
+            let kept : later.accepted ≡ book.accepted = ap (λ (b : Shown S). b.accepted) was.is in
+            omega (arith, size, stood, same, ticket, kept);
+      };
+      refused = tt;
+      same = tt;
+    }
+
+  -- a refusal
+  may_refuse : (refusal : Refusal) → MayRefuse (node_of shared.setting) run book event refusal → MayRefuseAt (node_of shared.setting) (seat.view.start ++ events seat.view.seen) (length seat.view.seen) event refusal
+  may_refuse Memory may = tt
+  may_refuse Down may = tt
+  may_refuse StoreFull may =
+      elim may [
+        | inl refused ↦ inl refused
+        | inr full ↦ inr (full.0, sym (home.stands.accepted ∙ length-map seat.view.seen (λ (one : Marked). one.event)) ∙ full.1)
+      ]
+  may_refuse TooOld may = may
+  may_refuse MissingParents may = may
+  may_refuse MissingBatch may = may
+  may_refuse Equivocation may = may
+  may_refuse CertConflict may = may
+  may_refuse DigestClash may = may
+  may_refuse AlreadyProposed may = may
+  may_refuse NotOurs may = may
+  may_refuse CoinOutOfTurn may = may
+  may_refuse CoinEarly may = may
+  may_refuse CoinConflict may = may
+
+  pub submits_refused : (before behind : View) (refusal : Refusal) → ((run : Run) → Stands (node_of book.validator.setting) run book → MayRefuse (node_of book.validator.setting) run book event refusal)
+      → before.start ≡ seat.view.start → Begins before.seen seat.view.seen → behind.seen ≡ seat.view.seen → behind.mine ≡ before.mine
+      → Submits (node_of shared.setting) event before behind (Err refusal)
+  submits_refused before behind refusal refused began more seen mine =
+      let there = subst (λ (s : Setting S). (run : Run) → Stands (node_of s) run book → MayRefuse (node_of s) run book event refusal) home.setting refused in
+      record {
+        all = seat.view.seen;
+        more = more;
+        new = tt;
+        known = tt;
+        refused = subst (λ (h : History). MayRefuseAt (node_of shared.setting) (h ++ events seat.view.seen) (length seat.view.seen) event refusal) (sym began) (may_refuse refusal (there run home.stands));
+        same = (seen, mine);
+      }

@@ -1,0 +1,14 @@
+use Rattle.std.proofs.Common.{rules}
+use Rattle.validator.specs.Setting.{node_of}
+use Rattle.node_shared.proofs.Groups.{settles_next, home_settled}
+use Rattle.node_shared.proofs.node.Node.settle_tied.Goals as goal
+
+pub settle-requires : goal.settle-requires
+settle-requires g c =
+    settles_next c.args.self.now (node_of g.S.Sign.own_key g.S.Sign.signature_of) c.args.locked.now.seat c.args.locked.now.book c.args.flush.now c.requires.home c.requires.tied
+    c.args.synced c.requires.synced
+
+pub returns-clause-home : goal.returns-clause-home
+returns-clause-home g c =
+    home_settled c.args.self.now (node_of g.S.Sign.own_key g.S.Sign.signature_of) c.args.locked.now.seat c.args.locked.now.book c.args.flush.now c.requires.home c.requires.tied
+    c.args.synced c.requires.synced c.settle.new.self _ (search rules) c.settle.ensures.stands (search rules) (search rules) (search rules)

@@ -1,0 +1,78 @@
+-- A shared node, its seats, and the book under its lock.
+use Rattle.std.specs.Prelude.{◌≡◌, ◌≤◌, ℕ, ◌+◌, ◌++◌, List, length, map, take, drop, true}
+use Rattle.atomic_table.specs.Seated.{TableId}
+use Rattle.spec_laws.specs.Laws.{Begins}
+use Rattle.spec_model.specs.Histories.{History}
+use Rattle.spec_model.specs.Nodes.{Node}
+use Rattle.spec_records.specs.Records.{record_of}
+use Rattle.validator.specs.Setting.{Setting}
+use Rattle.node_seats.specs.Sights.{Sight}
+use Rattle.node_seats.specs.Views.{events}
+use Rattle.node_seats.specs.declared.view.Marked.{Marked}
+use Rattle.node_seats.specs.declared.view.View.{View}
+use Rattle.book.specs.Book.{Shown, Run, Stands}
+use Rattle.book.specs.Pending.{IsLongestBeginning}
+use Rattle.node_shared.specs.declared.flush_seat.FlushSeat.{FlushSeat}
+
+-- what contracts see of a shared node: which words it has, what its validator is set up with, and at which history it began
+pub record Shared (S : Type 0) : Type 0 where
+  pub table : TableId
+  pub setting : Setting S
+  pub start : History
+
+-- a seat is one of a node's: it is at its words, is no one that another took in, knows its number, and where the node began
+pub record IsOf {S : Type 0} (node : Shared S) (seat : Sight) : Type 0 where
+  pub table : seat.table ≡ node.table
+  pub live : seat.view.live ≡ true
+  pub numbered : seat.view.numbered ≡ true
+  pub start : seat.view.start ≡ node.start
+
+-- all that a seat has seen, and of that all that it knows as settled, behind where the node began
+abbrev pub seen_by : Sight → History
+seen_by seat = seat.view.start ++ events seat.view.seen
+
+abbrev pub firm_by : Sight → History
+firm_by seat = seat.view.start ++ events seat.view.firm
+
+-- A flush seat is a node's: its seat is, so many of the events that this has seen are settled, which it knows, and so many are taken.
+pub record IsFlushOf {S : Type 0} (node : Shared S) (flush : FlushSeat) : Type 0 where
+  pub of_node : IsOf node flush.seat
+  pub settled : flush.settled ≡ length flush.seat.view.firm
+  pub rising : flush.settled ≤ flush.taken
+  pub seen : flush.taken ≤ length flush.seat.view.seen
+  pub begins : Begins flush.seat.view.firm flush.seat.view.seen
+
+-- what of that is taken, and the records of it that aren't settled
+abbrev pub taken_by : FlushSeat → List Marked
+taken_by flush = take flush.taken flush.seat.view.seen
+
+abbrev pub group_of : FlushSeat → List (List ℕ)
+group_of flush = map record_of (drop flush.settled (events (taken_by flush)))
+
+-- A flush seat has taken a group where it had taken all that is settled: of all that it has seen and that isn't, the longest beginning
+-- that fits.
+pub record TakesNext (flush : FlushSeat) (group : List (List ℕ)) : Type 0 where
+  pub rest : List (List ℕ)
+  pub longest : IsLongestBeginning (map record_of (drop flush.settled (events flush.seat.view.seen))) group rest
+  pub counts : flush.taken ≡ flush.settled + length group
+  pub is : group ≡ group_of flush
+
+-- the run of a book whose seat knows this, and of which this was taken
+abbrev pub run_of : View → History → Run
+run_of view taken = record { began = view.start; accepted = events view.seen; taken = taken; settled = events view.firm }
+
+-- A book is at home in a node: it is set up as the node is, its own seat is one of the node's, and it stands at exactly what that
+-- seat has seen and knows as settled, for some list between that was taken.
+pub record IsAtHome {S : Type 0} (node_of : Setting S → Node) (node : Shared S) (seat : Sight) (book : Shown S) : Type 0 where
+  pub setting : book.validator.setting ≡ node.setting
+  pub of_node : IsOf node seat
+  pub taken : History
+  pub stands : Stands (node_of node.setting) (run_of seat.view taken) book
+
+-- A flush seat is tied to a book at home and its seat: it knows just what that one does, and counts as the book does.
+pub record IsTied {S : Type 0} (node : Shared S) (seat : Sight) (book : Shown S) (flush : FlushSeat) : Type 0 where
+  pub flush_of : IsFlushOf node flush
+  pub seen : flush.seat.view.seen ≡ seat.view.seen
+  pub firm : flush.seat.view.firm ≡ seat.view.firm
+  pub settled : book.settled ≡ flush.settled
+  pub taken : book.taken ≡ flush.taken

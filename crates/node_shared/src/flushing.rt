@@ -1,0 +1,170 @@
+//! What a node hands over for its disk, and what it is told of that.
+
+ghost use Rattle.std.specs.Prelude.{◌≡◌, ◌≤◌, true, IsNone, IfOk, IfSome, OnErr};
+ghost use Rattle.spec_laws.specs.Laws.{Begins};
+ghost use Rattle.spec_model.specs.Admitting.{IsLegal};
+ghost use Rattle.validator.specs.Setting.{node_of};
+ghost use Rattle.node_seats.specs.Views.{IsSame};
+ghost use Rattle.node_shared.specs.Home.{IsOf, IsAtHome, IsFlushOf, IsTied, TakesNext, taken_by, group_of, seen_by};
+
+use crate::flush_seat::FlushSeat;
+use crate::home::Locked;
+use crate::node::Node;
+use journal::{Group, Synced};
+use node_seats::{Anything, Seat};
+use sigface::Sign;
+use std::alloc::AllocError;
+use std::sync::Wait;
+
+impl<'a, S: Sign> Node<'a, S> {
+    /// Takes the longest beginning that fits a group of what isn't settled: of all that was accepted, with what the seat had seen.
+    /// None where all of that is settled. `AllocError` where a growth was refused: nothing was taken then.
+    pub fn take<R: Wait>(
+        &self,
+        rt: &R,
+        flush: &mut FlushSeat,
+        seat: &mut Seat,
+    ) -> Result<Option<Group>, AllocError>
+        requires flush { IsFlushOf self.now flush.old }
+        requires rests { flush.old.taken ≡ flush.old.settled }
+        requires of { IsOf self.now seat.old }
+        ensures flush { IsFlushOf self.now flush.new }
+        ensures flush_same { IsSame flush.old.seat flush.new.seat }
+        ensures flush_firm { (flush.new.seat.view.firm ≡ flush.old.seat.view.firm) × (flush.new.settled ≡ flush.old.settled) }
+        ensures of { IsOf self.now seat.new }
+        ensures same { IsSame seat.old seat.new }
+        ensures firm { seat.new.view.firm ≡ seat.old.view.firm }
+        ensures more { Begins seat.old.view.seen seat.new.view.seen }
+        ensures seen { Begins seat.new.view.seen flush.new.seat.view.seen }
+        ensures legal { IsLegal (node_of S.own_key S.signature_of self.now.setting) (seen_by flush.new.seat) }
+        ensures none { IfOk result (λ found. IsNone found → (flush.new.taken ≡ flush.old.taken) × (flush.new.seat.view.firm ≡ flush.new.seat.view.seen)) }
+        ensures group { IfOk result (λ found. IfSome found (λ group. TakesNext flush.new group)) }
+        ensures err { OnErr result (flush.new.taken ≡ flush.old.taken) }
+    {
+        self.words.meet::<Anything>(seat, &mut flush.seat);
+        for _ in rt.forever() {
+            let (turn, mut home) = self.lock.acquire(rt);
+            let locked = &mut *home;
+            if self.tie(rt, locked, flush) {
+                let found = self.take_tied(locked, flush);
+                self.lock.release(turn, home);
+                return found;
+            }
+            self.lock.release(turn, home);
+        }
+        unreachable!()
+    }
+
+    /// Says that what is taken is on the disk, all of which is then settled.
+    pub fn settle<R: Wait>(&self, rt: &R, flush: &mut FlushSeat, synced: Synced)
+        requires flush { IsFlushOf self.now flush.old }
+        requires synced { synced ≡ group_of flush.old }
+        ensures flush { IsFlushOf self.now flush.new }
+        ensures flush_same { IsSame flush.old.seat flush.new.seat }
+        ensures firm { flush.new.seat.view.firm ≡ taken_by flush.old }
+        ensures settled { (flush.new.settled ≡ flush.old.taken) × (flush.new.taken ≡ flush.old.taken) }
+    {
+        for _ in rt.forever() {
+            let (turn, mut home) = self.lock.acquire(rt);
+            let locked = &mut *home;
+            if self.tie(rt, locked, flush) {
+                self.settle_tied(rt, locked, flush, synced);
+                self.lock.release(turn, home);
+                return;
+            }
+            self.lock.release(turn, home);
+        }
+        unreachable!()
+    }
+
+    /// The seat then knows as settled exactly what the flush seat does.
+    pub fn tell_settled<R: Wait>(&self, rt: &R, flush: &mut FlushSeat, seat: &mut Seat)
+        requires flush { IsFlushOf self.now flush.old }
+        requires of { IsOf self.now seat.old }
+        ensures flush { flush.new ≡ flush.old }
+        ensures of { IsOf self.now seat.new }
+        ensures same { IsSame seat.old seat.new }
+        ensures firm { seat.new.view.firm ≡ flush.old.seat.view.firm }
+        ensures more { Begins seat.old.view.firm seat.new.view.firm }
+        ensures seen { Begins seat.old.view.seen seat.new.view.seen }
+        ensures within { Begins seat.new.view.firm seat.new.view.seen }
+    {
+        let count = flush.settled;
+        self.words.catch_up_firm(rt, seat, &mut flush.seat, count);
+    }
+
+    /// Takes the node down, as where a device call failed or the journal is full. From now on nothing is accepted or given out.
+    pub fn fail<R: Wait>(&self, rt: &R) {
+        let (turn, mut home) = self.lock.acquire(rt);
+        let locked = &mut *home;
+        locked.book.fail();
+        self.lock.release(turn, home);
+    }
+
+    // The flush seat then knows what the book's seat does. The answer is whether it counts as the book does, which it will at once
+    // or never.
+    fn tie<R: Wait>(&self, rt: &R, locked: &mut Locked<'a, S>, flush: &mut FlushSeat) -> bool
+        requires home { IsAtHome (node_of S.own_key S.signature_of) self.now locked.old.seat locked.old.book }
+        requires of { IsOf self.now flush.old.seat }
+        requires rising { flush.old.settled ≤ flush.old.taken }
+        ensures locked { locked.new ≡ locked.old }
+        ensures of { IsOf self.now flush.new.seat }
+        ensures same { IsSame flush.old.seat flush.new.seat }
+        ensures counts { (flush.new.settled ≡ flush.old.settled) × (flush.new.taken ≡ flush.old.taken) }
+        ensures firm { Begins flush.old.seat.view.firm flush.new.seat.view.firm }
+        ensures seen { Begins flush.old.seat.view.seen flush.new.seat.view.seen }
+        ensures legal { IsLegal (node_of S.own_key S.signature_of self.now.setting) (seen_by flush.new.seat) }
+        ensures tied { result ≡ true → IsTied self.now locked.old.seat locked.old.book flush.new }
+    {
+        self.know_all(rt, locked, &mut flush.seat);
+        self.see_all(rt, locked, &mut flush.seat);
+        locked.book.settled() == flush.settled && locked.book.taken() == flush.taken
+    }
+
+    fn take_tied(
+        &self,
+        locked: &mut Locked<'a, S>,
+        flush: &mut FlushSeat,
+    ) -> Result<Option<Group>, AllocError>
+        requires home { IsAtHome (node_of S.own_key S.signature_of) self.now locked.old.seat locked.old.book }
+        requires tied { IsTied self.now locked.old.seat locked.old.book flush.old }
+        requires rests { flush.old.taken ≡ flush.old.settled }
+        ensures home { IsAtHome (node_of S.own_key S.signature_of) self.now locked.new.seat locked.new.book }
+        ensures flush { IsFlushOf self.now flush.new }
+        ensures same { (flush.new.seat ≡ flush.old.seat) × (flush.new.settled ≡ flush.old.settled) }
+        ensures none { IfOk result (λ found. IsNone found → (flush.new.taken ≡ flush.old.taken) × (flush.new.seat.view.firm ≡ flush.new.seat.view.seen)) }
+        ensures group { IfOk result (λ found. IfSome found (λ group. TakesNext flush.new group)) }
+        ensures err { OnErr result (flush.new.taken ≡ flush.old.taken) }
+    {
+        let Some(group) = locked.book.take()? else {
+            return Ok(None);
+        };
+        flush.taken = locked.book.taken();
+        Ok(Some(group))
+    }
+
+    fn settle_tied<R: Wait>(
+        &self,
+        rt: &R,
+        locked: &mut Locked<'a, S>,
+        flush: &mut FlushSeat,
+        synced: Synced,
+    )
+        requires home { IsAtHome (node_of S.own_key S.signature_of) self.now locked.old.seat locked.old.book }
+        requires tied { IsTied self.now locked.old.seat locked.old.book flush.old }
+        requires synced { synced ≡ group_of flush.old }
+        ensures home { IsAtHome (node_of S.own_key S.signature_of) self.now locked.new.seat locked.new.book }
+        ensures flush { IsFlushOf self.now flush.new }
+        ensures same { IsSame flush.old.seat flush.new.seat }
+        ensures firm { flush.new.seat.view.firm ≡ taken_by flush.old }
+        ensures seen { flush.new.seat.view.seen ≡ flush.old.seat.view.seen }
+        ensures settled { (flush.new.settled ≡ flush.old.taken) × (flush.new.taken ≡ flush.old.taken) }
+    {
+        locked.book.settle(synced);
+        self.words
+            .raise_firm(rt, &mut flush.seat, flush.settled, flush.taken);
+        self.words
+            .catch_up_firm(rt, &mut locked.seat, &mut flush.seat, flush.taken);
+        flush.settled = flush.taken;
+    }
+}

@@ -1,7 +1,0 @@
-use Rattle.std.proofs.Common.{◌≡◌, ◌++◌, drop}
-use Rattle.model.specs.Histories.{coins}
-use Rattle.plain.proofs.histories.coins.Given as goal
-
--- those so far and those of the events that are left are those of all
-abbrev pub invariant-loop-event : goal.invariant-loop-event
-invariant-loop-event l = l.found.items ++ coins (drop l.event-index l.history) ≡ coins l.fn.history

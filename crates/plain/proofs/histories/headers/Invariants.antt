@@ -1,7 +1,0 @@
-use Rattle.std.proofs.Common.{◌≡◌, ◌++◌, drop}
-use Rattle.model.specs.Histories.{headers}
-use Rattle.plain.proofs.histories.headers.Given as goal
-
--- those so far and those of the events that are left are those of all
-abbrev pub invariant-loop-event : goal.invariant-loop-event
-invariant-loop-event l = l.found.items ++ headers (drop l.event-index l.history) ≡ headers l.fn.history

@@ -1,4 +1,0 @@
-use Rattle.plain.proofs.newer.+newer_to.Given as goal
-
-abbrev pub decreases-newer_to : goal.decreases-newer_to
-decreases-newer_to l = l.wave

@@ -1,8 +1,0 @@
--- What contracts see of the values that the programs of the order take.
-use Rattle.model.specs.Ordering.{Ledger}
-use Rattle.model.specs.Slots.{slots_of}
-use Rattle.plain.specs.declared.ledger.Ledger as declared
-
--- what a contract sees of a value of the type `Ledger`
-abbrev pub ledger_view : declared.Ledger → Ledger
-ledger_view ledger = record { charter = ledger.committee.now; slots = slots_of ledger.certificates.now; coins = ledger.coins.now }

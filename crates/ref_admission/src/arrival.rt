@@ -1,0 +1,17 @@
+//! An event that comes behind a history.
+
+ghost use Rattle.std.specs.Prelude.{◌≡◌, ◌++◌, ◌∷◌, []};
+
+use spec_model::Event;
+
+/// A history and the event that comes behind it.
+#[derive(Clone, Copy)]
+pub struct Arrival<'a> {
+    /// The history.
+    pub history: &'a [Event],
+    /// The event.
+    pub event: &'a Event,
+    /// The history with the event behind it.
+    pub events: &'a [Event],
+    ghost joined: { events.now ≡ history.now ++ event.now ∷ [] },
+}

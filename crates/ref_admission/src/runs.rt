@@ -1,0 +1,94 @@
+//! Admission over histories, one event after the other.
+
+ghost use Rattle.std.specs.Prelude.{◌≡◌, ◌<◌, ◌++◌, ◌∷◌, [], IfOk, List, length};
+ghost use Rattle.spec_model.specs.Admitting as admitting;
+ghost use Rattle.spec_model.specs.Nodes.{node_view};
+ghost use Rattle.wire.specs.Events as incoming;
+
+use crate::admitting::answer;
+use crate::arrival::Arrival;
+use ref_order::past::Past;
+use sigface::Sign;
+use spec_model::{Admission, Event, Node};
+use std::alloc::{AllocError, Global};
+
+/// What an event is answered at the history behind which it comes.
+pub fn admit<S: Sign>(
+    alloc: Global,
+    node: &Node<S>,
+    arrival: &Arrival,
+) -> Result<Admission, AllocError>
+    ensures { IfOk result (λ answer. answer ≡ admitting.admit (node_view S.own_key S.signature_of node.now) arrival.now.history.now arrival.now.event.now) }
+{
+    let now = Past {
+        node,
+        history: arrival.history,
+    };
+    let later = Past {
+        node,
+        history: arrival.events,
+    };
+    answer(alloc, node, &now, &later, arrival.event)
+}
+
+/// What the last of some events is answered, at the history of those before it.
+pub fn admit_last<S: Sign>(
+    alloc: Global,
+    node: &Node<S>,
+    events: &[Event],
+) -> Result<Admission, AllocError>
+    requires { 0 < length events.now }
+    ensures { (history : List incoming.Event) (event : incoming.Event) → events.now ≡ history ++ event ∷ [] → IfOk result (λ answer. answer ≡ admitting.admit (node_view S.own_key S.signature_of node.now) history event) }
+{
+    match events.split_last() {
+        None => unreachable!(),
+        Some((event, history)) => admit(
+            alloc,
+            node,
+            &Arrival {
+                history,
+                event,
+                events,
+            },
+        ),
+    }
+}
+
+/// What events are answered one after the other, from an empty history on.
+pub fn answers<S: Sign>(
+    alloc: Global,
+    node: &Node<S>,
+    events: Vec<Event>,
+) -> Result<Vec<Admission>, AllocError>
+    ensures { IfOk result (λ found. found.items ≡ admitting.answers (node_view S.own_key S.signature_of node.now) [] events.items) }
+{
+    let mut history = Vec::new(alloc);
+    let mut found = Vec::new(alloc);
+    for event in events {
+        history.push(event)?;
+        let answer = admit_last(alloc, node, &history)?;
+        if !answer.is_new() {
+            history.pop();
+        }
+        found.push(answer)?;
+    }
+    Ok(found)
+}
+
+/// Whether events are each new at those before them.
+pub fn each_new<S: Sign>(
+    alloc: Global,
+    node: &Node<S>,
+    events: Vec<Event>,
+) -> Result<bool, AllocError>
+    ensures { IfOk result (λ found. found ≡ admitting.each_new (node_view S.own_key S.signature_of node.now) [] events.items) }
+{
+    let mut history = Vec::new(alloc);
+    for event in events {
+        history.push(event)?;
+        if !admit_last(alloc, node, &history)?.is_new() {
+            return Ok(false);
+        }
+    }
+    Ok(true)
+}

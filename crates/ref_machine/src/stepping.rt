@@ -1,0 +1,106 @@
+//! What a node answers an event by its tables, what it keeps behind it, and what it proposes.
+
+ghost use Rattle.std.specs.Prelude.{◌≡◌, IfOk};
+ghost use Rattle.spec_machine.specs.Machine as machine;
+ghost use Rattle.spec_model.specs.Nodes.{node_view};
+ghost use Rattle.ref_machine.specs.Tables.{state_of};
+
+use crate::collecting::collected;
+use crate::growing::grown;
+use crate::rounds::round_in;
+use crate::tables::Tables;
+use ref_admission::admitting::answer;
+use ref_admission::proposing::propose_of;
+use ref_order::certificates::certificates;
+use sigface::Sign;
+use spec_model::{Admission, Event, Node, Refusal};
+use std::alloc::{AllocError, Global};
+use wire::{Header, Round};
+
+/// The tables of a node that has taken nothing: they have the genesis.
+///
+/// # Errors
+/// When memory runs out.
+pub fn fresh<S: Sign>(alloc: Global, node: &Node<S>) -> Result<Tables, AllocError>
+    ensures { IfOk result (λ tables. state_of tables ≡ machine.fresh (node_view S.own_key S.signature_of node.now)) }
+{
+    Ok(Tables {
+        batches: Vec::new(alloc),
+        acks: Vec::new(alloc),
+        named: Vec::new(alloc),
+        votes: Vec::new(alloc),
+        own_headers: Vec::new(alloc),
+        counted: Vec::new(alloc),
+        certificates: certificates(alloc, node, &[])?,
+        highest: Round::genesis(),
+        coins: Vec::new(alloc),
+        order: Vec::new(alloc),
+    })
+}
+
+/// The tables behind a new event: with what it adds, and without what then lies below the floor.
+///
+/// # Errors
+/// When memory runs out.
+pub fn after<S: Sign>(
+    alloc: Global,
+    node: &Node<S>,
+    tables: Tables,
+    event: &Event,
+) -> Result<Tables, AllocError>
+    ensures { IfOk result (λ found. state_of found ≡ machine.after (node_view S.own_key S.signature_of node.now) (state_of tables) event.now) }
+{
+    collected(alloc, node, grown(alloc, node, tables, &event.message)?)
+}
+
+/// What an event is answered.
+///
+/// # Errors
+/// When memory runs out.
+pub fn answered<S: Sign>(
+    alloc: Global,
+    node: &Node<S>,
+    tables: &Tables,
+    event: &Event,
+) -> Result<Admission, AllocError>
+    ensures { IfOk result (λ answer. answer ≡ machine.answered (node_view S.own_key S.signature_of node.now) (state_of tables.now) event.now) }
+{
+    let later = grown(alloc, node, tables.try_clone(alloc)?, &event.message)?;
+    answer(alloc, node, tables, &later, event)
+}
+
+/// The header that the node proposes, if its round has none yet.
+///
+/// # Errors
+/// When memory runs out.
+pub fn proposed<S: Sign>(
+    alloc: Global,
+    node: &Node<S>,
+    tables: &Tables,
+) -> Result<Option<Header>, AllocError>
+    ensures { IfOk result (λ found. found ≡ machine.proposed (node_view S.own_key S.signature_of node.now) (state_of tables.now)) }
+{
+    propose_of(alloc, node, tables, round_in(node, tables))
+}
+
+/// An answer is that parents are missing.
+fn is_missing_parents(answer: &Admission) -> bool
+    ensures { result ≡ machine.is_missing_parents answer.now }
+{
+    matches!(answer, Admission::Refused(Refusal::MissingParents))
+}
+
+/// Whether a message is ready: its answer isn't that parents are missing.
+///
+/// # Errors
+/// When memory runs out.
+pub fn is_ready<S: Sign>(
+    alloc: Global,
+    node: &Node<S>,
+    tables: &Tables,
+    event: &Event,
+) -> Result<bool, AllocError>
+    ensures { IfOk result (λ ready. ready ≡ machine.is_ready (node_view S.own_key S.signature_of node.now) (state_of tables.now) event.now) }
+{
+    Ok(!is_missing_parents(&answered(alloc, node, tables, event)?))
+}

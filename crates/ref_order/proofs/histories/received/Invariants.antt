@@ -1,0 +1,7 @@
+use Rattle.std.proofs.Common.{◌≡◌, ◌++◌, drop}
+use Rattle.spec_model.specs.Histories.{received}
+use Rattle.ref_order.proofs.histories.received.Given as goal
+
+-- those so far and those of the events that are left are those of all
+abbrev pub invariant-loop-event : goal.invariant-loop-event
+invariant-loop-event l = l.found.items ++ received (drop l.event-index l.history) ≡ received l.fn.history

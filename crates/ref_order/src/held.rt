@@ -1,0 +1,203 @@
+//! What a node holds, wherever it stands.
+
+ghost use Rattle.std.specs.Prelude.{◌≡◌, ℕ, List, Option, ◌&&◌, nat_lt, length, IfOk, IfSome, option_copied};
+ghost use Rattle.committee.specs.Charter.{weight};
+ghost use Rattle.committee.specs.Sets.{has};
+ghost use Rattle.spec_model.specs.Holdings as holdings;
+ghost use Rattle.spec_model.specs.Nodes.{node_view};
+ghost use Rattle.spec_model.specs.Slots.{slots_of};
+ghost use Rattle.spec_model.specs.States as states;
+ghost use Rattle.spec_model.specs.States.{State};
+ghost use Rattle.spec_model.specs.Words.{Vote};
+
+use crate::holdings::is_full;
+use crate::ledger::Ledger;
+use crate::ordering::floor_by;
+use crate::votes::{Counted, certificate_by};
+use committee::MemberSet;
+use sigface::Sign;
+use spec_model::Node;
+use std::alloc::{AllocError, Global};
+use wire::{Author, Batch, Certificate, Digest, Header, Vote};
+
+/// What a node holds: a history, or tables. What reads it is written once over both.
+pub trait Held {
+    /// What is held.
+    ghost state: { Self → State };
+
+    /// The batch of a digest.
+    fn batch(&self, digest: &Digest) -> Option<&Batch>
+        ensures { option_copied result ≡ states.batch_in (state self.now) digest.now };
+
+    /// The batches, in the order of acceptance.
+    ///
+    /// # Errors
+    /// When memory runs out.
+    fn batches(&self, alloc: Global) -> Result<Vec<Batch>, AllocError>
+        ensures { IfOk result (λ found. found.items ≡ (state self.now).batches) };
+
+    /// A member has acknowledged the batch of this digest.
+    fn has_acked(&self, digest: &Digest, member: u16) -> bool
+        ensures { result ≡ (state self.now).acked digest.now member };
+
+    /// An own header has named the batch of this digest.
+    fn was_named(&self, digest: &Digest) -> bool
+        ensures { result ≡ (state self.now).named digest.now };
+
+    /// The digest that has the vote for an author and round.
+    fn voted_digest(&self, round: u64, author: u16) -> Option<Digest>
+        ensures { result ≡ (state self.now).votes round author };
+
+    /// The own header of a round.
+    fn own_header(&self, round: u64) -> Option<&Header>
+        ensures { option_copied result ≡ (state self.now).own_headers round };
+
+    /// A member's counted vote on the own header of a round.
+    fn counted(&self, round: u64, voter: u16) -> Option<Vote>
+        ensures value { result ≡ (state self.now).counted round voter }
+        ensures voter { IfSome result (λ vote. vote.voter.0 ≡ voter) };
+
+    /// The certificates, of which the first in each slot counts.
+    ///
+    /// # Errors
+    /// When memory runs out.
+    fn certificates(&self, alloc: Global) -> Result<Vec<Certificate>, AllocError>
+        ensures { IfOk result (λ found. slots_of found.items ≡ (state self.now).slots) };
+
+    /// The greatest round of which there was a certificate.
+    ///
+    /// # Errors
+    /// When memory runs out.
+    fn highest(&self, alloc: Global) -> Result<u64, AllocError>
+        ensures { IfOk result (λ highest. highest ≡ (state self.now).highest) };
+
+    /// The values of the coins, that of wave 1 first.
+    ///
+    /// # Errors
+    /// When memory runs out.
+    fn coins(&self, alloc: Global) -> Result<Vec<u64>, AllocError>
+        ensures { IfOk result (λ found. found.items ≡ (state self.now).coins) };
+
+    /// The order.
+    ///
+    /// # Errors
+    /// When memory runs out.
+    fn order(&self, alloc: Global) -> Result<Vec<Digest>, AllocError>
+        ensures { IfOk result (λ found. found.items ≡ (state self.now).order) };
+}
+
+/// The node has an own batch of this digest.
+pub fn has_own_batch<S: Sign, H: Held>(node: &Node<S>, held: &H, digest: &Digest) -> bool
+    ensures { result ≡ states.has_own_batch (node_view S.own_key S.signature_of node.now) (H.state held.now) digest.now }
+{
+    match held.batch(digest) {
+        None => false,
+        Some(batch) => node.is_own(batch.author()),
+    }
+}
+
+/// The members who hold an own batch: the node itself, and who has acknowledged it.
+#[tactic(auto, using(crate::proofs::Sets::in_more, crate::proofs::Sets::out_more))]
+fn holders<S: Sign, H: Held>(node: &Node<S>, held: &H, digest: &Digest) -> MemberSet
+    ensures { (member : ℕ) → has result member ≡ (nat_lt member (length node.now.committee.keys) && states.holds (node_view S.own_key S.signature_of node.now) (H.state held.now) digest.now member) }
+{
+    let size = node.size();
+    let mut found = MemberSet::none();
+    for member in 0..size {
+        if member == node.own.0 || held.has_acked(digest, member) {
+            found.insert(Author(member));
+        }
+    }
+    found
+}
+
+/// What the members weigh who hold an own batch.
+fn weight_of_holders<S: Sign, H: Held>(node: &Node<S>, held: &H, digest: &Digest) -> u64
+    ensures { result ≡ weight node.now.committee (states.holds (node_view S.own_key S.signature_of node.now) (H.state held.now) digest.now) }
+{
+    node.committee.weight(&holders(node, held, digest))
+}
+
+/// An own batch is available.
+pub fn is_available<S: Sign, H: Held>(node: &Node<S>, held: &H, digest: &Digest) -> bool
+    ensures { result ≡ states.is_available (node_view S.own_key S.signature_of node.now) (H.state held.now) digest.now }
+{
+    has_own_batch(node, held, digest) && node.quorum() <= weight_of_holders(node, held, digest)
+}
+
+/// A round of what a node holds, for the votes on its own header.
+struct OfRound<'a, H: Held> {
+    held: &'a H,
+    round: u64,
+}
+
+impl<'a, H: Held> Clone for OfRound<'a, H> {
+    fn clone(&self) -> Result<Self, AllocError> {
+        Ok(*self)
+    }
+}
+
+impl<'a, H: Held> Copy for OfRound<'a, H> {}
+
+impl<'a, H: Held> Counted for OfRound<'a, H> {
+    ghost vote_of = { λ s. (H.state s.held.now).counted s.round };
+
+    fn vote(&self, voter: u16) -> Option<Vote> {
+        self.held.counted(self.round, voter)
+    }
+}
+
+/// The certificate of the own header of a round, if those whose votes count are a quorum.
+///
+/// # Errors
+/// When memory runs out.
+pub fn completed_at<S: Sign, H: Held>(
+    alloc: Global,
+    node: &Node<S>,
+    held: &H,
+    round: u64,
+) -> Result<Option<Certificate>, AllocError>
+    ensures { IfOk result (λ found. found ≡ states.completed_at (node_view S.own_key S.signature_of node.now) (H.state held.now) round) }
+{
+    match held.own_header(round) {
+        None => Ok(None),
+        Some(header) => certificate_by(alloc, node, &OfRound { held, round }, header),
+    }
+}
+
+/// The floor.
+///
+/// # Errors
+/// When memory runs out.
+pub fn floor_in<S: Sign, H: Held>(
+    alloc: Global,
+    node: &Node<S>,
+    held: &H,
+) -> Result<u64, AllocError>
+    ensures { IfOk result (λ floor. floor ≡ states.floor_in (node_view S.own_key S.signature_of node.now) (H.state held.now)) }
+{
+    let certificates = held.certificates(alloc)?;
+    let coins = held.coins(alloc)?;
+    let ledger = Ledger {
+        committee: &node.committee,
+        certificates: &certificates,
+        coins: &coins,
+    };
+    Ok(floor_by(&ledger))
+}
+
+/// The authors who have certificates of a round are a quorum.
+///
+/// # Errors
+/// When memory runs out.
+pub fn is_full_in<S: Sign, H: Held>(
+    alloc: Global,
+    node: &Node<S>,
+    held: &H,
+    round: u64,
+) -> Result<bool, AllocError>
+    ensures { IfOk result (λ full. full ≡ holdings.is_full (node_view S.own_key S.signature_of node.now) (H.state held.now).slots round) }
+{
+    let certificates = held.certificates(alloc)?;
+    Ok(is_full(node, &certificates, round))
+}

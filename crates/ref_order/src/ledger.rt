@@ -1,0 +1,48 @@
+//! What the order is made of.
+
+ghost use Rattle.std.specs.Prelude.{◌≡◌, ◌<◌, IfOk};
+ghost use Rattle.spec_model.specs.Ordering.{reaches_in, size_in};
+ghost use Rattle.spec_model.specs.Slots as slots;
+ghost use Rattle.ref_order.specs.Ledgers.{ledger_view};
+
+use committee::Committee;
+use std::alloc::{AllocError, Global};
+use wire::Certificate;
+
+/// A committee with its certificates and its coins.
+#[derive(Clone, Copy)]
+pub struct Ledger<'a> {
+    /// The committee.
+    pub committee: &'a Committee,
+    /// The certificates, the first of which counts in each slot.
+    pub certificates: &'a [Certificate],
+    /// The values of the coins, that of wave 1 first.
+    pub coins: &'a [u64],
+}
+
+/// How many members there are.
+pub fn size_in(ledger: &Ledger) -> u16
+    ensures value { result ≡ size_in (ledger_view ledger.now) }
+    ensures least { 0 < result }
+{
+    ledger.committee.size()
+}
+
+/// The certificates of a round, by author.
+pub fn round_in(alloc: Global, ledger: &Ledger, round: u64) -> Result<Vec<Certificate>, AllocError>
+    ensures { IfOk result (λ found. found.items ≡ slots.round_of (size_in (ledger_view ledger.now)) (ledger_view ledger.now).slots round) }
+{
+    crate::slots::round_of(alloc, size_in(ledger), ledger.certificates, round)
+}
+
+/// One certificate reaches another.
+pub fn reaches_in(
+    alloc: Global,
+    ledger: &Ledger,
+    start: &Certificate,
+    end: &Certificate,
+) -> Result<bool, AllocError>
+    ensures { IfOk result (λ found. found ≡ reaches_in (ledger_view ledger.now) start.now end.now) }
+{
+    crate::slots::reaches(alloc, size_in(ledger), ledger.certificates, start, end)
+}

@@ -1,0 +1,14 @@
+//! What a node is told.
+
+use spec_model::Event;
+
+/// What a node is told.
+#[derive(Drop)]
+pub enum Command {
+    /// An event comes in.
+    Event(Event),
+    /// What is pending is settled, as far as it fits a group.
+    Flush,
+    /// The machine stops, and the node is opened again.
+    Stop,
+}

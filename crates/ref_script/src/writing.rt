@@ -1,0 +1,37 @@
+//! The text of a script.
+
+ghost use Rattle.std.specs.Prelude.{◌≡◌, IfOk, map};
+ghost use Rattle.spec_model.specs.Nodes.{node_view};
+ghost use Rattle.ref_script.specs.Desks.{said};
+ghost use Rattle.spec_world.specs.Text as script;
+
+use crate::command::Command;
+use crate::frames::{put_due, without_due};
+use crate::stepping::{after, desk_on};
+use sigface::Sign;
+use spec_model::{Event, Node};
+use std::alloc::{AllocError, Global};
+
+/// What a node whose run begins with a history writes for commands: behind each of them the outputs that are due, in their
+/// order, each as a frame.
+///
+/// # Errors
+/// When memory runs out.
+#[tactic(auto, unfolding(spec_world::specs::Text::text))]
+pub fn text<S: Sign>(
+    alloc: Global,
+    node: &Node<S>,
+    history: Vec<Event>,
+    commands: Vec<Command>,
+) -> Result<Vec<u8>, AllocError>
+    ensures { IfOk result (λ written. written.items ≡ script.text (node_view S.own_key S.signature_of node.now) (script.desk_on history.items) (map said commands.items)) }
+{
+    let mut desk = desk_on(alloc, history);
+    let mut written = Vec::new(alloc);
+    for command in commands {
+        desk = after(alloc, node, desk, command)?;
+        put_due(alloc, &mut written, &desk)?;
+        desk = without_due(desk);
+    }
+    Ok(written)
+}

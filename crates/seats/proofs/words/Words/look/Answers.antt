@@ -1,6 +1,0 @@
-use Rattle.std.proofs.Common.{rules}
-use Rattle.seats.proofs.Moves.{looks}
-use Rattle.seats.proofs.words.Words.look.Goals as goal
-
-pub load-requires : goal.load-requires
-load-requires g c = (search rules, search rules, looks _ _ _ _ _ (search rules) (search rules))

@@ -1,6 +1,0 @@
-use Rattle.std.proofs.Common.{rules}
-use Rattle.seats.proofs.Moves.{reads}
-use Rattle.seats.proofs.words.Words.read.Goals as goal
-
-pub load-requires : goal.load-requires
-load-requires g c = (search rules, search rules, reads _ _ _ _ (search rules))

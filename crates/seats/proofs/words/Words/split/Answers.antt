@@ -1,9 +1,0 @@
-use Rattle.std.proofs.Common.{rules}
-use Rattle.seats.proofs.Moves.{splits, numbers}
-use Rattle.seats.proofs.words.Words.split.Goals as goal
-
-pub split_seat-place-requires : goal.split_seat-place-requires
-split_seat-place-requires g c = (search rules, search rules, splits _ _ _ (search rules))
-
-pub load-requires : goal.load-requires
-load-requires g c = (search rules, search rules, numbers _ _ _ _ (search rules))

@@ -1,9 +1,0 @@
-use Rattle.std.proofs.Common.{rules}
-use Rattle.seats.proofs.Moves.{splits, joins}
-use Rattle.seats.proofs.words.Words.tell.Goals as goal
-
-pub split_seat-place-requires : goal.split_seat-place-requires
-split_seat-place-requires g c = (search rules, search rules, splits _ _ _ (search rules))
-
-pub join_seat-requires : goal.join_seat-requires
-join_seat-requires g c = (search rules, search rules, search rules, search rules, joins _ _ _ _ _ (search rules) (search rules))

@@ -1,6 +1,0 @@
-use Rattle.model.specs.Admitting.{IsLegal}
-use Rattle.validator.specs.Setting.{node_of}
-use Rattle.shared.proofs.node.Node.accepted.Given as goal
-
-abbrev pub ghosts-look : goal.ghosts-look
-ghosts-look g a = record { judged = IsLegal (node_of g.S.Sign.own_key g.S.Sign.signature_of a.self.now.key.setting) }

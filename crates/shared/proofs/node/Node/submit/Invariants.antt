@@ -1,4 +1,0 @@
-use Rattle.shared.proofs.node.Node.submit.Given as goal
-
-abbrev pub ghosts-accept : goal.ghosts-accept
-ghosts-accept g a = record { event = a.event }

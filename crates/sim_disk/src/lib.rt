@@ -1,0 +1,45 @@
+//! What a stop is to leave of a disk in memory.
+#![tactic(auto)]
+
+ghost use Rattle.std.specs.Prelude.{ℕ, List, IfOk};
+ghost use Rattle.diskmodel.specs.Memory.{state_of};
+ghost use Rattle.sim_disk.specs.Stops.{WillLeave, IsTornBy};
+
+use diskmodel::MemDisk;
+use std::alloc::{AllocError, Global};
+
+/// The disk, of which the next stop leaves the bytes of the last sync. `AllocError` where a growth was refused.
+pub fn losing(alloc: Global, mut disk: MemDisk) -> Result<MemDisk, AllocError>
+    ensures { IfOk result (λ left. WillLeave disk left (state_of disk).firm) }
+{
+    let firm = disk.firm().to_vec(alloc)?;
+    disk.choose(firm);
+    Ok(disk)
+}
+
+/// The disk, of which the next stop leaves this byte wherever one was written since the last sync. `AllocError` where a growth
+/// was refused.
+pub fn tearing(alloc: Global, mut disk: MemDisk, byte: u8) -> Result<MemDisk, AllocError>
+    ensures { IfOk result (λ left. (found : List ℕ) × IsTornBy byte disk found × WillLeave disk left found) }
+{
+    let found = torn(alloc, &disk, byte)?;
+    disk.choose(found);
+    Ok(disk)
+}
+
+// What a read of the disk gives, with this byte wherever one was written since the last sync.
+fn torn(alloc: Global, disk: &MemDisk, byte: u8) -> Result<Vec<u8>, AllocError>
+    ensures { IfOk result (λ torn. IsTornBy byte disk.now torn.items) }
+{
+    let bytes = disk.bytes();
+    let mut torn = Vec::new(alloc);
+    for place in 0..bytes.len() {
+        let found = if disk.is_written(place as u64) {
+            byte
+        } else {
+            bytes[place]
+        };
+        torn.push(found)?;
+    }
+    Ok(torn)
+}

@@ -1,0 +1,206 @@
+//! A script, line by line.
+
+use crate::answer::Answer;
+use crate::ending::Ending;
+use crate::gathered::Gathered;
+use crate::obeying::step;
+use crate::running::Running;
+use crate::script_lines::Script;
+use crate::settings::Settings;
+use diskmodel::{MemDisk, Switch};
+use sim_script::{Command, Labels};
+use std::alloc::Global;
+use std::io::{self, Read, Write};
+use std::sync::Wait;
+use wire::{Output, Vote};
+
+/// Runs the script that is read, and writes a line for each command. Where several lines of the script are there, their
+/// answers may be written together, but always before more input is waited for. Answers the exit status: 0, or 2 after
+/// a bad line (told as an error), 3 where memory was refused outside an event or more calls were told to fail than can
+/// stand at once, 4 where the journal couldn't be opened or had no room for a group that was to be stopped (told as that
+/// line's answer), 5 where a read or write failed, 6 after more lines than are counted, 7 where a group was written to its
+/// end though it was to be stopped.
+pub fn run<R: Wait, I: Read + Drop, W: Write, E: Write>(
+    rt: &R,
+    alloc: Global,
+    reader: I,
+    writer: &mut W,
+    errors: &mut E,
+) -> u8 {
+    let mut script = match Script::new(alloc, reader) {
+        Ok(script) => script,
+        Err(error) => return status_of(&Ending::from(error)),
+    };
+    let mut gathered = Gathered::new(alloc);
+    let ending = match play(rt, alloc, &mut script, writer, &mut gathered) {
+        Ok(_) => None,
+        Err(ending) => Some(told(&mut gathered, ending)),
+    };
+    if gathered.write_to(writer).is_err() {
+        return 5;
+    }
+    match ending {
+        None => 0,
+        Some(ending) => {
+            if let Ending::BadCommand = &ending {
+                tell_bad_line(alloc, errors, script.number());
+            }
+            status_of(&ending)
+        }
+    }
+}
+
+/// The journal's disk after a script, or nothing where the script isn't run to its end.
+pub fn disk_after<R: Wait>(rt: &R, alloc: Global, script: &[u8]) -> Option<MemDisk> {
+    Some(left_by(rt, alloc, script)?.disk)
+}
+
+/// The vote that may go out next after a script; nothing where it is another output or none, or the script isn't run to its end.
+pub fn vote_after<R: Wait>(rt: &R, alloc: Global, script: &[u8]) -> Option<Vote> {
+    match left_by(rt, alloc, script)?.output? {
+        Output::Vote(vote) => Some(vote),
+        _ => None,
+    }
+}
+
+fn left_by<R: Wait>(rt: &R, alloc: Global, script: &[u8]) -> Option<Left> {
+    let mut script = Script::new(alloc, script).ok()?;
+    let mut gathered = Gathered::new(alloc);
+    play(rt, alloc, &mut script, &mut io::sink(), &mut gathered).ok()
+}
+
+// The exit status behind an ending before the script's end.
+fn status_of(ending: &Ending) -> u8 {
+    match ending {
+        Ending::BadCommand => 2,
+        Ending::Memory => 3,
+        Ending::Fault(_) => 4,
+        Ending::InputOutput => 5,
+        Ending::TooLong => 6,
+        Ending::Unstopped => 7,
+    }
+}
+
+// Adds the line of the ending, if it has one.
+fn told(gathered: &mut Gathered, ending: Ending) -> Ending {
+    match ending {
+        Ending::Fault(error) => match gathered.add_fault(&error) {
+            Ok(()) => Ending::Fault(error),
+            Err(ending) => ending,
+        },
+        other => other,
+    }
+}
+
+fn tell_bad_line<E: Write>(alloc: Global, errors: &mut E, number: u64) {
+    if let Ok(line) = format!(in alloc; "line {number}: bad command\n") {
+        let _ = errors.write_all(line.as_bytes());
+    }
+}
+
+/// What a script leaves: the journal's disk, and the output that may go out next.
+#[derive(Drop)]
+struct Left {
+    disk: MemDisk,
+    output: Option<Output>,
+}
+
+// Plays the lines. The node is opened at the first one that sets nothing.
+fn play<R: Wait, I: Read + Drop, W: Write>(
+    rt: &R,
+    alloc: Global,
+    script: &mut Script<I>,
+    writer: &mut W,
+    gathered: &mut Gathered,
+) -> Result<Left, Ending> {
+    let switch = Switch::new(alloc)?;
+    let disk = MemDisk::with_switch(alloc, Vec::new(alloc), &switch)?;
+    let Some(settings) = read_settings(script, writer, gathered)? else {
+        return Ok(Left { disk, output: None });
+    };
+    let Some(config) = settings.config(alloc)? else {
+        return Err(Ending::BadCommand);
+    };
+    let running = Running::open(alloc, &config, &switch, disk)?;
+    obey_all(rt, alloc, running, script, writer, gathered)
+}
+
+// Reads what is set, up to a line that sets nothing; there may be none.
+fn read_settings<I: Read + Drop, W: Write>(
+    script: &mut Script<I>,
+    writer: &mut W,
+    gathered: &mut Gathered,
+) -> Result<Option<Settings>, Ending> {
+    let mut settings = Settings::new();
+    for _ in 0..u64::MAX {
+        if !script.next(writer, gathered)? {
+            return Ok(None);
+        }
+        match script.command() {
+            Some(Command::Set(setting)) => {
+                if !settings.set(setting) {
+                    return Err(Ending::BadCommand);
+                }
+            }
+            _ => return Ok(Some(settings)),
+        }
+    }
+    Err(Ending::TooLong)
+}
+
+// Carries out the line that was read last, and those behind it.
+fn obey_all<R: Wait, I: Read + Drop, W: Write>(
+    rt: &R,
+    alloc: Global,
+    mut running: Running<'_>,
+    script: &mut Script<I>,
+    writer: &mut W,
+    gathered: &mut Gathered,
+) -> Result<Left, Ending> {
+    let mut labels = Labels::new(alloc);
+    for _ in 0..u64::MAX {
+        let (next, goes_on) = obey(rt, alloc, running, script, writer, gathered, &mut labels)?;
+        running = next;
+        if !goes_on {
+            return Ok(left_of(rt, running));
+        }
+    }
+    Err(Ending::TooLong)
+}
+
+// Carries out the line that was read last; says whether there is one behind it.
+fn obey<'a, R: Wait, I: Read + Drop, W: Write>(
+    rt: &R,
+    alloc: Global,
+    running: Running<'a>,
+    script: &mut Script<I>,
+    writer: &mut W,
+    gathered: &mut Gathered,
+    labels: &mut Labels,
+) -> Result<(Running<'a>, bool), Ending> {
+    let Some(command) = script.command() else {
+        return Err(Ending::BadCommand);
+    };
+    let (next, answer) = step(rt, alloc, running, labels, command)?;
+    let goes_on = tell(script, writer, gathered, labels, &answer)?;
+    Ok((next, goes_on))
+}
+
+// Tells the answer, and reads the next line; says whether there is one.
+fn tell<I: Read + Drop, W: Write>(
+    script: &mut Script<I>,
+    writer: &mut W,
+    gathered: &mut Gathered,
+    labels: &Labels,
+    answer: &Answer,
+) -> Result<bool, Ending> {
+    gathered.add(labels, answer)?;
+    script.next(writer, gathered)
+}
+
+// What the node leaves.
+fn left_of<R: Wait>(rt: &R, mut running: Running<'_>) -> Left {
+    let output = running.collect(rt);
+    let disk = running.into_disk();
+    Left { disk, output }
+}

@@ -1,0 +1,216 @@
+-- Admission: what a node answers an event, and what it gives out for it. Of the tests the first that applies decides.
+-- It reads what the node holds now, and of a new event what the node then holds.
+use Rattle.std.specs.Prelude.{◌≡◌, ℕ, ◌+◌, ◌-◌, ◌*◌, ◌/◌, ◌==◌, ◌&&◌, ◌||◌, not, nat_le, Bool, true, false, List, [], ◌∷◌, ◌++◌, map, length, take, drop, Option, Some, None, is_some, option_map, slice_get, All, IsTrue, if◌then◌else◌}
+use Rattle.std.specs.List.{list_all, range_with_len}
+use Rattle.std.specs.Option.{option_map_or, option_to_list}
+use Rattle.std.specs.Str.{bytes_eq}
+use Rattle.wire.specs.Batches.{batch_body}
+use Rattle.wire.specs.Grammar.{IsMessage}
+use Rattle.wire.specs.declared.limits.TheConstants.{MAX_ORDER_DIGESTS}
+use Rattle.header.specs.Checks.{fault_of, accepts_all}
+use Rattle.std.specs.Cmp.Lexicographic.{pointwise}
+use Rattle.wire.specs.declared.message.Message.TheVariants as message
+use Rattle.wire.specs.declared.output.Output.TheVariants as output
+use Rattle.spec_model.specs.Histories.{History}
+use Rattle.spec_model.specs.Holdings.{batch_digest, own_vote, is_low, is_full, all_held}
+use Rattle.spec_model.specs.Nodes.{Node, IsNode}
+use Rattle.spec_model.specs.States.{State, whole, batch_in, has_own_batch, is_available, completed_at, floor_in}
+use Rattle.spec_model.specs.Slots.{same_digest, header_digest, certificate_digest}
+use Rattle.spec_model.specs.Words.{Author, BatchAck, BatchReference, Certificate, Coin, Contents, Digest, Event, Header, HeaderBody, Message, Output, ParentReference, Vote}
+use Rattle.spec_model.specs.declared.admission.Admission.{Admission}
+use Rattle.spec_model.specs.declared.admission.Admission.TheVariants.{New, Known, Refused}
+use Rattle.spec_model.specs.declared.refusal.Refusal.TheVariants.{TooOld, MissingParents, MissingBatch, Equivocation, CertConflict, DigestClash, AlreadyProposed, NotOurs, CoinOutOfTurn, CoinEarly, CoinConflict, StoreFull}
+
+-- an author is the node itself
+abbrev pub is_own : Node → Author → Bool
+is_own node author = author.0 == node.own.0
+
+-- ---- what is given out
+
+-- an own batch goes to all, and of another one its author learns that it is held
+abbrev pub batch_outputs : Node → Contents → List Output
+batch_outputs node batch =
+    (if is_own node batch.author then output.Batch batch
+    else output.Ack batch.author (record { author = node.own; batch = batch_digest batch })) ∷ []
+
+-- an own header goes to all, and the author of another one gets the vote for it
+abbrev pub header_outputs : Node → Header → List Output
+header_outputs node header =
+    (if is_own node header.body.author then output.Header header else output.Vote (own_vote node header.body)) ∷ []
+
+-- the piece of this number, from 0 on, of a list that follows so many digests of the order
+abbrev pub piece_at : ℕ → List Digest → ℕ → Output
+piece_at start digests piece = output.Order (start + MAX_ORDER_DIGESTS * piece) (take MAX_ORDER_DIGESTS (drop (MAX_ORDER_DIGESTS * piece) digests))
+
+-- the list in pieces of as many digests as an output may have, but for the last one
+abbrev pub pieces : ℕ → List Digest → List Output
+pieces start digests = map (piece_at start digests) (range_with_len 0 ((length digests + (MAX_ORDER_DIGESTS - 1)) / MAX_ORDER_DIGESTS))
+
+-- what is added to the order
+abbrev pub order_outputs : State → State → List Output
+order_outputs now later = pieces (length now.order) (drop (length now.order) later.order)
+
+-- ---- the answers
+
+-- a case of a table: where a look-up gives something, that decides, and else the cases behind it
+infixr 5 when◌gives◌else◌
+abbrev pub when◌gives◌else◌ : {X : Type 0} → Option X → (X → Admission) → Admission → Admission
+when Some held gives answer else others = answer held
+when None gives answer else others = others
+
+-- where this batch has the digest already
+abbrev pub held_batch_answer : Node → Contents → Contents → Admission
+held_batch_answer node held batch =
+    if bytes_eq (batch_body held) (batch_body batch) then Known (batch_outputs node held) else Refused DigestClash
+
+abbrev pub batch_answer : Node → State → Contents → Admission
+batch_answer node now batch =
+    when batch_in now (batch_digest batch) gives (λ held. held_batch_answer node held batch)
+    else if nat_le node.charter.batches (length now.batches) then Refused StoreFull
+    else New (batch_outputs node batch)
+
+abbrev pub ack_answer : Node → State → BatchAck → Admission
+ack_answer node now ack =
+    if not (has_own_batch node now ack.batch) then Refused NotOurs
+    else if is_own node ack.author || now.acked ack.batch ack.author.0 then Known []
+    else New []
+
+-- a header may name a batch: it is held with that worker, and for an own header it is available
+abbrev pub may_name : Node → State → Header → BatchReference → Bool
+may_name node now header named =
+    option_map_or (λ batch. batch.worker == named.worker) (batch_in now named.digest) false
+    && (not (is_own node header.body.author) || is_available node now named.digest)
+
+-- for an own header, where the round has this one already
+abbrev pub held_header_answer : Node → Header → Header → Admission
+held_header_answer node held header =
+    if same_digest (header_digest held.body) (header_digest header.body) then Known (header_outputs node held)
+    else Refused AlreadyProposed
+
+-- for another header, where its author and round have the vote for this digest already
+abbrev pub voted_answer : Node → Digest → Header → Admission
+voted_answer node voted header =
+    if same_digest voted (header_digest header.body) then Known (header_outputs node header) else Refused Equivocation
+
+-- what decides of a header that is held or voted for already
+abbrev pub known_header_answer : Node → State → Header → Option Admission
+known_header_answer node now header =
+    if is_own node header.body.author then option_map (λ held. held_header_answer node held header) (now.own_headers header.body.round)
+    else option_map (λ voted. voted_answer node voted header) (now.votes header.body.round header.body.author.0)
+
+abbrev pub header_answer : Node → State → Header → Admission
+header_answer node now header =
+    if is_low (floor_in node now) header.body.round then Refused TooOld
+    else when known_header_answer node now header gives (λ answer. answer)
+    else if not (all_held now.slots (floor_in node now) header.body) then Refused MissingParents
+    else if not (list_all (may_name node now header) header.body.batches) then Refused MissingBatch
+    else New (header_outputs node header)
+
+-- what a new vote on the own header of a round gives out: the certificate, if it completes one, and what that adds to the order
+abbrev pub vote_outputs : Node → State → State → ℕ → List Output
+vote_outputs node now later round =
+    map output.Certificate (option_to_list (completed_at node later round)) ++ order_outputs now later
+
+-- for a vote, where this own certificate of its round is held
+abbrev pub held_answer : Certificate → Vote → Admission
+held_answer held vote =
+    if same_digest (header_digest held.header) vote.header then Known (output.Certificate held ∷ []) else Refused CertConflict
+
+-- for a vote, where this own header of its round is held
+abbrev pub own_header_answer : Node → State → State → Header → Vote → Admission
+own_header_answer node now later header vote =
+    if not (same_digest (header_digest header.body) vote.header) then Refused NotOurs
+    else when now.slots vote.round node.own.0 gives (λ held. held_answer held vote)
+    else if is_some (now.counted vote.round vote.voter.0) then Known []
+    else New (vote_outputs node now later vote.round)
+
+abbrev pub vote_answer : Node → State → State → Vote → Admission
+vote_answer node now later vote =
+    if not (is_own node vote.author) then Refused NotOurs
+    else if is_low (floor_in node now) vote.round then Refused TooOld
+    else when now.own_headers vote.round gives (λ header. own_header_answer node now later header vote)
+    else Refused NotOurs
+
+-- two references name the same batch and worker
+abbrev pub same_batch : BatchReference → BatchReference → Bool
+same_batch one other = same_digest one.digest other.digest && (one.worker == other.worker)
+
+-- two references name the same certificate
+abbrev pub same_parent : ParentReference → ParentReference → Bool
+same_parent one other = (one.author.0 == other.author.0) && same_digest one.certificate other.certificate
+
+abbrev pub same_header : HeaderBody → HeaderBody → Bool
+same_header one other =
+    ((one.author.0 == other.author.0) && (one.round == other.round))
+    && (pointwise same_batch one.batches other.batches && pointwise same_parent one.parents other.parents)
+
+-- where the certificate's slot holds this one already
+abbrev pub held_certificate_answer : Certificate → Certificate → Admission
+held_certificate_answer held certificate =
+    if not (same_digest (certificate_digest held.header) (certificate_digest certificate.header)) then Refused CertConflict
+    else if same_header held.header certificate.header then Known []
+    else Refused DigestClash
+
+abbrev pub certificate_answer : Node → State → State → Certificate → Admission
+certificate_answer node now later certificate =
+    if is_low (floor_in node now) certificate.header.round then Refused TooOld
+    else when now.slots certificate.header.round certificate.header.author.0 gives (λ held. held_certificate_answer held certificate)
+    else if not (all_held now.slots (floor_in node now) certificate.header) then Refused MissingParents
+    else New (order_outputs now later)
+
+abbrev pub coin_answer : Node → State → State → Author → Coin → Admission
+coin_answer node now later sender coin =
+    if not (is_own node sender) then Refused NotOurs
+    else when slice_get now.coins (coin.wave - 1) gives (λ taken. if taken == coin.value then Known [] else Refused CoinConflict)
+    else if not (coin.wave == length now.coins + 1) then Refused CoinOutOfTurn
+    else if not (is_full node now.slots (2 * coin.wave + 1)) then Refused CoinEarly
+    else New (order_outputs now later)
+
+-- what an event is answered by what the node holds now, and what it holds with the event
+abbrev pub answer : Node → State → State → Event → Admission
+answer node now later event = on event.message
+  where
+    on : Message → Admission
+    on (message.Batch batch) = batch_answer node now batch
+    on (message.BatchAck ack) = ack_answer node now ack
+    on (message.Header header) = header_answer node now header
+    on (message.Vote vote) = vote_answer node now later vote
+    on (message.Certificate certificate) = certificate_answer node now later certificate
+    on (message.Coin coin) = coin_answer node now later event.sender coin
+
+-- what an event is answered at the history behind which it comes
+abbrev pub admit : Node → History → Event → Admission
+admit node history event = answer node (whole node history) (whole node (history ++ event ∷ [])) event
+
+-- ---- runs
+
+-- the event that got the answer is new
+abbrev pub is_new : Admission → Bool
+is_new (New outputs) = true
+is_new (Known outputs) = false
+is_new (Refused refusal) = false
+
+-- the history after an event: a new one is added, and no other
+abbrev pub history_after : Node → History → Event → History
+history_after node history event = if is_new (admit node history event) then history ++ event ∷ [] else history
+
+-- the answers to events one after the other
+abbrev pub answers : Node → History → List Event → List Admission
+answers node history [] = []
+answers node history (event ∷ events) = admit node history event ∷ answers node (history_after node history event) events
+
+-- events are each new, one after the other, behind a history
+abbrev pub each_new : Node → History → List Event → Bool
+each_new node history [] = true
+each_new node history (event ∷ events) = is_new (admit node history event) && each_new node (history ++ event ∷ []) events
+
+-- an event as the node takes it: a message within all limits that passed the checks, whatever its signatures
+pub record IsTaken (node : Node) (event : Event) : Type 0 where
+  pub message : IsMessage event.message
+  pub passed : fault_of node.charter accepts_all event ≡ None
+
+-- a history is legal: the node took each event, and it was new at those before it
+pub record IsLegal (node : Node) (history : History) : Type 0 where
+  pub sound : IsNode node
+  pub taken : All (IsTaken node) history
+  pub new : IsTrue (each_new node [] history)

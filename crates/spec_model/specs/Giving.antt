@@ -1,0 +1,56 @@
+-- What may be given out at a history, and what of a history a node keeps.
+use Rattle.std.specs.Prelude.{◌≡◌, ◌<◌, ◌≤◌, ℕ, ◌&&◌, nat_lt, Bool, false, List, ◌++◌, map, flat_map, filter, length, take, drop, Option, None, Contains, if◌then◌else◌}
+use Rattle.std.specs.Option.{option_map_or}
+use Rattle.wire.specs.declared.limits.TheConstants.{MAX_ORDER_DIGESTS}
+use Rattle.wire.specs.declared.output.Output.TheVariants as output
+use Rattle.spec_model.specs.Admitting.{is_own, batch_outputs, header_outputs}
+use Rattle.spec_model.specs.Histories.{History, batches, headers}
+use Rattle.spec_model.specs.Holdings.{voted_digest, certificates, order, is_low}
+use Rattle.spec_model.specs.Nodes.{Node}
+use Rattle.spec_model.specs.Slots.{same_digest, header_digest}
+use Rattle.spec_model.specs.States.{State, whole, floor_in}
+use Rattle.spec_model.specs.Words.{Certificate, Digest, Output}
+
+-- a certificate may be given out: it is an own one, of the header that has the node's vote
+abbrev pub is_given : Node → History → Certificate → Bool
+is_given node history certificate =
+    is_own node certificate.header.author
+    && option_map_or (same_digest (header_digest certificate.header)) (voted_digest history certificate.header.round node.own.0) false
+
+-- what each batch and each header puts out, and the own certificates of headers that have the node's vote
+abbrev pub given : Node → History → List Output
+given node history =
+    flat_map (batch_outputs node) (batches history)
+    ++ flat_map (header_outputs node) (headers history)
+    ++ map output.Certificate (filter (is_given node history) (certificates node history))
+
+-- digests are a piece of an order: one or more, as many as an output may have, that stand there from a place on
+pub record IsPiece (order : List Digest) (start : ℕ) (digests : List Digest) : Type 0 where
+  pub some : 0 < length digests
+  pub few : length digests ≤ MAX_ORDER_DIGESTS
+  pub stands : digests ≡ take (length digests) (drop start order)
+
+-- what may be given out: what is given, and each piece of the order
+abbrev pub MayGive : Node → History → Output → Type 0
+MayGive node history (output.Order start digests) = IsPiece (order node history) start digests
+MayGive node history other = Contains (given node history) other
+
+-- ---- what is kept
+
+-- what is found for a round that isn't low
+abbrev pub unless_low : {X : Type 0} → ℕ → ℕ → Option X → Option X
+unless_low floor round found = if is_low floor round then None else found
+
+-- what is kept: of the votes, the own headers and the votes on them the rounds that aren't low, and of the certificates those at or
+-- above the floor
+abbrev pub collected : Node → State → State
+collected node state = record state {
+  votes = λ round author. unless_low (floor_in node state) round (state.votes round author);
+  own_headers = λ round. unless_low (floor_in node state) round (state.own_headers round);
+  counted = λ round voter. unless_low (floor_in node state) round (state.counted round voter);
+  slots = λ round author. if nat_lt round (floor_in node state) then None else state.slots round author;
+}
+
+-- what is kept of a history
+abbrev pub kept : Node → History → State
+kept node history = collected node (whole node history)

@@ -1,0 +1,55 @@
+-- A history: the events of a node, the oldest first, and what it has of each kind.
+use Rattle.std.specs.Prelude.{ℕ, List, filter_map, Option, Some, None}
+use Rattle.wire.specs.declared.message.Message.TheVariants as message
+use Rattle.spec_model.specs.Words.{BatchAck, Certificate, Contents, Event, Header, Message, Vote}
+
+abbrev pub History : Type 0
+History = List Event
+
+-- what a message is, if it is of the kind
+abbrev pub as_batch : Message → Option Contents
+as_batch (message.Batch batch) = Some batch
+as_batch _ = None
+
+abbrev pub as_ack : Message → Option BatchAck
+as_ack (message.BatchAck ack) = Some ack
+as_ack _ = None
+
+abbrev pub as_header : Message → Option Header
+as_header (message.Header header) = Some header
+as_header _ = None
+
+abbrev pub as_vote : Message → Option Vote
+as_vote (message.Vote vote) = Some vote
+as_vote _ = None
+
+abbrev pub as_certificate : Message → Option Certificate
+as_certificate (message.Certificate certificate) = Some certificate
+as_certificate _ = None
+
+abbrev pub as_coin : Message → Option ℕ
+as_coin (message.Coin coin) = Some coin.value
+as_coin _ = None
+
+abbrev pub batches : History → List Contents
+batches history = filter_map (λ event. as_batch event.message) history
+
+-- the acknowledgements of batches
+abbrev pub acks : History → List BatchAck
+acks history = filter_map (λ event. as_ack event.message) history
+
+-- the headers, own ones too: each is a vote for its author and round
+abbrev pub headers : History → List Header
+headers history = filter_map (λ event. as_header event.message) history
+
+-- the votes that came in, which in a legal history are on own headers
+abbrev pub votes : History → List Vote
+votes history = filter_map (λ event. as_vote event.message) history
+
+-- the certificates that came in
+abbrev pub received : History → List Certificate
+received history = filter_map (λ event. as_certificate event.message) history
+
+-- the values of the coins, that of wave 1 first
+abbrev pub coins : History → List ℕ
+coins history = filter_map (λ event. as_coin event.message) history

@@ -1,0 +1,146 @@
+-- What a history holds: batches and whether they are available, votes, certificates, the order and the rounds.
+use Rattle.std.specs.Prelude.{ℕ, ◌+◌, ◌-◌, ◌==◌, ◌&&◌, ◌||◌, nat_le, nat_lt, max, Bool, false, List, [], ◌++◌, map, fold, filter, filter_map, find, Option, Some, None, is_some, option_map, option_and_then, if◌then◌else◌}
+use Rattle.std.specs.List.{list_any, list_all}
+use Rattle.std.specs.Option.{option_map_or}
+use Rattle.wire.specs.Digests.{batch_digest_of}
+use Rattle.committee.specs.Charter.{numbers, weight}
+use Rattle.spec_model.specs.Histories.{History, batches, acks, headers, votes, received, coins}
+use Rattle.spec_model.specs.Nodes.{Node, size_of, quorum}
+use Rattle.spec_model.specs.Ordering.{Ledger, order_by, floor_by}
+use Rattle.spec_model.specs.Slots.{Slots, same_digest, header_digest, certificate_digest, is_of_slot, slots_of}
+use Rattle.spec_model.specs.Words.{Certificate, Contents, Digest, Header, HeaderBody, ParentReference, Vote, VoteEntry}
+
+-- ---- batches
+
+abbrev pub batch_digest : Contents → Digest
+batch_digest batch = record { 0 = batch_digest_of batch }
+
+-- the batch of a digest, if it is held
+abbrev pub batch_at : History → Digest → Option Contents
+batch_at history digest = find (λ batch. same_digest (batch_digest batch) digest) (batches history)
+
+-- a member has acknowledged the batch of this digest
+abbrev pub has_acked : History → Digest → ℕ → Bool
+has_acked history digest member = list_any (λ ack. same_digest ack.batch digest && (ack.author.0 == member)) (acks history)
+
+-- an own header has named the batch of this digest
+abbrev pub was_named : Node → History → Digest → Bool
+was_named node history digest =
+    list_any (λ header. (header.body.author.0 == node.own.0) && list_any (λ named. same_digest named.digest digest) header.body.batches) (headers history)
+
+-- ---- votes
+
+-- the header that has the vote for an author and round: each header that is taken is voted for, so the one that is held
+abbrev pub voted_header : History → ℕ → ℕ → Option Header
+voted_header history round author = find (λ header. is_of_slot round author header.body) (headers history)
+
+-- the digest that has the vote for an author and round
+abbrev pub voted_digest : History → ℕ → ℕ → Option Digest
+voted_digest history round author = option_map (λ header. header_digest header.body) (voted_header history round author)
+
+-- a vote is one on this header by this member
+abbrev pub is_vote_on : HeaderBody → ℕ → Vote → Bool
+is_vote_on header voter vote =
+    is_of_slot vote.round vote.author.0 header && ((vote.voter.0 == voter) && same_digest vote.header (header_digest header))
+
+-- the node's own vote for a header: it signs the certificate's digest
+abbrev pub own_vote : Node → HeaderBody → Vote
+own_vote node header = record {
+  header = header_digest header;
+  round = header.round;
+  author = header.author;
+  voter = node.own;
+  signature = node.sign (certificate_digest header);
+}
+
+-- a member's counted vote on an own header: the first that came in, and the node's own from the beginning
+abbrev pub counted_vote : Node → History → HeaderBody → ℕ → Option Vote
+counted_vote node history header voter = if voter == node.own.0 then Some (own_vote node header) else find (is_vote_on header voter) (votes history)
+
+-- a member's counted vote on the own header of a round
+abbrev pub counted_at : Node → History → ℕ → ℕ → Option Vote
+counted_at node history round voter = option_and_then (λ header. counted_vote node history header.body voter) (voted_header history round node.own.0)
+
+-- a vote as a certificate has it
+abbrev pub entry_of : Vote → VoteEntry
+entry_of vote = record { voter = vote.voter; signature = vote.signature }
+
+-- a member's counted vote on an own header, as a certificate has it
+abbrev pub entry_on : Node → History → HeaderBody → ℕ → Option VoteEntry
+entry_on node history header voter = option_map entry_of (counted_vote node history header voter)
+
+-- the votes of members as a certificate has them, rising by voter
+abbrev pub votes_by : Node → (ℕ → Option Vote) → List VoteEntry
+votes_by node counted = filter_map (λ voter. option_map entry_of (counted voter)) (numbers (size_of node))
+
+-- the votes on an own header
+abbrev pub votes_on : Node → History → HeaderBody → List VoteEntry
+votes_on node history header = votes_by node (counted_vote node history header)
+
+-- ---- certificates
+
+-- the genesis certificate of an author
+abbrev pub genesis : ℕ → Certificate
+genesis author = record { header = record { author = record { 0 = author }; round = 0; batches = []; parents = [] }; votes = [] }
+
+-- a member's vote on an own header counts
+abbrev pub has_voted : Node → History → HeaderBody → ℕ → Bool
+has_voted node history header voter = is_some (counted_vote node history header voter)
+
+-- the certificate of an own header with these votes of members, if they are a quorum
+abbrev pub certificate_by : Node → (ℕ → Option Vote) → Header → Option Certificate
+certificate_by node counted header =
+    if (header.body.author.0 == node.own.0) && nat_le (quorum node) (weight node.charter (λ voter. is_some (counted voter)))
+    then Some (record { header = header.body; votes = votes_by node counted }) else None
+
+-- the certificate of an own header, if those who voted for it are a quorum
+abbrev pub completed : Node → History → Header → Option Certificate
+completed node history header = certificate_by node (counted_vote node history header.body) header
+
+-- all certificates: those of the genesis, those received, and the own ones
+abbrev pub certificates : Node → History → List Certificate
+certificates node history =
+    map genesis (numbers (size_of node)) ++ received history ++ filter_map (completed node history) (headers history)
+
+-- what each slot holds
+abbrev pub slots : Node → History → Slots
+slots node history = slots_of (certificates node history)
+
+-- ---- the order and the rounds
+
+abbrev pub ledger_of : Node → Slots → List ℕ → Ledger
+ledger_of node slots coins = record { charter = node.charter; slots = slots; coins = coins }
+
+abbrev pub ledger_at : Node → History → Ledger
+ledger_at node history = ledger_of node (slots node history) (coins history)
+
+abbrev pub order : Node → History → List Digest
+order node history = order_by (ledger_at node history)
+
+abbrev pub floor : Node → History → ℕ
+floor node history = floor_by (ledger_at node history)
+
+-- a round is low, and nothing of it is taken any more: the genesis, or one at or below a floor above 0. The floor's own round
+-- is the deepest that the last committed leader orders, so its certificates are kept; each leader to come orders less deep
+abbrev pub is_low : ℕ → ℕ → Bool
+is_low floor round = (round == 0) || (nat_lt 0 floor && nat_le round floor)
+
+-- the authors who have certificates of a round are a quorum
+abbrev pub is_full : Node → Slots → ℕ → Bool
+is_full node slots round = nat_le (quorum node) (weight node.charter (λ author. is_some (slots round author)))
+
+-- 1 plus the greatest round of which a quorum of authors has certificates
+abbrev pub round_by : Node → List Certificate → ℕ
+round_by node certificates = 1 + fold max 0 (filter (is_full node (slots_of certificates)) (map (λ c. c.header.round) certificates))
+
+abbrev pub round : Node → History → ℕ
+round node history = round_by node (certificates node history)
+
+-- a parent of a header of this round is held: its certificate is there, or it lies at or below a floor above 0, and isn't asked for
+abbrev pub is_held : Slots → ℕ → ℕ → ParentReference → Bool
+is_held slots floor round parent =
+    option_map_or (λ c. same_digest (certificate_digest c.header) parent.certificate) (slots (round - 1) parent.author.0) false
+    || (nat_lt 0 floor && nat_le (round - 1) floor)
+
+abbrev pub all_held : Slots → ℕ → HeaderBody → Bool
+all_held slots floor header = list_all (is_held slots floor header.round) header.parents

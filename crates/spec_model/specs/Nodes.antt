@@ -1,0 +1,44 @@
+-- The node whose history it is, and what its committee fixes.
+use Rattle.std.specs.Prelude.{◌≡◌, ℕ, ◌<◌, length, Some, slice_get}
+use Rattle.committee.specs.Charter.{Charter, IsCharter, quorum_of}
+use Rattle.sigface.specs.Tied.{AreAccepted}
+use Rattle.header.specs.Checks.{Accepts}
+use Rattle.wire.specs.Fields.{IsSignature}
+use Rattle.wire.specs.declared.keys.Key.{Key}
+use Rattle.spec_model.specs.Words.{Author, Digest, Signature}
+use Rattle.spec_model.specs.declared.node.Node as declared
+
+-- a node: its own number, its committee, its signer's key, and the signature that it gives to a digest
+pub record Node : Type 0 where
+  pub own : Author
+  pub charter : Charter
+  pub key : Key
+  pub sign : Digest → Signature
+
+-- what holds of each node: it is a member of its committee with its signer's key, and signatures are as long as they have to be
+pub record IsNode (node : Node) : Type 0 where
+  pub charter : IsCharter node.charter
+  pub member : node.own.0 < length node.charter.keys
+  pub own_key : slice_get node.charter.keys node.own.0 ≡ Some node.key
+  pub signatures : (digest : Digest) → IsSignature (node.sign digest)
+
+-- how many members the node's committee has
+abbrev pub size_of : Node → ℕ
+size_of node = length node.charter.keys
+
+-- what members of its committee who are a quorum weigh at least
+abbrev pub quorum : Node → ℕ
+quorum node = quorum_of node.charter
+
+-- what a contract sees of a value of the type `Node`, with its signer's key and the signatures that it gives
+abbrev pub node_view : {S : Type 0} → (S → Key) → (S → Digest → Signature) → declared.Node S → Node
+node_view own_key signature_of node = record {
+  own = node.own;
+  charter = node.committee;
+  key = own_key node.signer;
+  sign = signature_of node.signer;
+}
+
+-- a node's signer and a verifier belong together: what the node signs is accepted for its key
+abbrev pub AreTied : Node → Accepts → Type 0
+AreTied node accepts = AreAccepted accepts node.key node.sign

@@ -1,0 +1,46 @@
+//! Whose history it is.
+
+ghost use Rattle.std.specs.Prelude.{◌≡◌, ◌<◌, ◌≤◌};
+ghost use Rattle.spec_model.specs.Nodes.{node_view, quorum, size_of};
+ghost use Rattle.spec_model.specs.Admitting.{is_own};
+ghost use Rattle.committee.specs.declared.members.TheConstants.{MAX_MEMBERS};
+
+use committee::Committee;
+use sigface::Sign;
+use wire::Author;
+
+/// A node of a committee: its number, the committee and its signer.
+#[derive(Drop)]
+pub struct Node<S: Sign> {
+    /// Its number.
+    pub own: Author,
+    /// The committee.
+    pub committee: Committee,
+    /// What signs for it.
+    pub signer: S,
+}
+
+impl<S: Sign> Node<S> {
+    /// How many members its committee has.
+    pub fn size(&self) -> u16
+        ensures value { result ≡ size_of (node_view S.own_key S.signature_of self.now) }
+        ensures least { 0 < result }
+        ensures greatest { result ≤ MAX_MEMBERS }
+    {
+        self.committee.size()
+    }
+
+    /// What members who are a quorum weigh at least.
+    pub fn quorum(&self) -> u64
+        ensures { result ≡ quorum (node_view S.own_key S.signature_of self.now) }
+    {
+        self.committee.quorum()
+    }
+
+    /// An author is the node itself.
+    pub fn is_own(&self, author: Author) -> bool
+        ensures { result ≡ is_own (node_view S.own_key S.signature_of self.now) author }
+    {
+        author == self.own
+    }
+}

@@ -1,0 +1,142 @@
+-- What holds of each world that a run leads to.
+use Rattle.std.proofs.Common.{◌≡◌, ◌⊎◌, ℕ, ◌≤◌, List, [], ◌++◌, length, take, drop, inl, inr, refl, ap, sym, ◌∙◌, subst, append_assoc}
+use Rattle.std.specs.Prelude.{All}
+use Rattle.std.proofs.lemmas.List.{append-nil, take_at, drop_at}
+use Rattle.std.proofs.lemmas.List.Elements.{All-nil, All-take, All-drop}
+use Rattle.diskmodel.specs.Outcomes.{AreBytes, CanLeave, after, state, firmed}
+use Rattle.diskmodel.proofs.Calls.{after_all-push}
+use Rattle.journal.specs.Journal.{EndsClosed, IsBeforeOrAfter}
+use Rattle.spec_laws.specs.Laws.{Begins}
+use Rattle.spec_laws.proofs.Legal.{legal-begins}
+use Rattle.spec_model.specs.Admitting.{IsTaken, IsLegal}
+use Rattle.spec_model.specs.Histories.{History}
+use Rattle.spec_model.specs.Nodes.{Node}
+use Rattle.spec_world.specs.World.{no_group, Waiting, Given, World, Holds, group_in, MayStop, between, inside, run_on, IsOpened}
+use Rattle.spec_world.specs.Steps.{next_phase}
+use Rattle.spec_world.proofs.Disks.{IsAt, Fits, leaves, called, fits_next}
+use Rattle.spec_world.proofs.Recovering.{holds_same, holds_more}
+use Rattle.spec_world.proofs.Orders.{begins_same, begins_trans, begins_join, IsPut, IsEnded}
+
+-- ---- the invariant
+
+-- an output that waits ends the history at which it may go out
+pub record IsDue (node : Node) (began accepted : History) (waiting : Waiting) : Type 0 where
+  pub within : waiting.ticket ≤ length accepted
+  pub put : IsPut node (began ++ take waiting.ticket accepted) waiting.output
+
+-- what was given out ended a history that what is settled holds
+pub record IsKept (node : Node) (settled : History) (given : Given) : Type 0 where
+  pub begins : Begins given.history settled
+  pub ended : IsEnded node given.history given.outgoing
+
+pub record Stands (node : Node) (world : World) : Type 0 where
+  pub legal : IsLegal node (world.began ++ world.accepted)
+  pub taken : Begins world.taken world.accepted
+  pub settled : Begins world.settled world.taken
+  -- the file from before the group that was taken
+  pub file : List ℕ
+  pub ends_closed : EndsClosed file
+  pub are_bytes : AreBytes file
+  pub holds : Holds node file (world.began ++ world.settled)
+  pub disk : IsAt world.phase (state world.bytes_at_start world.calls) file (group_in world)
+  pub fits : Fits world.phase (group_in world)
+  pub idle : world.phase ≡ no_group → world.taken ≡ world.settled
+  pub waiting : All (IsDue node world.began world.accepted) world.waiting
+  pub given : All (IsKept node (world.began ++ world.settled)) world.given
+
+-- ---- what a stop leaves
+
+-- what is taken is what is settled and the group's events
+pub taken_is : (world : World) → Begins world.settled world.taken → (world.began ++ world.settled) ++ drop (length world.settled) world.taken ≡ world.began ++ world.taken
+taken_is world begins =
+    let rest : drop (length world.settled) world.taken ≡ begins.rest = ap (drop (length world.settled)) begins.parts ∙ drop_at world.settled begins.rest (length world.settled) refl in
+    ap (λ l. (world.began ++ world.settled) ++ l) rest ∙ append_assoc world.began world.settled begins.rest ∙ ap (λ l. world.began ++ l) (sym begins.parts)
+
+-- the events of the group are taken ones
+pub group_events : (node : Node) (world : World) → Stands node world → All (IsTaken node) (drop (length world.settled) world.taken)
+group_events node world stands =
+    let all : All (IsTaken node) world.accepted =
+    subst (All (IsTaken node)) (drop_at world.began world.accepted (length world.began) refl) (All-drop (IsTaken node) (length world.began) (world.began ++ world.accepted) stands.legal.taken) in
+    let front : take (length world.taken) world.accepted ≡ world.taken = ap (take (length world.taken)) stands.taken.parts ∙ take_at world.taken stands.taken.rest (length world.taken) refl in
+    let some : All (IsTaken node) world.taken = subst (All (IsTaken node)) front (All-take (IsTaken node) (length world.taken) world.accepted all) in
+    All-drop (IsTaken node) (length world.settled) world.taken some
+
+-- bytes that stand for what is settled, or for what is taken
+holds_one : (node : Node) (world : World) (found : List ℕ) (at : Stands node world) → IsBeforeOrAfter at.file (group_in world) found
+    → Holds node found (world.began ++ world.settled) ⊎ Holds node found (world.began ++ world.taken)
+holds_one node world found at (inl before) = inl (holds_same node at.file found (world.began ++ world.settled) at.holds before)
+holds_one node world found at (inr behind) =
+    let more = drop (length world.settled) world.taken in
+    inr (subst (Holds node found) (taken_is world at.settled) (holds_more node at.file found (world.began ++ world.settled) more at.holds (group_events node world at) behind))
+
+pub left_holds : (node : Node) (world : World) (found : List ℕ) → Stands node world → MayStop world found
+    → Holds node found (world.began ++ world.settled) ⊎ Holds node found (world.began ++ world.taken)
+left_holds node world found at (between outcome) =
+    holds_one node world found at (leaves at.file at.ends_closed (group_in world) world.phase (state world.bytes_at_start world.calls) found at.fits at.disk outcome)
+left_holds node world found at (inside call due outcome) =
+    let s = state world.bytes_at_start world.calls in
+    let now : CanLeave (after s call) found = subst (λ t. CanLeave t found) (after_all-push (firmed world.bytes_at_start) world.calls call) outcome in
+    holds_one node world found at (leaves at.file at.ends_closed (group_in world) (next_phase world.phase) (after s call) found
+    (fits_next world.phase (group_in world) s.content call at.fits due)
+    (called at.file at.ends_closed (group_in world) world.phase s call at.fits at.disk due) now)
+
+-- a history that what is settled begins, and that begins what was accepted: it is one of two
+pub record IsBetween (world : World) (history : History) : Type 0 where
+  pub accepted : Begins history (world.began ++ world.accepted)
+  pub settled : Begins (world.began ++ world.settled) history
+  pub whole : (history ≡ world.began ++ world.settled) ⊎ (history ≡ world.began ++ world.taken)
+
+settled_between : (node : Node) (world : World) → Stands node world → IsBetween world (world.began ++ world.settled)
+settled_between node world at = record {
+  accepted = begins_join world.began world.settled world.accepted (begins_trans world.settled world.taken world.accepted at.settled at.taken);
+  settled = begins_same (world.began ++ world.settled);
+  whole = inl refl;
+}
+
+taken_between : (node : Node) (world : World) → Stands node world → IsBetween world (world.began ++ world.taken)
+taken_between node world at = record {
+  accepted = begins_join world.began world.taken world.accepted at.taken;
+  settled = begins_join world.began world.settled world.taken at.settled;
+  whole = inr refl;
+}
+
+-- what a stop leaves is a journal with one such history, and stands for no other
+pub record IsLeft (node : Node) (world : World) (found : List ℕ) : Type 0 where
+  pub history : History
+  pub holds : Holds node found history
+  pub is_between : IsBetween world history
+
+pub left : (node : Node) (world : World) (found : List ℕ) → Stands node world → MayStop world found → IsLeft node world found
+left node world found at may =
+    elim (left_holds node world found at may) [
+      | inl held ↦ record { history = world.began ++ world.settled; holds = held; is_between = settled_between node world at }
+      | inr held ↦ record { history = world.began ++ world.taken; holds = held; is_between = taken_between node world at }
+    ]
+
+pub legal_between : (node : Node) (world : World) (history : History) → Stands node world → IsBetween world history → IsLegal node history
+legal_between node world history at is = legal-begins node history is.accepted.rest (subst (IsLegal node) is.accepted.parts at.legal)
+
+-- what is settled is legal
+pub settled_legal : (node : Node) (world : World) → Stands node world → IsLegal node (world.began ++ world.settled)
+settled_legal node world at = legal_between node world (world.began ++ world.settled) at (settled_between node world at)
+
+-- ---- a run begins
+
+pub begins_standing : (node : Node) (first : List ℕ) (began : History) (given : List Given) → IsLegal node began → IsOpened node first began → All (IsKept node began) given
+    → Stands node (run_on first began given)
+begins_standing node first began given legal opened kept =
+    let same = sym (append-nil began) in
+    record {
+      legal = subst (IsLegal node) same legal;
+      taken = begins_same [];
+      settled = begins_same [];
+      file = first;
+      ends_closed = opened.ends_closed;
+      are_bytes = opened.are_bytes;
+      holds = subst (Holds node first) same opened.holds;
+      disk = refl;
+      fits = tt;
+      idle = λ free. refl;
+      waiting = All-nil (IsDue node began []);
+      given = subst (λ h. All (IsKept node h) given) same kept;
+    }

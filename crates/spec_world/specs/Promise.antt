@@ -1,0 +1,106 @@
+-- What a node never takes back.
+use Rattle.std.specs.Prelude.{◌≡◌, ◌⊎◌, ℕ, ◌≤◌, List, [], ◌∷◌, ◌++◌, length, take, Option, Some, None, Contains}
+use Rattle.spec_laws.specs.Laws.{Begins}
+use Rattle.spec_model.specs.Admitting.{admit, IsLegal}
+use Rattle.spec_model.specs.Giving.{MayGive}
+use Rattle.spec_model.specs.Histories.{History}
+use Rattle.spec_model.specs.Holdings.{order}
+use Rattle.spec_model.specs.Nodes.{Node, IsNode}
+use Rattle.spec_model.specs.Slots.{header_digest}
+use Rattle.spec_model.specs.Words.{Author, Digest, Event, HeaderBody, Output}
+use Rattle.spec_model.specs.declared.admission.Admission.TheVariants.{New, Known}
+use Rattle.wire.specs.declared.output.Output.TheVariants as output
+use Rattle.spec_world.specs.World.{no_group, Outgoing, put_out, read, Given, World, StandsFor, MayStop}
+use Rattle.spec_world.specs.Steps.{Move, IsRun}
+
+-- ---- votes
+
+-- what a vote says: the author and the round, and the digest of the header that has the vote
+pub record Ballot : Type 0 where
+  pub author : Author
+  pub round : ℕ
+  pub header : Digest
+
+abbrev pub ballot_for : HeaderBody → Ballot
+ballot_for header = record { author = header.author; round = header.round; header = header_digest header }
+
+-- the vote in an output: a vote on a peer's header, and the node's own on its header, which that and its certificate carry
+abbrev pub vote_in : Output → Option Ballot
+vote_in (output.Vote vote) = Some (record { author = vote.author; round = vote.round; header = vote.header })
+vote_in (output.Header header) = Some (ballot_for header.body)
+vote_in (output.Certificate certificate) = Some (ballot_for certificate.header)
+vote_in _ = None
+
+-- the vote that was given out, if it is one
+abbrev pub vote_given : Outgoing → Option Ballot
+vote_given (put_out output) = vote_in output
+vote_given (read digests) = None
+
+-- ---- orders
+
+-- the order that was given out, if it is one, at a history with this order: a read is the whole order, an output its digests behind
+-- what that has before their place
+abbrev pub order_given : List Digest → Outgoing → Option (List Digest)
+order_given order (put_out (output.Order start digests)) = Some (take start order ++ digests)
+order_given order (put_out other) = None
+order_given order (read digests) = Some digests
+
+-- one order is no later than another: it was given at a beginning of the other's history, and no longer where that is all of it
+pub record IsNoLater (one other : Given) (earlier later : List Digest) : Type 0 where
+  pub begins : Begins one.history other.history
+  pub no_longer : one.history ≡ other.history → length earlier ≤ length later
+
+-- an output was put out at a history: by a new event that the history ends with, or by one that is known there
+pub data WasPutOut (node : Node) (history : History) (output : Output) : Type 0 where
+  by_new : (before : History) (event : Event) (outputs : List Output) → history ≡ before ++ event ∷ [] → admit node before event ≡ New outputs
+      → Contains outputs output → WasPutOut node history output
+  by_known : (event : Event) (outputs : List Output) → admit node history event ≡ Known outputs → Contains outputs output → WasPutOut node history output
+
+-- what goes out at a history: an output that was put out there and may be given out there, or its order
+abbrev pub GoesOut : Node → History → Outgoing → Type 0
+GoesOut node history (put_out output) = WasPutOut node history output × MayGive node history output
+GoesOut node history (read digests) = digests ≡ order node history
+
+-- ---- the promise
+
+-- what is found again: a legal history that begins what the run began with and accepted, and that what is settled begins. It has the
+-- group that was taken as a whole or not at all, and where there is none it is what is settled
+pub record IsRecovered (node : Node) (world : World) (history : History) : Type 0 where
+  pub legal : IsLegal node history
+  pub accepted : Begins history (world.began ++ world.accepted)
+  pub settled : Begins (world.began ++ world.settled) history
+  pub whole : (history ≡ world.began ++ world.settled) ⊎ (history ≡ world.began ++ world.taken)
+  pub without_group : world.phase ≡ no_group → history ≡ world.began ++ world.settled
+
+-- what this run settled it had taken, and what it took it had accepted, in that order; all of it is a legal history, behind what the
+-- run began with
+pub record IsInOrder (node : Node) (world : World) : Type 0 where
+  pub settled : Begins world.settled world.taken
+  pub taken : Begins world.taken world.accepted
+  pub legal : IsLegal node (world.began ++ world.accepted)
+
+-- what holds of each world: nothing that was given out is taken back, whatever a stop leaves now
+pub record NeverTakesBack (node : Node) (world : World) : Type 0 where
+  pub in_order : IsInOrder node world
+  -- what a stop leaves stands for one history, which is recovered
+  pub stands : (bytes : List ℕ) → MayStop world bytes → (history : History) × StandsFor node bytes history
+  pub only : (bytes : List ℕ) (one other : History) → MayStop world bytes → StandsFor node bytes one → StandsFor node bytes other → one ≡ other
+  pub recovered : (bytes : List ℕ) (history : History) → MayStop world bytes → StandsFor node bytes history → IsRecovered node world history
+  -- what is settled holds the history of each thing given out, and with it the event that put it out
+  pub held : (given : Given) → Contains world.given given → Begins given.history (world.began ++ world.settled)
+  pub right : (given : Given) → Contains world.given given → GoesOut node given.history given.outgoing
+  -- no two votes given out differ for one author and round
+  pub votes : (one other : Given) (vote also : Ballot) → Contains world.given one → Contains world.given other
+      → vote_given one.outgoing ≡ Some vote → vote_given other.outgoing ≡ Some also → vote.author ≡ also.author → vote.round ≡ also.round → vote.header ≡ also.header
+  -- of two histories at which something was given out one begins the other, and each order given out begins every later one
+  pub nested : (one other : Given) → Contains world.given one → Contains world.given other → Begins one.history other.history ⊎ Begins other.history one.history
+  pub orders : (one other : Given) (earlier later : List Digest) → Contains world.given one → Contains world.given other
+      → order_given (order node one.history) one.outgoing ≡ Some earlier → order_given (order node other.history) other.outgoing ≡ Some later
+      → IsNoLater one other earlier later → Begins earlier later
+
+-- Over every list of runs of one node, in every interleaving of accepts, takes, writes, syncs, settlements and releases, each run
+-- stopped at any moment, also inside a write, recovery finds the state after a beginning of the accepted messages that holds every
+-- message whose output was given out; no two votes given out differ for one author and round, and each order given out begins every
+-- later one
+abbrev pub NothingTakenBack : Type 0
+NothingTakenBack = (node : Node) (moves : List Move) (world : World) → IsNode node → IsRun node moves world → NeverTakesBack node world

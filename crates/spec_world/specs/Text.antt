@@ -1,0 +1,111 @@
+-- The text of a script: what a node with one owner writes for commands, one after the other.
+use Rattle.std.specs.Prelude.{ℕ, ◌+◌, nat_le, ◌&&◌, not, Bool, List, [], ◌∷◌, ◌++◌, map, length, drop, if◌then◌else◌}
+use Rattle.std.specs.Int.{w32, to_be_bytes}
+use Rattle.std.specs.List.{filter, flat_map}
+use Rattle.journal.specs.Format.{body_len}
+use Rattle.journal.specs.declared.layout.TheConstants.{MAX_GROUP_BYTES, MAX_GROUP_RECORDS}
+use Rattle.spec_model.specs.Admitting.{admit}
+use Rattle.spec_model.specs.Histories.{History}
+use Rattle.spec_model.specs.Nodes.{Node}
+use Rattle.spec_model.specs.Words.{Event, Output}
+use Rattle.spec_model.specs.declared.admission.Admission.{Admission}
+use Rattle.spec_model.specs.declared.admission.Admission.TheVariants.{New, Known, Refused}
+use Rattle.spec_records.specs.Records.{record_of}
+use Rattle.wire.specs.Outputs.{output_bytes}
+use Rattle.spec_world.specs.World.{Waiting}
+use Rattle.spec_world.specs.Steps.{ticketed}
+
+-- what a node is told: an event comes in; what is pending is settled, as far as it fits a group; the machine stops, and the node is
+-- opened again
+pub data Command : Type 0 where
+  take_in : Event → Command
+  flush : Command
+  stop : Command
+
+-- What there is between two commands: what this run began with, the events that it accepted, those of them that are settled, and the
+-- outputs that wait, each with its ticket.
+pub record Desk : Type 0 where
+  pub began : History
+  pub accepted : History
+  pub settled : History
+  pub waiting : List Waiting
+
+-- a run that has just begun
+abbrev pub desk_on : History → Desk
+desk_on history = record { began = history; accepted = []; settled = []; waiting = [] }
+
+-- all that the run began with and accepted, and of that what is settled
+abbrev pub all_in : Desk → History
+all_in desk = desk.began ++ desk.accepted
+
+abbrev pub settled_in : Desk → History
+settled_in desk = desk.began ++ desk.settled
+
+-- ---- what a command makes of it
+
+-- with what an event is answered: a new one is accepted, and its outputs wait until it is settled; those of a known one wait until all
+-- that was accepted is; where it is refused, nothing happens
+abbrev pub with_answer : Desk → Event → Admission → Desk
+with_answer desk event (New outputs) = record desk {
+  accepted = desk.accepted ++ event ∷ [];
+  waiting = desk.waiting ++ ticketed (length desk.accepted + 1) outputs;
+}
+with_answer desk event (Known outputs) = record desk { waiting = desk.waiting ++ ticketed (length desk.accepted) outputs }
+with_answer desk event (Refused refusal) = desk
+
+-- records are within the limits of a group
+abbrev pub fits_group : List (List ℕ) → Bool
+fits_group records = nat_le 1 (length records) && (nat_le (length records) MAX_GROUP_RECORDS && nat_le (body_len records) MAX_GROUP_BYTES)
+
+-- a group of events with more of these behind it, for as long as the records fit
+unfoldable pub filled : History → History → History
+filled group [] = group
+filled group (event ∷ events) = if fits_group (map record_of (group ++ event ∷ [])) then filled (group ++ event ∷ []) events else group
+
+-- the longest beginning of events whose records fit a group
+abbrev pub group_of : History → History
+group_of events = filled [] events
+
+-- the next group of what is accepted and not settled is settled
+abbrev pub flushed : Desk → Desk
+flushed desk = record desk { settled = desk.settled ++ group_of (drop (length desk.settled) desk.accepted) }
+
+-- what the command makes of it, before anything is written
+unfoldable pub after : Node → Desk → Command → Desk
+after node desk (take_in event) = with_answer desk event (admit node (all_in desk) event)
+after node desk flush = flushed desk
+after node desk stop = desk_on (settled_in desk)
+
+-- ---- what is written
+
+-- all that an output rests on is settled
+abbrev pub is_due : Desk → Waiting → Bool
+is_due desk waiting = nat_le waiting.ticket (length desk.settled)
+
+-- the outputs that go out now, and a desk without them
+abbrev pub due : Desk → List Waiting
+due desk = filter (λ waiting. is_due desk waiting) desk.waiting
+
+abbrev pub without_due : Desk → Desk
+without_due desk = record desk { waiting = filter (λ waiting. not (is_due desk waiting)) desk.waiting }
+
+-- an output as a frame: the length of its bytes in four, the highest first, and its bytes
+unfoldable pub frame_of : Output → List ℕ
+frame_of output = to_be_bytes w32 (length (output_bytes output)) ++ output_bytes output
+
+abbrev pub frames : List Waiting → List ℕ
+frames waiting = flat_map (λ one. frame_of one.output) waiting
+
+-- the desk behind a command, when what is due was written
+abbrev pub carried_out : Node → Desk → Command → Desk
+carried_out node desk command = without_due (after node desk command)
+
+-- what the commands write: behind each of them the outputs that are due, in their order
+unfoldable pub text : Node → Desk → List Command → List ℕ
+text node desk [] = []
+text node desk (command ∷ commands) = frames (due (after node desk command)) ++ text node (carried_out node desk command) commands
+
+-- the desk behind all of them
+unfoldable pub desk_behind : Node → Desk → List Command → Desk
+desk_behind node desk [] = desk
+desk_behind node desk (command ∷ commands) = desk_behind node (carried_out node desk command) commands

@@ -1,0 +1,36 @@
+//! The world of one node over all its runs, and what it never takes back: a law, which is what a function without a body
+//! ensures.
+#![tactic(auto)]
+
+ghost use Rattle.spec_world.specs.Promise.{NothingTakenBack};
+ghost use Rattle.spec_world.specs.Runs.{RunsBegin, StopsArePossible, RunsGoOn, GroupsSettle};
+
+/// Over every list of runs of one node, in every interleaving of accepts, takes, writes, syncs, settlements and
+/// releases, each run stopped at any moment, also inside a write, recovery finds the state after a beginning of the
+/// accepted messages that holds every message whose output was given out; no two votes given out differ for one
+/// author and round, and each order given out begins every later one.
+pub fn never_takes_back()
+    ensures { NothingTakenBack }
+{}
+
+/// There are such runs: of a node whose keys have 32 bytes each and whose stakes are all 1 they begin on what an
+/// opening leaves of an empty disk.
+pub fn runs_begin()
+    ensures { RunsBegin }
+{}
+
+/// A stop is possible in each of these worlds: it may leave what a read of the disk gives.
+pub fn stops_are_possible()
+    ensures { StopsArePossible }
+{}
+
+/// Whatever a stop leaves in any of these worlds, a new run can begin on it.
+pub fn runs_go_on()
+    ensures { RunsGoOn }
+{}
+
+/// Accepted events that fit a group can be settled, where there is no group: taken, written, synced, their gate opened
+/// and synced.
+pub fn groups_settle()
+    ensures { GroupsSettle }
+{}

@@ -1,0 +1,119 @@
+//! Nodes of committees whose members sign with the test pair: the key of each is its number plus 1, 32 times.
+
+use crate::words::Told;
+use committee::{Committee, CommitteeError, DEFAULT_DEPTH};
+use sigface::HashSign;
+use spec_model::Node;
+use std::alloc::{AllocError, Global};
+use test_cases::write_hex;
+use validator::Config;
+use wire::{Author, Key};
+
+/// The member whose node it is, unless a case says otherwise.
+pub const OWN: Author = Author(0);
+
+/// The stakes of a committee of four, all of them alike.
+pub const FOUR: [u64; 4] = [1; 4];
+
+/// The stakes of a committee of seven.
+pub const SEVEN: [u64; 7] = [1; 7];
+
+/// How a node is set up, twice.
+#[derive(Drop)]
+pub struct Setting {
+    /// What it is driven with.
+    pub config: Config<HashSign>,
+    /// The same for the plain program.
+    pub node: Node<HashSign>,
+}
+
+/// The member of this number among as many as there are stakes, if there is such a one.
+pub fn setting_of(
+    alloc: Global,
+    own: u8,
+    depth: u64,
+    stakes: &[u64],
+) -> Result<Option<Setting>, AllocError> {
+    let Some(config) = config_of(alloc, own, depth, stakes)? else {
+        return Ok(None);
+    };
+    let Some(committee) = committee_of(alloc, depth, stakes)? else {
+        return Ok(None);
+    };
+    let node = Node {
+        own: Author(u16::from(own)),
+        committee,
+        signer: signer(own),
+    };
+    Ok(Some(Setting { config, node }))
+}
+
+/// What member 0 of four is set up with. The file of its committee is sound, so only memory can be wanting.
+pub fn own_setting(alloc: Global) -> Result<Setting, AllocError> {
+    match setting_of(alloc, 0, DEFAULT_DEPTH, &FOUR)? {
+        Some(setting) => Ok(setting),
+        None => Err(AllocError),
+    }
+}
+
+/// What member 0 of four or of seven is driven with.
+pub fn own_config(alloc: Global, stakes: &[u64]) -> Result<Config<HashSign>, AllocError> {
+    match config_of(alloc, 0, DEFAULT_DEPTH, stakes)? {
+        Some(config) => Ok(config),
+        None => Err(AllocError),
+    }
+}
+
+fn config_of(
+    alloc: Global,
+    own: u8,
+    depth: u64,
+    stakes: &[u64],
+) -> Result<Option<Config<HashSign>>, AllocError> {
+    match committee_of(alloc, depth, stakes)? {
+        Some(committee) => Ok(Config::new(committee, Author(u16::from(own)), signer(own))),
+        None => Ok(None),
+    }
+}
+
+fn signer(member: u8) -> HashSign {
+    HashSign::new(Key([member.wrapping_add(1); 32]))
+}
+
+fn committee_of(
+    alloc: Global,
+    depth: u64,
+    stakes: &[u64],
+) -> Result<Option<Committee>, AllocError> {
+    let mut file = String::new(alloc);
+    put_keys(&mut file, stakes.len())?;
+    put_stakes(&mut file, stakes)?;
+    writeln!(file, "depth = {depth}")?;
+    match Committee::read(alloc, file.as_str()) {
+        Ok(committee) => Ok(Some(committee)),
+        Err(CommitteeError::Memory) => Err(AllocError),
+        Err(_) => Ok(None),
+    }
+}
+
+/// The line of a committee's file that has the keys of so many members.
+fn put_keys(file: &mut String, count: usize) -> Told {
+    file.push_str("members = [")?;
+    let mut byte = 0u8;
+    for _ in 0..count {
+        byte = byte.wrapping_add(1);
+        file.push_str("\"")?;
+        write_hex(file, &[byte; 32])?;
+        file.push_str("\", ")?;
+    }
+    file.push_str("]\n")
+}
+
+/// The line that has the stakes.
+fn put_stakes(file: &mut String, stakes: &[u64]) -> Told {
+    file.push_str("stakes = [")?;
+    for stake in stakes {
+        write!(file, "{stake}, ")?;
+    }
+    file.push_str("]\n")
+}

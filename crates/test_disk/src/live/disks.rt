@@ -1,0 +1,77 @@
+//! Commands to the disk that is open.
+
+use crate::live::folder::tell_bytes;
+use crate::live::words::{Told, bad, parted, put_count, tell_fault};
+use disk_file::FileDisk;
+use diskmodel::{Disk, DiskFault};
+use std::alloc::Global;
+use test_cases::bytes_of;
+
+/// Carries out a command, and adds the lines that it answers.
+pub fn obey_disk(
+    alloc: Global,
+    disk: &mut FileDisk,
+    name: &str,
+    rest: &str,
+    answer: &mut String,
+) -> Told {
+    let (first, second) = parted(rest);
+    let place = first.parse().unwrap_or(0);
+    match name {
+        "len" => tell_len(disk.len(), answer),
+        "sync" => tell_fault(answer, disk.sync()),
+        "cut" => cut(disk, place, answer),
+        "write" => return write(alloc, disk, place, second, answer),
+        "read" => return read(alloc, disk, place, second, answer),
+        _ => bad(answer),
+    }
+    Ok(())
+}
+
+fn tell_len(outcome: Result<u64, DiskFault>, answer: &mut String) {
+    match outcome {
+        Ok(len) => put_count(answer, "", len, "\n"),
+        Err(fault) => tell_fault(answer, Err(fault)),
+    }
+}
+
+fn cut(disk: &mut FileDisk, at: u64, answer: &mut String) {
+    match disk.len() {
+        Ok(len) if at <= len => tell_fault(answer, disk.cut(at)),
+        Ok(_) => bad(answer),
+        Err(fault) => tell_fault(answer, Err(fault)),
+    }
+}
+
+fn write(alloc: Global, disk: &mut FileDisk, at: u64, digits: &str, answer: &mut String) -> Told {
+    if let Some(bytes) = bytes_of(alloc, digits)? {
+        write_at(disk, at, &bytes, answer);
+    }
+    Ok(())
+}
+
+fn write_at(disk: &mut FileDisk, at: u64, bytes: &[u8], answer: &mut String) {
+    match disk.len() {
+        Ok(len) if at <= len => tell_fault(answer, disk.write_at(at, bytes)),
+        Ok(_) => bad(answer),
+        Err(fault) => tell_fault(answer, Err(fault)),
+    }
+}
+
+fn read(alloc: Global, disk: &mut FileDisk, at: u64, count: &str, answer: &mut String) -> Told {
+    let mut buffer = vec![in alloc; 0; count.parse().unwrap_or(0)]?;
+    read_at(disk, at, &mut buffer, answer);
+    Ok(())
+}
+
+fn read_at(disk: &mut FileDisk, at: u64, buffer: &mut [u8], answer: &mut String) {
+    let count = buffer.len() as u64;
+    match disk.len() {
+        Ok(len) if at <= len && count <= len - at => match disk.read_at(at, buffer) {
+            Ok(()) => tell_bytes(answer, buffer),
+            Err(fault) => tell_fault(answer, Err(fault)),
+        },
+        Ok(_) => bad(answer),
+        Err(fault) => tell_fault(answer, Err(fault)),
+    }
+}

@@ -1,0 +1,217 @@
+//! Rounds in which a call of the disk fails.
+
+ghost use Rattle.std.specs.Prelude.{◌≡◌};
+
+use crate::committees::{FOUR, own_config};
+use crate::live::ending::Ending;
+use crate::live::journals::record_count;
+use crate::live::makers::{header_of, submit_header};
+use crate::live::words::{call_of, put, put_count, put_number, put_shown};
+use crate::memory::{disk_with, stopped};
+use diskmodel::{CallKind, MemDisk, Switch};
+use node::{Caller, Rounds, start};
+use sigface::HashSign;
+use std::alloc::Global;
+use std::sync::Wait;
+use validator::Config;
+use wire::{Author, Round};
+
+// Rounds of one kind of call, at most.
+const MOST: u64 = 10;
+
+// What is done to a node whose disk fails.
+#[derive(Clone, Copy)]
+enum Plan {
+    // A sync fails, and then the node is asked.
+    Down,
+    // In a round with one record the call of a kind with this number, from 1 on, fails.
+    Call(CallKind, u64),
+}
+
+/// What a node answers that a round took down.
+pub fn go_down<R: Wait>(rt: &R, alloc: Global, answer: &mut String) -> Result<(), Ending> {
+    carry_out(rt, alloc, Plan::Down, answer)?;
+    Ok(())
+}
+
+/// A round with one record, in which the first call of a kind, of which this is the name in the plural, fails, then the second, and so
+/// on, until none does: what it answers, and how many records a stop behind it leaves that keeps all, and one that loses what isn't
+/// synced.
+pub fn fail_each<R: Wait>(
+    rt: &R,
+    alloc: Global,
+    name: &str,
+    answer: &mut String,
+) -> Result<(), Ending> {
+    let Some(kind) = call_of(name.trim_end_matches('s')) else {
+        return Err(Ending::Unexpected);
+    };
+    for count in 1..MOST {
+        let (is_settled, disk) = carry_out(rt, alloc, Plan::Call(kind, count), answer)?;
+        tell_left(alloc, disk, answer)?;
+        if is_settled {
+            return Ok(());
+        }
+    }
+    Err(Ending::Unexpected)
+}
+
+fn tell_left(alloc: Global, disk: MemDisk, answer: &mut String) -> Result<(), Ending> {
+    let kept = events_on(alloc, disk_with(alloc, disk.bytes())?)?;
+    let lost = events_on(alloc, stopped(alloc, disk)?)?;
+    put_count(answer, "kept ", kept, "");
+    put_count(answer, ", or ", lost, "\n");
+    Ok(())
+}
+
+// How many events the journal on a disk has.
+fn events_on(alloc: Global, disk: MemDisk) -> Result<u64, Ending> {
+    match record_count(alloc, disk) {
+        Some(count) => Ok(count.saturating_sub(1) as u64),
+        None => Err(Ending::Unexpected),
+    }
+}
+
+// Says whether one record was settled, and gives the disk back.
+fn carry_out<R: Wait>(
+    rt: &R,
+    alloc: Global,
+    plan: Plan,
+    answer: &mut String,
+) -> Result<(bool, MemDisk), Ending> {
+    let config = own_config(alloc, &FOUR)?;
+    let switch = Switch::new(alloc)?;
+    let disk = MemDisk::with_switch(alloc, Vec::new(alloc), &switch)?;
+    carry_out_on(rt, alloc, &config, &switch, disk, plan, answer)
+}
+
+fn carry_out_on<R: Wait>(
+    rt: &R,
+    alloc: Global,
+    config: &Config<HashSign>,
+    switch: &Switch,
+    disk: MemDisk,
+    plan: Plan,
+    answer: &mut String,
+) -> Result<(bool, MemDisk), Ending> {
+    let (node, seat, flusher) = start(alloc, config, disk)?;
+    let mut rounds = Rounds::new(&node, seat, flusher);
+    let is_settled = play_with(rt, alloc, config, switch, &mut rounds, plan, answer)?;
+    Ok((is_settled, rounds.into_disk()))
+}
+
+// The same with a caller of the node.
+fn play_with<'a, R: Wait>(
+    rt: &R,
+    alloc: Global,
+    config: &'a Config<HashSign>,
+    switch: &Switch,
+    rounds: &mut Rounds<'_, 'a, HashSign, MemDisk>,
+    plan: Plan,
+    answer: &mut String,
+) -> Result<bool, Ending>
+    requires { rounds.old.node.setting ≡ config.now }
+{
+    let mut caller = rounds.caller(config)?;
+    play(rt, alloc, switch, rounds, &mut caller, plan, answer)?;
+    Ok(caller.synced() == 1)
+}
+
+fn play<R: Wait>(
+    rt: &R,
+    alloc: Global,
+    switch: &Switch,
+    rounds: &mut Rounds<'_, '_, HashSign, MemDisk>,
+    caller: &mut Caller<'_, '_, HashSign>,
+    plan: Plan,
+    answer: &mut String,
+) -> Result<(), Ending> {
+    match plan {
+        Plan::Down => {
+            switch.fail(CallKind::Sync, 1)?;
+            tell_down(rt, alloc, rounds, caller, answer)
+        }
+        Plan::Call(kind, count) => {
+            submit_header(rt, alloc, caller, Author(1))?;
+            let told = switch.fail(kind, count)?;
+            tell_round(rt, rounds, answer);
+            switch.take_back(told);
+            Ok(())
+        }
+    }
+}
+
+fn tell_down<R: Wait>(
+    rt: &R,
+    alloc: Global,
+    rounds: &mut Rounds<'_, '_, HashSign, MemDisk>,
+    caller: &mut Caller<'_, '_, HashSign>,
+    answer: &mut String,
+) -> Result<(), Ending> {
+    tell_submit(rt, alloc, caller, answer)?;
+    tell_round(rt, rounds, answer);
+    tell_round(rt, rounds, answer);
+    tell_submit(rt, alloc, caller, answer)?;
+    tell_reads(rt, caller, Round::new(1)?, answer);
+    tell_counts(rt, caller, answer);
+    tell_proposal(rt, caller, answer)
+}
+
+fn tell_submit<R: Wait>(
+    rt: &R,
+    alloc: Global,
+    caller: &mut Caller<'_, '_, HashSign>,
+    answer: &mut String,
+) -> Result<(), Ending> {
+    let event = header_of(alloc, caller.config(), Author(1))?;
+    match caller.submit(rt, event) {
+        Ok(receipt) => put_number(answer, "ticket", receipt.ticket),
+        Err(refusal) => put_shown(answer, "refused ", &refusal, "\n"),
+    }
+    Ok(())
+}
+
+fn tell_round<R: Wait>(
+    rt: &R,
+    rounds: &mut Rounds<'_, '_, HashSign, MemDisk>,
+    answer: &mut String,
+) {
+    match rounds.round(rt) {
+        Ok(count) => put_number(answer, "settled", count),
+        Err(error) => put_shown(answer, "fault ", &error, "\n"),
+    }
+}
+
+fn tell_reads<R: Wait>(
+    rt: &R,
+    caller: &mut Caller<'_, '_, HashSign>,
+    first: Round,
+    answer: &mut String,
+) {
+    if caller.collect(rt).is_none() {
+        put(answer, "no output\n");
+    }
+    if let Err(refusal) = caller.order(rt, 0) {
+        put_shown(answer, "order refused ", &refusal, "\n");
+    }
+    if caller.peek_voted(rt, Author(1), first).is_some() {
+        put(answer, "voted\n");
+    }
+}
+
+fn tell_counts<R: Wait>(rt: &R, caller: &mut Caller<'_, '_, HashSign>, answer: &mut String) {
+    put_count(answer, "accepted ", caller.accepted(), "");
+    put_count(answer, ", synced ", caller.synced(), "");
+    put_count(answer, ", round ", caller.round_now(rt), "\n");
+}
+
+fn tell_proposal<R: Wait>(
+    rt: &R,
+    caller: &mut Caller<'_, '_, HashSign>,
+    answer: &mut String,
+) -> Result<(), Ending> {
+    if let Some(header) = &caller.propose(rt)? {
+        put_number(answer, "proposes for round", header.body.round.number());
+    }
+    Ok(())
+}

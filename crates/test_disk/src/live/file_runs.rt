@@ -1,0 +1,29 @@
+//! Runs over files.
+
+use crate::live::answers::tell_errors;
+use crate::live::words::{Told, put_number};
+use node_run::run;
+use std::alloc::Global;
+use std::fs::File;
+use std::io;
+use std::rt::Files;
+use std::sync::Wait;
+use std::thread::Threads;
+
+/// A run without input, with these arguments: files stand where the program runs.
+pub fn run_files<R: Files<File = File> + AllocGlobal + Threads + Wait + Sync>(
+    rt: &R,
+    alloc: Global,
+    words: &str,
+    answer: &mut String,
+) -> Told {
+    let mut args = Vec::new(alloc);
+    for word in words.split_whitespace() {
+        args.push(String::from_str(alloc, word)?)?;
+    }
+    let mut errors = Vec::new(alloc);
+    let status = run(rt, alloc, &args, io::empty(), io::sink(), &mut errors);
+    tell_errors(&errors, answer);
+    put_number(answer, "status", status as u64);
+    Ok(())
+}

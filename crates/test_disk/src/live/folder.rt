@@ -1,0 +1,104 @@
+//! The folder, and the file of it that is open.
+
+use crate::live::disks::obey_disk;
+use crate::live::journals::{records_of, tell_opening};
+use crate::live::words::{Told, put, put_hex, put_shown};
+use disk_file::FileDisk;
+use std::alloc::Global;
+use std::fs::{self, File};
+use std::rt::Files;
+
+/// The folder that the program runs in, and the disk of it that is open.
+#[derive(Drop)]
+pub struct Folder {
+    alloc: Global,
+    disk: Option<FileDisk>,
+}
+
+impl Folder {
+    /// No disk is open.
+    pub fn new(alloc: Global) -> Folder {
+        Folder { alloc, disk: None }
+    }
+
+    /// Carries out a command, and adds the lines that it answers.
+    pub fn obey<R: Files<File = File> + AllocGlobal>(
+        &mut self,
+        rt: &R,
+        name: &str,
+        rest: &str,
+        answer: &mut String,
+    ) -> Told {
+        match name {
+            "open" => self.open(rt, rest, answer),
+            "close" => self.disk = None,
+            "journal" => return self.journal(rest, answer),
+            "file" => tell_file(rt, rest, answer),
+            "again" => drop(opened(rt, self.alloc, rest, answer)),
+            "folder" => {
+                let _ = fs::create_dir(rt, rest);
+            }
+            "remove" => {
+                let _ = fs::remove_file(rt, rest);
+            }
+            _ => return self.obey_open(name, rest, answer),
+        }
+        Ok(())
+    }
+
+    fn obey_open(&mut self, name: &str, rest: &str, answer: &mut String) -> Told {
+        match &mut self.disk {
+            Some(disk) => obey_disk(self.alloc, disk, name, rest, answer),
+            None => answer.push_str("no disk\n"),
+        }
+    }
+
+    // Opens a file in place of the disk that is open.
+    fn open<R: Files<File = File>>(&mut self, rt: &R, name: &str, answer: &mut String) {
+        self.disk = None;
+        self.disk = opened(rt, self.alloc, name, answer);
+    }
+
+    // Opens a journal over the disk and puts a group of the records there, if there are any. It leaves the disk.
+    fn journal(&mut self, rest: &str, answer: &mut String) -> Told {
+        let records = records_of(self.alloc, rest)?;
+        if let Some(disk) = self.disk.take() {
+            self.disk = Some(tell_opening(self.alloc, disk, records, answer));
+        }
+        Ok(())
+    }
+}
+
+// Opens a file, and says how that went.
+fn opened<R: Files<File = File>>(
+    rt: &R,
+    alloc: Global,
+    name: &str,
+    answer: &mut String,
+) -> Option<FileDisk> {
+    match FileDisk::open(rt, alloc, name) {
+        Ok(disk) => {
+            put(answer, "opened\n");
+            Some(disk)
+        }
+        Err(error) => {
+            put_shown(answer, "", &error, "\n");
+            None
+        }
+    }
+}
+
+// The bytes of a file, whoever has it.
+fn tell_file<R: Files<File = File> + AllocGlobal>(rt: &R, name: &str, answer: &mut String) {
+    match fs::read(rt, name) {
+        Ok(bytes) => tell_bytes(answer, &bytes),
+        Err(_) => put(answer, "no file\n"),
+    }
+}
+
+/// A line of an `x` and these bytes.
+pub fn tell_bytes(answer: &mut String, bytes: &[u8]) {
+    put(answer, "x");
+    put_hex(answer, bytes);
+    put(answer, "\n");
+}

@@ -1,0 +1,76 @@
+//! Journals: the one over the disk that is open, and those that runs leave on a disk in memory.
+
+ghost use Rattle.journal.specs.Journal.{IsAlive};
+
+use crate::live::words::{put, put_hex, put_number, put_shown};
+use disk_file::FileDisk;
+use diskmodel::{Disk, MemDisk};
+use journal::{Group, Journal, Record};
+use std::alloc::{AllocError, Global};
+use test_cases::bytes_of;
+
+/// The records whose digits these words are.
+pub fn records_of(alloc: Global, rest: &str) -> Result<Vec<Vec<u8>>, AllocError> {
+    let mut records = Vec::new(alloc);
+    for word in rest.split_whitespace() {
+        if let Some(bytes) = bytes_of(alloc, word)? {
+            records.push(bytes)?;
+        }
+    }
+    Ok(records)
+}
+
+/// Opens a journal on a disk, says which records it gives, puts a group of these behind them, if there are any, and gives the disk
+/// back.
+pub fn tell_opening(
+    alloc: Global,
+    disk: FileDisk,
+    records: Vec<Vec<u8>>,
+    answer: &mut String,
+) -> FileDisk {
+    match Journal::open(alloc, disk) {
+        Ok((mut journal, found)) => {
+            put_records(answer, &found);
+            append(alloc, &mut journal, records, answer);
+            journal.into_disk()
+        }
+        Err(failed) => {
+            put_shown(answer, "", &failed.error, "\n");
+            failed.disk
+        }
+    }
+}
+
+fn append(
+    alloc: Global,
+    journal: &mut Journal<FileDisk>,
+    records: Vec<Vec<u8>>,
+    answer: &mut String,
+)
+    requires { IsAlive ⟦<FileDisk as Disk>⟧.content ⟦<FileDisk as Disk>⟧.outcome journal.old }
+{
+    let Ok(Some(group)) = Group::new(alloc, records) else {
+        return;
+    };
+    match journal.append(group) {
+        Ok(synced) => put_number(answer, "synced", synced.records()),
+        Err(error) => put_shown(answer, "", &error, "\n"),
+    }
+}
+
+fn put_records(answer: &mut String, records: &[Record]) {
+    put(answer, "records");
+    for record in records {
+        put(answer, " ");
+        put_hex(answer, record.bytes.as_slice());
+    }
+    put(answer, "\n");
+}
+
+/// How many records the journal on a disk has, if it can be opened. The first one is the configuration.
+pub fn record_count(alloc: Global, disk: MemDisk) -> Option<usize> {
+    match Journal::open(alloc, disk) {
+        Ok((_, records)) => Some(records.len()),
+        Err(_) => None,
+    }
+}

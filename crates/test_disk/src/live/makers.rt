@@ -1,0 +1,71 @@
+//! What is submitted to the node that threads share, which is member 0 of four.
+
+ghost use Rattle.std.specs.Prelude.{◌≡◌, None, IfOk};
+ghost use Rattle.header.specs.Checks.{fault_of, accepts_all};
+
+use crate::live::ending::Ending;
+use crate::store::{SHORTEST, batch};
+use header::{Checked, check, make, recheck};
+use node::Caller;
+use sigface::{HashSign, HashVerify};
+use sim_script::signer;
+use std::alloc::{AllocError, Global};
+use std::sync::Wait;
+use validator::Config;
+use wire::{Author, Message, ParentReference, Round, genesis_digest};
+
+// Of how many members a header names the certificates of the round before.
+const QUORUM: u16 = 3;
+
+/// An author's header for round 1.
+pub fn header_of(
+    alloc: Global,
+    config: &Config<HashSign>,
+    author: Author,
+) -> Result<Checked, Ending>
+    ensures { IfOk result (λ event. fault_of config.now.charter accepts_all event ≡ None) }
+{
+    let (round, parents) = (Round::new(1)?, parents_of(alloc)?);
+    let header = make(alloc, &signer(author), author, round, &[], &parents)?;
+    let message = Message::Header(header);
+    Ok(check(config.committee(), &HashVerify, author, message)?)
+}
+
+fn parents_of(alloc: Global) -> Result<Vec<ParentReference>, AllocError> {
+    let mut parents = Vec::new(alloc);
+    for number in 0..QUORUM {
+        let author = Author(number);
+        parents.push(ParentReference {
+            author,
+            certificate: genesis_digest(author),
+        })?;
+    }
+    Ok(parents)
+}
+
+/// Submits an author's header for round 1, and answers its ticket.
+pub fn submit_header<R: Wait>(
+    rt: &R,
+    alloc: Global,
+    caller: &mut Caller<'_, '_, HashSign>,
+    author: Author,
+) -> Result<u64, Ending> {
+    let event = header_of(alloc, caller.config(), author)?;
+    let receipt = caller.submit(rt, event)?;
+    Ok(receipt.ticket)
+}
+
+/// An author's batch of one transaction, which is this number.
+pub fn batch_of(
+    alloc: Global,
+    config: &Config<HashSign>,
+    author: Author,
+    number: u64,
+) -> Result<Checked, Ending>
+    ensures { IfOk result (λ event. fault_of config.now.charter accepts_all event ≡ None) }
+{
+    match batch(alloc, author, number, SHORTEST)? {
+        Some(batch) => Ok(recheck(config.committee(), author, Message::Batch(batch))?),
+        None => Err(Ending::Unexpected),
+    }
+}

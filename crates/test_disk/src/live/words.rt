@@ -1,0 +1,54 @@
+//! The words of a command, and the parts of its answer.
+
+pub use crate::words::{Told, bad, call_of, parted, put, put_count, put_shown, tell_fault};
+use std::alloc::{AllocError, Global};
+use std::str;
+use test_cases::{bytes_of, write_hex};
+
+/// The bytes of these words, one after the other.
+pub fn joined(alloc: Global, words: &str) -> Result<Option<Vec<u8>>, AllocError> {
+    let mut bytes = Vec::new(alloc);
+    for word in words.split_whitespace() {
+        if !add_word(alloc, word, &mut bytes)? {
+            return Ok(None);
+        }
+    }
+    Ok(Some(bytes))
+}
+
+/// Adds the bytes of a word, in which a star is before how often its digits stand. Says whether it has such digits.
+pub fn add_word(alloc: Global, word: &str, bytes: &mut Vec<u8>) -> Result<bool, AllocError> {
+    let (digits, times) = word.split_once('*').unwrap_or((word, "1"));
+    let Some(part) = bytes_of(alloc, digits)? else {
+        return Ok(false);
+    };
+    add_times(&part, times.parse().unwrap_or(0), bytes)?;
+    Ok(true)
+}
+
+fn add_times(part: &[u8], times: u32, bytes: &mut Vec<u8>) -> Told {
+    for _ in 0..times {
+        bytes.extend_from_slice(part)?;
+    }
+    Ok(())
+}
+
+/// Adds the digits of bytes.
+pub fn put_hex(answer: &mut String, bytes: &[u8]) {
+    let _ = write_hex(answer, bytes);
+}
+
+/// Adds the text that these bytes are.
+pub fn put_text(answer: &mut String, bytes: &[u8]) {
+    put(answer, str::from_utf8(bytes).unwrap_or("no text\n"));
+}
+
+/// Adds a line of a number behind a word.
+pub fn put_number(answer: &mut String, word: &str, number: u64) {
+    let _ = writeln!(answer, "{word} {number}");
+}
+
+/// Adds a line that says how many bytes these are.
+pub fn put_len(answer: &mut String, bytes: &[u8]) {
+    put_count(answer, "", bytes.len() as u64, " bytes\n");
+}

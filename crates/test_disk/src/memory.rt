@@ -1,0 +1,43 @@
+//! Disks in memory.
+
+use crate::words::Told;
+use diskmodel::{CallKind, MemDisk, StopDisk};
+use sim_disk::losing;
+use std::alloc::{AllocError, Global};
+use std::mem;
+
+/// A disk that has these bytes.
+pub fn disk_with(alloc: Global, bytes: &[u8]) -> Result<MemDisk, AllocError> {
+    MemDisk::new(alloc, bytes.to_vec(alloc)?)
+}
+
+/// A disk that has these bytes, of which the count-th call of a kind is told to fail, none at 0.
+pub fn failing_disk(
+    alloc: Global,
+    bytes: &[u8],
+    kind: CallKind,
+    count: u64,
+) -> Result<MemDisk, AllocError> {
+    let mut disk = disk_with(alloc, bytes)?;
+    disk.fail(kind, count)?;
+    Ok(disk)
+}
+
+/// Takes a disk, and leaves an empty one.
+pub fn taken(alloc: Global, disk: &mut MemDisk) -> Result<MemDisk, AllocError> {
+    Ok(mem::replace(disk, disk_with(alloc, &[])?))
+}
+
+/// Stops a disk, which loses what isn't synced.
+pub fn stopped(alloc: Global, disk: MemDisk) -> Result<MemDisk, AllocError> {
+    let mut disk = losing(alloc, disk)?;
+    disk.stop();
+    Ok(disk)
+}
+
+/// Stops a disk, which is to leave these bytes.
+pub fn stop_with(alloc: Global, disk: &mut MemDisk, bytes: &[u8]) -> Told {
+    disk.choose(bytes.to_vec(alloc)?);
+    disk.stop();
+    Ok(())
+}

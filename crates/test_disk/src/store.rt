@@ -1,0 +1,108 @@
+//! The tests of the disk in memory, of the journal and the book, of openings and scripts of a node, and of lists of random
+//! steps.
+
+mod batches;
+mod books;
+mod damages;
+mod disks;
+mod draws;
+mod events;
+mod failures;
+mod files;
+mod headers;
+mod journals;
+mod listed;
+mod lists;
+mod nodes;
+mod openings;
+mod rounds;
+mod running;
+mod scripts;
+mod spelling;
+mod stops;
+mod stores;
+mod takers;
+mod tally;
+mod texts;
+mod words;
+mod worlds;
+
+pub use headers::{SHORTEST, batch};
+use nodes::Node;
+use sigface::HashSign;
+use std::alloc::{AllocError, Global};
+use stores::Store;
+use validator::Config;
+use words::{Told, Word, parted, words_of};
+use worlds::Worlds;
+
+/// What the cases are put to, new in each case.
+#[derive(Drop)]
+pub struct StoreCases<'a> {
+    alloc: Global,
+    store: Store<'a>,
+    node: Node,
+    worlds: Worlds,
+    /// The case is one of the node, and not of the store.
+    has_node: bool,
+}
+
+impl<'a> StoreCases<'a> {
+    /// As before the first case.
+    pub fn new(alloc: Global, config: &'a Config<HashSign>) -> Result<StoreCases<'a>, AllocError> {
+        Ok(StoreCases {
+            alloc,
+            store: Store::new(alloc, config)?,
+            node: Node::new(alloc)?,
+            worlds: Worlds::new(alloc),
+            has_node: false,
+        })
+    }
+
+    /// Begins a case.
+    pub fn begin(&mut self) -> Told {
+        self.has_node = false;
+        self.store.begin()?;
+        self.node.begin()
+    }
+
+    /// Carries out a command, and adds the lines that it answers.
+    pub fn obey(&mut self, command: &str, answer: &mut String) -> Told {
+        let (name, rest) = parted(command);
+        let words = words_of(self.alloc, rest)?;
+        self.obey_words(name, words.as_slice(), answer)
+    }
+
+    /// What is printed of the lists.
+    pub fn report(&self) -> &[u8] {
+        self.worlds.report()
+    }
+
+    /// `node` or `file` makes the case one of the node: its commands have names that the store's have too.
+    fn obey_words(&mut self, name: &str, words: &[Word], answer: &mut String) -> Told {
+        match name {
+            "lists" => return self.worlds.obey(words, answer),
+            "node" | "file" => self.has_node = true,
+            _ => {}
+        }
+        match self.has_node {
+            true => self.node.obey(name, words, answer),
+            false => self.store.obey(name, words, answer),
+        }
+    }
+}
+
+/// Each law of the libraries below, which has no condition.
+pub fn laws_hold() {
+    journal::written_groups_stand();
+    spec_records::one_record();
+    spec_records::no_configuration();
+    spec_world::never_takes_back();
+    spec_world::runs_begin();
+    spec_world::runs_go_on();
+    spec_world::groups_settle();
+    spec_world::stops_are_possible();
+    recovery::told_stands_for();
+    recovery::what_stands_is_told();
+    recovery::worlds_are_told();
+}

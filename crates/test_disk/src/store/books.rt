@@ -1,0 +1,208 @@
+//! Commands to a book of member 0.
+
+use crate::memory::taken;
+use crate::store::disks::tell_if;
+use crate::store::headers::{Named, batch, body, event, header, tell_output, vote};
+use crate::store::rounds::{Putting, put_groups};
+use crate::store::stores::Store;
+use crate::store::words::{Told, Word, bad, put, put_count, put_number, put_shown, told_bad};
+use book::{OwnBook, Receipt};
+use committee::Committee;
+use sigface::HashSign;
+use std::alloc::{AllocError, Global};
+use validator::Refusal::{
+    self, AlreadyProposed, CertConflict, CoinConflict, CoinEarly, CoinOutOfTurn, DigestClash, Down,
+    Equivocation, Memory, MissingBatch, MissingParents, NotOurs, StoreFull, TooOld,
+};
+use validator::{Config, Step, Validator};
+use wire::{Author, Message, Round};
+
+/// Who sends the votes and the batches of the cases.
+const OTHER: Author = Author(1);
+
+/// Each reason to refuse an event.
+const REFUSALS: [Refusal; 14] = [
+    Memory,
+    Down,
+    TooOld,
+    MissingParents,
+    MissingBatch,
+    Equivocation,
+    CertConflict,
+    DigestClash,
+    AlreadyProposed,
+    NotOurs,
+    CoinOutOfTurn,
+    CoinEarly,
+    CoinConflict,
+    StoreFull,
+];
+
+/// A book that has accepted nothing.
+pub fn own_book(
+    alloc: Global,
+    config: &Config<HashSign>,
+) -> Result<OwnBook<'_, HashSign>, AllocError> {
+    spec_machine::starts_fresh();
+    config.limits_hold();
+    let validator = Validator::new(alloc, config)?;
+    Ok(OwnBook::new(alloc, validator))
+}
+
+impl Store<'_> {
+    /// Commands with no word: groups of the book on their way to the disk, and what it says of itself.
+    pub fn obey_book(&mut self, name: &str, answer: &mut String) -> Told {
+        match name {
+            "put" => return self.put(Putting::Written, answer),
+            "flush" => return self.put(Putting::Settled, answer),
+            "write_two" => return self.put(Putting::Two, answer),
+            "release" => self.release(answer),
+            "down" => tell_if(answer, self.book.is_down()),
+            "fault" => self.book.fail(),
+            "refusals" => tell_refusals(answer),
+            _ => bad(answer),
+        }
+        Ok(())
+    }
+
+    /// The vote of a member for an author's header of a round.
+    pub fn take_vote(&mut self, author: u64, round: u64, answer: &mut String) -> Told {
+        match slot(author, round) {
+            Some((author, round)) => self.accept(OTHER, vote(OTHER, author, round), answer),
+            None => bad(answer),
+        }
+        Ok(())
+    }
+
+    /// A header of an author and a round over certificates of some members, to the book, or to a validator without one.
+    pub fn take_header(&mut self, name: &str, words: &[Word], answer: &mut String) -> Told {
+        let [
+            Word::Number(author),
+            Word::Number(round),
+            Word::Bytes(members),
+        ] = words
+        else {
+            return told_bad(answer);
+        };
+        let (Some(named), Some((author, round))) = (named_of(name), slot(*author, *round)) else {
+            return told_bad(answer);
+        };
+        let message = header(body(self.alloc, named, author, round, members)?);
+        if name == "step" {
+            return step(self.alloc, self.config, author, message, answer);
+        }
+        self.accept(author, message, answer);
+        Ok(())
+    }
+
+    fn accept(&mut self, sender: Author, message: Message, answer: &mut String) {
+        let Some(event) = event(self.book.committee(), sender, message) else {
+            return bad(answer);
+        };
+        match self.book.accept(event) {
+            Ok(receipt) => tell_receipt(answer, receipt),
+            Err(refusal) => tell_refusal(answer, refusal),
+        }
+    }
+
+    /// So many batches of member 1, each another one, whose records have this length; tells of the last.
+    pub fn fill(&mut self, count: u64, len: usize, answer: &mut String) -> Told {
+        for number in 0..count {
+            answer.clear();
+            match batch(self.alloc, OTHER, number, len)? {
+                Some(batch) => self.accept(OTHER, Message::Batch(batch), answer),
+                None => bad(answer),
+            }
+        }
+        Ok(())
+    }
+
+    fn put(&mut self, putting: Putting, answer: &mut String) -> Told {
+        let disk = taken(self.alloc, &mut self.disk)?;
+        self.disk = put_groups(self.alloc, &mut self.book, disk, putting, answer);
+        Ok(())
+    }
+
+    fn release(&mut self, answer: &mut String) {
+        match self.book.release() {
+            Some(output) => tell_output(self.book.committee(), answer, &output),
+            None => put(answer, "none\n"),
+        }
+    }
+}
+
+/// What a header names, by the name of its command.
+fn named_of(name: &str) -> Option<Named> {
+    match name {
+        "header" | "step" => Some(Named::Genesis),
+        "batch" => Some(Named::Batch),
+        "foreign" => Some(Named::Foreign),
+        _ => None,
+    }
+}
+
+fn slot(author: u64, round: u64) -> Option<(Author, Round)> {
+    let author = Author(u16::try_from(author).ok()?);
+    Some((author, Round::new(round).ok()?))
+}
+
+/// Puts a message to a validator without a book.
+fn step(
+    alloc: Global,
+    config: &Config<HashSign>,
+    sender: Author,
+    message: Message,
+    answer: &mut String,
+) -> Told {
+    let mut validator = Validator::new(alloc, config)?;
+    let Some(event) = event(validator.committee(), sender, message) else {
+        return told_bad(answer);
+    };
+    put_count(answer, "from ", u64::from(event.sender().0), "");
+    put_count(answer, " to ", u64::from(config.own().0), ": ");
+    let is_new = validator.is_new(&event);
+    let step = validator.step(event);
+    tell_step(config.committee(), is_new, step, answer);
+    Ok(())
+}
+
+/// What came of an event, and whether it was said to be new.
+fn tell_step(
+    committee: &Committee,
+    is_new: bool,
+    step: Result<Step, Refusal>,
+    answer: &mut String,
+) {
+    match step {
+        Ok(Step::New(outputs)) => {
+            put_shown(answer, "New ", &is_new, "\n");
+            for output in &outputs {
+                tell_output(committee, answer, output);
+            }
+        }
+        Ok(Step::Known(_)) => {
+            put_shown(answer, "Known ", &is_new, "\nknown\n");
+        }
+        Err(refusal) => {
+            let _ = write!(answer, "Refused({refusal:?}) ");
+            put_shown(answer, "", &is_new, "\n");
+            tell_refusal(answer, refusal);
+        }
+    }
+}
+
+fn tell_receipt(answer: &mut String, receipt: Receipt) {
+    put(answer, if receipt.new { "new" } else { "known" });
+    put_number(answer, receipt.ticket);
+    put(answer, "\n");
+}
+
+fn tell_refusal(answer: &mut String, refusal: Refusal) {
+    put_shown(answer, "", &refusal, "\n");
+}
+
+fn tell_refusals(answer: &mut String) {
+    for refusal in &REFUSALS {
+        tell_refusal(answer, *refusal);
+    }
+}

@@ -1,0 +1,427 @@
+//! Lists of random steps, made by the running code and by the plain world side by side.
+
+ghost use Rattle.std.specs.Prelude.{◌≡◌, ◌<◌, IfOk, IsNone};
+ghost use Rattle.journal.specs.Journal.{IsAlive};
+ghost use Rattle.test_disk.specs.Way.{KeepsOnTheWay};
+
+use crate::committees::OWN;
+use crate::memory::{disk_with, stop_with, taken};
+use crate::store::books::own_book;
+use crate::store::draws::Draws;
+use crate::store::events::{KINDS, SENDERS, body_of, kind_of, sender_of};
+use crate::store::listed::Plain;
+use crate::store::running::{accept, are_of, open_book};
+use crate::store::stops::fails;
+use crate::store::tally::{Leaves, Moment, Tally, count};
+use crate::store::words::{Told, put_count};
+use book::OwnBook;
+use diskmodel::{CallKind, Disk, MemDisk};
+use journal::Journal;
+use sigface::{HashSign, Sign};
+use std::alloc::{AllocError, Global};
+use validator::Config;
+use wire::{Output, header_digest};
+
+/// The running code and the plain world.
+#[derive(Drop)]
+pub struct Lists<'a> {
+    alloc: Global,
+    config: &'a Config<HashSign>,
+    draws: Draws,
+    disk: MemDisk,
+    book: OwnBook<'a, HashSign>,
+    plain: Plain,
+    tally: Tally,
+    /// How many answers weren't those of the plain world.
+    wrong: u64,
+}
+
+impl<'a> Lists<'a> {
+    /// Both on an empty disk, with numbers drawn from this start value.
+    pub fn new(
+        alloc: Global,
+        config: &'a Config<HashSign>,
+        start: u64,
+    ) -> Result<Lists<'a>, AllocError> {
+        Ok(Lists {
+            alloc,
+            config,
+            draws: Draws::from(start),
+            disk: disk_with(alloc, &[])?,
+            book: own_book(alloc, config)?,
+            plain: Plain::new(alloc),
+            tally: Tally::new(),
+            wrong: 0,
+        })
+    }
+
+    /// Makes a list of so many steps, from an empty disk on.
+    pub fn play(&mut self, steps: u64) -> Told {
+        self.disk = disk_with(self.alloc, &[])?;
+        self.plain = Plain::new(self.alloc);
+        self.stop(Moment::Idle, 0)?;
+        for _ in 0..steps {
+            let told = match self.draws.below(16) {
+                0..=7 => self.accept(),
+                8..=11 => self.release(),
+                12..=14 => self.flush(),
+                _ => self.stop(Moment::Idle, 0),
+            };
+            told?;
+        }
+        Ok(())
+    }
+
+    /// Tells the counts, and how many answers were wrong.
+    pub fn tell(&self, answer: &mut String) -> Told {
+        self.tally.tell(answer);
+        put_count(answer, "wrong ", self.wrong, "\n");
+        Ok(())
+    }
+
+    fn differs(&mut self)
+        ensures book { self.new.book ≡ self.old.book }
+    {
+        self.wrong = self.wrong.saturating_add(1);
+    }
+
+    fn expect(&mut self, holds: bool)
+        ensures book { self.new.book ≡ self.old.book }
+    {
+        if !holds {
+            self.differs();
+        }
+    }
+
+    /// An event comes in.
+    fn accept(&mut self) -> Told
+        ensures { KeepsOnTheWay ⟦<HashSign as Sign>⟧.own_key ⟦<HashSign as Sign>⟧.signature_of self.old.book self.new.book }
+    {
+        let number = self.draws.below(SENDERS * KINDS);
+        let expected = self.plain.accept(number)?;
+        let answer = accept(&mut self.book, self.alloc, number)?;
+        self.expect(answer == Some(expected));
+        self.tally.add_answer(expected);
+        Ok(())
+    }
+
+    /// An output goes out, if one may.
+    fn release(&mut self) -> Told
+        ensures { KeepsOnTheWay ⟦<HashSign as Sign>⟧.own_key ⟦<HashSign as Sign>⟧.signature_of self.old.book self.new.book }
+    {
+        let expected = self.plain.release()?;
+        let same = is_expected(self.alloc, self.book.release(), expected)?;
+        self.expect(same);
+        self.tally.add_release(expected.is_some());
+        Ok(())
+    }
+
+    /// What comes in and goes out beside a group's way to the disk.
+    fn beside(&mut self) -> Told
+        ensures { KeepsOnTheWay ⟦<HashSign as Sign>⟧.own_key ⟦<HashSign as Sign>⟧.signature_of self.old.book self.new.book }
+    {
+        self.accept()?;
+        self.release()
+    }
+
+    /// A group is taken and appended, which may fail at each device call, and is then settled, if the machine doesn't
+    /// stop. A second group may follow it on the same journal.
+    fn flush(&mut self) -> Told {
+        let (has_pending, pending) = (self.book.has_pending(), self.plain.pending());
+        self.expect(has_pending == (pending > 0));
+        if has_pending {
+            self.flush_pending()
+        } else {
+            Ok(())
+        }
+    }
+
+    fn flush_pending(&mut self) -> Told {
+        let gate = self.disk.bytes().len().saturating_sub(1);
+        let failing = moment_of(self.draws.below(12));
+        arm(&mut self.disk, failing)?;
+        match Journal::open(self.alloc, self.taken_disk()?) {
+            Ok((journal, _)) => self.write_groups(journal, failing, gate),
+            Err(failed) => {
+                self.disk = failed.disk;
+                self.differs();
+                Ok(())
+            }
+        }
+    }
+
+    /// Takes a group and appends it, and then maybe a second one, and stops where the machine is to.
+    fn write_groups(
+        &mut self,
+        mut journal: Journal<MemDisk>,
+        failing: Option<Moment>,
+        gate: usize,
+    ) -> Told
+        requires { IsAlive ⟦<MemDisk as Disk>⟧.content ⟦<MemDisk as Disk>⟧.outcome journal }
+    {
+        let mut written = self.write(&mut journal, failing);
+        if matches!(written, Ok(None)) && self.book.has_pending() {
+            written = self.write(&mut journal, None);
+        }
+        self.disk = journal.into_disk();
+        match written? {
+            Some(moment) => self.stop(moment, gate),
+            None => Ok(()),
+        }
+    }
+
+    /// Takes a group and appends it. Answers the moment of a stop, if there is to be one.
+    fn write(
+        &mut self,
+        journal: &mut Journal<MemDisk>,
+        failing: Option<Moment>,
+    ) -> Result<Option<Moment>, AllocError>
+        requires { IsAlive ⟦<MemDisk as Disk>⟧.content ⟦<MemDisk as Disk>⟧.outcome journal.old }
+        ensures { IfOk result (λ moment. IsNone moment → IsAlive ⟦<MemDisk as Disk>⟧.content ⟦<MemDisk as Disk>⟧.outcome journal.new) }
+    {
+        if !self.book.is_settled() {
+            self.differs();
+            return Ok(Some(Moment::Idle));
+        }
+        let Some(group) = self.book.take()? else {
+            self.differs();
+            return Ok(Some(Moment::Idle));
+        };
+        let pending = self.plain.pending();
+        self.expect(group.records_count() == pending as u64);
+        self.plain.take();
+        count(&mut self.tally.taken);
+        let before = self.beside();
+        match journal.append(group) {
+            Ok(synced) => {
+                let after = self.beside();
+                self.expect(failing.is_none());
+                if self.draws.below(8) == 0 {
+                    let _ = synced.records();
+                    before?;
+                    after?;
+                    return Ok(Some(Moment::Firm));
+                }
+                self.book.settle(synced);
+                self.plain.settle();
+                count(&mut self.tally.settled);
+                before?;
+                after?;
+                Ok(None)
+            }
+            Err(_) => {
+                self.book.fail();
+                self.plain.fail();
+                count(&mut self.tally.failed);
+                before?;
+                self.beside()?;
+                self.expect(failing.is_some());
+                Ok(Some(failing.unwrap_or(Moment::Taken)))
+            }
+        }
+    }
+
+    fn taken_disk(&mut self) -> Result<MemDisk, AllocError>
+        ensures book { self.new.book ≡ self.old.book }
+    {
+        taken(self.alloc, &mut self.disk)
+    }
+
+    /// The machine stops and begins a new run. Of a group on its way the gate is at this place.
+    fn stop(&mut self, moment: Moment, gate: usize) -> Told {
+        self.tally.add_stop(moment);
+        let mut leaves_taken = self.leave(moment, gate)?;
+        if self.draws.below(4) == 0 && self.fail_to_open()? {
+            leaves_taken = self.leave(moment, gate)?;
+        }
+        self.plain.stop(leaves_taken);
+        self.open()
+    }
+
+    /// A stop leaves any of its outcomes; says whether it has the group that was taken.
+    fn leave(&mut self, moment: Moment, gate: usize) -> Result<bool, AllocError> {
+        let leaves = leaves_of(self.draws.below(3));
+        let found = self.outcome(leaves)?;
+        let open = is_open(&found, gate);
+        self.tally.add_outcome(moment, leaves, open);
+        self.stop_disk(&found)?;
+        Ok(match moment {
+            Moment::Opened => open,
+            Moment::Firm => true,
+            _ => false,
+        })
+    }
+
+    /// Bytes that a stop may leave.
+    fn outcome(&mut self, leaves: Leaves) -> Result<Vec<u8>, AllocError> {
+        match leaves {
+            Leaves::Read => self.disk.bytes().to_vec(self.alloc),
+            Leaves::Lost => self.disk.firm().to_vec(self.alloc),
+            Leaves::Torn => torn(self.alloc, &self.disk, &mut self.draws),
+        }
+    }
+
+    /// Stops the disk, which is to leave these bytes.
+    fn stop_disk(&mut self, found: &[u8]) -> Told {
+        stop_with(self.alloc, &mut self.disk, found)?;
+        let left = self.disk.bytes() == found;
+        self.expect(left);
+        Ok(())
+    }
+
+    /// An opening that is told to fail at one of its calls; says whether it did. It then leaves the disk to another stop.
+    fn fail_to_open(&mut self) -> Result<bool, AllocError> {
+        let call = self.draws.below(5);
+        let (kind, count) = opening_call(call);
+        self.disk.fail(kind, count)?;
+        match open_book(self.alloc, self.config, self.taken_disk()?) {
+            Ok((_, journal)) => {
+                self.disk = journal.into_disk();
+                spend(&mut self.disk, kind);
+                Ok(false)
+            }
+            Err(failed) => {
+                self.disk = failed.disk;
+                self.tally.add_fault(call as usize);
+                Ok(true)
+            }
+        }
+    }
+
+    /// Opens the node, whose journal then has the records of the plain history.
+    fn open(&mut self) -> Told {
+        match open_book(self.alloc, self.config, self.taken_disk()?) {
+            Ok((book, journal)) => {
+                self.book = book;
+                self.disk = journal.into_disk();
+                self.compare()
+            }
+            Err(failed) => {
+                self.disk = failed.disk;
+                self.differs();
+                Ok(())
+            }
+        }
+    }
+
+    /// Compares what was opened with the plain world.
+    fn compare(&mut self) -> Told {
+        let (right, keeps) = (self.has_plain_records()?, self.plain.keeps_what_it_gave());
+        self.expect(right && keeps);
+        count(&mut self.tally.opened);
+        Ok(())
+    }
+
+    /// Whether the journal has the records of the plain history.
+    fn has_plain_records(&mut self) -> Result<bool, AllocError> {
+        match Journal::open(self.alloc, self.taken_disk()?) {
+            Ok((journal, records)) => {
+                self.disk = journal.into_disk();
+                are_of(self.alloc, &records, &self.plain.history)
+            }
+            Err(failed) => {
+                self.disk = failed.disk;
+                Ok(false)
+            }
+        }
+    }
+}
+
+/// The output is the one of the event of this number, or there is none of both.
+fn is_expected(
+    alloc: Global,
+    output: Option<Output>,
+    expected: Option<u64>,
+) -> Result<bool, AllocError> {
+    match (output, expected) {
+        (Some(output), Some(number)) => is_vote_for(alloc, &output, number),
+        (None, None) => Ok(true),
+        _ => Ok(false),
+    }
+}
+
+/// The output is the node's vote for the header of this number.
+fn is_vote_for(alloc: Global, output: &Output, number: u64) -> Result<bool, AllocError> {
+    let Output::Vote(vote) = output else {
+        return Ok(false);
+    };
+    let body = body_of(alloc, sender_of(number), kind_of(number))?;
+    Ok(
+        vote.header == header_digest(&body)
+            && vote.round == body.round
+            && vote.author == body.author
+            && vote.voter == OWN,
+    )
+}
+
+/// Makes calls of a kind, which change nothing, until one fails, so that none is told to fail any more.
+fn spend(disk: &mut MemDisk, kind: CallKind) {
+    for _ in 0..3 {
+        if fails(disk, kind) {
+            return;
+        }
+    }
+}
+
+fn leaves_of(number: u64) -> Leaves {
+    match number {
+        0 => Leaves::Read,
+        1 => Leaves::Lost,
+        _ => Leaves::Torn,
+    }
+}
+
+fn is_open(bytes: &[u8], gate: usize) -> bool {
+    matches!(bytes.get(gate), Some(byte) if *byte != 0)
+}
+
+/// A call of an opening: which one of its kind it is.
+fn opening_call(number: u64) -> (CallKind, u64) {
+    match number {
+        0 => (CallKind::Sync, 1),
+        1 => (CallKind::Read, 1),
+        2 => (CallKind::Write, 1),
+        3 => (CallKind::Cut, 1),
+        _ => (CallKind::Sync, 2),
+    }
+}
+
+/// At which moment an append fails, if it does.
+fn moment_of(number: u64) -> Option<Moment> {
+    match number {
+        0 => Some(Moment::Taken),
+        1 => Some(Moment::Written),
+        2 => Some(Moment::Synced),
+        3 => Some(Moment::Opened),
+        _ => None,
+    }
+}
+
+/// Tells the disk to fail the call behind this moment of an append. The opening before it syncs once.
+fn arm(disk: &mut MemDisk, failing: Option<Moment>) -> Told {
+    match failing {
+        Some(Moment::Taken) => disk.fail(CallKind::Write, 1),
+        Some(Moment::Written) => disk.fail(CallKind::Sync, 2),
+        Some(Moment::Synced) => disk.fail(CallKind::Write, 2),
+        Some(Moment::Opened) => disk.fail(CallKind::Sync, 3),
+        _ => Ok(()),
+    }
+}
+
+/// Any bytes that a stop may leave: of a length between that of the last sync and what is read, any byte in each place
+/// that was written since then or lies past the smaller of both, closed gates more often than others.
+fn torn(alloc: Global, disk: &MemDisk, draws: &mut Draws) -> Result<Vec<u8>, AllocError> {
+    let (firm, read) = (disk.firm(), disk.bytes().len());
+    let (smallest, greatest) = (firm.len().min(read), firm.len().max(read));
+    let more = greatest.saturating_sub(smallest) as u64;
+    let len = smallest.saturating_add(draws.below(more.saturating_add(1)) as usize);
+    let mut found = Vec::new(alloc);
+    for place in 0..len {
+        match firm.get(place) {
+            Some(byte) if place < smallest && !disk.is_written(place as u64) => found.push(*byte)?,
+            _ if draws.below(2) == 0 => found.push(0)?,
+            _ => found.push(draws.below(256) as u8)?,
+        }
+    }
+    Ok(found)
+}

@@ -1,0 +1,84 @@
+//! The code that runs: a book, and a journal on a disk in memory.
+
+ghost use Rattle.std.specs.Prelude.{◌≡◌};
+ghost use Rattle.test_disk.specs.Way.{KeepsOnTheWay};
+
+use crate::store::events::{message_of, sender_of};
+use crate::store::headers::event;
+use book::{EVENT_RECORD, OwnBook, Receipt, Refusal};
+use diskmodel::MemDisk;
+use journal::{Failed, Journal, JournalError, Record};
+use recovery::reopen;
+use sigface::{HashSign, Sign};
+use std::alloc::{AllocError, Global};
+use validator::Config;
+use wire::encode;
+
+/// Opens the node on a disk: a book whose run begins with the events there, and the journal.
+pub fn open_book<'a>(
+    alloc: Global,
+    config: &'a Config<HashSign>,
+    disk: MemDisk,
+) -> Result<(OwnBook<'a, HashSign>, Journal<MemDisk>), Failed<JournalError, MemDisk>> {
+    let (validator, journal) = reopen(alloc, config, disk)?;
+    Ok((OwnBook::new(alloc, validator), journal))
+}
+
+/// The event of this number comes in; `None` where it doesn't pass the checks.
+pub fn accept(
+    own: &mut OwnBook<'_, HashSign>,
+    alloc: Global,
+    number: u64,
+) -> Result<Option<Result<Receipt, Refusal>>, AllocError>
+    ensures { KeepsOnTheWay ⟦<HashSign as Sign>⟧.own_key ⟦<HashSign as Sign>⟧.signature_of own.old own.new }
+{
+    let message = message_of(alloc, number)?;
+    match event(own.committee(), sender_of(number), message) {
+        Some(event) => Ok(Some(own.accept(event))),
+        None => Ok(None),
+    }
+}
+
+/// The records of a journal after this history.
+pub fn records_of(alloc: Global, history: &[u64]) -> Result<Vec<Vec<u8>>, AllocError> {
+    let mut records = vec![in alloc; configuration(alloc)?]?;
+    for number in history {
+        records.push(record_of(alloc, *number)?)?;
+    }
+    Ok(records)
+}
+
+/// The record of the event of this number: its kind, its sender, and its message.
+fn record_of(alloc: Global, number: u64) -> Result<Vec<u8>, AllocError> {
+    let [high, low] = sender_of(number).0.to_be_bytes();
+    let mut record = vec![in alloc; EVENT_RECORD, high, low]?;
+    let message = encode(alloc, &message_of(alloc, number)?)?;
+    record.extend_from_slice(&message)?;
+    Ok(record)
+}
+
+/// The configuration record: kind, version, own number, depth, workers, batches, members, and their keys.
+fn configuration(alloc: Global) -> Result<Vec<u8>, AllocError> {
+    let mut record = vec![in alloc; 0, 1, 0, 0, 0, 50, 0, 1, 0, 16, 0, 0, 0, 7]?;
+    for member in 1..=7 {
+        record.extend_from_slice(&[member; 32])?;
+    }
+    Ok(record)
+}
+
+/// The records are those of a journal after this history.
+pub fn are_of(alloc: Global, records: &[Record], history: &[u64]) -> Result<bool, AllocError> {
+    let expected = records_of(alloc, history)?;
+    let mut same = records.len() == expected.len();
+    for (place, bytes) in expected.iter().enumerate() {
+        same = same && is_at(records, place, bytes);
+    }
+    Ok(same)
+}
+
+fn is_at(records: &[Record], place: usize, bytes: &[u8]) -> bool {
+    match records.get(place) {
+        Some(record) => record.bytes.as_slice() == bytes,
+        None => false,
+    }
+}

@@ -1,0 +1,252 @@
+//! Scripts of commands, and what a node writes for them.
+
+ghost use Rattle.std.specs.Prelude.{All, IfOk, IfSome};
+ghost use Rattle.recovery.specs.Script.{Passes};
+
+use crate::memory::{disk_with, failing_disk};
+use crate::store::headers::message_in;
+use crate::store::takers::Taker;
+use crate::store::words::{Told, Word, put, put_bytes, put_count, put_other, put_shown};
+use book::MAX_ACCEPTED;
+use diskmodel::{CallKind, MemDisk};
+use header::check;
+use recovery::{Command, DriveError, drive};
+use sha2::{Digest, Sha256};
+use sigface::{HashSign, HashVerify};
+use std::alloc::{AllocError, Global};
+use std::io::Write;
+use test_cases::write_hex;
+use validator::Config;
+use wire::Author;
+
+/// Longer texts are told by their SHA-256.
+const SHOWN: usize = 128;
+
+/// More calls of a kind than the scripts here make.
+const CALLS: u64 = 100;
+
+/// A command of a case.
+#[derive(Drop)]
+pub enum Line {
+    /// A message comes in from a sender.
+    Event { sender: Author, message: Vec<u8> },
+    Flush,
+    Stop,
+}
+
+/// The flushes and stops among these words.
+pub fn lines_of(alloc: Global, words: &[Word]) -> Result<Vec<Line>, AllocError> {
+    let mut lines = Vec::new(alloc);
+    for word in words {
+        match word {
+            Word::Flush => lines.push(Line::Flush)?,
+            Word::Stop => lines.push(Line::Stop)?,
+            _ => {}
+        }
+    }
+    Ok(lines)
+}
+
+/// Commands that a node carries out, one after the other, on a disk with a file.
+#[derive(Clone, Copy)]
+pub struct Script<'a> {
+    pub alloc: Global,
+    pub config: &'a Config<HashSign>,
+    pub file: &'a [u8],
+    pub lines: &'a [Line],
+    /// What is done behind each of the lines.
+    pub behind: &'a [Line],
+}
+
+impl Script<'_> {
+    /// Tells what is written, and how long the file is then.
+    pub fn tell(&self, answer: &mut String) -> Told {
+        let _ = self.tell_on(self.disk()?, answer)?;
+        put(answer, "\n");
+        Ok(())
+    }
+
+    /// Tells what is written where a call of this kind fails: the first one, the second one and so on, until none does.
+    pub fn tell_failing(&self, kind: CallKind, answer: &mut String) -> Told {
+        for count in 1..CALLS {
+            put_count(answer, "", count, ": ");
+            let disk = failing_disk(self.alloc, self.file, kind, count)?;
+            let is_carried_out = self.tell_on(disk, answer)?;
+            put(answer, "\n");
+            if is_carried_out {
+                break;
+            }
+        }
+        Ok(())
+    }
+
+    /// Tells what is written to a writer that fails behind so many bytes, for each number of bytes of the text. A line is
+    /// told wherever the answer becomes another one.
+    pub fn tell_rooms(&self, text: &[u8], answer: &mut String) -> Told {
+        let mut before = String::new(self.alloc);
+        for room in 0..=text.len() {
+            let told = self.told_room(room, text)?;
+            put_other(answer, room as u64, told, &mut before);
+        }
+        Ok(())
+    }
+
+    /// What is told where the writer takes so many bytes of the text.
+    fn told_room(&self, room: usize, text: &[u8]) -> Result<String, AllocError> {
+        let mut taker = Taker::new(self.alloc, room);
+        let mut told = String::new(self.alloc);
+        match self.run(self.disk()?, &mut taker)? {
+            None => put(&mut told, "bad case"),
+            Some(Ok(_)) => put(&mut told, "carried out"),
+            Some(Err(error)) => tell_error(error, &mut told),
+        }
+        put(&mut told, filled(text.get(..room), &taker.bytes));
+        Ok(told)
+    }
+
+    /// Tells what is written where the node is on this disk, and gives whether all was carried out.
+    fn tell_on(&self, disk: MemDisk, answer: &mut String) -> Result<bool, AllocError> {
+        let mut written = Vec::new(self.alloc);
+        match self.run(disk, &mut written)? {
+            None => {
+                put(answer, "bad case");
+                Ok(true)
+            }
+            Some(Ok(disk)) => {
+                put(answer, "carried out");
+                tell_text(&written, answer);
+                put_count(answer, ", file of ", disk.bytes().len() as u64, " bytes");
+                Ok(true)
+            }
+            Some(Err(error)) => {
+                tell_error(error, answer);
+                tell_text(&written, answer);
+                Ok(false)
+            }
+        }
+    }
+
+    /// A disk with the file.
+    pub fn disk(&self) -> Result<MemDisk, AllocError> {
+        disk_with(self.alloc, self.file)
+    }
+
+    /// Each line, and what is done behind it.
+    pub fn spaced_lines(&self) -> Result<Vec<&Line>, AllocError> {
+        let mut spaced = Vec::new(self.alloc);
+        for line in self.lines {
+            spaced.push(line)?;
+            for other in self.behind {
+                spaced.push(other)?;
+            }
+        }
+        Ok(spaced)
+    }
+
+    /// The disk behind all commands, or why they ended early; nothing where a message can't come in.
+    pub fn run<W: Write>(
+        &self,
+        disk: MemDisk,
+        writer: &mut W,
+    ) -> Result<Option<Result<MemDisk, DriveError>>, AllocError> {
+        let lines = self.spaced_lines()?;
+        match commands_of(self.alloc, self.config, &lines)? {
+            Some(commands) => Ok(self.carry_out(disk, commands, writer)),
+            None => Ok(None),
+        }
+    }
+
+    /// The same for these commands; nothing where they are too many.
+    fn carry_out<W: Write>(
+        &self,
+        disk: MemDisk,
+        commands: Vec<Command>,
+        writer: &mut W,
+    ) -> Option<Result<MemDisk, DriveError>>
+        requires { All (Passes self.now.config.now.charter) commands.items }
+    {
+        if commands.len() as u64 > MAX_ACCEPTED {
+            return None;
+        }
+        match drive(self.alloc, self.config, disk, commands, writer) {
+            Ok(disk) => Some(Ok(disk)),
+            Err(failed) => Some(Err(failed.error)),
+        }
+    }
+}
+
+/// The commands of these lines, if each message can come in.
+fn commands_of(
+    alloc: Global,
+    config: &Config<HashSign>,
+    lines: &[&Line],
+) -> Result<Option<Vec<Command>>, AllocError>
+    ensures passed { IfOk result (λ found. IfSome found (λ commands. All (Passes config.now.charter) commands.items)) }
+{
+    let mut commands = Vec::new(alloc);
+    for line in lines {
+        match command_of(alloc, config, line)? {
+            Some(command) => commands.push(command)?,
+            None => return Ok(None),
+        }
+    }
+    Ok(Some(commands))
+}
+
+fn command_of(
+    alloc: Global,
+    config: &Config<HashSign>,
+    line: &Line,
+) -> Result<Option<Command>, AllocError>
+    ensures passed { IfOk result (λ found. IfSome found (Passes config.now.charter)) }
+{
+    match line {
+        Line::Event { sender, message } => event_of(alloc, config, *sender, message),
+        Line::Flush => Ok(Some(Command::Flush)),
+        Line::Stop => Ok(Some(Command::Stop)),
+    }
+}
+
+/// The event of a message, if it can be read and passes the checks.
+fn event_of(
+    alloc: Global,
+    config: &Config<HashSign>,
+    sender: Author,
+    bytes: &[u8],
+) -> Result<Option<Command>, AllocError>
+    ensures passed { IfOk result (λ found. IfSome found (Passes config.now.charter)) }
+{
+    let Some(message) = message_in(alloc, bytes)? else {
+        return Ok(None);
+    };
+    match check(config.committee(), &HashVerify, sender, message) {
+        Ok(event) => Ok(Some(Command::Event(event))),
+        Err(_) => Ok(None),
+    }
+}
+
+/// Whether the bytes that a writer took are all that it has room for.
+fn filled(text: Option<&[u8]>, taken: &[u8]) -> &'static str {
+    match text {
+        Some(text) if text == taken => ", filled",
+        _ => ", other bytes",
+    }
+}
+
+fn tell_error(error: DriveError, answer: &mut String) {
+    put_shown(answer, "", &error, "");
+    if let DriveError::Damaged(place) = error {
+        put_count(answer, " at ", place, "");
+    }
+}
+
+/// Tells how long a text is, and what it is, or its SHA-256.
+pub fn tell_text(text: &[u8], answer: &mut String) {
+    put_count(answer, ", ", text.len() as u64, " bytes");
+    if text.len() > SHOWN {
+        put(answer, " sha256 ");
+        let _ = write_hex(answer, &Sha256::digest(text));
+    } else if !text.is_empty() {
+        put_bytes(answer, text);
+    }
+}

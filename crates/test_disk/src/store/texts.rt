@@ -1,0 +1,126 @@
+//! The text of a script by the plain program, beside what a node writes.
+
+use crate::store::headers::message_in;
+use crate::store::scripts::{Line, Script, tell_text};
+use crate::store::words::{Told, bad, put, told_bad};
+use diskmodel::MemDisk;
+use journal::{Journal, Record};
+use ref_script::{Command, text};
+use sigface::HashSign;
+use spec_model::{Event, Node};
+use std::alloc::{AllocError, Global};
+use wire::Author;
+
+/// The kind of a record that has an event.
+const EVENT: u8 = 1;
+
+/// Tells the text of a script, and whether a node writes the same.
+pub fn tell(script: &Script, node: &Node<HashSign>, answer: &mut String) -> Told {
+    let mut written = Vec::new(script.alloc);
+    match script.run(script.disk()?, &mut written)? {
+        Some(Ok(_)) => tell_text_of(script, node, &written, answer),
+        _ => told_bad(answer),
+    }
+}
+
+fn tell_text_of(
+    script: &Script,
+    node: &Node<HashSign>,
+    written: &[u8],
+    answer: &mut String,
+) -> Told {
+    match text_of(script, node)? {
+        Some(text) => tell_beside(&text, written, answer),
+        None => bad(answer),
+    }
+    Ok(())
+}
+
+fn tell_beside(text: &[u8], written: &[u8], answer: &mut String) {
+    let is_same = text == written;
+    put(
+        answer,
+        if is_same {
+            "the same text"
+        } else {
+            "another text"
+        },
+    );
+    tell_text(text, answer);
+    put(answer, "\n");
+}
+
+/// The text of a script behind what its file has, if all of it can be read.
+fn text_of(script: &Script, node: &Node<HashSign>) -> Result<Option<Vec<u8>>, AllocError> {
+    let alloc = script.alloc;
+    let Some(history) = history_of(alloc, script.disk()?)? else {
+        return Ok(None);
+    };
+    let lines = script.spaced_lines()?;
+    let Some(commands) = commands_of(alloc, &lines)? else {
+        return Ok(None);
+    };
+    Ok(Some(text(alloc, node, history, commands)?))
+}
+
+/// The events of the journal on a disk, behind its configuration.
+fn history_of(alloc: Global, disk: MemDisk) -> Result<Option<Vec<Event>>, AllocError> {
+    match Journal::open(alloc, disk) {
+        Ok((_, records)) => events_of(alloc, &records),
+        Err(_) => Ok(None),
+    }
+}
+
+/// The events of the records behind the first one.
+fn events_of(alloc: Global, records: &[Record]) -> Result<Option<Vec<Event>>, AllocError> {
+    let mut history = Vec::new(alloc);
+    for record in records.iter().skip(1) {
+        match event_in(alloc, record.bytes.as_slice())? {
+            Some(event) => history.push(event)?,
+            None => return Ok(None),
+        }
+    }
+    Ok(Some(history))
+}
+
+/// The event of a record.
+fn event_in(alloc: Global, record: &[u8]) -> Result<Option<Event>, AllocError> {
+    match record {
+        [EVENT, high, low, message @ ..] => {
+            let sender = Author(u16::from_be_bytes([*high, *low]));
+            event_of(alloc, sender, message)
+        }
+        _ => Ok(None),
+    }
+}
+
+/// The commands of lines.
+fn commands_of(alloc: Global, lines: &[&Line]) -> Result<Option<Vec<Command>>, AllocError> {
+    let mut commands = Vec::new(alloc);
+    for line in lines {
+        match command_of(alloc, line)? {
+            Some(command) => commands.push(command)?,
+            None => return Ok(None),
+        }
+    }
+    Ok(Some(commands))
+}
+
+fn command_of(alloc: Global, line: &Line) -> Result<Option<Command>, AllocError> {
+    match line {
+        Line::Event { sender, message } => match event_of(alloc, *sender, message)? {
+            Some(event) => Ok(Some(Command::Event(event))),
+            None => Ok(None),
+        },
+        Line::Flush => Ok(Some(Command::Flush)),
+        Line::Stop => Ok(Some(Command::Stop)),
+    }
+}
+
+/// A message with its sender, if its bytes are one.
+fn event_of(alloc: Global, sender: Author, bytes: &[u8]) -> Result<Option<Event>, AllocError> {
+    match message_in(alloc, bytes)? {
+        Some(message) => Ok(Some(Event { sender, message })),
+        None => Ok(None),
+    }
+}

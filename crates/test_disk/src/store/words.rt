@@ -1,0 +1,102 @@
+//! The words of a command, and the parts of its answer.
+
+use crate::words::call_of;
+pub use crate::words::{Told, bad, parted, put, put_count, put_shown, tell_fault};
+use diskmodel::CallKind;
+use std::alloc::{AllocError, Global};
+use test_cases::{bytes_of, write_hex};
+
+/// A word behind a command's name.
+#[derive(Drop)]
+pub enum Word {
+    Number(u64),
+    /// `x`, and then digits.
+    Bytes(Vec<u8>),
+    Call(CallKind),
+    Flush,
+    Stop,
+    Bad,
+}
+
+/// The words of a text.
+pub fn words_of(alloc: Global, text: &str) -> Result<Vec<Word>, AllocError> {
+    let mut words = Vec::new(alloc);
+    for word in text.split_whitespace() {
+        words.push(word_of(alloc, word)?)?;
+    }
+    Ok(words)
+}
+
+fn word_of(alloc: Global, word: &str) -> Result<Word, AllocError> {
+    match word.strip_prefix('x') {
+        Some(digits) => Ok(match bytes_of(alloc, digits)? {
+            Some(bytes) => Word::Bytes(bytes),
+            None => Word::Bad,
+        }),
+        None => Ok(named(word)),
+    }
+}
+
+/// A word that has no bytes.
+fn named(word: &str) -> Word {
+    match word {
+        "flush" => Word::Flush,
+        "stop" => Word::Stop,
+        _ => match call_of(word) {
+            Some(call) => Word::Call(call),
+            None => number_of(word),
+        },
+    }
+}
+
+fn number_of(word: &str) -> Word {
+    match word.parse() {
+        Ok(number) => Word::Number(number),
+        Err(_) => Word::Bad,
+    }
+}
+
+/// The numbers among these words.
+pub fn numbers(alloc: Global, words: &[Word]) -> Result<Vec<u64>, AllocError> {
+    let mut numbers = Vec::new(alloc);
+    for word in words {
+        if let Word::Number(number) = word {
+            numbers.push(*number)?;
+        }
+    }
+    Ok(numbers)
+}
+
+/// Adds a line, unless the text has it.
+pub fn put_once(text: &mut String, line: &str) {
+    if !text.as_str().contains(line) {
+        put(text, line);
+    }
+}
+
+/// Adds a line of a number and a text, where that is another one than the text before, and keeps it as that.
+pub fn put_other(answer: &mut String, number: u64, text: String, before: &mut String) {
+    if text.as_str() != before.as_str() {
+        put_count(answer, "", number, ": ");
+        put(answer, text.as_str());
+        put(answer, "\n");
+    }
+    *before = text;
+}
+
+/// Adds a number behind a space.
+pub fn put_number(text: &mut String, number: u64) {
+    put_count(text, " ", number, "");
+}
+
+/// Adds bytes as digits, behind a space and an `x`.
+pub fn put_bytes(text: &mut String, bytes: &[u8]) {
+    put(text, " x");
+    let _ = write_hex(text, bytes);
+}
+
+/// Answers a command that is none.
+pub fn told_bad(answer: &mut String) -> Told {
+    bad(answer);
+    Ok(())
+}

@@ -1,0 +1,38 @@
+//! What the words of all commands have in common.
+
+use diskmodel::{CallKind, DiskFault};
+use std::fmt::Display;
+pub use test_cases::{Told, bad, put};
+
+/// The kind of call of this name.
+pub fn call_of(name: &str) -> Option<CallKind> {
+    match name {
+        "read" => Some(CallKind::Read),
+        "write" => Some(CallKind::Write),
+        "cut" => Some(CallKind::Cut),
+        "sync" => Some(CallKind::Sync),
+        _ => None,
+    }
+}
+
+/// The texts before and behind the first blank; where there is none, the whole one and nothing.
+pub fn parted(text: &str) -> (&str, &str) {
+    text.split_once(' ').unwrap_or((text, ""))
+}
+
+/// Adds a line that says how a call of a disk failed, if it did.
+pub fn tell_fault(answer: &mut String, outcome: Result<(), DiskFault>) {
+    if let Err(fault) = outcome {
+        put_shown(answer, "", &fault, "\n");
+    }
+}
+
+/// Adds a number between two parts.
+pub fn put_count(answer: &mut String, before: &str, count: u64, behind: &str) {
+    let _ = write!(answer, "{before}{count}{behind}");
+}
+
+/// Adds what this is shown as, between two parts.
+pub fn put_shown<T: Display>(answer: &mut String, before: &str, shown: &T, behind: &str) {
+    let _ = write!(answer, "{before}{shown}{behind}");
+}

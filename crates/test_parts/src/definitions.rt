@@ -1,0 +1,52 @@
+//! The tests of the definitions: scripts over the plain programs, whose contracts the definitions are; and those of the
+//! validator: histories of events through its steps, with the sums over them that `oracles/histories.py` computes, and for
+//! the first events beside the plain program of what a node keeps.
+
+mod beside;
+mod keeping;
+mod looking;
+mod played;
+mod searching;
+mod showing;
+mod validating;
+mod weighing;
+
+pub use played::Played;
+pub use validating::Gathered;
+
+/// Each law, which has no condition.
+pub fn laws_hold() {
+    spec_laws::one_vote();
+    spec_laws::one_certificate();
+    spec_laws::one_more();
+    spec_laws::slots_grow();
+    spec_laws::outputs_given();
+    spec_laws::order_grows();
+    spec_laws::order_lengthens();
+    spec_laws::held_is_enough();
+    spec_laws::given_grows();
+    spec_laws::proposals_are_new();
+    spec_laws::proposals_are_legal();
+    spec_laws::proposals_pass();
+    spec_laws::own_votes_pass();
+    spec_machine::starts_fresh();
+    spec_machine::state_follows();
+    spec_machine::state_answers();
+    spec_machine::state_is_ready();
+    spec_machine::state_proposes();
+    spec_machine::answers_alike();
+    spec_machine::kept_decides();
+    spec_machine::kept_follows();
+    spec_machine::kept_proposes();
+    spec_machine::order_is_put_out();
+    spec_machine::state_stands();
+    spec_machine::fresh_is_sound();
+    spec_machine::sound_stays();
+    spec_machine::kept_is_sound();
+    spec_machine::sound_proposes();
+    spec_machine::floors_agree();
+    spec_machine::low_is_to_the_floor();
+    spec_machine::held_goes_on();
+    spec_machine::held_is_enough_now();
+    spec_machine::held_is_enough_behind();
+}

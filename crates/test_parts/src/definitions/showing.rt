@@ -1,0 +1,158 @@
+//! Values as a case file has them.
+
+use crate::definitions::played::Played;
+use ref_order::slots::digest_of;
+use spec_model::Outputs;
+use std::alloc::AllocError;
+use wire::{
+    Author, Certificate, Digest, Output, VoteEntry, batch_digest, genesis_digest, header_digest,
+};
+
+/// The label of a certificate's header.
+pub fn certificate_label<'a>(played: &'a Played, certificate: &Certificate) -> &'a str {
+    label_of(played, &digest_of(&certificate.header))
+}
+
+/// The label of the header whose certificate has this digest.
+pub fn label_of<'a>(played: &'a Played, certificate: &Digest) -> &'a str {
+    match played.labels.certificate_name(certificate) {
+        Some(name) => name,
+        None => genesis_label(certificate),
+    }
+}
+
+fn genesis_label(certificate: &Digest) -> &'static str {
+    for (member, name) in [(0, "g0"), (1, "g1"), (2, "g2"), (3, "g3")] {
+        if genesis_digest(Author(member)) == *certificate {
+            return name;
+        }
+    }
+    "-"
+}
+
+/// The label of a header.
+pub fn header_label<'a>(played: &'a Played, header: &Digest) -> &'a str {
+    played.labels.header_name(header).unwrap_or("-")
+}
+
+/// The label of a batch.
+pub fn batch_label<'a>(played: &'a Played, batch: &Digest) -> &'a str {
+    played.labels.batch_name(batch).unwrap_or("-")
+}
+
+pub fn yes_or_no(is_so: bool, answer: &mut String) -> Result<(), AllocError> {
+    answer.push_str(if is_so { "yes\n" } else { "no\n" })
+}
+
+/// A word, and a line's end.
+pub fn line(word: &str, answer: &mut String) -> Result<(), AllocError> {
+    writeln!(answer, "{word}")
+}
+
+/// A mark, and a word behind it.
+pub fn add(mark: &str, word: &str, answer: &mut String) -> Result<(), AllocError> {
+    answer.push_str(mark)?;
+    answer.push_str(word)
+}
+
+/// A word, and then the labels of certificates.
+pub fn certificates(
+    played: &Played,
+    word: &str,
+    list: &[Certificate],
+    answer: &mut String,
+) -> Result<(), AllocError> {
+    answer.push_str(word)?;
+    for certificate in list {
+        add(" ", certificate_label(played, certificate), answer)?;
+    }
+    answer.push_str("\n")
+}
+
+/// The labels of certificates of which these are the digests.
+pub fn order(played: &Played, digests: &[Digest], answer: &mut String) -> Result<(), AllocError> {
+    for digest in digests {
+        add(" ", label_of(played, digest), answer)?;
+    }
+    if digests.is_empty() {
+        answer.push_str(" none")?;
+    }
+    answer.push_str("\n")
+}
+
+/// The voters, parted by commas.
+fn voters(entries: &[VoteEntry], answer: &mut String) -> Result<(), AllocError> {
+    let mut mark = ' ';
+    for entry in entries {
+        let Author(voter) = entry.voter;
+        write!(answer, "{mark}{voter}")?;
+        mark = ',';
+    }
+    answer.push_str("\n")
+}
+
+/// The label of a certificate, or that there is none.
+pub fn label_line(
+    played: &Played,
+    certificate: Option<&Certificate>,
+    answer: &mut String,
+) -> Result<(), AllocError> {
+    match certificate {
+        None => line("none", answer),
+        Some(certificate) => line(certificate_label(played, certificate), answer),
+    }
+}
+
+/// The label of a certificate with its voters, or that there is none.
+pub fn certificate_line(
+    played: &Played,
+    certificate: Option<&Certificate>,
+    answer: &mut String,
+) -> Result<(), AllocError> {
+    let Some(certificate) = certificate else {
+        return line("none", answer);
+    };
+    answer.push_str(certificate_label(played, certificate))?;
+    voters(certificate.votes.as_slice(), answer)
+}
+
+/// An output, as `collect` shows it.
+pub fn output(played: &Played, output: &Output, answer: &mut String) -> Result<(), AllocError> {
+    let (kind, label) = match output {
+        Output::Batch(batch) => ("batch", batch_label(played, &batch_digest(batch))),
+        Output::Ack { ack, .. } => ("ack", batch_label(played, &ack.batch)),
+        Output::Header(header) => ("header", header_label(played, &header_digest(&header.body))),
+        Output::Vote(vote) => ("vote", header_label(played, &vote.header)),
+        Output::Certificate(certificate) => return certified(played, certificate, answer),
+        Output::Order { start, digests } => {
+            return ordered(played, *start, digests.as_slice(), answer);
+        }
+    };
+    writeln!(answer, "out {kind} {label}")
+}
+
+fn certified(
+    played: &Played,
+    certificate: &Certificate,
+    answer: &mut String,
+) -> Result<(), AllocError> {
+    answer.push_str("out certificate ")?;
+    certificate_line(played, Some(certificate), answer)
+}
+
+fn ordered(
+    played: &Played,
+    start: u64,
+    digests: &[Digest],
+    answer: &mut String,
+) -> Result<(), AllocError> {
+    write!(answer, "out order {start}")?;
+    order(played, digests, answer)
+}
+
+pub fn outputs(played: &Played, list: &Outputs, answer: &mut String) -> Result<(), AllocError> {
+    for one in list.as_slice() {
+        output(played, one, answer)?;
+    }
+    Ok(())
+}

@@ -1,0 +1,95 @@
+//! The lines of a case, which are played once all are there.
+
+mod beside;
+mod playing;
+mod same;
+mod seen;
+mod sum;
+mod tally;
+
+use crate::definitions::looking::number;
+use crate::definitions::weighing::committee_of;
+use crate::parts::parted;
+use playing::play_lines;
+use sim_script::{BATCHES, DEPTH, FormError, OWN, signer};
+use spec_model::Node;
+use std::alloc::{AllocError, Global};
+
+/// The lines of a case.
+#[derive(Drop)]
+pub struct Gathered {
+    alloc: Global,
+    depth: u64,
+    batches: u64,
+    stakes: String,
+    lines: String,
+}
+
+impl Gathered {
+    /// No lines.
+    pub fn new(alloc: Global) -> Gathered {
+        Gathered {
+            alloc,
+            depth: DEPTH,
+            batches: BATCHES,
+            stakes: String::new(alloc),
+            lines: String::new(alloc),
+        }
+    }
+
+    /// Plays what was gathered, from the genesis on, so many events beside the plain program.
+    fn play(&self, most: u64, answer: &mut String) -> Result<(), FormError> {
+        let stakes = self.stakes.as_str();
+        let node = Node {
+            own: OWN,
+            committee: committee_of(self.alloc, stakes, self.depth, self.batches)?,
+            signer: signer(OWN),
+        };
+        let committee = committee_of(self.alloc, stakes, self.depth, self.batches)?;
+        let lines = self.lines.as_str();
+        play_lines(self.alloc, node, committee, lines, most, answer)
+    }
+
+    /// Begins a case.
+    pub fn begin(&mut self) -> Result<(), AllocError> {
+        *self = Gathered::new(self.alloc);
+        self.stakes.push_str("1,1,1,1")
+    }
+
+    /// `depth`, `batches` and `stakes` set up the committee, `play` plays the lines; any
+    /// other line is one of them.
+    pub fn obey(&mut self, command: &str, answer: &mut String) -> Result<(), AllocError> {
+        let (name, rest) = parted(command, ' ');
+        match name {
+            "depth" => {
+                self.depth = number(rest);
+                Ok(())
+            }
+            "batches" => {
+                self.batches = number(rest);
+                Ok(())
+            }
+            "stakes" => self.set_stakes(rest),
+            "play" => self.answer_play(number(rest), answer),
+            _ => self.add_line(command),
+        }
+    }
+
+    fn set_stakes(&mut self, stakes: &str) -> Result<(), AllocError> {
+        self.stakes.clear();
+        self.stakes.push_str(stakes)
+    }
+
+    fn add_line(&mut self, line: &str) -> Result<(), AllocError> {
+        self.lines.push_str(line)?;
+        self.lines.push_str("\n")
+    }
+
+    fn answer_play(&self, most: u64, answer: &mut String) -> Result<(), AllocError> {
+        match self.play(most, answer) {
+            Ok(()) => Ok(()),
+            Err(FormError::Memory) => Err(AllocError),
+            Err(_) => answer.push_str("bad case\n"),
+        }
+    }
+}

@@ -1,0 +1,226 @@
+//! The lines of a case through a validator and, for its first events, through the plain program.
+
+ghost use Rattle.std.specs.Prelude.{◌≡◌, None};
+ghost use Rattle.header.specs.Checks.{fault_of, accepts_all};
+
+use crate::definitions::looking::{number, words_of};
+use crate::definitions::played::coin;
+use crate::definitions::validating::beside::Beside;
+use crate::definitions::validating::seen::seen_of;
+use crate::definitions::validating::sum::Sum;
+use crate::definitions::validating::tally::{Tally, counts};
+use crate::definitions::weighing::label_genesis;
+use crate::parts::list;
+use committee::Committee;
+use header::{Checked, check};
+use sigface::{HashSign, HashVerify};
+use sim_script::{
+    Command, FormError, Labels, OWN, define_batch, define_header, message_of, parse, signer,
+};
+use spec_model::{Event, Node};
+use std::alloc::{AllocError, Global};
+use validator::{Config, Refusal, Step, Validator};
+use wire::{Author, Header, Message};
+
+/// A validator, with what is summed up and counted of it, and with the plain program beside it.
+#[derive(Drop)]
+struct Playing<'c> {
+    alloc: Global,
+    validator: Validator<'c, HashSign>,
+    labels: Labels,
+    beside: Beside,
+    sum: Sum,
+    tally: Tally,
+}
+
+/// Plays these lines from the genesis on, the first events as many as `most` beside the plain program. It tells how often
+/// each answer came, and what there is at the end; or the first line at which something differs.
+pub fn play_lines(
+    alloc: Global,
+    node: Node<HashSign>,
+    committee: Committee,
+    lines: &str,
+    most: u64,
+    answer: &mut String,
+) -> Result<(), FormError> {
+    let config = config_of(committee)?;
+    let beside = Beside::new(alloc, node, most)?;
+    Playing::new(alloc, &config, beside)?.play(lines, answer)
+}
+
+/// The setting of member 0. This call stands alone, too.
+fn config_of(committee: Committee) -> Result<Config<HashSign>, FormError> {
+    match Config::new(committee, OWN, signer(OWN)) {
+        None => Err(FormError::BadCommand),
+        Some(config) => Ok(config),
+    }
+}
+
+impl<'c> Playing<'c> {
+    fn new(
+        alloc: Global,
+        config: &'c Config<HashSign>,
+        beside: Beside,
+    ) -> Result<Playing<'c>, FormError> {
+        Ok(Playing {
+            alloc,
+            validator: Validator::new(alloc, config)?,
+            labels: Labels::new(alloc),
+            beside,
+            sum: Sum::new(),
+            tally: Tally::new(),
+        })
+    }
+
+    /// Plays these lines, up to the first at which something differs.
+    fn play(&mut self, lines: &str, answer: &mut String) -> Result<(), FormError> {
+        let members = self.validator.committee().size();
+        label_genesis(self.alloc, &mut self.labels, members)?;
+        for line in lines.lines() {
+            if let Some(differs) = self.run(line)? {
+                writeln!(answer, "{line}: otherwise {differs}")?;
+                return Ok(());
+            }
+        }
+        Ok(self.tell(answer)?)
+    }
+
+    /// Runs a line, and says what is otherwise than it should be, if anything is.
+    fn run(&mut self, line: &str) -> Result<Option<&'static str>, FormError> {
+        match parse(line.as_bytes()) {
+            Some(Command::Pack(pack)) => {
+                define_batch(self.alloc, &mut self.labels, &pack)?;
+                Ok(None)
+            }
+            Some(Command::Form(form)) => {
+                define_header(self.alloc, &mut self.labels, &form)?;
+                Ok(None)
+            }
+            Some(command) => {
+                let (sender, message) = message_of(self.alloc, &self.labels, command)?;
+                self.take(sender, message)
+            }
+            None => self.run_own(line),
+        }
+    }
+
+    /// A line of these tests alone: a coin that another member sends, or what the running sum has to be.
+    fn run_own(&mut self, line: &str) -> Result<Option<&'static str>, FormError> {
+        let words = words_of(self.alloc, line)?;
+        self.run_words(&words)
+    }
+
+    fn run_words(&mut self, words: &[&str]) -> Result<Option<&'static str>, FormError> {
+        match words {
+            ["coin-from", sender, wave, value] => {
+                let (sender, message) = coin(sender, wave, value)?;
+                self.take(sender, message)
+            }
+            ["sum", expected] => match number(expected) == self.sum.value() {
+                true => Ok(None),
+                false => Ok(Some("the sum")),
+            },
+            _ => Err(FormError::BadCommand),
+        }
+    }
+
+    /// Gives an event to the validator, and compares and sums up what comes of it.
+    fn take(
+        &mut self,
+        sender: Author,
+        message: Message,
+    ) -> Result<Option<&'static str>, FormError> {
+        let event = self.beside_event(sender, &message)?;
+        match check(self.validator.committee(), &HashVerify, sender, message) {
+            Ok(checked) => self.step(checked, event),
+            Err(_) => Ok(Some("unchecked")),
+        }
+    }
+
+    /// The event for the plain program, as long as that goes on.
+    fn beside_event(&self, sender: Author, message: &Message) -> Result<Option<Event>, FormError> {
+        if !self.beside.goes_on() {
+            return Ok(None);
+        }
+        let message = again(message)?;
+        Ok(Some(Event { sender, message }))
+    }
+
+    fn step(
+        &mut self,
+        checked: Checked,
+        event: Option<Event>,
+    ) -> Result<Option<&'static str>, FormError>
+        requires { fault_of self.old.validator.setting.charter accepts_all checked ≡ None }
+    {
+        let is_ready = self.validator.ready(&checked);
+        let step = self.validator.step(checked);
+        if let Err(Refusal::Memory) = step {
+            return Err(FormError::Memory);
+        }
+        self.tally.count(&step);
+        Ok(self.compare(is_ready, &step, event)?)
+    }
+
+    /// What the validator proposes. The contract of that call is long, so it stands alone, as in `seen_of`.
+    fn proposal(&self) -> Result<Option<Header>, AllocError> {
+        self.validator.propose()
+    }
+
+    fn compare(
+        &mut self,
+        is_ready: bool,
+        step: &Result<Step, Refusal>,
+        event: Option<Event>,
+    ) -> Result<Option<&'static str>, AllocError> {
+        let proposal = self.proposal()?;
+        self.compare_with(is_ready, step, event.as_ref(), proposal.as_ref())
+    }
+
+    fn compare_with(
+        &mut self,
+        is_ready: bool,
+        step: &Result<Step, Refusal>,
+        event: Option<&Event>,
+        proposal: Option<&Header>,
+    ) -> Result<Option<&'static str>, AllocError> {
+        self.tally.count_proposal(proposal.is_some());
+        self.sum
+            .add_event(&self.validator, is_ready, step, proposal);
+        match event {
+            None => Ok(None),
+            Some(event) => self
+                .beside
+                .take(&self.validator, event, is_ready, step, proposal),
+        }
+    }
+
+    /// How often each answer came, and what there is at the end.
+    fn tell(&self, answer: &mut String) -> Result<(), AllocError> {
+        self.tally.tell(answer)?;
+        let seen = seen_of(&self.validator);
+        let found = [
+            ("round", seen.round),
+            ("floor", seen.floor),
+            ("ordered", seen.order.len() as u64),
+        ];
+        counts(&found, answer)?;
+        list(
+            "beside the plain program",
+            &[self.beside.compared()],
+            answer,
+        )
+    }
+}
+
+/// A message once more.
+fn again(message: &Message) -> Result<Message, FormError> {
+    Ok(match message {
+        Message::Batch(batch) => Message::Batch(batch.share()?),
+        Message::BatchAck(ack) => Message::BatchAck(*ack),
+        Message::Header(header) => Message::Header(header.try_clone()?),
+        Message::Vote(vote) => Message::Vote(*vote),
+        Message::Certificate(certificate) => Message::Certificate(certificate.try_clone()?),
+        Message::Coin(coin) => Message::Coin(*coin),
+    })
+}

@@ -1,0 +1,95 @@
+//! How often each answer came.
+
+use crate::definitions::validating::sum::number_of;
+use spec_model::Refusal;
+use std::alloc::AllocError;
+use validator::Step;
+use wire::Output;
+
+/// Refusals have numbers below this one.
+const REFUSALS: usize = 15;
+
+/// How often each answer came, and how often a piece of the order and a proposal.
+#[derive(Clone, Copy)]
+pub struct Tally {
+    new: u64,
+    known: u64,
+    refused: [u64; REFUSALS],
+    pieces: u64,
+    proposals: u64,
+}
+
+impl Tally {
+    /// None came.
+    pub fn new() -> Tally {
+        Tally {
+            new: 0,
+            known: 0,
+            refused: [0; REFUSALS],
+            pieces: 0,
+            proposals: 0,
+        }
+    }
+
+    /// Counts an answer.
+    pub fn count(&mut self, step: &Result<Step, Refusal>) {
+        match step {
+            Ok(Step::New(outputs)) => {
+                self.new = self.new.saturating_add(1);
+                self.count_pieces(outputs);
+            }
+            Ok(Step::Known(_)) => self.known = self.known.saturating_add(1),
+            Err(refusal) => self.count_refused(*refusal),
+        }
+    }
+
+    fn count_pieces(&mut self, outputs: &[Output]) {
+        for output in outputs {
+            if matches!(output, Output::Order { .. }) {
+                self.pieces = self.pieces.saturating_add(1);
+            }
+        }
+    }
+
+    fn count_refused(&mut self, refusal: Refusal) {
+        if let Some(count) = self.refused.get_mut(number_of(refusal) as usize) {
+            *count = count.saturating_add(1);
+        }
+    }
+
+    /// Counts a proposal, where there is one.
+    pub fn count_proposal(&mut self, is_there: bool) {
+        if is_there {
+            self.proposals = self.proposals.saturating_add(1);
+        }
+    }
+
+    /// Tells how often each answer came; no refusal that didn't come.
+    pub fn tell(&self, answer: &mut String) -> Result<(), AllocError> {
+        counts(&[("new", self.new), ("known", self.known)], answer)?;
+        self.tell_refused(answer)?;
+        let (pieces, proposals) = (self.pieces, self.proposals);
+        let made = [("pieces of the order", pieces), ("proposals", proposals)];
+        counts(&made, answer)
+    }
+
+    fn tell_refused(&self, answer: &mut String) -> Result<(), AllocError> {
+        for number in 1..REFUSALS {
+            let count = self.refused.get(number).copied().unwrap_or(0);
+            if count > 0 {
+                writeln!(answer, "refused {number}: {count}")?;
+            }
+        }
+        Ok(())
+    }
+}
+
+/// A line of words, each with a number behind it, parted by commas.
+pub fn counts(list: &[(&str, u64)], answer: &mut String) -> Result<(), AllocError> {
+    let mut mark = "";
+    for (word, number) in list {
+        write!(answer, "{mark}{word} {number}")?;
+        mark = ", ";
+    }
+    answer.push_str("\n")
+}

@@ -1,0 +1,60 @@
+//! A committee whose members weigh.
+
+use committee::{Committee, CommitteeError};
+use sim_script::{Form, FormError, Labels, define_header, member_list};
+use std::alloc::Global;
+use wire::Author;
+
+/// Members whose genesis certificates have labels in every case.
+const LABELLED: u16 = 4;
+
+/// A committee of as many members as there are stakes, parted by commas, who sign with the test pair.
+pub fn committee_of(
+    alloc: Global,
+    stakes: &str,
+    depth: u64,
+    batches: u64,
+) -> Result<Committee, FormError> {
+    let mut file = member_list(alloc, count_of(stakes))?;
+    writeln!(
+        file,
+        "stakes = [{stakes}]\ndepth = {depth}\nworkers = 1\nbatches = {batches}"
+    )?;
+    match Committee::read(alloc, file.as_str()) {
+        Ok(committee) => Ok(committee),
+        Err(CommitteeError::Memory) => Err(FormError::Memory),
+        Err(_) => Err(FormError::BadCommand),
+    }
+}
+
+/// How many words stand between commas.
+fn count_of(words: &str) -> u16 {
+    let mut count = 1u16;
+    for byte in words.as_bytes() {
+        if *byte == b',' {
+            count = count.saturating_add(1);
+        }
+    }
+    count
+}
+
+/// Labels the genesis certificates of so many members.
+pub fn label_genesis(alloc: Global, labels: &mut Labels, members: u16) -> Result<(), FormError> {
+    for member in LABELLED..members {
+        let name = format!(in alloc; "g{member}")?;
+        if labels.parent(name.as_str()).is_none() {
+            define_header(alloc, labels, &genesis_form(name.as_str(), Author(member)))?;
+        }
+    }
+    Ok(())
+}
+
+fn genesis_form(label: &str, author: Author) -> Form<'_> {
+    Form {
+        label,
+        author,
+        round: 0,
+        parents: "-",
+        batches: "-",
+    }
+}

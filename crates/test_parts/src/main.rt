@@ -1,0 +1,122 @@
+//! The tests of all that needs no disk: of the messages and of the parts of a validator, of the definitions, and of the
+//! validator. A case file over the public surface of their crates.
+#![tactic(auto)]
+
+mod definitions;
+mod parts;
+
+use definitions::{Gathered, Played, laws_hold};
+use parts::Parts;
+use std::alloc::{AllocError, Global};
+use std::io::{self, BufRead, BufReader, Write};
+use std::process::ExitCode;
+use test_cases::{Ending, Player, Told};
+
+/// What a case is about.
+#[derive(Clone, Copy)]
+enum About {
+    /// The messages and the parts of a validator.
+    Parts,
+    /// The plain programs, whose contracts the definitions are.
+    Definitions,
+    /// A validator, and for its first events the plain program beside it.
+    Validator,
+}
+
+/// What the cases are put to.
+#[derive(Drop)]
+struct Cases {
+    about: About,
+    parts: Parts,
+    definitions: Played,
+    validator: Gathered,
+}
+
+impl Cases {
+    fn new(alloc: Global) -> Result<Cases, AllocError> {
+        Ok(Cases {
+            about: About::Definitions,
+            parts: Parts::new(alloc),
+            definitions: Played::new(alloc)?,
+            validator: Gathered::new(alloc),
+        })
+    }
+
+    fn begin(&mut self) -> Told {
+        self.about = About::Definitions;
+        self.parts.begin();
+        self.definitions.begin()?;
+        self.validator.begin()
+    }
+
+    /// `parts` and `validator` begin a case of these, and any other command one of the definitions.
+    fn obey(&mut self, command: &str, answer: &mut String) -> Told {
+        match self.about {
+            About::Parts => self.parts.obey(command, answer),
+            About::Validator => self.validator.obey(command, answer),
+            About::Definitions => match command {
+                "parts" => Ok(self.about = About::Parts),
+                "validator" => Ok(self.about = About::Validator),
+                _ => self.definitions.obey(command, answer),
+            },
+        }
+    }
+}
+
+fn main(rt: HostRuntime) -> ExitCode {
+    laws_hold();
+    match tested(&rt) {
+        Ok(true) => ExitCode::SUCCESS,
+        _ => ExitCode::FAILURE,
+    }
+}
+
+fn tested(rt: &HostRuntime) -> Result<bool, Ending> {
+    let reader = BufReader::new(rt.alloc(), rt.reader())?;
+    let mut player = Player::new(rt.alloc(), reader, io::writer(rt));
+    play_all(rt.alloc(), &mut player)?;
+    player.end()
+}
+
+fn play_all<I, W>(alloc: Global, player: &mut Player<I, W>) -> Result<(), Ending>
+where
+    I: BufRead + Drop,
+    W: Write + Drop,
+{
+    let mut cases = Cases::new(alloc)?;
+    play_each(alloc, player, &mut cases)
+}
+
+/// Plays each title and command. The loop owns nothing, since what a loop owns costs the proof at each way out of it.
+fn play_each<I, W>(
+    alloc: Global,
+    player: &mut Player<I, W>,
+    cases: &mut Cases,
+) -> Result<(), Ending>
+where
+    I: BufRead + Drop,
+    W: Write + Drop,
+{
+    for _ in 0..u64::MAX {
+        if !player.advance()? {
+            break;
+        }
+        play(alloc, player, cases)?;
+    }
+    Ok(())
+}
+
+/// Plays a title or a command.
+fn play<I, W>(alloc: Global, player: &mut Player<I, W>, cases: &mut Cases) -> Result<(), Ending>
+where
+    I: BufRead + Drop,
+    W: Write + Drop,
+{
+    if player.is_title() {
+        cases.begin()?;
+        return Ok(());
+    }
+    let mut answer = String::new(alloc);
+    cases.obey(player.command(), &mut answer)?;
+    player.answered(answer.as_str())
+}

@@ -1,5 +1,0 @@
-use Rattle.world.proofs.Law.{nothing_taken_back}
-use Rattle.world.proofs.never_takes_back.Goals as goal
-
-pub returns : goal.returns
-returns c = nothing_taken_back

@@ -1,5 +1,0 @@
-use Rattle.world.proofs.Beginning.{runs_begin}
-use Rattle.world.proofs.runs_begin.Goals as goal
-
-pub returns : goal.returns
-returns c = runs_begin

@@ -1,5 +1,0 @@
-use Rattle.world.proofs.GoingOn.{runs_go_on}
-use Rattle.world.proofs.runs_go_on.Goals as goal
-
-pub returns : goal.returns
-returns c = runs_go_on

@@ -1,0 +1,333 @@
+#!/usr/bin/env python3
+"""Prints what `narwhal-bench` without words has to print, as this program computes it by the rules of docs/FORMATS.md.
+
+    oracles/works.py | diff - crates/node_bench/stdout
+
+It shares nothing with the code of the repository. The committee has four members, of which the node is number 0.
+"""
+import hashlib
+
+MEMBERS, VOTERS, RING = 4, 3, 16
+BLOCK = b'0123456789abcdefghijklmnopqrstuvwxyzABCDEFGHIJKLMNOPQRSTUVWXYZ-_'
+UNSIGNED = bytes(64)
+# What stands for the digest of an event that has none.
+STAND_IN = b'\7' * 32
+RECORDS = 1024
+# Rounds that a validator is given without coins.
+FEW = 8
+
+
+def sha(text):
+    return hashlib.sha256(text).digest()
+
+
+def u16(number):
+    return number.to_bytes(2, 'big')
+
+
+def u32(number):
+    return number.to_bytes(4, 'big')
+
+
+def u64(number):
+    return number.to_bytes(8, 'big')
+
+
+def sign(member, digest):
+    key = bytes([member + 1]) * 32
+    return sha(b'S' + key + digest) + sha(b'T' + key + digest)
+
+
+def certificate_digest(header, round_, author):
+    return sha(b'C' + header + u64(round_) + u16(author))
+
+
+class Fold:
+    """The sum over results."""
+
+    def __init__(self):
+        self.value = 14695981039346656037
+
+    def add(self, *numbers):
+        for number in numbers:
+            self.value = (self.value ^ number) * 1099511628211 % 2 ** 64
+
+    def add_bytes(self, *several):
+        for text in several:
+            self.add(len(text))
+            if len(text) >= 8:
+                self.add(int.from_bytes(text[:8], 'big'))
+
+
+class Header:
+    """What an author proposes over some parents, as header and as certificate."""
+
+    def __init__(self, author, round_, parents, is_signed=False):
+        self.author, self.round, self.parents = author, round_, parents
+        self.body = u16(author) + u64(round_) + u16(0) + u16(len(parents)) + b''.join(u16(a) + d for a, d in parents)
+        self.digest = sha(b'H' + self.body)
+        self.certificate = certificate_digest(self.digest, round_, author)
+        self.signature = sign(author, self.digest) if is_signed else UNSIGNED
+        votes = [u16(v) + (sign(v, self.certificate) if is_signed else UNSIGNED) for v in range(VOTERS)]
+        self.header_bytes = b'\3' + self.body + self.signature
+        self.certificate_bytes = b'\5' + self.body + u16(VOTERS) + b''.join(votes)
+
+    def add_body(self, fold):
+        fold.add(self.author, self.round, len(self.parents))
+
+    def add_header(self, fold):
+        self.add_body(fold)
+        fold.add_bytes(self.signature)
+
+    def add_certificate(self, fold):
+        self.add_body(fold)
+        fold.add(VOTERS)
+
+
+def genesis():
+    return [(a, Header(a, 0, []).certificate) for a in range(MEMBERS)]
+
+
+def rounds(first=0):
+    """The certificates of each round, one round upon the other, by the members from this one on."""
+    parents, round_ = genesis(), 0
+    while True:
+        round_ += 1
+        made = [Header(a, round_, parents) for a in range(MEMBERS)]
+        yield parents, made
+        parents = [(one.author, one.certificate) for one in made[first:]]
+
+
+def ring():
+    return [Header(place % MEMBERS, place + 1, genesis(), True) for place in range(RING)]
+
+
+def batch(number, size=100000, author=1):
+    """The body of a batch."""
+    filling = u64(number) + b'\xab' * 500
+    transactions, left = [], size - 8
+    while left > 4:
+        transactions.append(filling[:min(left - 4, 508)])
+        left -= 4 + len(transactions[-1])
+    return u16(author) + u16(0) + u32(len(transactions)) + b''.join(u32(len(t)) + t for t in transactions)
+
+
+def pieces(count):
+    return [ring()[piece % RING] for piece in range(count)]
+
+
+def batches(count):
+    return [batch(piece) for piece in range(count)]
+
+
+def over(items, add):
+    fold = Fold()
+    for item in items:
+        add(fold, item)
+    return fold
+
+
+def encoded(fold, text):
+    fold.add_bytes(text, text[len(text) // 2:])
+
+
+def frames(count):
+    fold, stream = Fold(), [u16(0) + one.header_bytes for one in pieces(count)]
+    fold.add_bytes(*stream)
+    return fold
+
+
+def commit(ordered, held, wave):
+    """What the coin of a wave, which is its number, adds to the order of full rounds."""
+    leader = 2 * wave - 1, wave % MEMBERS
+    past = [slot for slot in sorted(held) if slot[0] < leader[0]] + [leader]
+    added = [slot for slot in past if slot not in ordered]
+    start = len(ordered)
+    ordered.update(added)
+    return start, [held[slot].certificate for slot in added]
+
+
+class Coins:
+    """The coins of full rounds, and the order that they make."""
+
+    def __init__(self):
+        self.ordered, self.held = set(), {}
+
+    def take(self, made):
+        """What the coin behind this round adds to the order, if there is one."""
+        self.held.update({(one.round, one.author): one for one in made})
+        round_ = made[0].round
+        if round_ < 3 or round_ % 2 == 0:
+            return None
+        return commit(self.ordered, self.held, (round_ - 1) // 2)
+
+
+def add_order(fold, start, digests):
+    fold.add(start)
+    fold.add_bytes(*digests)
+
+
+def take_round(fold, coins, made):
+    """The certificates of a round, and the coin behind it."""
+    fold.add_bytes(*[one.certificate for one in made])
+    found = coins.take(made)
+    if found:
+        fold.add_bytes(STAND_IN)
+        add_order(fold, *found)
+
+
+def step_headers(count):
+    fold, coins, piece = Fold(), Coins(), 0
+    for parents, made in rounds():
+        for header in made[1:]:
+            fold.add_bytes(header.digest, sign(0, header.certificate))
+            piece += 1
+            if piece == count:
+                return fold
+        take_round(fold, coins, made)
+
+
+def few_rounds(first=0):
+    """A few rounds, again and again."""
+    while True:
+        for (_, made), _ in zip(rounds(first), range(FEW)):
+            yield made
+
+
+def step_votes(count):
+    fold, piece = Fold(), 0
+    for made in few_rounds(1):
+        fold.add_bytes(made[0].digest)
+        made[0].add_body(fold)
+        for voter in range(1, VOTERS):
+            fold.add_bytes(STAND_IN)
+            if voter == VOTERS - 1:
+                made[0].add_body(fold)
+            piece += 1
+            if piece == count:
+                return fold
+        fold.add_bytes(*[one.certificate for one in made[1:]])
+
+
+def step_certificates(count):
+    fold = Fold()
+    for made, _ in zip(few_rounds(), range(count // MEMBERS)):
+        fold.add_bytes(*[one.certificate for one in made])
+    return fold
+
+
+def step_batch(fold, body):
+    fold.add_bytes(sha(b'B' + body), sha(b'B' + body))
+
+
+def order(count):
+    fold, coins = Fold(), Coins()
+    for (_, made), _ in zip(rounds(), range(count)):
+        take_round(fold, coins, made)
+    return fold
+
+
+def group(records):
+    body = b''.join(u32(len(record)) + record for record in records)
+    return b'\1' + u32(len(body)) + body
+
+
+def append(fold, _):
+    fold.add(RECORDS)
+    fold.add_bytes(group([bytes(354)] * RECORDS) + b'\0')
+
+
+def book(count):
+    fold, coins, piece, waiting = Fold(), Coins(), 0, []
+
+    def flush():
+        fold.add(piece % RECORDS or min(piece, RECORDS))
+        for output in waiting:
+            output()
+        waiting.clear()
+
+    for _, made in rounds():
+        votes = [sign(0, header.certificate) for header in made[1:]]
+        outputs = [lambda vote=vote: fold.add_bytes(vote) for vote in votes] + [None] * MEMBERS
+        found = coins.take(made)
+        if found:
+            outputs.append(lambda found=found: add_order(fold, *found))
+        for output in outputs:
+            if piece % RECORDS == 0:
+                flush()
+            piece += 1
+            fold.add(piece)
+            if output:
+                waiting.append(output)
+            if piece == count:
+                flush()
+                return fold
+
+
+def reopen(count):
+    keys = b''.join(bytes([member + 1]) * 32 for member in range(MEMBERS))
+    text = group([b'\0\1' + u16(0) + u16(50) + u16(1) + u32(1048576) + u16(MEMBERS) + keys])
+    records, coins, full, last = [], Coins(), 0, None
+    for _, made in rounds():
+        round_ = made[0].round
+        records += [b'\1' + u16(one.author) + one.certificate_bytes for one in made]
+        # A round is full where a quorum of it is there.
+        if len(records) - (MEMBERS - VOTERS) <= count:
+            full = round_
+        found = coins.take(made) if len(records) < count else None
+        if found:
+            last = found[1][-1]
+            records.append(b'\1' + u16(0) + b'\6' + u64((round_ - 1) // 2) * 2)
+        if len(records) >= count:
+            break
+    text += b''.join(group(records[place:min(place + RECORDS, count)]) for place in range(0, count, RECORDS)) + b'\0'
+    fold = Fold()
+    fold.add_bytes(text)
+    fold.add(full + 1, len(coins.ordered))
+    fold.add_bytes(*[last] if last else [])
+    return fold
+
+
+def tested(fold, digest):
+    fold.add_bytes(digest)
+
+
+def node(count):
+    """Small batches of three members, each of which the node acknowledges, in an order that isn't told."""
+    fold, acknowledged = Fold(), 0
+    for sender in range(1, 4):
+        digests = [sha(b'B' + batch(number, 20, sender)) for number in range(count)]
+        fold.add(over(digests, tested).value)
+        acknowledged += sum(over([digest], tested).value for digest in digests)
+    fold.add(3 * count, acknowledged % 2 ** 64)
+    return fold
+
+
+LITTLE = [
+    ('hash', 1000, lambda n: over([sha(BLOCK * n)], tested)),
+    ('decode-header', 20, lambda n: over(pieces(n), lambda fold, one: one.add_header(fold))),
+    ('decode-certificate', 20, lambda n: over(pieces(n), lambda fold, one: one.add_certificate(fold))),
+    ('decode-batch', 3, lambda n: over(batches(n), lambda fold, body: fold.add_bytes(body))),
+    ('encode-header', 20, lambda n: over(pieces(n), lambda fold, one: encoded(fold, one.header_bytes))),
+    ('encode-certificate', 20, lambda n: over(pieces(n), lambda fold, one: encoded(fold, one.certificate_bytes))),
+    ('encode-batch', 3, lambda n: over(batches(n), lambda fold, body: encoded(fold, b'\1' + body))),
+    ('check-header', 20, lambda n: over(pieces(n), lambda fold, one: tested(fold, one.digest))),
+    ('check-certificate', 20, lambda n: over(pieces(n), lambda fold, one: tested(fold, one.certificate))),
+    ('check-batch', 3, lambda n: over(batches(n), lambda fold, body: tested(fold, sha(b'B' + body)))),
+    ('recheck-header', 20, lambda n: over(pieces(n), lambda fold, one: tested(fold, one.digest))),
+    ('recheck-certificate', 20, lambda n: over(pieces(n), lambda fold, one: tested(fold, one.certificate))),
+    ('recheck-batch', 3, lambda n: over(batches(n), lambda fold, body: tested(fold, sha(b'B' + body)))),
+    ('frames', 100, frames),
+    ('step-header', 60, step_headers),
+    ('step-vote', 40, step_votes),
+    ('step-certificate', 80, step_certificates),
+    ('step-batch', 3, lambda n: over(batches(n), step_batch)),
+    ('order', 70, order),
+    ('append', 2, lambda n: over(range(n), append)),
+    ('book', 1500, book),
+    ('reopen', 1500, reopen),
+    ('node', 500, node),
+]
+
+for word, count, fold in LITTLE:
+    print(word, count, '%016x' % fold(count).value)
