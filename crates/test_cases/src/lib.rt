@@ -2,10 +2,12 @@
 //! otherwise.
 #![tactic(auto)]
 
+mod files;
 mod hex;
 mod playing;
 mod words;
 
+pub use files::names_of;
 pub use hex::{bytes_of, write_hex};
 pub use playing::{Ending, Player};
 pub use words::{Told, bad, put};

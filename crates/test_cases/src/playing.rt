@@ -45,12 +45,12 @@ struct Score {
 }
 
 /// Compares the answer of the last command with what was expected of it.
-fn close<W: Write>(writer: &mut W, score: &mut Score) -> Result<(), Ending> {
+fn close<W: Write>(name: &str, writer: &mut W, score: &mut Score) -> Result<(), Ending> {
     let (answer, expected, last) = (score.answer.as_str(), score.expected.as_str(), score.last);
     if answer != expected {
         writeln!(
             writer,
-            "line {last}: expected\n{expected}and it was\n{answer}"
+            "{name}, line {last}: expected\n{expected}and it was\n{answer}"
         )?;
         score.wrong = score.wrong.saturating_add(1);
     }
@@ -60,7 +60,8 @@ fn close<W: Write>(writer: &mut W, score: &mut Score) -> Result<(), Ending> {
 }
 
 /// A case file that is played, and the report of the answers that came out otherwise than expected.
-pub struct Player<R: BufRead + Drop, W: Write + Drop> {
+pub struct Player<'a, R: BufRead + Drop, W: Write + Drop> {
+    name: &'a str,
     reader: R,
     writer: W,
     line: String,
@@ -68,9 +69,10 @@ pub struct Player<R: BufRead + Drop, W: Write + Drop> {
     score: Score,
 }
 
-impl<R: BufRead + Drop, W: Write + Drop> Drop for Player<R, W> {
+impl<'a, R: BufRead + Drop, W: Write + Drop> Drop for Player<'a, R, W> {
     fn drop(self) {
         let Player {
+            name: _,
             reader: _,
             writer: _,
             line: _,
@@ -80,10 +82,11 @@ impl<R: BufRead + Drop, W: Write + Drop> Drop for Player<R, W> {
     }
 }
 
-impl<R: BufRead + Drop, W: Write + Drop> Player<R, W> {
-    /// Before the first line.
-    pub fn new(alloc: Global, reader: R, writer: W) -> Player<R, W> {
+impl<'a, R: BufRead + Drop, W: Write + Drop> Player<'a, R, W> {
+    /// Before the first line of the file of this name.
+    pub fn new(alloc: Global, name: &'a str, reader: R, writer: W) -> Player<'a, R, W> {
         Player {
+            name,
             reader,
             writer,
             line: String::new(alloc),
@@ -110,7 +113,7 @@ impl<R: BufRead + Drop, W: Write + Drop> Player<R, W> {
                 return Ok(true);
             }
         }
-        close(&mut self.writer, &mut self.score)?;
+        close(self.name, &mut self.writer, &mut self.score)?;
         Ok(false)
     }
 
@@ -125,7 +128,7 @@ impl<R: BufRead + Drop, W: Write + Drop> Player<R, W> {
             self.score.expected.push_str("\n")?;
             return Ok(false);
         }
-        close(&mut self.writer, &mut self.score)?;
+        close(self.name, &mut self.writer, &mut self.score)?;
         if line.strip_prefix("== ").is_none() {
             self.score.commands = self.score.commands.saturating_add(1);
             self.score.last = self.number;
@@ -149,13 +152,13 @@ impl<R: BufRead + Drop, W: Write + Drop> Player<R, W> {
         Ok(())
     }
 
-    /// Prints how many commands there were; says whether all was as expected.
+    /// Prints how many commands the file had; says whether there was one, and all was as expected.
     pub fn end(mut self) -> Result<bool, Ending> {
-        let (commands, wrong) = (self.score.commands, self.score.wrong);
+        let (name, commands, wrong) = (self.name, self.score.commands, self.score.wrong);
         writeln!(
             self.writer,
-            "{commands} commands, {wrong} answers were not as expected"
+            "{name}: {commands} commands, {wrong} answers were not as expected"
         )?;
-        Ok(wrong == 0)
+        Ok(commands > 0 && wrong == 0)
     }
 }

@@ -1,5 +1,5 @@
 //! The tests of all that needs a disk: of the disks, the journal and the book, of openings and scripts of a node, of lists of
-//! random steps, of the node that threads share, and of the programs. A case file of all of these.
+//! random steps, of the node that threads share, and of the programs. Case files, a file for each crate or program that made it.
 #![tactic(auto)]
 
 mod committees;
@@ -12,14 +12,14 @@ use committees::{FOUR, own_config};
 use live::Case;
 use sigface::HashSign;
 use std::alloc::{AllocError, Global};
-use std::fs::File;
-use std::io::{self, BufRead, BufReader, Write};
+use std::fs::{self, File};
+use std::io::{self, BufRead, Write};
 use std::process::ExitCode;
-use std::rt::Files;
+use std::rt::{Files, Print};
 use std::sync::Wait;
 use std::thread::Threads;
 use store::{StoreCases, laws_hold};
-use test_cases::{Ending, Player, Told};
+use test_cases::{Ending, Player, Told, names_of};
 use validator::Config;
 
 /// What the cases are put to.
@@ -64,21 +64,39 @@ impl<'a> Cases<'a> {
 
 fn main(rt: HostRuntime) -> ExitCode {
     laws_hold();
-    let Ok(config) = own_config(rt.alloc(), &FOUR) else {
+    let (Ok(config), Ok(names)) = (own_config(rt.alloc(), &FOUR), names_of(&rt, rt.alloc())) else {
         return ExitCode::FAILURE;
     };
-    let Ok(reader) = BufReader::new(rt.alloc(), rt.reader()) else {
-        return ExitCode::FAILURE;
-    };
-    let player = Player::new(rt.alloc(), reader, io::writer(&rt));
-    match tested(&rt, &config, player, &mut io::writer(&rt)) {
+    match tested(&rt, &config, &names) {
         Ok(true) => ExitCode::SUCCESS,
         _ => ExitCode::FAILURE,
     }
 }
 
+/// Plays the files of these names; says whether there is one, and each has commands that were answered as expected.
+fn tested<R>(rt: &R, config: &Config<HashSign>, names: &[String]) -> Result<bool, Ending>
+where
+    R: Files<File = File> + Print + AllocGlobal + Threads + Wait + Sync,
+{
+    let mut right = !names.is_empty();
+    for name in names {
+        right = is_right(rt, config, name.as_str())? && right;
+    }
+    Ok(right)
+}
+
+/// Plays the file of this name.
+fn is_right<R>(rt: &R, config: &Config<HashSign>, name: &str) -> Result<bool, Ending>
+where
+    R: Files<File = File> + Print + AllocGlobal + Threads + Wait + Sync,
+{
+    let text = fs::read(rt, name)?;
+    let player = Player::new(rt.alloc(), name, text.as_slice(), io::writer(rt));
+    played(rt, config, player, &mut io::writer(rt))
+}
+
 /// Plays the cases, and prints the report of the lists behind them.
-fn tested<R, I, W>(
+fn played<R, I, W>(
     rt: &R,
     config: &Config<HashSign>,
     player: Player<I, W>,

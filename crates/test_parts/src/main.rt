@@ -1,5 +1,5 @@
 //! The tests of all that needs no disk: of the messages and of the parts of a validator, of the definitions, and of the
-//! validator. A case file over the public surface of their crates.
+//! validator. Case files over the public surface of their crates, a file for each crate or program that made it.
 #![tactic(auto)]
 
 mod definitions;
@@ -8,9 +8,10 @@ mod parts;
 use definitions::{Gathered, Played, laws_hold};
 use parts::Parts;
 use std::alloc::{AllocError, Global};
-use std::io::{self, BufRead, BufReader, Write};
+use std::fs;
+use std::io::{self, BufRead, Write};
 use std::process::ExitCode;
-use test_cases::{Ending, Player, Told};
+use test_cases::{Ending, Player, Told, names_of};
 
 /// What a case is about.
 #[derive(Clone, Copy)]
@@ -71,9 +72,20 @@ fn main(rt: HostRuntime) -> ExitCode {
     }
 }
 
+/// Plays the files that the arguments name; says whether there is one, and each has commands that were answered as expected.
 fn tested(rt: &HostRuntime) -> Result<bool, Ending> {
-    let reader = BufReader::new(rt.alloc(), rt.reader())?;
-    let mut player = Player::new(rt.alloc(), reader, io::writer(rt));
+    let names = names_of(rt, rt.alloc())?;
+    let mut right = !names.is_empty();
+    for name in &names {
+        right = is_right(rt, name.as_str())? && right;
+    }
+    Ok(right)
+}
+
+/// Plays the file of this name.
+fn is_right(rt: &HostRuntime, name: &str) -> Result<bool, Ending> {
+    let text = fs::read(rt, name)?;
+    let mut player = Player::new(rt.alloc(), name, text.as_slice(), io::writer(rt));
     play_all(rt.alloc(), &mut player)?;
     player.end()
 }
