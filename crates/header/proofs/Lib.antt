@@ -2,3 +2,4 @@ pub mod Failing
 pub mod Naming
 pub mod Passing
 pub mod RisingFaults
+pub mod Signing

@@ -22,7 +22,7 @@ use Rattle.header.specs.declared.error.CheckError.TheVariants.{UnknownAuthor, Ba
 use Rattle.header.proofs.Naming.{set_weighs}
 
 -- where none fails the first holds, and none behind it fails
-passes : (holds : Bool) (otherwise : CheckError) (rest : Option CheckError) → (if holds then rest else Some otherwise) ≡ None → (holds ≡ true) × (rest ≡ None)
+pub passes : (holds : Bool) (otherwise : CheckError) (rest : Option CheckError) → (if holds then rest else Some otherwise) ≡ None → (holds ≡ true) × (rest ≡ None)
 passes true otherwise rest none = (refl, none)
 passes false otherwise rest none = absurd cc
 

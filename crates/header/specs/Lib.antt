@@ -2,3 +2,4 @@ pub mod Checks
 pub mod Digested
 pub mod Making
 pub mod Quorums
+pub mod Signatures

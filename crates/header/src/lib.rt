@@ -10,5 +10,5 @@ mod making;
 
 pub use checked::{Checked, check, recheck};
 pub use error::CheckError;
-pub use laws::{ones_are_counted, passed_have_quorums};
+pub use laws::{ones_are_counted, passed_are_signed, passed_have_quorums};
 pub use making::make;

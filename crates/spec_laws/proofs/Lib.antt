@@ -1,4 +1,5 @@
 pub mod Closed
+pub mod CoinsInTurn
 pub mod FromFloor
 pub mod FromRounds
 pub mod Given

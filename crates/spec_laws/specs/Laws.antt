@@ -1,5 +1,5 @@
 -- What is said of histories, mostly of legal ones.
-use Rattle.std.specs.Prelude.{◌≡◌, ℕ, ◌+◌, ◌-◌, ◌*◌, Option, Some, None, ◌≤◌, true, List, [], ◌∷◌, ◌++◌, map, All, Contains, find, option_and_then, ⊤}
+use Rattle.std.specs.Prelude.{◌≡◌, ℕ, ◌+◌, ◌-◌, ◌*◌, Option, Some, None, ◌≤◌, true, List, [], ◌∷◌, ◌++◌, map, All, Contains, find, slice_get, option_and_then, ⊤}
 use Rattle.std.specs.Option.{option_or, option_to_list}
 use Rattle.wire.specs.declared.message.Message.TheVariants as message
 use Rattle.header.specs.Checks.{Accepts, fault_of, accepts_all}
@@ -26,6 +26,16 @@ abbrev pub OneCertificate : Type 0
 OneCertificate = (node : Node) (history : History) (one other : Certificate) → IsLegal node history
     → Contains (certificates node history) one → Contains (certificates node history) other
     → one.header.author ≡ other.header.author → one.header.round ≡ other.header.round → one ≡ other
+
+-- a history tells of a coin: that of a wave, with its value
+pub record TellsCoin (history : History) (wave value : ℕ) : Type 0 where
+  pub sender : Author
+  pub told : Contains history (record { sender = sender; message = message.Coin (record { wave = wave; value = value }) })
+
+-- the coins of a legal history are those of its waves in turn: at each place stands the coin of the wave one above the place
+abbrev pub CoinsInTurn : Type 0
+CoinsInTurn = (node : Node) (history : History) (place value : ℕ) → IsLegal node history → slice_get (coins history) place ≡ Some value
+    → TellsCoin history (place + 1) value
 
 -- of each kind a history with one more event has what it had, and what the event is; a look-up finds what it found,
 -- and what the event is where it found nothing

@@ -1,7 +1,7 @@
 //! Laws of legal histories, proved of the definitions: each is what a function without a body ensures.
 #![tactic(auto)]
 
-ghost use Rattle.spec_laws.specs.Laws.{OneVote, OneCertificate, OneMore, SlotsGrow, OutputsGiven, OrderGrows, OrderLengthens, HeldIsEnough, GivenGrows, ProposalsAreNew, ProposalsAreLegal, ProposalsPass, OwnVotesPass};
+ghost use Rattle.spec_laws.specs.Laws.{OneVote, OneCertificate, CoinsInTurn, OneMore, SlotsGrow, OutputsGiven, OrderGrows, OrderLengthens, HeldIsEnough, GivenGrows, ProposalsAreNew, ProposalsAreLegal, ProposalsPass, OwnVotesPass};
 
 /// A legal history has one vote an author and round.
 pub fn one_vote()
@@ -11,6 +11,11 @@ pub fn one_vote()
 /// A legal history has one certificate a slot.
 pub fn one_certificate()
     ensures { OneCertificate }
+{}
+
+/// The coins of a legal history are those of its waves in turn: at each place stands the coin of the wave one above the place.
+pub fn coins_in_turn()
+    ensures { CoinsInTurn }
 {}
 
 /// A history with one more event has of each kind what it had, and what the event is.

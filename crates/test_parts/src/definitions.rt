@@ -18,6 +18,7 @@ pub use validating::Gathered;
 pub fn laws_hold() {
     spec_laws::one_vote();
     spec_laws::one_certificate();
+    spec_laws::coins_in_turn();
     spec_laws::one_more();
     spec_laws::slots_grow();
     spec_laws::outputs_given();

@@ -89,6 +89,13 @@ body_again h rest is =
     let regrouped : header_body h ++ rest ≡ to_be_bytes w16 h.author.0 ++ (to_be_bytes w64 h.round ++ (batches_bytes h.batches ++ (parents_bytes h.parents ++ rest))) = simp append_assoc in
     ap header_body_at regrouped ∙ rw (author_again h.author one is.author, round_again h.round two is.round, batches_again h.batches three is.batches, parents_again h.parents rest is.parents) refl
 
+-- two bodies of one spelling are one
+pub one_body : (one other : HeaderBody) → IsHeaderBody one → IsHeaderBody other → header_body one ≡ header_body other → one ≡ other
+one_body one other is also same =
+    let read : (one, []) ≡ (other, []) =
+    ok_is (one, []) (other, []) (sym (body_again one [] is) ∙ ap (λ text. header_body_at (text ++ [])) same ∙ body_again other [] also)
+    in ap (λ (read : HeaderBody × List ℕ). read.0) read
+
 header_takes : (bytes : List ℕ) (x : Header × List ℕ) → IsBytes bytes → header_at bytes ≡ Ok x → Takes bytes (header_bytes x.0) x.1 × IsHeader x.0
 unfolding header_at
 header_takes bytes x fits e =

@@ -7,6 +7,7 @@ ghost use Rattle.wire.specs.declared.message.Message.{Message};
 ghost use Rattle.wire.specs.Grammar.{IsMessage, Spells};
 ghost use Rattle.wire.specs.Spelling.{spelling};
 ghost use Rattle.wire.specs.Reading.{Gives, ack_at, header_body_at, header_at, vote_at, certificate_at, coin_at, tagged_at, message_of};
+ghost use Rattle.wire_read.specs.Headers.{OneBody};
 ghost use Rattle.wire_read.specs.Table.{HasFault, HasNone};
 
 use crate::lists::{batches_of, parents_of, votes_of};
@@ -127,6 +128,11 @@ pub fn decode(alloc: Global, bytes: &[u8]) -> Result<Message, WireError>
 /// bytes are one message with the same bytes behind it.
 pub fn one_spelling()
     ensures { (m n : Message) (x y : List ℕ) → IsMessage m → IsMessage n → spelling m ++ x ≡ spelling n ++ y → (m ≡ n) × (x ≡ y) }
+{}
+
+/// Two bodies of headers, each within its limits, that have one spelling are one.
+pub fn one_body()
+    ensures { OneBody }
 {}
 
 /// Bytes that go on behind a message are refused as such, whatever they are.

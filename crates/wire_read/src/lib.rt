@@ -9,7 +9,7 @@ mod reader;
 mod transactions;
 
 pub use decoding::{
-    beginnings_are_short, decode, faults_by_the_table, faults_stay, one_spelling,
+    beginnings_are_short, decode, faults_by_the_table, faults_stay, one_body, one_spelling,
     what_follows_is_trailing,
 };
 pub use frames::{FrameReader, one_split};

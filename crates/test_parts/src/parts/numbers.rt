@@ -7,12 +7,12 @@ use committee::{
     quorums_share_honest, some_if_weighs, support_has_honest, support_is_honest,
     tolerated_leave_quorum,
 };
-use header::{CheckError, ones_are_counted, passed_have_quorums};
+use header::{CheckError, ones_are_counted, passed_are_signed, passed_have_quorums};
 use std::alloc::Global;
 use votebook::VoteBook;
 use wire::{Certificate, Message, WireError, genesis_digest};
 use wire_read::{
-    beginnings_are_short, faults_stay, one_spelling, one_split, what_follows_is_trailing,
+    beginnings_are_short, faults_stay, one_body, one_spelling, one_split, what_follows_is_trailing,
 };
 
 /// Tells the digest of an author's genesis, and the fields and the bytes of its certificate.
@@ -26,6 +26,7 @@ pub fn genesis(alloc: Global, author: u64, answer: &mut String) -> Told {
 /// Calls each law, and tells the refusals that no case has.
 pub fn laws(answer: &mut String) -> Told {
     one_spelling();
+    one_body();
     beginnings_are_short();
     what_follows_is_trailing();
     faults_stay();
@@ -40,6 +41,7 @@ pub fn laws(answer: &mut String) -> Told {
     support_has_honest();
     equal_stakes();
     passed_have_quorums();
+    passed_are_signed();
     ones_are_counted();
     writeln!(answer, "{}", WireError::Memory)?;
     writeln!(answer, "{}", CommitteeError::Memory)?;
