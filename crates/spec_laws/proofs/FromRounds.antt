@@ -24,7 +24,7 @@ pub record AgreeFrom (low : ℕ) (one other : Slots) : Type 0 where
 
 -- ---- paths
 
-not_within : (one other : ℕ) → nat_le one other ≡ false → other < one
+pub not_within : (one other : ℕ) → nat_le one other ≡ false → other < one
 not_within one other not = grind (arith, not)
 
 -- a list of one thing has that
@@ -227,7 +227,7 @@ nothing_picked held test (a ∷ authors) fails =
 abbrev pub IsFar : ℕ → ℕ → Certificate → Type 0
 IsFar low depth last = (round : ℕ) → round < low → round + depth < last.header.round
 
-none_of_low : (low : ℕ) (ledger : Ledger) → AreInPlace ledger.slots → (previous : Option Certificate) (last : Certificate) → IsFar low ledger.charter.depth last → (round : ℕ) → round < low
+pub none_of_low : (low : ℕ) (ledger : Ledger) → AreInPlace ledger.slots → (previous : Option Certificate) (last : Certificate) → IsFar low ledger.charter.depth last → (round : ℕ) → round < low
     → filter (is_ordered_by ledger previous last) (round_of (size_in ledger) ledger.slots round) ≡ []
 none_of_low low ledger placed previous last far round below =
     nothing_picked (ledger.slots round) (is_ordered_by ledger previous last) (numbers (size_in ledger))

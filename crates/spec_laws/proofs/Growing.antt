@@ -191,7 +191,7 @@ segments-append ledger previous (first ∷ front) last rest =
 -- ---- leaders and the chain
 
 -- the coins may have one more, of a later wave
-slice_get-longer : {X : Type 0} (xs more : List X) (i : ℕ) → i < length xs → slice_get (xs ++ more) i ≡ slice_get xs i
+pub slice_get-longer : {X : Type 0} (xs more : List X) (i : ℕ) → i < length xs → slice_get (xs ++ more) i ≡ slice_get xs i
 slice_get-longer [] more i less = absurd (omega (arith, less))
 slice_get-longer (x ∷ xs) more zero less = refl
 slice_get-longer (x ∷ xs) more (suc i) less = slice_get-longer xs more i (omega (arith, less))

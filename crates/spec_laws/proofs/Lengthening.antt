@@ -59,7 +59,7 @@ last_is ledger =
 
 -- ---- what leaders order
 
-segments_joined : (ledger : Ledger) (previous : Option Certificate) (front rest : List Certificate)
+pub segments_joined : (ledger : Ledger) (previous : Option Certificate) (front rest : List Certificate)
     → segments ledger previous (front ++ rest) ≡ segments ledger previous front ++ segments ledger (last_or previous front) rest
 segments_joined ledger previous [] rest = refl
 segments_joined ledger previous (first ∷ front) rest =

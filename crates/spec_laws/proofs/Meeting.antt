@@ -16,7 +16,7 @@ use Rattle.spec_laws.proofs.Weighing.{quorum_meets}
 
 -- ---- tests of lists
 
-any_from : {X : Type 0} (test : X → Bool) (xs : List X) (x : X) → Contains xs x → test x ≡ true → list_any test xs ≡ true
+pub any_from : {X : Type 0} (test : X → Bool) (xs : List X) (x : X) → Contains xs x → test x ≡ true → list_any test xs ≡ true
 any_from test [] x inside passes = absurd (Contains-nothing x inside)
 any_from test (y ∷ xs) x inside passes =
     elim (Contains-cases y xs x inside) [

@@ -105,7 +105,7 @@ certificate_sound node sender (message.Vote vote) certificate taken is = absurd 
 certificate_sound node sender (message.Coin coin) certificate taken is = absurd (none-some certificate is)
 
 -- each certificate above the genesis is of such a header
-sound : (node : Node) (history : History) → IsLegal node history → (certificate : Certificate) → Contains (certificates node history) certificate → 0 < certificate.header.round → IsSound node certificate.header
+pub sound : (node : Node) (history : History) → IsLegal node history → (certificate : Certificate) → Contains (certificates node history) certificate → 0 < certificate.header.round → IsSound node certificate.header
 sound node history legal certificate inside above =
     let first = map genesis (numbers (size_of node)) in
     elim (Contains-append_cases (first ++ received history) (filter_map (completed node history) (headers history)) certificate inside) [
@@ -161,7 +161,7 @@ names_quorum node legal c is =
     let stakes = named_weigh node.charter legal.charter.staked parents is.members in
     omega (arith, is.quorum, listed, stakes)
 
-same_digests : (one other : List ℕ) → bytes_eq one other ≡ true → bytes_eq other one ≡ true
+pub same_digests : (one other : List ℕ) → bytes_eq one other ≡ true → bytes_eq other one ≡ true
 same_digests one other same = (bytes_eq-Decides other one).1 (sym ((bytes_eq-Decides one other).0 same))
 
 -- a parent that is held by its certificate, since it lies too high for the floor

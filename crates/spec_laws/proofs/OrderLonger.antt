@@ -172,7 +172,7 @@ newer_same before after ext more base (suc wave) last within held =
       ]
     ]
 
-not_old : (base wave : ℕ) → base < wave → nat_le wave base ≡ false
+pub not_old : (base wave : ℕ) → base < wave → nat_le wave base ≡ false
 not_old base wave less = grind (arith, less)
 
 -- behind the leaders that were committed come only leaders of later waves
