@@ -1,0 +1,9 @@
+pub mod Agreeing
+pub mod Bare
+pub mod Joining
+pub mod Leading
+pub mod Lifting
+pub mod Parts
+pub mod Reaching
+pub mod Rooted
+pub mod Segments
