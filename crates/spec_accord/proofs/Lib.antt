@@ -1,5 +1,6 @@
 pub mod Agreeing
 pub mod Bare
+pub mod Following
 pub mod Joining
 pub mod Leading
 pub mod Lifting
