@@ -1,6 +1,6 @@
 -- The orders of two histories agree: each is that of all that both hold up to its last wave, and the earlier of these waves is
 -- committed by all.
-use Rattle.std.proofs.Common.{◌≡◌, ℕ, zero, suc, ◌-◌, ◌<◌, ◌≤◌, true, List, [], ◌++◌, Option, Some, None, inl, inr, refl, ap, sym, ◌∙◌, subst, arith}
+use Rattle.std.proofs.Common.{◌≡◌, ℕ, zero, suc, ◌≤◌, true, List, [], ◌++◌, Some, None, inl, inr, refl, ap, sym, ◌∙◌, arith}
 use Rattle.std.specs.Option.{option_or}
 use Rattle.std.proofs.lemmas.Bool.{cases_lt}
 use Rattle.std.proofs.lemmas.List.{map-append}
@@ -10,7 +10,6 @@ use Rattle.spec_model.specs.Holdings.{ledger_of, ledger_at, slots, order}
 use Rattle.spec_model.specs.Nodes.{Node}
 use Rattle.spec_model.specs.Ordering.{Ledger, is_directly_committed, last_wave, chain, segments}
 use Rattle.spec_model.specs.Slots.{Slots, certificate_digest}
-use Rattle.spec_model.specs.Words.{Certificate}
 use Rattle.spec_laws.specs.Laws.{Begins, last_or}
 use Rattle.spec_laws.proofs.Closed.{in_place}
 use Rattle.spec_laws.proofs.Growing.{AreInPlace}

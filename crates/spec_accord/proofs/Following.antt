@@ -1,5 +1,5 @@
 -- The leaders and the order of a legal history are those of all that two nodes hold, up to its last committed wave.
-use Rattle.std.proofs.Common.{◌≡◌, ℕ, zero, suc, ◌+◌, ◌-◌, ◌*◌, ◌<◌, ◌≤◌, Bool, true, false, List, [], ◌∷◌, ◌++◌, map, length, Option, Some, None, inl, inr, refl, ap, sym, ◌∙◌, subst, arith, append_assoc}
+use Rattle.std.proofs.Common.{◌≡◌, ℕ, zero, suc, ◌-◌, ◌≤◌, true, List, [], ◌∷◌, ◌++◌, map, length, Option, Some, None, inl, inr, refl, ap, sym, ◌∙◌, subst, arith, append_assoc}
 use Rattle.std.specs.Prelude.{option_map, option_and_then}
 use Rattle.std.specs.Option.{option_map_or, option_to_list}
 use Rattle.std.proofs.lemmas.Bool.{cases_lt}
@@ -23,7 +23,6 @@ use Rattle.spec_accord.proofs.Bare.{bare, bared, plain, bared_from, bared_to, ba
 use Rattle.spec_accord.proofs.Joining.{chain_is}
 use Rattle.spec_accord.proofs.Leading.{AreKept, committed_also}
 use Rattle.spec_accord.proofs.Lifting.{IsLifted, last_there, newer_whole, segments_whole, chain_whole}
-use Rattle.spec_accord.proofs.Parts.{IsPart}
 use Rattle.spec_accord.proofs.Rooted.{held_from, rooted_from, floor_is, held_below, held_under}
 
 -- slots without votes hold all that a history's do, and coins begin with its own

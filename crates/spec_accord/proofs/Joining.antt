@@ -1,10 +1,10 @@
 -- The leaders that are committed with that of a wave begin with those committed with an earlier one, where all that counts
 -- reaches this one's leader.
-use Rattle.std.proofs.Common.{◌≡◌, ℕ, zero, suc, ◌+◌, ◌-◌, ◌*◌, ◌<◌, ◌≤◌, Bool, true, false, List, [], ◌∷◌, ◌++◌, Some, None, inl, inr, refl, ap, sym, ◌∙◌, arith, append_assoc}
+use Rattle.std.proofs.Common.{◌≡◌, ℕ, zero, suc, ◌+◌, ◌-◌, ◌<◌, ◌≤◌, true, false, [], ◌∷◌, ◌++◌, Some, inl, inr, ap, sym, ◌∙◌, arith, append_assoc}
 use Rattle.std.specs.Prelude.{nat_le}
 use Rattle.std.specs.Option.{option_map_or}
 use Rattle.std.proofs.lemmas.Bool.{cases_Bool, cases_lt, le-leb}
-use Rattle.spec_model.specs.Ordering.{Ledger, size_in, reaches_in, leader, newer_to, newer_at, chain}
+use Rattle.spec_model.specs.Ordering.{Ledger, size_in, reaches_in, leader, newer_to, chain}
 use Rattle.spec_model.specs.Words.{Certificate}
 use Rattle.spec_laws.proofs.Growing.{AreInPlace}
 use Rattle.spec_laws.proofs.Lists.{given_or_none}

@@ -1,5 +1,5 @@
 -- An event that lifts a node's last committed wave: the newer leaders are those of all that two nodes hold, and so is what they order.
-use Rattle.std.proofs.Common.{◌≡◌, ℕ, zero, suc, ◌+◌, ◌-◌, ◌*◌, ◌<◌, ◌≤◌, Bool, true, false, List, [], ◌∷◌, ◌++◌, map, length, Option, Some, None, inl, inr, refl, ap, sym, ◌∙◌, subst, arith}
+use Rattle.std.proofs.Common.{◌≡◌, ℕ, suc, ◌+◌, ◌-◌, ◌*◌, ◌<◌, ◌≤◌, true, false, List, [], ◌++◌, map, length, Option, Some, None, refl, ap, sym, ◌∙◌, subst, arith}
 use Rattle.std.specs.Prelude.{Contains, nat_le, option_map}
 use Rattle.std.specs.Option.{option_map_or}
 use Rattle.std.proofs.lemmas.Option.{same_Some, none-some}
@@ -12,7 +12,7 @@ use Rattle.spec_laws.proofs.Growing.{AreInPlace, IsIn, WasHeld, grown, leader_in
 use Rattle.spec_laws.proofs.Meeting.{mapped_from}
 use Rattle.spec_laws.proofs.OrderLonger.{directly_committed_leader, leader_place, newer_held, not_old}
 use Rattle.spec_laws.proofs.Weighing.{size_some}
-use Rattle.spec_accord.proofs.Bare.{bare, bared, plain, bared_place, bared_to, leader_bared, newer_bared, segments_bared}
+use Rattle.spec_accord.proofs.Bare.{bare, bared, plain, bared_to, leader_bared, newer_bared, segments_bared}
 use Rattle.spec_accord.proofs.Joining.{AllMeet, chain_joined}
 use Rattle.spec_accord.proofs.Leading.{leader_also, newer_alike}
 use Rattle.spec_accord.proofs.Parts.{IsPart, reached_in}
@@ -70,8 +70,7 @@ newer_bare ledger all low base wave last is b inside =
     let among = subst (λ l. Contains l c) (newer_is ledger base wave last is.later is.is_top is.is_last) from.1 in
     let held = newer_held ledger is.placed base wave last c (leader_in ledger (suc wave) last is.placed is.is_last) among in
     let high = newer_high ledger (size_some ledger.charter is.sound) is.placed base c from.1 in
-    let deep = is.far in
-    (
+    let deep = is.far in (
       subst (IsIn (bared ledger.slots)) from.2 (bared_to ledger.slots c.header.round c.header.author.0 c held),
       subst (IsFar low ledger.charter.depth) from.2 (λ round below. let near = deep round below in omega (arith, high, near)),
     )
@@ -98,8 +97,7 @@ meets ledger all low base wave last is more early from committed =
     let first = lead.0 in
     let held = leader_in whole (suc early) first is.part.placed_all lead.1 in
     let place = leader_place whole early first some is.part.placed_all lead.1 in
-    let under = is.under in
-    (
+    let under = is.under in (
       first,
       record {
         is = lead.1;

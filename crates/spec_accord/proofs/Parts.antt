@@ -1,11 +1,11 @@
 -- What a part of some slots says of paths, where the parents of what it holds above a round are in it.
-use Rattle.std.proofs.Common.{◌≡◌, ℕ, zero, suc, ◌+◌, ◌-◌, ◌<◌, ◌≤◌, Bool, true, false, Some, None, inl, inr, refl, ap, sym, ◌∙◌, arith}
+use Rattle.std.proofs.Common.{◌≡◌, ℕ, zero, suc, ◌+◌, ◌-◌, ◌<◌, ◌≤◌, true, false, Some, None, inl, inr, refl, ap, sym, ◌∙◌, arith}
 use Rattle.std.specs.Prelude.{nat_le, ◌==◌, ◌&&◌}
 use Rattle.std.specs.List.{list_any}
 use Rattle.std.proofs.lemmas.Bool.{cases_Bool, and_parts, eqb-true}
 use Rattle.std.proofs.lemmas.Option.{same_Some, none-some}
 use Rattle.committee.specs.Charter.{Charter, numbers}
-use Rattle.spec_model.specs.Slots.{Slots, same_digest, certificate_digest, is_of_slot, is_named, is_parent, round_of, has_path, reaches}
+use Rattle.spec_model.specs.Slots.{Slots, same_digest, certificate_digest, is_named, is_parent, round_of, has_path, reaches}
 use Rattle.spec_model.specs.Words.{Certificate}
 use Rattle.spec_laws.proofs.Growing.{AreInPlace, IsIn, is_in, any_same, and_false}
 use Rattle.spec_laws.proofs.Lists.{Contains-made}

@@ -1,5 +1,5 @@
 -- What leaders of a part of some slots order is in the part, where they lie far enough above its low rounds.
-use Rattle.std.proofs.Common.{◌≡◌, ℕ, ◌+◌, ◌<◌, ◌≤◌, List, [], ◌∷◌, ◌++◌, Option, Some, None, inl, inr, refl, ap, sym, ◌∙◌, subst, arith}
+use Rattle.std.proofs.Common.{◌≡◌, ℕ, ◌+◌, ◌≤◌, List, [], ◌∷◌, ◌++◌, Option, Some, None, inl, inr, refl, ap, sym, ◌∙◌, subst, arith}
 use Rattle.std.specs.Prelude.{not, Contains, filter, flat_map, nat_le, ◌&&◌}
 use Rattle.std.specs.List.{range_with_len}
 use Rattle.std.proofs.lemmas.Bool.{cases_lt}
@@ -31,8 +31,7 @@ round_alike one all low is more previous last past held round above =
     picked_same (one.slots round) (all round) (is_ordered_by one previous last) (is_ordered_by now previous last) (numbers n)
     (λ a c here.
     let place = slot_is round a c.header (is.placed round a c here) in
-    let high : low ≤ c.header.round = omega (arith, above, place.0) in
-    (
+    let high : low ≤ c.header.round = omega (arith, above, place.0) in (
       is.kept round a c here,
       ap (λ b. nat_le last.header.round (c.header.round + depth) && (b && not (is_past now previous c))) (reaches_alike one.charter n low one.slots all is last c held high)
           ∙ ap (λ b. nat_le last.header.round (c.header.round + depth) && (reaches n one.slots last c && not b)) (past_alike one all low is more previous c past high),
