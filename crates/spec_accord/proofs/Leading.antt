@@ -13,14 +13,11 @@ use Rattle.spec_laws.proofs.Growing.{IsIn, grown, slice_get-longer, passes_also,
 use Rattle.spec_laws.proofs.Lists.{given_or_none}
 use Rattle.spec_laws.proofs.OrderLonger.{leader_place}
 use Rattle.spec_laws.proofs.Votes.{slot_is}
-use Rattle.spec_accord.proofs.Parts.{IsPart, reaches_alike, reaches_out}
-
--- slots hold what others do
-abbrev pub AreKept : Slots → Slots → Type 0
-AreKept part all = (round author : ℕ) (c : Certificate) → part round author ≡ Some c → all round author ≡ Some c
+use Rattle.spec_accord.proofs.Parts.{AreKept, IsPart, reaches_alike, reaches_out}
 
 -- a leader is one where all that is held is kept, with more coins too
-pub leader_also : (one : Ledger) (all : Slots) → AreKept one.slots all → (more : List ℕ) (wave : ℕ) (c : Certificate) → leader one wave ≡ Some c → leader (grown one all more) wave ≡ Some c
+pub leader_also : (one : Ledger) (all : Slots) → AreKept one.slots all → (more : List ℕ) (wave : ℕ) (c : Certificate)
+    → leader one wave ≡ Some c → leader (grown one all more) wave ≡ Some c
 leader_also one all kept more zero c is = absurd cc
 leader_also one all kept more (suc wave) c is =
     elim (given_or_none (slice_get one.coins wave)) [
@@ -33,16 +30,19 @@ leader_also one all kept more (suc wave) c is =
     ]
 
 -- a certificate with support has it
-pub support_also : (one : Ledger) (all : Slots) → AreKept one.slots all → (more : List ℕ) (c : Certificate) → has_support one c ≡ true → has_support (grown one all more) c ≡ true
+pub support_also : (one : Ledger) (all : Slots) → AreKept one.slots all → (more : List ℕ) (c : Certificate)
+    → has_support one c ≡ true → has_support (grown one all more) c ≡ true
 support_also one all kept more c supported =
     let enough = leb-true _ _ supported in
     let above = c.header.round + 1 in
-    let more_of = weight-within one.charter (λ m. option_map_or (is_parent c) (one.slots above m) false) (λ m. option_map_or (is_parent c) (all above m) false)
+    let more_of = weight-within one.charter (λ m. option_map_or (is_parent c) (one.slots above m) false)
+    (λ m. option_map_or (is_parent c) (all above m) false)
     (λ m within. passes_also (one.slots above m) (all above m) (is_parent c) (λ d held. kept above m d held)) in
     le-leb _ _ (omega (arith, enough, more_of))
 
 -- a wave that is directly committed is so
-pub committed_also : (one : Ledger) (all : Slots) → AreKept one.slots all → (more : List ℕ) (wave : ℕ) → is_directly_committed one wave ≡ true → is_directly_committed (grown one all more) wave ≡ true
+pub committed_also : (one : Ledger) (all : Slots) → AreKept one.slots all → (more : List ℕ) (wave : ℕ)
+    → is_directly_committed one wave ≡ true → is_directly_committed (grown one all more) wave ≡ true
 committed_also one all kept more wave is =
     elim (given_or_none (leader one wave)) [
       | inl found ↦
@@ -53,8 +53,10 @@ committed_also one all kept more wave is =
     ]
 
 -- the leaders above a base that are committed with one of the part are those in the part
-pub newer_alike : (one : Ledger) (all : Slots) (low : ℕ) → 0 < size_in one → IsPart one.charter low one.slots all → (more : List ℕ) (base : ℕ) → low ≤ 2 * base + 1 → (wave : ℕ) (last : Certificate)
-    → wave ≤ length one.coins → IsIn one.slots last → newer_to (grown one all more) base wave last ≡ newer_to one base wave last
+pub newer_alike : (one : Ledger) (all : Slots) (low : ℕ) → 0 < size_in one → IsPart one.charter low one.slots all
+    → (more : List ℕ) (base : ℕ) → low ≤ 2 * base + 1 → (wave : ℕ) (last : Certificate)
+    → wave ≤ length one.coins → IsIn one.slots last
+    → newer_to (grown one all more) base wave last ≡ newer_to one base wave last
 newer_alike one all low some is more base above zero last within held = refl
 newer_alike one all low some is more base above (suc wave) last within held =
     let n = size_in one in
@@ -67,10 +69,14 @@ newer_alike one all low some is more base above (suc wave) last within held =
             | inl earlier ↦
                 let also = leader_also one all is.kept more (suc wave) earlier.0 earlier.1 in
                 let place = leader_place one wave earlier.0 some is.placed earlier.1 in
-                let same = reaches_alike one.charter n low one.slots all is last earlier.0 held (omega (arith, high, place.0)) in
-                let under = newer_alike one all low some is more base above wave earlier.0 (omega (arith, within)) (leader_in one (suc wave) earlier.0 is.placed earlier.1) in
+                let high' : low ≤ earlier.0.header.round = omega (arith, high, place.0) in
+                let same = reaches_alike one.charter n low one.slots all is last earlier.0 held high' in
+                let under = newer_alike one all low some is more base above wave earlier.0 (omega (arith, within))
+                (leader_in one (suc wave) earlier.0 is.placed earlier.1) in
                 elim (cases_Bool (reaches n one.slots last earlier.0)) [
-                  | inl reached ↦ let reached' = same ∙ reached in rw (young, earlier.1, also, reached, reached') (ap (λ l. l ++ last ∷ []) under)
+                  | inl reached ↦
+                      let reached' = same ∙ reached in
+                      rw (young, earlier.1, also, reached, reached') (ap (λ l. l ++ last ∷ []) under)
                   | inr missed ↦ let missed' = same ∙ missed in rw (young, earlier.1, also, missed, missed') lower
                 ]
             | inr none ↦ elim (given_or_none (leader (grown one all more) (suc wave))) [
@@ -79,7 +85,8 @@ newer_alike one all low some is more base above (suc wave) last within held =
                   let in_slot = is.placed_all fresh.0 fresh.1 new.0 fresh.3 in
                   let place = leader_place (grown one all more) wave new.0 some is.placed_all new.1 in
                   let place' = slot_is fresh.0 fresh.1 new.0.header in_slot in
-                  let missed = reaches_out one.charter n low one.slots all is last fresh.0 fresh.1 new.0 held (omega (arith, high, place.0, place'.0)) fresh.2 fresh.3 in
+                  let missed = reaches_out one.charter n low one.slots all is last fresh.0 fresh.1 new.0 held
+                  (omega (arith, high, place.0, place'.0)) fresh.2 fresh.3 in
                   rw (young, none, new.1, missed) lower
               | inr nothing ↦ rw (young, none, nothing) lower
             ]

@@ -6,5 +6,7 @@ pub mod Leading
 pub mod Lifting
 pub mod Parts
 pub mod Reaching
+pub mod Rising
 pub mod Rooted
 pub mod Segments
+pub mod Whole

@@ -1,4 +1,4 @@
--- Above a round that the floor from before an event tells, what the node then holds has all its parents held, a quorum.
+-- Above a round that the floor from before an event tells, what the node then holds has its parents held, a quorum.
 use Rattle.std.proofs.Common.{◌≡◌, ℕ, zero, suc, ◌+◌, ◌-◌, ◌*◌, ◌<◌, ◌≤◌, true, false, [], ◌∷◌, ◌++◌, Some, inl, inr, refl, ap, sym, ◌∙◌, subst, arith}
 use Rattle.std.specs.Prelude.{nat_le, nat_lt, ◌==◌, ◌&&◌}
 use Rattle.std.specs.Option.{option_map_or}
@@ -32,7 +32,8 @@ asked_for (suc floor) round above =
     elim (cases_Bool (nat_lt 0 (suc floor))) [ inl some ↦ rw (some, high) refl | inr none ↦ rw none refl ]
 
 -- so it is held by its certificate
-parent_there : (slots : Slots) → AreInPlace slots → (floor round : ℕ) (p : ParentReference) → held_from floor < round → is_held slots floor round p ≡ true
+parent_there : (slots : Slots) → AreInPlace slots → (floor round : ℕ) (p : ParentReference) → held_from floor < round
+    → is_held slots floor round p ≡ true
     → (parent : Certificate) × (slots (round - 1) p.author.0 ≡ Some parent) × (is_named parent p ≡ true)
 parent_there slots placed floor round p above held =
     let high = asked_for floor round above in
@@ -46,12 +47,15 @@ parent_there slots placed floor round p above held =
             | inl same ↦ (
               found.0,
               found.1,
-              and_from _ _ (ap (λ a. p.author.0 == a) place.1 ∙ same_number p.author.0) (same_digests (certificate_digest found.0.header).0 p.certificate.0 same),
+              and_from _ _ (ap (λ a. p.author.0 == a) place.1 ∙ same_number p.author.0)
+                  (same_digests (certificate_digest found.0.header).0 p.certificate.0 same),
             )
           ]
     ]
 
-pub rooted_from : (node : Node) (history : History) (event : Event) → Adds node history event → AreRooted node.charter (slots node (history ++ event ∷ [])) (held_from (floor node history))
+-- what lies above that round behind one more event has its parents held
+pub rooted_from : (node : Node) (history : History) (event : Event) → Adds node history event
+    → AreRooted node.charter (slots node (history ++ event ∷ [])) (held_from (floor node history))
 rooted_from node history event adds round author c held above =
     let n = size_of node in
     let later = history ++ event ∷ [] in
@@ -62,22 +66,32 @@ rooted_from node history event adds round author c held above =
     let all : all_held (slots node history) (floor node history) c.header ≡ true =
     elim (given_or_none (slots node history round author)) [
       | inl old ↦
-          let same : old.0 ≡ c = same_Some old.0 c (sym (kept_slot node history event adds round author old.0 old.1) ∙ held) in
-          ap (λ (d : Certificate). all_held (slots node history) (floor node history) d.header) (sym same) ∙ was.of_slots round author old.0 old.1
-      | inr none ↦ (added_by node history event.sender event.message was adds c (newly node history event adds round author c none held)).held
+          let same : old.0 ≡ c =
+          same_Some old.0 c (sym (kept_slot node history event adds round author old.0 old.1) ∙ held) in
+          ap (λ (d : Certificate). all_held (slots node history) (floor node history) d.header) (sym same)
+          ∙ was.of_slots round author old.0 old.1
+      | inr none ↦
+          let new = newly node history event adds round author c none held in
+          (added_by node history event.sender event.message was adds c new).held
     ] in
     record {
       member = subst (λ a. a < n) place.1 is.member;
       quorum = names_quorum node adds.legal.sound c is;
       held = λ p among.
-          let there = parent_there (slots node history) (in_place node history) (floor node history) round p above
-          (ap (λ r. is_held (slots node history) (floor node history) r p) (sym place.0) ∙ all_to (is_held (slots node history) (floor node history) c.header.round) c.header.parents p all among) in
+          let before = slots node history in
+          let low = floor node history in
+          let tested = is_held before low in
+          let is' : tested round p ≡ true =
+          ap (λ r. tested r p) (sym place.0) ∙ all_to (tested c.header.round) c.header.parents p all among in
+          let there = parent_there before (in_place node history) low round p above is' in
           (there.0, kept_slot node history event adds (round - 1) p.author.0 there.0 there.1, there.2);
     }
 
 -- ---- the floor
 
-pub floor_is : (node : Node) (history : History) → floor node history ≡ (2 * last_wave (ledger_at node history) - 1) - node.charter.depth
+-- the floor by the last wave, which is 0 where there is none
+pub floor_is : (node : Node) (history : History)
+    → floor node history ≡ (2 * last_wave (ledger_at node history) - 1) - node.charter.depth
 floor_is node history =
     elim (given_or_none (top (ledger_at node history))) [
       | inr none ↦
@@ -90,11 +104,13 @@ floor_is node history =
           omega (arith, is, at)
     ]
 
--- it lies at least two rounds below what the next leaders order
-pub held_below : (floor wave depth round : ℕ) → floor ≡ (2 * wave - 1) - depth → round < held_from floor → round + depth < 2 * wave
+-- what lies below the round is deeper than the depth below all leaders of later waves
+pub held_below : (floor wave depth round : ℕ) → floor ≡ (2 * wave - 1) - depth → round < held_from floor
+    → round + depth < 2 * wave
 held_below zero wave depth round is below = absurd (omega (arith, below))
 held_below (suc floor) wave depth round is below = omega (arith, is, below)
 
+-- and the round is no higher than the second one of the last wave
 pub held_under : (floor wave depth : ℕ) → floor ≡ (2 * wave - 1) - depth → 2 ≤ depth → held_from floor ≤ 2 * wave
 held_under zero wave depth is deep = omega arith
 held_under (suc floor) wave depth is deep = omega (arith, is, deep)

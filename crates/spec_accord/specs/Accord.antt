@@ -14,7 +14,8 @@ Agree one other = Begins one other ⊎ Begins other one
 
 -- a slot that both fill has one header in both; the votes under it may differ
 abbrev pub HaveOneHeader : Slots → Slots → Type 0
-HaveOneHeader one other = (round author : ℕ) (c d : Certificate) → one round author ≡ Some c → other round author ≡ Some d → c.header ≡ d.header
+HaveOneHeader one other = (round author : ℕ) (c d : Certificate) → one round author ≡ Some c
+    → other round author ≡ Some d → c.header ≡ d.header
 
 -- two nodes are of one committee, no slot of one contradicts the same slot of the other, and neither do their coins
 pub record AreOfOne (one other : Node) (history also : History) : Type 0 where
@@ -22,7 +23,8 @@ pub record AreOfOne (one other : Node) (history also : History) : Type 0 where
   pub slots : HaveOneHeader (slots one history) (slots other also)
   pub coins : Agree (coins history) (coins also)
 
--- then one of their orders begins the other, whichever certificates each of them got and when, and whatever lies below whose floor
+-- then one of their orders begins the other, whichever certificates each of them got and when, and whatever lies below
+-- whose floor
 abbrev pub OrdersAgree : Type 0
-OrdersAgree = (one other : Node) (history also : History) → IsLegal one history → IsLegal other also → AreOfOne one other history also
-    → Agree (order one history) (order other also)
+OrdersAgree = (one other : Node) (history also : History) → IsLegal one history → IsLegal other also
+    → AreOfOne one other history also → Agree (order one history) (order other also)
