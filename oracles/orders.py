@@ -1,7 +1,7 @@
 #!/usr/bin/env python3
-"""Writes cases for the end of the parts in crates/test_parts/stdin: certificates and coins in the order in which they come to a node, and what they commit.
+"""Writes cases of certificates and coins in the order in which they come to a node, and of what they commit.
 
-    oracles/orders.py [--segments] > CASES
+    oracles/orders.py --segments > crates/test_parts/data/orders.cases
 
 The worked ones are played, the random ones are drawn from the start values below. What is expected is computed by the plain rules of
 oracles/histories.py over all certificates that ever came, by paths; no floor makes it forget one.
@@ -100,14 +100,13 @@ class Played:
 
     def case(self, title):
         self.look()
-        print('== %s' % title)
+        print('\n== %s' % title)
         print('parts')
         print('# %d commits, at most %d leaders at once, %d certificates ordered that came late' % (self.commits, self.longest, self.late))
         print('committee %s | depth = %d' % (' '.join(map(str, self.stakes)), self.depth))
         print('play ' + ' '.join(self.words))
         for line in self.lines:
             print('> ' + line)
-        print()
 
 
 def rows(played, rounds, authors, parents):
@@ -251,6 +250,11 @@ def drawn(start, depth, stakes, events):
     played.case('%d random certificates and coins, %s, stakes %s, start value %d' % (events, words, ' '.join(map(str, stakes)), start))
 
 
+print("""# crates: dag tusk flatten
+# committee: the stakes of its members, and behind a line what its file has beside them; quorum: its quorum. Each other command
+# begins with a table of its own.
+# play: certificates (the round, the author and the authors of the parents) and coins in the order in which they come to a node;
+# leaders: those of the waves from the floor on. These cases are written by oracles/orders.py --segments.""")
 at_once()
 late_supporter()
 reached_leader()

@@ -2,9 +2,8 @@
 """Files of journals, and what opening a node on each of them comes to; scripts of commands, and what a node writes for them. All is
 computed without the node's code.
 
-    oracles/recoveries.py
+    oracles/recoveries.py > crates/test_disk/data/recoveries.cases
 
-prints a part of crates/test_disk/stdin: the cases from the comment that names this file to the one that names oracles/worlds.py.
 The formats are those of docs/FORMATS.md, and what events are answered is taken from oracles/histories.py, which reads an order
 afresh for each answer.
 """
@@ -688,7 +687,10 @@ def faults(cases):
 def main():
     assert len(EMPTY) == 152 and len(FIRST_VOTE) == 345 and len(EVENT) == 184
     cases = Cases()
-    print('# Openings of a node on hand-made journals, and scripts of commands. `oracles/recoveries.py` writes these cases.')
+    print("""# crates: recovery ref_script spec_records
+# Openings of a node on hand-made journals, and scripts of commands. `oracles/recoveries.py` writes these cases.
+# A case that begins with `node` or `file` is one of a node, whose `open`, `flush`, `stop` and `changes` are others than those
+# of the disk, the journal and the book.""")
     empty_files(cases)
     configurations(cases)
     events(cases)

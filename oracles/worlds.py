@@ -1,9 +1,10 @@
 #!/usr/bin/env python3
 """What the lists of steps of crates/test_disk come to, computed without the node's code.
 
-    oracles/worlds.py COUNT STEPS START
+    oracles/worlds.py 2000 40 1 > crates/test_disk/data/worlds.cases
 
-prints the case of lists in that crate's file `stdin`: the command, and the counts that are expected of it. The draws, the kinds of
+The arguments are how many lists, how many steps each has, and where the draws begin. It prints the command, and the counts that are
+expected of it. The draws, the kinds of
 event and the order of steps are those of crates/test_disk; bytes are counted and not made, but for the gate of a group on its way.
 """
 import collections
@@ -227,6 +228,11 @@ def main(count, steps, start):
 
     def told(names):
         return ', '.join(f'{name} {counts[name]}' for name in names)
+    print("""# crates: spec_world diskmodel journal book recovery
+# Lists of random steps and stops. `oracles/worlds.py` computes what they come to.
+
+== lists of steps and stops
+store""")
     print(f'lists {count} {steps} {start}')
     print('> ' + told(['new', 'known']))
     print('> ' + told(['down', 'too old', 'missing parents', 'missing batch', 'equivocation', 'not ours']))
