@@ -1,12 +1,17 @@
 pub mod Agreeing
+pub mod Backing
 pub mod Bare
+pub mod CoinsAgree
 pub mod Following
 pub mod Joining
 pub mod Leading
 pub mod Lifting
+pub mod OneHeader
 pub mod Parts
 pub mod Reaching
+pub mod Reading
 pub mod Rising
 pub mod Rooted
 pub mod Segments
+pub mod Telling
 pub mod Whole

@@ -1,1 +1,2 @@
 pub mod Accord
+pub mod Members

@@ -2,7 +2,11 @@
 //! function without a body ensures.
 #![tactic(auto)]
 
+mod members;
+
 ghost use Rattle.spec_accord.specs.Accord.{OrdersAgree};
+
+pub use members::{headers_agree, members_agree};
 
 /// Of two nodes of one committee whose certificates of one author and round have one header, and whose coins agree as
 /// far as both have them, the order of one begins that of the other.

@@ -1,0 +1,129 @@
+-- What the honest members of a committee have settled, and that they agree on it; of their disks and runs nothing is said.
+use Rattle.std.specs.Prelude.{◌≡◌, ◌≤◌, ◌⊎◌, ℕ, Bool, not, true, List, [], ◌∷◌, ◌++◌, map, Some, None, Contains}
+use Rattle.std.specs.Int.{w16, w64, to_be_bytes}
+use Rattle.sha2.specs.Sha256.{sha256}
+use Rattle.committee.specs.Charter.{Charter, IsCharter, weight, tolerated_of}
+use Rattle.header.specs.Checks.{Accepts, fault_of, is_signed, vote_signed}
+use Rattle.spec_model.specs.Admitting.{IsLegal}
+use Rattle.spec_model.specs.Histories.{History, headers, received}
+use Rattle.spec_model.specs.Holdings.{voted_digest, slots, order}
+use Rattle.spec_model.specs.Nodes.{Node}
+use Rattle.spec_model.specs.Slots.{header_digest, certificate_digest}
+use Rattle.spec_model.specs.Words.{Author, Coin, Digest, Event, HeaderBody, Message, Signature}
+use Rattle.wire.specs.Digests.{header_digest_of}
+use Rattle.wire.specs.Spelling.{header_body}
+use Rattle.wire.specs.declared.message.Message.TheVariants as message
+use Rattle.spec_accord.specs.Accord.{Agree, HaveOneHeader}
+
+-- the committee, the verifier that all use, who is honest, and of each honest member what it is as a node and what it has
+-- settled
+pub record Party : Type 0 where
+  pub charter : Charter
+  pub accepts : Accepts
+  pub honest : ℕ → Bool
+  pub node : ℕ → Node
+  pub settled : ℕ → History
+
+-- ---- digests
+
+-- the headers of which a history tells, by themselves or in certificates
+abbrev pub bodies_in : History → List HeaderBody
+bodies_in history = map (λ header. header.body) (headers history)
+    ++ map (λ certificate. certificate.header) (received history)
+
+-- the two texts that are hashed of a header: its own behind the letter H, and its certificate's behind the letter C
+abbrev pub header_text : HeaderBody → List ℕ
+header_text body = 72 ∷ header_body body
+
+abbrev pub certificate_text : HeaderBody → List ℕ
+certificate_text body = 67 ∷ header_digest_of body ++ to_be_bytes w64 body.round ++ to_be_bytes w16 body.author.0
+
+-- a header is one of which an honest member's settled history tells
+pub record IsTold (party : Party) (body : HeaderBody) : Type 0 where
+  pub member : ℕ
+  pub honest : party.honest member ≡ true
+  pub told : Contains (bodies_in (party.settled member)) body
+
+-- no two texts of such headers share a digest: not two headers' own, not two certificates', and not one of each
+pub record NoClash (party : Party) : Type 0 where
+  pub headers : (one other : HeaderBody) → IsTold party one → IsTold party other
+      → sha256 (header_text one) ≡ sha256 (header_text other) → header_text one ≡ header_text other
+  pub certificates : (one other : HeaderBody) → IsTold party one → IsTold party other
+      → sha256 (certificate_text one) ≡ sha256 (certificate_text other) → certificate_text one ≡ certificate_text other
+  pub both : (one other : HeaderBody) → IsTold party one → IsTold party other
+      → sha256 (header_text one) ≡ sha256 (certificate_text other) → header_text one ≡ certificate_text other
+
+-- ---- signatures
+
+-- a vote's signature as it stands in a message: whose it is, and of which digest
+pub record Signed : Type 0 where
+  pub signer : Author
+  pub digest : Digest
+  pub signature : Signature
+
+-- the votes in a message
+abbrev pub signed_in : Message → List Signed
+signed_in (message.Vote vote) =
+    record {
+      signer = vote.voter;
+      digest = vote_signed vote.header.0 vote.round vote.author;
+      signature = vote.signature;
+    } ∷ []
+signed_in (message.Certificate certificate) = map (λ vote. record {
+  signer = vote.voter;
+  digest = vote_signed (header_digest_of certificate.header) certificate.header.round certificate.header.author;
+  signature = vote.signature;
+}) certificate.votes
+signed_in _ = []
+
+-- a header has a member's vote for good: the one that the member has settled for its author and round
+abbrev pub HasVote : Party → ℕ → HeaderBody → Type 0
+HasVote party member body = voted_digest (party.settled member) body.round body.author.0 ≡ Some (header_digest body)
+
+-- what a member signed in what it gave out: a header of its settled history, or the certificate of one with its vote
+pub record WasSigned (party : Party) (member : ℕ) (digest : Digest) : Type 0 where
+  pub body : HeaderBody
+  pub told : Contains (bodies_in (party.settled member)) body
+  pub is : (digest ≡ header_digest body) ⊎ ((digest ≡ certificate_digest body) × HasVote party member body)
+
+-- ---- agreement
+
+-- what is given of a party, where it is known which digests each member has signed in what it gave out
+pub record IsParty (party : Party) (signed : ℕ → Digest → Bool) : Type 0 where
+  -- the committee is one, and those who aren't honest weigh together no more than is tolerated
+  pub sound : IsCharter party.charter
+  pub few : weight party.charter (λ member. not (party.honest member)) ≤ tolerated_of party.charter
+  -- each honest member is a node of this committee, with its own number and a legal history
+  pub charter : (member : ℕ) → party.honest member ≡ true → (party.node member).charter ≡ party.charter
+  pub number : (member : ℕ) → party.honest member ≡ true → (party.node member).own.0 ≡ member
+  pub legal : (member : ℕ) → party.honest member ≡ true → IsLegal (party.node member) (party.settled member)
+  -- what it has settled passed the checks, with its signatures
+  pub passed : (member : ℕ) → party.honest member ≡ true → (event : Event) → Contains (party.settled member) event
+      → fault_of party.charter party.accepts event ≡ None
+  -- and no honest member's vote in it is forged: of a good one the voter has signed the digest in what it gave out
+  pub unforged : (member : ℕ) → party.honest member ≡ true → (event : Event) → Contains (party.settled member) event
+      → (vote : Signed) → Contains (signed_in event.message) vote → party.honest vote.signer.0 ≡ true
+      → is_signed party.charter party.accepts vote.signer vote.digest vote.signature ≡ true
+      → signed vote.signer.0 vote.digest ≡ true
+  -- an honest member signed nothing else in what it gave out than a header that it tells of, or its vote for one
+  pub given : (member : ℕ) → party.honest member ≡ true → (digest : Digest) → signed member digest ≡ true
+      → WasSigned party member digest
+  -- and no two texts that they tell of share a digest
+  pub clash : NoClash party
+
+-- then their certificates of one author and round have one header
+abbrev pub HeadersAgree : Type 0
+HeadersAgree = (party : Party) (signed : ℕ → Digest → Bool) → IsParty party signed
+    → (one other : ℕ) → party.honest one ≡ true → party.honest other ≡ true
+    → HaveOneHeader (slots (party.node one) (party.settled one)) (slots (party.node other) (party.settled other))
+
+-- the coin of a wave has its one value at all of them
+pub record HasCoins (party : Party) (value : ℕ → ℕ) : Type 0 where
+  pub each : (member : ℕ) → party.honest member ≡ true → (event : Event) → Contains (party.settled member) event
+      → (coin : Coin) → event.message ≡ message.Coin coin → coin.value ≡ value coin.wave
+
+-- and of their orders one begins the other
+abbrev pub MembersAgree : Type 0
+MembersAgree = (party : Party) (signed : ℕ → Digest → Bool) (value : ℕ → ℕ) → IsParty party signed
+    → HasCoins party value → (one other : ℕ) → party.honest one ≡ true → party.honest other ≡ true
+    → Agree (order (party.node one) (party.settled one)) (order (party.node other) (party.settled other))

