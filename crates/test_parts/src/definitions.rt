@@ -30,6 +30,9 @@ pub fn laws_hold() {
     spec_laws::proposals_are_legal();
     spec_laws::proposals_pass();
     spec_laws::own_votes_pass();
+    spec_accord::orders_agree();
+    spec_accord::headers_agree();
+    spec_accord::members_agree();
     spec_machine::starts_fresh();
     spec_machine::state_follows();
     spec_machine::state_answers();
