@@ -17,14 +17,14 @@ abbrev pub HaveOneHeader : Slots → Slots → Type 0
 HaveOneHeader one other = (round author : ℕ) (c d : Certificate) → one round author ≡ Some c
     → other round author ≡ Some d → c.header ≡ d.header
 
--- two nodes are of one committee, no slot of one contradicts the same slot of the other, and neither do their coins
+-- two nodes are of one committee, a slot that both fill has one header, and the coins of one begin those of the other
 pub record AreOfOne (one other : Node) (history also : History) : Type 0 where
   pub charter : one.charter ≡ other.charter
   pub slots : HaveOneHeader (slots one history) (slots other also)
   pub coins : Agree (coins history) (coins also)
 
--- then one of their orders begins the other, whichever certificates each of them got and when, and whatever lies below
--- whose floor
+-- then, where both histories are legal, one of their orders begins the other, whichever certificates each of them got and
+-- when, and whatever lies below whose floor
 abbrev pub OrdersAgree : Type 0
 OrdersAgree = (one other : Node) (history also : History) → IsLegal one history → IsLegal other also
     → AreOfOne one other history also → Agree (order one history) (order other also)

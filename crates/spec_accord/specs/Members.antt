@@ -1,4 +1,5 @@
--- What the honest members of a committee have settled, and that they agree on it; of their disks and runs nothing is said.
+-- What the honest members of a committee have settled, and that its certificates and orders agree; of their disks and runs
+-- nothing is said.
 use Rattle.std.specs.Prelude.{◌≡◌, ◌≤◌, ◌⊎◌, ℕ, Bool, not, true, List, [], ◌∷◌, ◌++◌, map, Some, None, Contains}
 use Rattle.std.specs.Int.{w16, w64, to_be_bytes}
 use Rattle.sha2.specs.Sha256.{sha256}
@@ -44,7 +45,7 @@ pub record IsTold (party : Party) (body : HeaderBody) : Type 0 where
   pub honest : party.honest member ≡ true
   pub told : Contains (bodies_in (party.settled member)) body
 
--- no two texts of such headers share a digest: not two headers' own, not two certificates', and not one of each
+-- no two different texts of such headers share a digest: not two headers' own, not two certificates', and not one of each
 pub record NoClash (party : Party) : Type 0 where
   pub headers : (one other : HeaderBody) → IsTold party one → IsTold party other
       → sha256 (header_text one) ≡ sha256 (header_text other) → header_text one ≡ header_text other
@@ -55,13 +56,13 @@ pub record NoClash (party : Party) : Type 0 where
 
 -- ---- signatures
 
--- a vote's signature as it stands in a message: whose it is, and of which digest
+-- a vote's signature as it stands in a message: whose it is said to be, and of which digest
 pub record Signed : Type 0 where
   pub signer : Author
   pub digest : Digest
   pub signature : Signature
 
--- the votes in a message
+-- the votes in a message; a header's own signature isn't among them
 abbrev pub signed_in : Message → List Signed
 signed_in (message.Vote vote) =
     record {
@@ -76,11 +77,12 @@ signed_in (message.Certificate certificate) = map (λ vote. record {
 }) certificate.votes
 signed_in _ = []
 
--- a header has a member's vote for good: the one that the member has settled for its author and round
+-- a header has a member's vote for good: what the member has settled for its author and round has its digest
 abbrev pub HasVote : Party → ℕ → HeaderBody → Type 0
 HasVote party member body = voted_digest (party.settled member) body.round body.author.0 ≡ Some (header_digest body)
 
--- what a member signed in what it gave out: a header of its settled history, or the certificate of one with its vote
+-- of what a digest is that a member signed in what it gave out: of a header of which its settled history tells, whoever
+-- made it, or of the certificate of one with its vote
 pub record WasSigned (party : Party) (member : ℕ) (digest : Digest) : Type 0 where
   pub body : HeaderBody
   pub told : Contains (bodies_in (party.settled member)) body
@@ -88,9 +90,9 @@ pub record WasSigned (party : Party) (member : ℕ) (digest : Digest) : Type 0 w
 
 -- ---- agreement
 
--- what is given of a party, where it is known which digests each member has signed in what it gave out
+-- what is given of a party, with a bound on which digests each member has signed in what it gave out
 pub record IsParty (party : Party) (signed : ℕ → Digest → Bool) : Type 0 where
-  -- the committee is one, and those who aren't honest weigh together no more than is tolerated
+  -- the committee is within its limits, and those who aren't honest weigh together no more than is tolerated
   pub sound : IsCharter party.charter
   pub few : weight party.charter (λ member. not (party.honest member)) ≤ tolerated_of party.charter
   -- each honest member is a node of this committee, with its own number and a legal history
@@ -108,7 +110,7 @@ pub record IsParty (party : Party) (signed : ℕ → Digest → Bool) : Type 0 w
   -- an honest member signed nothing else in what it gave out than a header that it tells of, or its vote for one
   pub given : (member : ℕ) → party.honest member ≡ true → (digest : Digest) → signed member digest ≡ true
       → WasSigned party member digest
-  -- and no two texts that they tell of share a digest
+  -- and no two different texts of headers that they tell of share a digest
   pub clash : NoClash party
 
 -- then their certificates of one author and round have one header

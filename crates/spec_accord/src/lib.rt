@@ -8,8 +8,8 @@ ghost use Rattle.spec_accord.specs.Accord.{OrdersAgree};
 
 pub use members::{headers_agree, members_agree};
 
-/// Of two nodes of one committee whose certificates of one author and round have one header, and whose coins agree as
-/// far as both have them, the order of one begins that of the other.
+/// Of two legal histories of nodes of one committee whose certificates of one author and round have one header, and whose
+/// coins agree as far as both have them, the order of one begins that of the other.
 pub fn orders_agree()
     ensures { OrdersAgree }
 {}

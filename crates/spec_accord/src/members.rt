@@ -3,14 +3,15 @@
 ghost use Rattle.spec_accord.specs.Members.{HeadersAgree, MembersAgree};
 
 /// In what the honest members of a committee have settled the certificates of one author and round have one header, where
-/// those who aren't honest weigh no more than is tolerated, no honest member's vote is forged, and no two texts of headers
-/// and certificates share a digest.
+/// those who aren't honest weigh no more than is tolerated, no honest member's vote is forged, and no two different texts of
+/// headers and certificates share a digest; and where what each of them settled is legal and passed the checks, and it signed
+/// in what it gave out only headers and votes that it settled.
 pub fn headers_agree()
     ensures { HeadersAgree }
 {}
 
-/// And of the orders of what two of them have settled one begins the other, where the coin of each wave has one value at all
-/// of them.
+/// Of the orders of what two honest members of a committee have settled one begins the other, where that holds, and the coin of
+/// each wave has one value at all of them.
 pub fn members_agree()
     ensures { MembersAgree }
 {}
