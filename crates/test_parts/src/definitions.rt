@@ -13,6 +13,7 @@ mod weighing;
 
 pub use played::Played;
 pub use validating::Gathered;
+pub use weighing::{committee_of, label_genesis};
 
 /// Each law, which has no condition.
 pub fn laws_hold() {

@@ -2,9 +2,11 @@
 //! validator. Case files over the public surface of their crates, a file for each crate or program that made it.
 #![tactic(auto)]
 
+mod accords;
 mod definitions;
 mod parts;
 
+use accords::Accords;
 use definitions::{Gathered, Played, laws_hold};
 use parts::Parts;
 use std::alloc::{AllocError, Global};
@@ -22,6 +24,8 @@ enum About {
     Definitions,
     /// A validator, and for its first events the plain program beside it.
     Validator,
+    /// Pairs of histories of one committee, by the plain programs.
+    Accords,
 }
 
 /// What the cases are put to.
@@ -31,6 +35,7 @@ struct Cases {
     parts: Parts,
     definitions: Played,
     validator: Gathered,
+    accords: Accords,
 }
 
 impl Cases {
@@ -40,6 +45,7 @@ impl Cases {
             parts: Parts::new(alloc),
             definitions: Played::new(alloc)?,
             validator: Gathered::new(alloc),
+            accords: Accords::new(alloc),
         })
     }
 
@@ -50,14 +56,16 @@ impl Cases {
         self.validator.begin()
     }
 
-    /// `parts` and `validator` begin a case of these, and any other command one of the definitions.
+    /// `parts`, `validator` and `accords` begin a case of these, and any other command one of the definitions.
     fn obey(&mut self, command: &str, answer: &mut String) -> Told {
         match self.about {
             About::Parts => self.parts.obey(command, answer),
             About::Validator => self.validator.obey(command, answer),
+            About::Accords => self.accords.obey(command, answer),
             About::Definitions => match command {
                 "parts" => Ok(self.about = About::Parts),
                 "validator" => Ok(self.about = About::Validator),
+                "accords" => Ok(self.about = About::Accords),
                 _ => self.definitions.obey(command, answer),
             },
         }

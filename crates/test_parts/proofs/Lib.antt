@@ -1,0 +1,4 @@
+mod Beginning
+mod Headers
+mod Members
+mod Slots

@@ -1,0 +1,114 @@
+//! Whether two nodes with their histories are of one committee, and whether one of their orders begins the other.
+
+ghost use Rattle.std.specs.Prelude.{◌≡◌, ◌↔◌, IsTrue, IfOk};
+ghost use Rattle.spec_accord.specs.Accord.{Agree, AreOfOne, HaveOneHeader};
+ghost use Rattle.spec_model.specs.Histories as histories;
+ghost use Rattle.spec_model.specs.Holdings as holdings;
+ghost use Rattle.spec_model.specs.Nodes.{node_view};
+ghost use Rattle.spec_model.specs.Slots.{slots_of};
+ghost use Rattle.test_parts.specs.Accords as accords;
+
+use crate::accords::alike::{coins_agree, digests_agree, same_committee, same_header};
+use ref_order::certificates::{certificates, order};
+use ref_order::histories::coins;
+use ref_order::past::Past;
+use ref_order::slots::slot;
+use sigface::Sign;
+use spec_model::Event;
+use std::alloc::{AllocError, Global};
+use wire::{Certificate, Digest};
+
+/// What two nodes with their histories have in common.
+#[derive(Drop)]
+pub struct Agreed {
+    /// They are of one committee, and neither their slots nor their coins contradict one another.
+    pub premises: bool,
+    /// One of the orders begins the other.
+    pub agrees: bool,
+    /// The order of the one.
+    pub one: Vec<Digest>,
+    /// The order of the other.
+    pub other: Vec<Digest>,
+}
+
+/// Where the slot of a certificate is filled twice, it has one header.
+fn has_one_header(one: &[Certificate], other: &[Certificate], certificate: &Certificate) -> bool
+    ensures { result ≡ accords.has_one_header (slots_of one.now) (slots_of other.now) certificate.now.header.round certificate.now.header.author.0 }
+{
+    let (round, author) = (
+        certificate.header.round.number(),
+        certificate.header.author.0,
+    );
+    match (slot(one, round, author), slot(other, round, author)) {
+        (Some(first), Some(second)) => same_header(&first.header, &second.header),
+        _ => true,
+    }
+}
+
+/// No slot of some certificates contradicts the same slot of others.
+fn have_one_header(one: &[Certificate], other: &[Certificate]) -> bool
+    ensures { result ≡ accords.have_one_header one.now other.now }
+{
+    one.iter()
+        .all(|certificate| has_one_header(one, other, certificate))
+}
+
+/// The slots of two nodes don't contradict one another.
+fn slots_agree<S: Sign>(
+    alloc: Global,
+    one: &Past<S>,
+    other: &Past<S>,
+) -> Result<bool, AllocError>
+    ensures { IfOk result (λ found. IsTrue found ↔ HaveOneHeader (holdings.slots (node_view S.own_key S.signature_of one.now.node.now) one.now.history.now) (holdings.slots (node_view S.own_key S.signature_of other.now.node.now) other.now.history.now)) }
+{
+    let first = certificates(alloc, one.node, one.history)?;
+    let second = certificates(alloc, other.node, other.history)?;
+    Ok(have_one_header(&first, &second))
+}
+
+/// Nor do their coins.
+fn waves_agree(alloc: Global, one: &[Event], other: &[Event]) -> Result<bool, AllocError>
+    ensures { IfOk result (λ found. IsTrue found ↔ Agree (histories.coins one.now) (histories.coins other.now)) }
+{
+    let (first, second) = (coins(alloc, one)?, coins(alloc, other)?);
+    Ok(coins_agree(&first, &second))
+}
+
+/// They are of one committee, and neither their slots nor their coins contradict one another.
+fn are_of_one<S: Sign>(alloc: Global, one: &Past<S>, other: &Past<S>) -> Result<bool, AllocError>
+    ensures { IfOk result (λ found. IsTrue found ↔ AreOfOne (node_view S.own_key S.signature_of one.now.node.now) (node_view S.own_key S.signature_of other.now.node.now) one.now.history.now other.now.history.now) }
+{
+    if !same_committee(&one.node.committee, &other.node.committee) {
+        return Ok(false);
+    }
+    if !slots_agree(alloc, one, other)? {
+        return Ok(false);
+    }
+    waves_agree(alloc, one.history, other.history)
+}
+
+/// What two nodes with their histories have in common.
+///
+/// # Errors
+/// When memory runs out.
+pub fn agree<S: Sign>(
+    alloc: Global,
+    one: &Past<S>,
+    other: &Past<S>,
+) -> Result<Agreed, AllocError>
+    ensures premises { IfOk result (λ found. IsTrue found.premises ↔ AreOfOne (node_view S.own_key S.signature_of one.now.node.now) (node_view S.own_key S.signature_of other.now.node.now) one.now.history.now other.now.history.now) }
+    ensures agrees { IfOk result (λ found. IsTrue found.agrees ↔ Agree (holdings.order (node_view S.own_key S.signature_of one.now.node.now) one.now.history.now) (holdings.order (node_view S.own_key S.signature_of other.now.node.now) other.now.history.now)) }
+    ensures one { IfOk result (λ found. found.one.items ≡ holdings.order (node_view S.own_key S.signature_of one.now.node.now) one.now.history.now) }
+    ensures other { IfOk result (λ found. found.other.items ≡ holdings.order (node_view S.own_key S.signature_of other.now.node.now) other.now.history.now) }
+{
+    let premises = are_of_one(alloc, one, other)?;
+    let first = order(alloc, one.node, one.history)?;
+    let second = order(alloc, other.node, other.history)?;
+    let agrees = digests_agree(&first, &second);
+    Ok(Agreed {
+        premises,
+        agrees,
+        one: first,
+        other: second,
+    })
+}

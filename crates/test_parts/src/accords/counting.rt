@@ -1,0 +1,202 @@
+//! What two histories have in common, and how many pairs there are of each kind.
+
+use crate::accords::agreeing::{Agreed, agree};
+use crate::accords::playing::Played;
+use ref_order::certificates::certificates;
+use ref_order::histories::coins;
+use ref_order::ledger::Ledger;
+use ref_order::newer::last_wave;
+use ref_order::ordering::{committed, floor_by, is_directly_committed};
+use ref_order::past::Past;
+use ref_order::slots::slot;
+use std::alloc::{AllocError, Global};
+use wire::Certificate;
+
+/// The kinds, in the order in which they are counted.
+const KINDS: [&str; 9] = [
+    "pairs",
+    "legal",
+    "premises",
+    "agree",
+    "both floors above 0",
+    "a wave skipped",
+    "a wave committed directly and through a later leader",
+    "unlike certificates at or below both floors",
+    "orders of unlike length",
+];
+
+/// How many pairs there are of each kind.
+#[derive(Clone, Copy)]
+pub struct Counts {
+    counts: [u64; 9],
+}
+
+/// What a history decides.
+#[derive(Drop)]
+struct Decided {
+    certificates: Vec<Certificate>,
+    coins: Vec<u64>,
+    leaders: Vec<Certificate>,
+    floor: u64,
+}
+
+/// The ledger of certificates and coins.
+fn ledger<'a>(played: &'a Played, certificates: &'a [Certificate], coins: &'a [u64]) -> Ledger<'a> {
+    Ledger {
+        committee: &played.node.committee,
+        certificates,
+        coins,
+    }
+}
+
+fn decide(alloc: Global, played: &Played) -> Result<Decided, AllocError> {
+    let certificates = certificates(alloc, &played.node, &played.history)?;
+    let coins = coins(alloc, &played.history)?;
+    let leaders = committed(alloc, &ledger(played, &certificates, &coins))?;
+    let floor = floor_by(&ledger(played, &certificates, &coins));
+    Ok(Decided {
+        certificates,
+        coins,
+        leaders,
+        floor,
+    })
+}
+
+/// A played history, and what it decides.
+#[derive(Clone, Copy)]
+struct Side<'a> {
+    played: &'a Played,
+    decided: &'a Decided,
+}
+
+impl<'a> Side<'a> {
+    fn ledger(&self) -> Ledger<'a> {
+        ledger(self.played, &self.decided.certificates, &self.decided.coins)
+    }
+
+    /// A leader up to the last one that is directly committed isn't committed.
+    fn skips(&self) -> bool {
+        (self.decided.leaders.len() as u64) < last_wave(&self.ledger())
+    }
+
+    /// The leader of a wave is committed.
+    fn commits(&self, wave: u64) -> bool {
+        self.decided
+            .leaders
+            .iter()
+            .any(|leader| leader.header.round.number() == 2 * wave - 1)
+    }
+
+    /// A wave is directly committed here, and at the other only through a later leader.
+    fn is_before(&self, other: &Side) -> bool {
+        let (here, there) = (self.ledger(), other.ledger());
+        for wave in 1..here.coins.len() as u64 + 1 {
+            if is_directly_committed(&here, wave)
+                && !is_directly_committed(&there, wave)
+                && other.commits(wave)
+            {
+                return true;
+            }
+        }
+        false
+    }
+
+    /// A certificate up to a floor is held here, and not by the other.
+    fn holds_more(&self, other: &Side, floor: u64) -> bool {
+        self.decided.certificates.iter().any(|certificate| {
+            let round = certificate.header.round.number();
+            round <= floor && lacks(&other.decided.certificates, certificate)
+        })
+    }
+}
+
+/// The slot of a certificate isn't filled.
+fn lacks(certificates: &[Certificate], certificate: &Certificate) -> bool {
+    let (round, author) = (
+        certificate.header.round.number(),
+        certificate.header.author.0,
+    );
+    slot(certificates, round, author).is_none()
+}
+
+/// Of which kinds two histories are.
+fn kinds(one: Side, other: Side, agreed: &Agreed) -> [bool; 9] {
+    let floor = one.decided.floor.min(other.decided.floor);
+    let (first, second) = (agreed.one.len(), agreed.other.len());
+    [
+        true,
+        one.played.legal && other.played.legal,
+        agreed.premises,
+        agreed.agrees,
+        floor > 0,
+        one.skips() || other.skips(),
+        one.is_before(&other) || other.is_before(&one),
+        one.holds_more(&other, floor) || other.holds_more(&one, floor),
+        first.min(second) > 0 && first != second,
+    ]
+}
+
+/// Adds the line of two histories.
+fn line(one: Side, other: Side, agreed: &Agreed, answer: &mut String) -> Result<(), AllocError> {
+    let (legal, also) = (yes(one.played.legal), yes(other.played.legal));
+    let (premises, agrees) = (yes(agreed.premises), yes(agreed.agrees));
+    write!(answer, "legal {legal} {also}, premises {premises}, ")?;
+    let (first, second) = (agreed.one.len(), agreed.other.len());
+    write!(answer, "orders {first} {second}, agree {agrees}, ")?;
+    let (first, second) = (one.decided.floor, other.decided.floor);
+    writeln!(answer, "floors {first} {second}")
+}
+
+fn yes(is_so: bool) -> &'static str {
+    if is_so { "yes" } else { "no" }
+}
+
+impl Counts {
+    /// No pairs.
+    pub fn none() -> Counts {
+        Counts { counts: [0; 9] }
+    }
+
+    /// Counts a pair, and adds the line of what both have in common.
+    pub fn add(
+        &mut self,
+        alloc: Global,
+        one: &Played,
+        other: &Played,
+        answer: &mut String,
+    ) -> Result<(), AllocError> {
+        let agreed = agree(alloc, &past(one), &past(other))?;
+        let (first, second) = (decide(alloc, one)?, decide(alloc, other)?);
+        let one = Side {
+            played: one,
+            decided: &first,
+        };
+        let other = Side {
+            played: other,
+            decided: &second,
+        };
+        self.count(&kinds(one, other, &agreed));
+        line(one, other, &agreed, answer)
+    }
+
+    fn count(&mut self, kinds: &[bool; 9]) {
+        for (count, is_so) in self.counts.iter_mut().zip(kinds) {
+            *count = count.saturating_add(u64::from(*is_so));
+        }
+    }
+
+    /// Adds how many there are of each kind.
+    pub fn tell(&self, answer: &mut String) -> Result<(), AllocError> {
+        for (kind, count) in KINDS.iter().zip(&self.counts) {
+            writeln!(answer, "{kind}: {count}")?;
+        }
+        Ok(())
+    }
+}
+
+fn past<'a>(played: &'a Played) -> Past<'a, sigface::HashSign> {
+    Past {
+        node: &played.node,
+        history: &played.history,
+    }
+}
