@@ -7,6 +7,7 @@ Worlds are drawn in which the members of a committee make headers and take each 
 where a header names them, and in which some have fewer coins. Of each world a few pairs of members are written. What is expected is
 computed by the plain rules of histories.py. See the first lines of what it writes for the words.
 """
+import hashlib
 import random
 import sys
 
@@ -35,6 +36,7 @@ TITLE = """\
 # of a member: 3.1 takes the certificate of author 1 in round 3, m3.1 makes the own header of round 3 and takes votes on it until
 # they are a quorum, and c17 takes the coin of the next wave with the value 17. Whose votes stand under a certificate differs with
 # the member who takes it. next MEMBER WORD .. is another history, and is answered what it and the one before it have in common.
+# Of each order the line has the length, and behind `of` the first four bytes of the SHA-256 of its digests, one behind the other.
 # counts is answered how many such pairs there were behind the counts before it."""
 
 
@@ -280,9 +282,10 @@ class Pair:
 
     def line(self):
         words = {False: 'no', True: 'yes'}
-        return 'legal %s %s, premises %s, orders %d %d, agree %s, floors %d %d' % (
+        sums = [hashlib.sha256(b''.join(order)).hexdigest()[:8] for order in self.orders]
+        return 'legal %s %s, premises %s, orders %d %d of %s %s, agree %s, floors %d %d' % (
             words[self.legal[0]], words[self.legal[1]], words[self.premises],
-            len(self.orders[0]), len(self.orders[1]), words[self.agrees], *self.floors)
+            len(self.orders[0]), len(self.orders[1]), *sums, words[self.agrees], *self.floors)
 
 
 class Counts:

@@ -26,7 +26,7 @@ pub batches : (one other : BatchReference) → Decides (same_batch one other) (o
 batches one other =
     Decides-like (same_batch one other)
     (λ (digest, worker). ap (λ (d : Digest). let b : BatchReference = record { digest = d; worker = one.worker } in b) digest
-        ∙ ap (λ (n : ℕ). let b : BatchReference = record { digest = other.digest; worker = n } in b) worker)
+    ∙ ap (λ (n : ℕ). let b : BatchReference = record { digest = other.digest; worker = n } in b) worker)
     (λ same. (ap (λ (b : BatchReference). b.digest) same, ap (λ (b : BatchReference). b.worker) same))
     (Decides-and (same_digest one.digest other.digest) (one.worker == other.worker) (digests one.digest other.digest) (Decides-eqb one.worker other.worker))
 
@@ -35,7 +35,7 @@ pub parents : (one other : ParentReference) → Decides (same_parent one other) 
 parents one other =
     Decides-like (same_parent one other)
     (λ (author, certificate). ap (λ (a : Author). let p : ParentReference = record { author = a; certificate = one.certificate } in p) author
-        ∙ ap (λ (d : Digest). let p : ParentReference = record { author = other.author; certificate = d } in p) certificate)
+    ∙ ap (λ (d : Digest). let p : ParentReference = record { author = other.author; certificate = d } in p) certificate)
     (λ same. (ap (λ (p : ParentReference). p.author) same, ap (λ (p : ParentReference). p.certificate) same))
     (Decides-and (one.author.0 == other.author.0) (same_digest one.certificate other.certificate) (authors one.author other.author) (digests one.certificate other.certificate))
 
@@ -44,13 +44,13 @@ pub headers : (one other : HeaderBody) → Decides (same_header one other) (one 
 headers one other =
     Decides-like (same_header one other)
     (λ (first, lists).
-        ap (λ (a : Author). let h : HeaderBody = record { author = a; round = one.round; batches = one.batches; parents = one.parents } in h) first.0
-        ∙ ap (λ (r : ℕ). let h : HeaderBody = record { author = other.author; round = r; batches = one.batches; parents = one.parents } in h) first.1
-        ∙ ap (λ (l : List BatchReference). let h : HeaderBody = record { author = other.author; round = other.round; batches = l; parents = one.parents } in h) lists.0
-        ∙ ap (λ (l : List ParentReference). let h : HeaderBody = record { author = other.author; round = other.round; batches = other.batches; parents = l } in h) lists.1)
+    ap (λ (a : Author). let h : HeaderBody = record { author = a; round = one.round; batches = one.batches; parents = one.parents } in h) first.0
+    ∙ ap (λ (r : ℕ). let h : HeaderBody = record { author = other.author; round = r; batches = one.batches; parents = one.parents } in h) first.1
+    ∙ ap (λ (l : List BatchReference). let h : HeaderBody = record { author = other.author; round = other.round; batches = l; parents = one.parents } in h) lists.0
+    ∙ ap (λ (l : List ParentReference). let h : HeaderBody = record { author = other.author; round = other.round; batches = other.batches; parents = l } in h) lists.1)
     (λ same. ((ap (λ (h : HeaderBody). h.author) same, ap (λ (h : HeaderBody). h.round) same), (ap (λ (h : HeaderBody). h.batches) same, ap (λ (h : HeaderBody). h.parents) same)))
     (Decides-and ((one.author.0 == other.author.0) && (one.round == other.round)) (pointwise same_batch one.batches other.batches && pointwise same_parent one.parents other.parents)
-        (Decides-and (one.author.0 == other.author.0) (one.round == other.round) (authors one.author other.author) (Decides-eqb one.round other.round))
-        (Decides-and (pointwise same_batch one.batches other.batches) (pointwise same_parent one.parents other.parents)
-            (slice_eq-Decides batches one.batches other.batches (pointwise same_batch one.batches other.batches) refl)
-            (slice_eq-Decides parents one.parents other.parents (pointwise same_parent one.parents other.parents) refl)))
+    (Decides-and (one.author.0 == other.author.0) (one.round == other.round) (authors one.author other.author) (Decides-eqb one.round other.round))
+    (Decides-and (pointwise same_batch one.batches other.batches) (pointwise same_parent one.parents other.parents)
+    (slice_eq-Decides batches one.batches other.batches (pointwise same_batch one.batches other.batches) refl)
+    (slice_eq-Decides parents one.parents other.parents (pointwise same_parent one.parents other.parents) refl)))

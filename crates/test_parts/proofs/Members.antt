@@ -16,7 +16,7 @@ same_at_each : {X : Type 0} (one other : List X) → length one ≡ length other
 same_at_each one other long same =
     same_lists one other long
     (λ k d within. get_or_from_slice_get one k (get_or other k d) d
-        (same k within ∙ slice_get-get_or other k d (subst (λ n. k < n) long within)))
+    (same k within ∙ slice_get-get_or other k d (subst (λ n. k < n) long within)))
 
 -- keys of the same bytes are the same
 pub keys : (one other : Key) → Decides (bytes_eq one.0 other.0) (one ≡ other)
@@ -26,9 +26,10 @@ keys one other =
 
 pub members : (one other : Charter) → IsCharter one → IsCharter other → length one.keys ≡ length other.keys
     → ((k : ℕ) → k < length one.keys → IsSameMember one other k) → (one.keys ≡ other.keys) × (one.stakes ≡ other.stakes)
-members one other sound also long each =
-    (same_at_each one.keys other.keys long (λ k within. (each k within).key),
-    same_at_each one.stakes other.stakes (sound.staked ∙ long ∙ sym also.staked) (λ k within. (each k (subst (λ n. k < n) sound.staked within)).stake))
+members one other sound also long each = (
+  same_at_each one.keys other.keys long (λ k within. (each k within).key),
+  same_at_each one.stakes other.stakes (sound.staked ∙ long ∙ sym also.staked) (λ k within. (each k (subst (λ n. k < n) sound.staked within)).stake),
+)
 
 -- and committees that are the same have the same members
 pub same_member : (one other : Charter) (member : ℕ) → one.keys ≡ other.keys → one.stakes ≡ other.stakes → IsSameMember one other member

@@ -20,8 +20,8 @@ one_header : (one other : Slots) (round author : ℕ) (c d : Certificate) → ha
     → one round author ≡ Some c → other round author ≡ Some d → c.header ≡ d.header
 one_header one other round author c d passes first second =
     let by_second : has_one_header one other round author ≡ same_header c.header d.header =
-        ap (λ (o : Option Certificate). option_map_or (λ c. option_map_or (λ d. same_header c.header d.header) (other round author) true) o true) first
-        ∙ ap (λ (o : Option Certificate). option_map_or (λ d. same_header c.header d.header) o true) second in
+    ap (λ (o : Option Certificate). option_map_or (λ c. option_map_or (λ d. same_header c.header d.header) (other round author) true) o true) first
+    ∙ ap (λ (o : Option Certificate). option_map_or (λ d. same_header c.header d.header) o true) second in
     (headers c.header d.header).0 (sym by_second ∙ passes)
 
 -- and one that has one header passes the test
@@ -30,10 +30,12 @@ passes : (one other : Slots) (round author : ℕ)
     → has_one_header one other round author ≡ true
 passes one other round author same =
     elim (given_or_none (one round author)) [
-      inr none ↦ rw none refl
+      | inr none ↦ rw none refl
       | inl first ↦ elim (given_or_none (other round author)) [
-        inr none ↦ rw (first.1, none) refl
-        | inl second ↦ rw (first.1, second.1) ((headers first.0.header second.0.header).1 (same first.0 second.0 first.1 second.1)) ] ]
+        | inr none ↦ rw (first.1, none) refl
+        | inl second ↦ rw (first.1, second.1) ((headers first.0.header second.0.header).1 (same first.0 second.0 first.1 second.1))
+      ]
+    ]
 
 -- a certificate of a slot has its round and its author
 of_slot : (round author : ℕ) (c : Certificate) → is_of_slot round author c.header ≡ true
@@ -43,13 +45,14 @@ of_slot round author c is =
 
 pub slots : (one other : List Certificate) → Decides (have_one_header one other) (HaveOneHeader (slots_of one) (slots_of other))
 slots one other =
-    let test : Certificate → Bool = λ c. has_one_header (slots_of one) (slots_of other) c.header.round c.header.author.0 in
-    ((λ all round author c d first second.
-        let found = found_passes (λ (c : Certificate). is_of_slot round author c.header) one c first in
-        let slot = of_slot round author c found.0 in
-        let at : has_one_header (slots_of one) (slots_of other) c.header.round c.header.author.0 ≡ true = all_to test one c all found.1 in
-        one_header (slots_of one) (slots_of other) round author c d
-            (subst (λ r. has_one_header (slots_of one) (slots_of other) r author ≡ true) slot.0
-                (subst (λ a. has_one_header (slots_of one) (slots_of other) c.header.round a ≡ true) slot.1 at))
-            first second),
-    λ same. all_from test one (λ c is. passes (slots_of one) (slots_of other) c.header.round c.header.author.0 (same c.header.round c.header.author.0)))
+    let test : Certificate → Bool = λ c. has_one_header (slots_of one) (slots_of other) c.header.round c.header.author.0 in (
+      (λ all round author c d first second.
+          let found = found_passes (λ (c : Certificate). is_of_slot round author c.header) one c first in
+          let slot = of_slot round author c found.0 in
+          let at : has_one_header (slots_of one) (slots_of other) c.header.round c.header.author.0 ≡ true = all_to test one c all found.1 in
+          one_header (slots_of one) (slots_of other) round author c d
+          (subst (λ r. has_one_header (slots_of one) (slots_of other) r author ≡ true) slot.0
+          (subst (λ a. has_one_header (slots_of one) (slots_of other) c.header.round a ≡ true) slot.1 at))
+          first second),
+      λ same. all_from test one (λ c is. passes (slots_of one) (slots_of other) c.header.round c.header.author.0 (same c.header.round c.header.author.0)),
+    )

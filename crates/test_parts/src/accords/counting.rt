@@ -9,8 +9,10 @@ use ref_order::newer::last_wave;
 use ref_order::ordering::{committed, floor_by, is_directly_committed};
 use ref_order::past::Past;
 use ref_order::slots::slot;
+use sha2::{Digest as Hash, Sha256};
 use std::alloc::{AllocError, Global};
-use wire::Certificate;
+use test_cases::write_hex;
+use wire::{Certificate, Digest};
 
 /// The kinds, in the order in which they are counted.
 const KINDS: [&str; 9] = [
@@ -142,9 +144,23 @@ fn line(one: Side, other: Side, agreed: &Agreed, answer: &mut String) -> Result<
     let (premises, agrees) = (yes(agreed.premises), yes(agreed.agrees));
     write!(answer, "legal {legal} {also}, premises {premises}, ")?;
     let (first, second) = (agreed.one.len(), agreed.other.len());
-    write!(answer, "orders {first} {second}, agree {agrees}, ")?;
+    write!(answer, "orders {first} {second} of ")?;
+    write_sum(&agreed.one, answer)?;
+    answer.push_str(" ")?;
+    write_sum(&agreed.other, answer)?;
+    write!(answer, ", agree {agrees}, ")?;
     let (first, second) = (one.decided.floor, other.decided.floor);
     writeln!(answer, "floors {first} {second}")
+}
+
+/// Adds the first four bytes of the SHA-256 of an order's digests, one behind the other.
+fn write_sum(order: &[Digest], answer: &mut String) -> Result<(), AllocError> {
+    let mut hasher = Sha256::new();
+    for digest in order {
+        hasher.update(&digest.0);
+    }
+    let sum = hasher.finalize();
+    write_hex(answer, &sum[..4])
 }
 
 fn yes(is_so: bool) -> &'static str {
