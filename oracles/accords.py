@@ -175,7 +175,7 @@ class World:
         member.made[round_] = header
         if member.may_take(header):
             self.headers[header.label] = header
-            member.take(header, not self.one_in(3))
+            member.take(header, self.one_in(12))
 
     def deliver(self, member):
         missing = [h for h in self.headers.values() if (h.round, h.author) not in member.certificates and not member.is_low(h.round)]
@@ -215,8 +215,8 @@ class World:
         return self
 
     def nodes(self):
-        """Two to four of the members, of whom some stop earlier."""
-        members = self.random.sample(self.members, 2 + self.of(3, 'nodes'))
+        """Three or four of the members, of whom some stop earlier."""
+        members = self.random.sample(self.members, 3 + self.of(2, 'nodes'))
         members = [member for member in members if sum(kind != 'coin' for kind, _ in member.history) <= MOST]
         return [self.earlier(member) if self.one_in(3) else member for member in members]
 
