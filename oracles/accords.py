@@ -16,9 +16,9 @@ from histories import OWN, Committee, Header, Node
 EQUAL, SEVEN = [1] * 4, [1] * 7
 # Depth, stakes, how many rounds the first members get to at least, and how many pairs of them are written.
 GROUPS = [
-    (2, EQUAL, 7, 220), (3, EQUAL, 7, 60), (4, EQUAL, 9, 40), (5, EQUAL, 9, 20), (6, EQUAL, 9, 20),
-    (2, [3, 1, 2, 2], 7, 80), (3, [2, 1, 1, 1], 7, 50),
-    (2, SEVEN, 5, 20), (3, SEVEN, 7, 10), (2, [4, 1, 2, 3, 1, 2, 5], 5, 20),
+    (2, EQUAL, 6, 310), (3, EQUAL, 7, 40), (4, EQUAL, 7, 15), (5, EQUAL, 8, 10), (6, EQUAL, 9, 10),
+    (2, [3, 1, 2, 2], 6, 90), (3, [2, 1, 1, 1], 7, 30),
+    (2, SEVEN, 5, 15), (2, [4, 1, 2, 3, 1, 2, 5], 5, 15),
 ]
 COINS_DIFFER, HEADERS_DIFFER, LEFT_OUT = 20, 20, 6
 # How often a member looks again for better parents.
@@ -408,10 +408,10 @@ def drawn_nodes(start, depth, stakes, rounds):
 
 
 def is_left_out(pairs, number):
-    """Most of those pairs are left out of which one order has nothing, and a half of those that show nothing else."""
+    """Most of those pairs are left out of which one order has nothing, and of those that show nothing else."""
     if not any(all(pair.orders) for pair in pairs):
         return number % 8 > 0
-    return number % 2 > 0 and not any(pair.late or pair.unlike or pair.skips for pair in pairs)
+    return number % 4 > 0 and not any(pair.late or pair.unlike or pair.skips for pair in pairs)
 
 
 def write_groups():
