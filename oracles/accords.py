@@ -16,8 +16,8 @@ from histories import OWN, Committee, Header, Node
 EQUAL, SEVEN = [1] * 4, [1] * 7
 # Depth, stakes, how many rounds the first members get to at least, and how many pairs of them are written.
 GROUPS = [
-    (2, EQUAL, 6, 310), (3, EQUAL, 7, 40), (4, EQUAL, 7, 15), (5, EQUAL, 8, 10), (6, EQUAL, 9, 10),
-    (2, [3, 1, 2, 2], 6, 90), (3, [2, 1, 1, 1], 7, 30),
+    (2, EQUAL, 7, 300), (3, EQUAL, 7, 40), (4, EQUAL, 7, 15), (5, EQUAL, 8, 10), (6, EQUAL, 9, 10),
+    (2, [3, 1, 2, 2], 7, 90), (3, [2, 1, 1, 1], 7, 30),
     (2, SEVEN, 5, 15), (2, [4, 1, 2, 3, 1, 2, 5], 5, 15),
 ]
 COINS_DIFFER, HEADERS_DIFFER, LEFT_OUT = 20, 20, 6
@@ -272,6 +272,7 @@ class Pair:
         self.chains = [[c.round for c in member.chain()] for member in (one, other)]
         self.skips = any(len(chain) < (member.top() or 0) for chain, member in zip(self.chains, (one, other)))
         self.late = self.is_late(one, other, self.chains[1]) or self.is_late(other, one, self.chains[0])
+        self.differs = all(self.orders) and len(self.orders[0]) != len(self.orders[1])
         low = {slot for slot in set(one.certificates) ^ set(other.certificates) if slot[0] <= min(self.floors)}
         self.unlike = bool(low)
 
@@ -299,9 +300,8 @@ class Counts:
         self.counts = [0] * len(self.NAMES)
 
     def add(self, pair):
-        lengths = [len(order) for order in pair.orders]
         found = [True, all(pair.legal), pair.premises, pair.agrees, min(pair.floors) > 0, pair.skips, pair.late, pair.unlike,
-                 min(lengths) > 0 and lengths[0] != lengths[1]]
+                 pair.differs]
         self.counts = [count + is_so for count, is_so in zip(self.counts, found)]
 
     def tell(self):
@@ -408,10 +408,10 @@ def drawn_nodes(start, depth, stakes, rounds):
 
 
 def is_left_out(pairs, number):
-    """Most of those pairs are left out of which one order has nothing, and of those that show nothing else."""
+    """Most of those pairs are left out of which one order has nothing, and a half of those that show nothing else."""
     if not any(all(pair.orders) for pair in pairs):
         return number % 8 > 0
-    return number % 4 > 0 and not any(pair.late or pair.unlike or pair.skips for pair in pairs)
+    return number % 2 > 0 and not any(pair.late or pair.unlike or pair.skips for pair in pairs)
 
 
 def write_groups():

@@ -1,5 +1,5 @@
 -- What the beginning of a list is, and the test of it.
-use Rattle.std.proofs.Common.{◌≡◌, ℕ, Bool, true, List, length, drop}
+use Rattle.std.proofs.Common.{◌≡◌, Bool, List, length, drop}
 use Rattle.std.specs.Bool.{Decides}
 use Rattle.std.specs.List.{starts_with}
 use Rattle.std.proofs.lemmas.Slice.Eq.{starts_is}

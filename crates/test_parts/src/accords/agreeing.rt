@@ -1,7 +1,9 @@
 //! Whether two nodes with their histories are of one committee, and whether one of their orders begins the other.
 
-ghost use Rattle.std.specs.Prelude.{◌≡◌, ◌↔◌, IsTrue, IfOk};
+ghost use Rattle.std.specs.Prelude.{◌≡◌, ◌↔◌, IsTrue, IfOk, true};
+ghost use Rattle.std.specs.Option.{option_map_or};
 ghost use Rattle.spec_accord.specs.Accord.{Agree, AreOfOne, HaveOneHeader};
+ghost use Rattle.spec_model.specs.Admitting.{same_header};
 ghost use Rattle.spec_model.specs.Histories as histories;
 ghost use Rattle.spec_model.specs.Holdings as holdings;
 ghost use Rattle.spec_model.specs.Nodes.{node_view};
@@ -16,7 +18,7 @@ use ref_order::slots::slot;
 use sigface::Sign;
 use spec_model::Event;
 use std::alloc::{AllocError, Global};
-use wire::{Certificate, Digest};
+use wire::{Certificate, Digest, HeaderBody};
 
 /// What two nodes with their histories have in common.
 #[derive(Drop)]
@@ -31,18 +33,32 @@ pub struct Agreed {
     pub other: Vec<Digest>,
 }
 
-/// Where the slot of a certificate is filled twice, it has one header.
-fn has_one_header(one: &[Certificate], other: &[Certificate], certificate: &Certificate) -> bool
+/// A slot has this header, if it is filled.
+fn has_header(certificates: &[Certificate], round: u64, author: u16, header: &HeaderBody) -> bool
+    ensures { result ≡ option_map_or (λ c. same_header header.now c.header) (slots_of certificates.now round author) true }
+{
+    match slot(certificates, round, author) {
+        None => true,
+        Some(certificate) => same_header(header, &certificate.header),
+    }
+}
+
+/// A slot that both fill has one header in both.
+fn has_one_header(one: &[Certificate], other: &[Certificate], round: u64, author: u16) -> bool
+    ensures { result ≡ accords.has_one_header (slots_of one.now) (slots_of other.now) round author }
+{
+    match slot(one, round, author) {
+        None => true,
+        Some(certificate) => has_header(other, round, author, &certificate.header),
+    }
+}
+
+/// So has the slot of a certificate.
+fn has_one_at(one: &[Certificate], other: &[Certificate], certificate: &Certificate) -> bool
     ensures { result ≡ accords.has_one_header (slots_of one.now) (slots_of other.now) certificate.now.header.round certificate.now.header.author.0 }
 {
-    let (round, author) = (
-        certificate.header.round.number(),
-        certificate.header.author.0,
-    );
-    match (slot(one, round, author), slot(other, round, author)) {
-        (Some(first), Some(second)) => same_header(&first.header, &second.header),
-        _ => true,
-    }
+    let header = &certificate.header;
+    has_one_header(one, other, header.round.number(), header.author.0)
 }
 
 /// No slot of some certificates contradicts the same slot of others.
@@ -50,11 +66,16 @@ fn have_one_header(one: &[Certificate], other: &[Certificate]) -> bool
     ensures { result ≡ accords.have_one_header one.now other.now }
 {
     one.iter()
-        .all(|certificate| has_one_header(one, other, certificate))
+        .all(|certificate| has_one_at(one, other, certificate))
 }
 
 /// The slots of two nodes don't contradict one another.
-fn slots_agree<S: Sign>(alloc: Global, one: &Past<S>, other: &Past<S>) -> Result<bool, AllocError>
+#[tactic(auto, using(crate::proofs::Slots::slots))]
+fn slots_agree<S: Sign>(
+    alloc: Global,
+    one: &Past<S>,
+    other: &Past<S>,
+) -> Result<bool, AllocError>
     ensures { IfOk result (λ found. IsTrue found ↔ HaveOneHeader (holdings.slots (node_view S.own_key S.signature_of one.now.node.now) one.now.history.now) (holdings.slots (node_view S.own_key S.signature_of other.now.node.now) other.now.history.now)) }
 {
     let first = certificates(alloc, one.node, one.history)?;
@@ -87,7 +108,11 @@ fn are_of_one<S: Sign>(alloc: Global, one: &Past<S>, other: &Past<S>) -> Result<
 ///
 /// # Errors
 /// When memory runs out.
-pub fn agree<S: Sign>(alloc: Global, one: &Past<S>, other: &Past<S>) -> Result<Agreed, AllocError>
+pub fn agree<S: Sign>(
+    alloc: Global,
+    one: &Past<S>,
+    other: &Past<S>,
+) -> Result<Agreed, AllocError>
     ensures premises { IfOk result (λ found. IsTrue found.premises ↔ AreOfOne (node_view S.own_key S.signature_of one.now.node.now) (node_view S.own_key S.signature_of other.now.node.now) one.now.history.now other.now.history.now) }
     ensures agrees { IfOk result (λ found. IsTrue found.agrees ↔ Agree (holdings.order (node_view S.own_key S.signature_of one.now.node.now) one.now.history.now) (holdings.order (node_view S.own_key S.signature_of other.now.node.now) other.now.history.now)) }
     ensures one { IfOk result (λ found. found.one.items ≡ holdings.order (node_view S.own_key S.signature_of one.now.node.now) one.now.history.now) }

@@ -83,20 +83,18 @@ impl<'a> Side<'a> {
 
     /// The leader of a wave is committed.
     fn commits(&self, wave: u64) -> bool {
+        let first = wave.saturating_mul(2).saturating_sub(1);
         self.decided
             .leaders
             .iter()
-            .any(|leader| leader.header.round.number() == 2 * wave - 1)
+            .any(|leader| leader.header.round.number() == first)
     }
 
     /// A wave is directly committed here, and at the other only through a later leader.
     fn is_before(&self, other: &Side) -> bool {
         let (here, there) = (self.ledger(), other.ledger());
         for wave in 1..here.coins.len() as u64 + 1 {
-            if is_directly_committed(&here, wave)
-                && !is_directly_committed(&there, wave)
-                && other.commits(wave)
-            {
+            if is_before_at(&here, &there, wave) && other.commits(wave) {
                 return true;
             }
         }
@@ -110,6 +108,11 @@ impl<'a> Side<'a> {
             round <= floor && lacks(&other.decided.certificates, certificate)
         })
     }
+}
+
+/// A wave is directly committed by one ledger, and not by the other.
+fn is_before_at(here: &Ledger, there: &Ledger, wave: u64) -> bool {
+    is_directly_committed(here, wave) && !is_directly_committed(there, wave)
 }
 
 /// The slot of a certificate isn't filled.
@@ -196,8 +199,10 @@ impl Counts {
     }
 
     fn count(&mut self, kinds: &[bool; 9]) {
-        for (count, is_so) in self.counts.iter_mut().zip(kinds) {
-            *count = count.saturating_add(u64::from(*is_so));
+        for place in 0..9 {
+            if kinds[place] {
+                self.counts[place] = self.counts[place].saturating_add(1);
+            }
         }
     }
 
