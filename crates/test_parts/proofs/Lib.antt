@@ -1,4 +1,5 @@
 mod Beginning
 mod Headers
 mod Members
+mod OfOne
 mod Slots

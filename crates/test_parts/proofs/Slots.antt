@@ -1,10 +1,9 @@
 -- The slots of two lists of certificates don't contradict one another exactly where no slot of the first does.
-use Rattle.std.proofs.Common.{◌≡◌, ℕ, Bool, true, List, Option, Some, None, refl, sym, ap, subst, ◌∙◌}
+use Rattle.std.proofs.Common.{◌≡◌, ℕ, Bool, true, List, Option, Some, refl, sym, ap, subst, ◌∙◌, inl, inr}
 use Rattle.std.specs.Bool.{Decides}
 use Rattle.std.specs.Option.{option_map_or}
-use Rattle.std.specs.Prelude.{◌⊎◌, ◌==◌, ◌&&◌, Contains}
-use Rattle.std.proofs.Common.{inl, inr}
-use Rattle.std.proofs.lemmas.Bool.Decides.{Decides-eqb, Decides-and}
+use Rattle.std.specs.Prelude.{◌==◌, ◌&&◌, Contains}
+use Rattle.std.proofs.lemmas.Bool.Decides.{Decides-at, Decides-eqb, Decides-and}
 use Rattle.spec_accord.specs.Accord.{HaveOneHeader}
 use Rattle.spec_laws.proofs.Closed.{all_to}
 use Rattle.spec_laws.proofs.Lists.{given_or_none, found_passes}
@@ -56,3 +55,11 @@ slots one other =
           first second),
       λ same. all_from test one (λ c is. passes (slots_of one) (slots_of other) c.header.round c.header.author.0 (same c.header.round c.header.author.0)),
     )
+
+-- so is what is found of lists that are these
+pub slots_at : (one other first second : List Certificate) (found : Bool) → first ≡ one → second ≡ other
+    → found ≡ have_one_header first second → Decides found (HaveOneHeader (slots_of one) (slots_of other))
+slots_at one other first second found is also at =
+    Decides-at found (have_one_header one other)
+    (at ∙ ap (λ (l : List Certificate). have_one_header l second) is ∙ ap (λ (l : List Certificate). have_one_header one l) also)
+    (slots one other)

@@ -70,7 +70,6 @@ fn have_one_header(one: &[Certificate], other: &[Certificate]) -> bool
 }
 
 /// The slots of two nodes don't contradict one another.
-#[tactic(auto, using(crate::proofs::Slots::slots))]
 fn slots_agree<S: Sign>(
     alloc: Global,
     one: &Past<S>,
