@@ -70,11 +70,7 @@ fn have_one_header(one: &[Certificate], other: &[Certificate]) -> bool
 }
 
 /// The slots of two nodes don't contradict one another.
-fn slots_agree<S: Sign>(
-    alloc: Global,
-    one: &Past<S>,
-    other: &Past<S>,
-) -> Result<bool, AllocError>
+fn slots_agree<S: Sign>(alloc: Global, one: &Past<S>, other: &Past<S>) -> Result<bool, AllocError>
     ensures { IfOk result (λ found. IsTrue found ↔ HaveOneHeader (holdings.slots (node_view S.own_key S.signature_of one.now.node.now) one.now.history.now) (holdings.slots (node_view S.own_key S.signature_of other.now.node.now) other.now.history.now)) }
 {
     let first = certificates(alloc, one.node, one.history)?;
@@ -107,11 +103,7 @@ fn are_of_one<S: Sign>(alloc: Global, one: &Past<S>, other: &Past<S>) -> Result<
 ///
 /// # Errors
 /// When memory runs out.
-pub fn agree<S: Sign>(
-    alloc: Global,
-    one: &Past<S>,
-    other: &Past<S>,
-) -> Result<Agreed, AllocError>
+pub fn agree<S: Sign>(alloc: Global, one: &Past<S>, other: &Past<S>) -> Result<Agreed, AllocError>
     ensures premises { IfOk result (λ found. IsTrue found.premises ↔ AreOfOne (node_view S.own_key S.signature_of one.now.node.now) (node_view S.own_key S.signature_of other.now.node.now) one.now.history.now other.now.history.now) }
     ensures agrees { IfOk result (λ found. IsTrue found.agrees ↔ Agree (holdings.order (node_view S.own_key S.signature_of one.now.node.now) one.now.history.now) (holdings.order (node_view S.own_key S.signature_of other.now.node.now) other.now.history.now)) }
     ensures one { IfOk result (λ found. found.one.items ≡ holdings.order (node_view S.own_key S.signature_of one.now.node.now) one.now.history.now) }

@@ -11,5 +11,5 @@ returns c =
     let other = c.args.other.now in
     let long : length one.keys ≡ length other.keys = grind (arith, nat_tests, c.if-size.false, c.size.ensures.value, c.size-2.ensures.value) in
     let each : (k : ℕ) → k < length one.keys → IsSameMember one other k =
-        λ k within. c.loop-member.invariant k (omega (arith, within, c.loop-member-test.false, c.size-member-end.ensures.value)) in
+    λ k within. c.loop-member.invariant k (omega (arith, within, c.loop-member-test.false, c.size-member-end.ensures.value)) in
     ((λ _. members one other c.limits_hold.ensures c.limits_hold-2.ensures long each), λ _. refl)
