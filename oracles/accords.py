@@ -265,7 +265,7 @@ class Pair:
     """Two members, with what is counted of them."""
 
     def __init__(self, one, other, legal):
-        self.orders = [[c.digest for c in member.order()] for member in (one, other)]
+        self.orders = [[c.certificate for c in member.order()] for member in (one, other)]
         self.floors = [one.floor(), other.floor()]
         self.legal, self.premises = legal, premises(one, other)
         self.agrees = agree(*self.orders)

@@ -138,19 +138,20 @@ impl Played {
         Ok(self.take(self.node.own, Message::Certificate(certificate))?)
     }
 
-    /// Takes an own header, and then votes on it until they are a quorum.
+    /// Takes an own header, and then votes on it until they are a quorum, in the order in which the members follow the node.
     fn make(&mut self, proposed: &Proposed) -> Result<(), FormError> {
         let header = proposed.header.try_clone()?;
         self.take(self.node.own, Message::Header(header))?;
-        for voter in 0..self.node.size() {
-            self.vote(proposed, Author(voter))?;
+        let size = self.node.size();
+        for place in 1..size {
+            self.vote(proposed, Author(after(self.node.own.0, place, size)))?;
         }
         Ok(())
     }
 
-    /// Takes the vote of a member, if it is another and one of those who vote.
+    /// Takes the vote of a member, if it is one of those who vote.
     fn vote(&mut self, proposed: &Proposed, voter: Author) -> Result<(), AllocError> {
-        if voter == self.node.own || !is_among(&self.votes, voter) {
+        if !is_among(&self.votes, voter) {
             return Ok(());
         }
         self.take(voter, Message::Vote(vote_on(proposed, voter)))
