@@ -61,14 +61,14 @@ fn add(alloc: Global, labels: &mut Labels, word: &str) -> Result<(), FormError> 
 fn labels_of(alloc: Global, round: u64, authors: &str) -> Result<String, FormError> {
     let below = round.saturating_sub(1);
     let mut text = String::new(alloc);
-    let mut mark = "";
     for author in authors.split('.') {
-        text.push_str(mark)?;
+        if !text.is_empty() {
+            text.push_str(",")?;
+        }
         match below {
             0 => write!(text, "g{author}")?,
             _ => write!(text, "{below}.{author}")?,
         }
-        mark = ",";
     }
     Ok(text)
 }
