@@ -1,5 +1,5 @@
 -- The bytes of what a validator gives out: a receiver, and what it gets.
-use Rattle.std.specs.Prelude.{ℕ, ◌≤◌, List, ◌∷◌, ◌++◌, length, All}
+use Rattle.std.specs.Prelude.{ℕ, ◌+◌, ◌*◌, ◌≤◌, List, ◌∷◌, ◌++◌, length, All}
 use Rattle.std.specs.List.{flat_map}
 use Rattle.std.specs.Int.{w16, w32, w64, to_be_bytes}
 use Rattle.wire.specs.declared.keys.Digest.{Digest}
@@ -9,7 +9,7 @@ use Rattle.wire.specs.declared.output.Output.TheVariants as output
 use Rattle.wire.specs.declared.limits.TheConstants.{MAX_ORDER_DIGESTS}
 use Rattle.wire.specs.Fields.{IsDigest}
 use Rattle.wire.specs.Grammar.{IsMessage}
-use Rattle.wire.specs.Spelling.{spelling}
+use Rattle.wire.specs.Spelling.{spelling, length_of}
 
 -- who gets it: a member by its number, all members as FFFF, or the host as FFFE
 abbrev pub receiver_of : Output → ℕ
@@ -40,6 +40,15 @@ content_of (output.Header h) = spelling (message.Header h)
 content_of (output.Vote v) = spelling (message.Vote v)
 content_of (output.Certificate c) = spelling (message.Certificate c)
 content_of (output.Order start digests) = order_bytes start digests
+
+-- how many bytes it gets
+abbrev pub content_len : Output → ℕ
+content_len (output.Batch b) = length_of (message.Batch b)
+content_len (output.Ack to ack) = length_of (message.BatchAck ack)
+content_len (output.Header h) = length_of (message.Header h)
+content_len (output.Vote v) = length_of (message.Vote v)
+content_len (output.Certificate c) = length_of (message.Certificate c)
+content_len (output.Order start digests) = 13 + 32 * length digests
 
 -- an output in bytes
 abbrev pub output_bytes : Output → List ℕ

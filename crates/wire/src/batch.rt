@@ -122,7 +122,20 @@ impl OpenBatch {
     pub fn new(alloc: Global, author: Author, worker: u16) -> Result<OpenBatch, AllocError>
         ensures { IfOk result (λ batch. batch ≡ record { author = author; worker = worker; transactions = [] }) }
     {
-        let mut body = Vec::with_capacity(alloc, HEAD_BYTES)?;
+        OpenBatch::with_room(alloc, author, worker, 0)
+    }
+
+    /// The same, with room for transactions of so many bytes with their lengths, at most for what a body may have.
+    pub fn with_room(
+        alloc: Global,
+        author: Author,
+        worker: u16,
+        room: usize,
+    ) -> Result<OpenBatch, AllocError>
+        ensures { IfOk result (λ batch. batch ≡ record { author = author; worker = worker; transactions = [] }) }
+    {
+        let room = room.min(MAX_BATCH_BYTES - HEAD_BYTES);
+        let mut body = Vec::with_capacity(alloc, HEAD_BYTES + room)?;
         body.extend_from_slice(&two_bytes(author.0))?;
         body.extend_from_slice(&two_bytes(worker))?;
         body.extend_from_slice(&four_bytes(0))?;

@@ -37,10 +37,10 @@ pub const CERTIFICATE_TAG: u8 = 5;
 pub const COIN_TAG: u8 = 6;
 
 /// Bytes of an acknowledgement, with its tag.
-const ACK_BYTES: usize = 35;
+pub(crate) const ACK_BYTES: usize = 35;
 
 /// Bytes of a vote, with its tag.
-const VOTE_BYTES: usize = 109;
+pub(crate) const VOTE_BYTES: usize = 109;
 
 /// Bytes of a coin, with its tag.
 const COIN_BYTES: usize = 17;
@@ -256,6 +256,32 @@ fn header_body_length(header: &HeaderBody) -> usize
     HEADER_FRONT_BYTES + REFERENCE_BYTES * (header.batches.len() + header.parents.len())
 }
 
+// How many bytes the message of a batch has.
+pub(crate) fn batch_length(batch: &Batch) -> usize
+    ensures len { result ≡ length_of (Message.Batch batch.now) }
+    ensures spelled { result ≡ length (spelling (Message.Batch batch.now)) }
+    ensures limit { result ≤ 1 + MAX_BATCH_BYTES }
+{
+    1 + batch.body().len()
+}
+
+// How many bytes the message of a header has.
+pub(crate) fn header_length(header: &Header) -> usize
+    ensures len { result ≡ length_of (Message.Header header.now) }
+    ensures limit { result ≤ 1 + (14 + 34 * (MAX_BATCHES + MAX_PARENTS) + 64) }
+{
+    1 + (header_body_length(&header.body) + SIGNATURE_BYTES)
+}
+
+// How many bytes the message of a certificate has.
+pub(crate) fn certificate_length(certificate: &Certificate) -> usize
+    ensures len { result ≡ length_of (Message.Certificate certificate.now) }
+    ensures limit { result ≤ 1 + (14 + 34 * (MAX_BATCHES + MAX_PARENTS) + (2 + 66 * MAX_VOTES)) }
+{
+    let votes = COUNT_BYTES + VOTE_ENTRY_BYTES * certificate.votes.len();
+    1 + (header_body_length(&certificate.header) + votes)
+}
+
 /// How many bytes the spelling of a message has.
 pub fn encoded_len(message: &Message) -> usize
     ensures len { result ≡ length (spelling message.now) }
@@ -264,14 +290,11 @@ pub fn encoded_len(message: &Message) -> usize
 {
     message.limits_hold();
     match message {
-        Message::Batch(batch) => 1 + batch.body().len(),
+        Message::Batch(batch) => batch_length(batch),
         Message::BatchAck(_) => ACK_BYTES,
-        Message::Header(header) => 1 + header_body_length(&header.body) + SIGNATURE_BYTES,
+        Message::Header(header) => header_length(header),
         Message::Vote(_) => VOTE_BYTES,
-        Message::Certificate(certificate) => {
-            let votes = COUNT_BYTES + VOTE_ENTRY_BYTES * certificate.votes.len();
-            1 + header_body_length(&certificate.header) + votes
-        }
+        Message::Certificate(certificate) => certificate_length(certificate),
         Message::Coin(_) => COIN_BYTES,
     }
 }
@@ -305,7 +328,7 @@ pub fn encode(alloc: Global, message: &Message) -> Result<Vec<u8>, AllocError>
     // So it fits a frame, with a sender before it.
     ensures limit { IfOk result (λ bytes. length bytes.items ≤ 1 + MAX_BATCH_BYTES) }
 {
-    let mut out = Vec::new(alloc);
+    let mut out = Vec::with_capacity(alloc, encoded_len(message))?;
     encode_onto(&mut out, message)?;
     Ok(out)
 }

@@ -1,16 +1,31 @@
 //! Names of fixed size: members, digests, keys and signatures.
 
+ghost use Rattle.std.specs.Prelude.{[], ◌∷◌};
+ghost use Rattle.std.specs.Cmp.Rules.{hashing};
+ghost use Rattle.std.proofs.Common.{rules};
 ghost use Rattle.wire.specs.Fields.{EachIsByte, IsAuthor, IsDigest, IsSignature};
 
 use crate::numbers::fits_two_bytes;
+use std::hash::{Hash, Hasher};
 
 /// A member of the committee, by its number from 0 on. On the wire it may have any value of two bytes.
 #[derive(Clone, Copy, Debug, PartialEq, Eq, PartialOrd, Ord, Hash)]
 pub struct Author(pub u16);
 
 /// A digest of 32 bytes: SHA-256 (FIPS 180-4).
-#[derive(Clone, Copy, Debug, PartialEq, Eq, PartialOrd, Ord, Hash)]
+#[derive(Clone, Copy, Debug, PartialEq, Eq, PartialOrd, Ord)]
 pub struct Digest(pub [u8; 32]);
+
+// In one write, where a derive would write its bytes one by one.
+impl Hash for Digest {
+    ghost hash_input = { λ digest. digest.0 ∷ [] };
+
+    ghost respects_eq = { Prim.search (hashing, rules) };
+
+    fn hash<H: Hasher>(&self, state: &mut H) {
+        state.write(&self.0);
+    }
+}
 
 /// A member's public key of 32 bytes.
 #[derive(Clone, Copy, Debug, PartialEq, Eq)]

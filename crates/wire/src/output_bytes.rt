@@ -2,9 +2,12 @@
 
 ghost use Rattle.std.specs.Prelude.{◌≡◌, ◌≤◌, ◌+◌, ◌*◌, ◌++◌, length, IfOk, OnOk};
 ghost use Rattle.wire.specs.declared.limits.TheConstants.{MAX_FRAME_BYTES, MAX_ORDER_DIGESTS};
-ghost use Rattle.wire.specs.Outputs.{receiver_of, digests_bytes, order_bytes, content_of, output_bytes, AreOrdered, IsOutput};
+ghost use Rattle.wire.specs.Outputs.{receiver_of, digests_bytes, order_bytes, content_of, content_len, output_bytes, AreOrdered, IsOutput};
 
-use crate::encoding::{put_ack, put_batch, put_certificate, put_digest, put_header, put_vote};
+use crate::encoding::{
+    ACK_BYTES, VOTE_BYTES, batch_length, certificate_length, header_length, put_ack, put_batch,
+    put_certificate, put_digest, put_header, put_vote,
+};
 use crate::numbers::{eight_bytes, four_bytes, two_bytes};
 use crate::output::{OrderDigests, Output};
 use std::alloc::{AllocError, Global};
@@ -17,6 +20,15 @@ pub const HOST: u16 = 0xfffe;
 
 /// The tag of a piece of the order.
 pub const ORDER_TAG: u8 = 7;
+
+/// Bytes of a receiver.
+const RECEIVER_BYTES: usize = 2;
+
+/// Bytes of a piece of the order before its digests: tag, place and count.
+const ORDER_FRONT_BYTES: usize = 13;
+
+/// Bytes of a digest.
+const DIGEST_BYTES: usize = 32;
 
 fn receiver(output: &Output) -> u16
     ensures { result ≡ receiver_of output.now }
@@ -70,6 +82,21 @@ fn put_content(out: &mut Vec<u8>, output: &Output) -> Result<(), AllocError>
     }
 }
 
+// How many bytes it gets.
+fn content_length(output: &Output) -> usize
+    ensures len { result ≡ content_len output.now }
+    ensures limit { result ≤ 13 + 32 * MAX_ORDER_DIGESTS }
+{
+    match output {
+        Output::Batch(batch) => batch_length(batch),
+        Output::Ack { to: _, ack: _ } => ACK_BYTES,
+        Output::Header(header) => header_length(header),
+        Output::Vote(_) => VOTE_BYTES,
+        Output::Certificate(certificate) => certificate_length(certificate),
+        Output::Order { start: _, digests } => ORDER_FRONT_BYTES + DIGEST_BYTES * digests.len(),
+    }
+}
+
 /// The receiver of an output, two bytes, and what it gets: a message, or a piece of the order. `AllocError`
 /// where a growth was refused.
 pub fn encode_output(alloc: Global, output: &Output) -> Result<Vec<u8>, AllocError>
@@ -78,7 +105,7 @@ pub fn encode_output(alloc: Global, output: &Output) -> Result<Vec<u8>, AllocErr
     // It fits a frame.
     ensures limit { IfOk result (λ bytes. length bytes.items ≤ MAX_FRAME_BYTES) }
 {
-    let mut out = Vec::new(alloc);
+    let mut out = Vec::with_capacity(alloc, RECEIVER_BYTES + content_length(output))?;
     out.extend_from_slice(&two_bytes(receiver(output)))?;
     put_content(&mut out, output)?;
     Ok(out)

@@ -2,14 +2,14 @@
 
 ghost use Rattle.std.specs.Prelude.{◌≡◌, IfOk, IfErr};
 
+use bytes::Bytes;
 use std::alloc::{AllocError, AllocFailed};
 use std::marker::Model;
-use std::sync::Arc;
 
 /// Bytes that stay as they are, and may have one owner more without a copy. A clause reads them as a list.
 #[derive(Debug)]
 pub struct SharedBytes {
-    items: Arc<Vec<u8>>,
+    items: Bytes,
 }
 
 impl Drop for SharedBytes {
@@ -20,11 +20,10 @@ impl Drop for SharedBytes {
 
 impl Model for SharedBytes {
     ghost use Rattle.std.specs.Prelude.{ℕ, List};
-    ghost use Rattle.std.specs.Arc.{arc_value};
 
     ghost Value = { List ℕ };
 
-    ghost view = { λ bytes. (arc_value bytes.items).items };
+    ghost view = { λ bytes. bytes.items };
 }
 
 impl SharedBytes {
@@ -33,16 +32,15 @@ impl SharedBytes {
         ensures ok { IfOk result (λ bytes. bytes ≡ items.items) }
         ensures value_returned { IfErr result (λ failed. failed.value.items ≡ items.items) }
     {
-        let alloc = *items.allocator();
-        let items = Arc::new(alloc, items)?;
+        let items = Bytes::from_vec(items)?;
         Ok(SharedBytes { items })
     }
 
-    /// The same bytes once more. `AllocError` where they have as many owners as can be counted.
+    /// The same bytes once more. `AllocError` where a growth was refused.
     pub fn share(&self) -> Result<SharedBytes, AllocError>
         ensures { IfOk result (λ bytes. bytes ≡ self.now) }
     {
-        let items = Arc::try_clone(&self.items)?;
+        let items = self.items.clone()?;
         Ok(SharedBytes { items })
     }
 

@@ -42,7 +42,7 @@ pub(crate) fn batch_of(alloc: Global, reader: &mut Reader) -> Result<Batch, Wire
 {
     let author = reader.author()?;
     let worker = reader.u16()?;
-    let mut open = OpenBatch::new(alloc, author, worker)?;
+    let mut open = OpenBatch::with_room(alloc, author, worker, reader.rest().len())?;
     transactions_of(reader, &mut open)?;
     Ok(open.close()?)
 }

@@ -2,7 +2,7 @@ use Rattle.std.proofs.Common.{◌≡◌, ◌++◌, refl, arith}
 use Rattle.std.specs.Int.{w16, w32, to_be_bytes}
 use Rattle.std.proofs.lemmas.List.Elements.{All-nil}
 use Rattle.wire.specs.Batches.{IsTransaction, transactions_in}
-use Rattle.wire.proofs.batch.OpenBatch.new.Goals as goal
+use Rattle.wire.proofs.batch.OpenBatch.with_room.Goals as goal
 
 pub invariant_of-result : goal.invariant_of-result
 unfolding transactions_in
