@@ -21,6 +21,7 @@ use crate::facts::starts_empty;
 use batchstore::BatchStore;
 use committee::Committee;
 pub use facts::others_are_ready;
+use seed::TableSeed;
 use sequencer::Sequencer;
 use std::alloc::{AllocError, Global};
 use votebook::VoteBook;
@@ -49,11 +50,13 @@ impl<'a> Drop for Tables<'a> {
 }
 
 impl<'a> Tables<'a> {
-    /// Those of a member that has taken nothing: they hold the genesis. `AllocError` where a growth was refused.
+    /// Those of a member that has taken nothing: they hold the genesis. They begin their hashes at the seed.
+    /// `AllocError` where a growth was refused.
     pub fn new(
         alloc: Global,
         committee: &'a Committee,
         own: Author,
+        seed: TableSeed,
     ) -> Result<Tables<'a>, AllocError>
         requires { own.0 < length committee.now.keys }
         ensures { IfOk result (λ made. (node : Node) → node.charter ≡ committee.now → node.own ≡ own → AreAt node (fresh node) made) }
@@ -62,7 +65,7 @@ impl<'a> Tables<'a> {
         starts_fresh();
         Ok(Tables {
             own,
-            batches: BatchStore::new(alloc, committee, own),
+            batches: BatchStore::new(alloc, committee, own, seed),
             votes: VoteBook::new(alloc),
             headers: Assemblies::new(alloc, committee, own),
             sequencer: Sequencer::new(alloc, committee)?,

@@ -3,4 +3,4 @@ pub mod Placed
 pub mod Among
 pub mod Listing
 pub mod Steps
-pub mod Places
+pub mod Keyed

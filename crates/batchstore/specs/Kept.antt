@@ -1,10 +1,7 @@
 -- How a store keeps its batches.
-use Rattle.std.specs.Prelude.{◌≡◌, ℕ, suc, List, [], ◌∷◌, map, Option, Some, None, option_map, if◌then◌else◌}
+use Rattle.std.specs.Prelude.{◌≡◌, ℕ, List, map}
 use Rattle.std.specs.Cmp.Lexicographic.{slice_cmp}
-use Rattle.std.specs.BTreeMap.{is_at}
-use Rattle.std.specs.Map.{lookup}
 use Rattle.std.specs.Ordering.{nat_cmp}
-use Rattle.std.specs.Str.{bytes_eq}
 use Rattle.std.specs.declared.cmp.Ordering.{Ordering}
 use Rattle.wire.specs.declared.keys.Digest.{Digest}
 use Rattle.wire.specs.declared.references.BatchReference.{BatchReference}
@@ -15,14 +12,9 @@ use Rattle.batchstore.specs.declared.held.Held.{Held}
 abbrev pub compared : Digest → Digest → Ordering
 compared one other = slice_cmp nat_cmp one.0 other.0
 
--- where the batch of a digest stands
-abbrev pub place_of : Digest → List Held → Option ℕ
-place_of digest [] = None
-place_of digest (held ∷ rest) = if bytes_eq digest.0 (digest_of held.batch).0 then Some 0 else option_map suc (place_of digest rest)
-
--- these are the places of the batches
-abbrev pub ArePlaces : List (Digest × ℕ) → List Held → Type 0
-ArePlaces places batches = (digest : Digest) → lookup (is_at (compared digest)) places ≡ place_of digest batches
+-- a batch is kept under its digest
+abbrev pub IsUnderItsDigest : Digest × Held → Type 0
+IsUnderItsDigest entry = entry.0 ≡ digest_of entry.1.batch
 
 -- a digest and a worker, as a header names a batch
 abbrev pub reference_of : Digest × ℕ → BatchReference

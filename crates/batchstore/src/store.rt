@@ -15,6 +15,7 @@ use crate::held::Held;
 use crate::refusal::StoreRefusal;
 use crate::table::Table;
 use committee::{Committee, MemberSet};
+use seed::TableSeed;
 use std::alloc::{AllocError, Global};
 use std::collections::BTreeMap;
 use std::marker::Model;
@@ -95,8 +96,13 @@ fn first_references(
 }
 
 impl<'a> BatchStore<'a> {
-    /// A store without a batch, of the member of this number.
-    pub fn new(alloc: Global, committee: &'a Committee, own: Author) -> BatchStore<'a>
+    /// A store without a batch, of the member of this number. Its table begins its hashes at the seed.
+    pub fn new(
+        alloc: Global,
+        committee: &'a Committee,
+        own: Author,
+        seed: TableSeed,
+    ) -> BatchStore<'a>
         requires { own.0 < length committee.now.keys }
         ensures { result ≡ record { charter = committee.now; own = own.0; held = [] } }
     {
@@ -104,7 +110,7 @@ impl<'a> BatchStore<'a> {
         BatchStore {
             committee,
             own,
-            held: Table::new(alloc),
+            held: Table::new(alloc, seed),
             nameable: BTreeMap::new(alloc),
         }
     }

@@ -1,43 +1,66 @@
 //! The batches of a store, found by their digests.
 
 ghost use Rattle.std.specs.Prelude.{◌≡◌, ◌<◌, [], ◌∷◌, ◌++◌, true, None, Some, IfSome, OnOk, OnErr, length, option_map, slice_get, slice_set};
+ghost use Rattle.indexmap.specs.IndexMap.{values, set_value_at};
 ghost use Rattle.batchstore.specs.Stock.{digest_of, found};
 ghost use Rattle.batchstore.specs.declared.held.Held.{Held};
 
 use crate::held::Held;
 use committee::MemberSet;
+use indexmap::IndexMap;
+use seed::TableSeed;
 use std::alloc::{AllocError, Global};
-use std::collections::BTreeMap;
 use std::marker::Model;
 use wire::Digest;
 
 /// What is held of the batches, in the order of acceptance; contracts see that list.
 #[derive(Drop)]
 pub(crate) struct Table {
-    batches: Vec<Held>,
-    // Where the batch of each digest stands.
-    places: BTreeMap<Digest, usize>,
+    // By the batch digest, in the order of acceptance.
+    batches: IndexMap<Digest, Held, TableSeed>,
 }
 
 impl Model for Table {
-    ghost use Rattle.std.specs.Prelude.{List};
-    ghost use Rattle.batchstore.specs.Kept.{ArePlaces};
+    ghost use Rattle.std.specs.Prelude.{List, All};
+    ghost use Rattle.indexmap.specs.IndexMap.{values};
+    ghost use Rattle.batchstore.specs.Kept.{IsUnderItsDigest};
     ghost use Rattle.batchstore.specs.declared.held.Held.{Held};
 
     ghost Value = { List Held };
 
-    ghost view = { λ t. t.batches.items };
+    ghost view = { λ t. values t.batches };
 
-    ghost invariant = { λ t. ArePlaces t.places.entries t.batches.items };
+    ghost invariant = { λ t. All IsUnderItsDigest t.batches.entries };
+}
+
+// Gives the batch at this place these members.
+fn write_members(
+    batches: &mut IndexMap<Digest, Held, TableSeed>,
+    place: usize,
+    members: MemberSet,
+)
+    ensures { (before : Held) → slice_get (values batches.old) place ≡ Some before → batches.new.entries ≡ set_value_at batches.old.entries place (record before { acknowledged = members }) }
+{
+    if let Some(held) = batches.get_index_mut(place) {
+        held.acknowledged = members;
+    }
+}
+
+// Gives the batch at this place the mark.
+fn write_mark(batches: &mut IndexMap<Digest, Held, TableSeed>, place: usize)
+    ensures { (before : Held) → slice_get (values batches.old) place ≡ Some before → batches.new.entries ≡ set_value_at batches.old.entries place (record before { named = true }) }
+{
+    if let Some(held) = batches.get_index_mut(place) {
+        held.named = true;
+    }
 }
 
 impl Table {
-    pub(crate) fn new(alloc: Global) -> Table
+    pub(crate) fn new(alloc: Global, seed: TableSeed) -> Table
         ensures { result ≡ [] }
     {
         Table {
-            batches: Vec::new(alloc),
-            places: BTreeMap::new(alloc),
+            batches: IndexMap::with_hasher(alloc, seed),
         }
     }
 
@@ -52,9 +75,10 @@ impl Table {
         ensures held { option_map (λ it. it.1.now) result ≡ found digest.now self.now }
         ensures place { IfSome result (λ it. slice_get self.now it.0 ≡ Some it.1.now) }
     {
-        let place = *self.places.get(digest)?;
-        let held = self.batches.get(place)?;
-        Some((place, held))
+        match self.batches.get_full(digest) {
+            Some((place, _, held)) => Some((place, held)),
+            None => None,
+        }
     }
 
     // Holds a batch behind the others, whose digest none of them has.
@@ -64,10 +88,7 @@ impl Table {
         ensures ok { OnOk result (self.new ≡ self.old ++ held ∷ []) }
         ensures err { OnErr result (self.new ≡ self.old) }
     {
-        // With room made first, a place is never kept without its batch.
-        self.batches.reserve(1)?;
-        self.places.insert(digest, self.batches.len())?;
-        self.batches.push(held)?;
+        self.batches.insert(digest, held)?;
         Ok(())
     }
 
@@ -76,7 +97,7 @@ impl Table {
         requires { place < length self.old }
         ensures { (before : Held) → slice_get self.old place ≡ Some before → self.new ≡ slice_set self.old place (record before { acknowledged = members }) }
     {
-        self.batches[place].acknowledged = members;
+        write_members(&mut self.batches, place, members);
     }
 
     // Gives the batch at this place the mark.
@@ -84,6 +105,6 @@ impl Table {
         requires { place < length self.old }
         ensures { (before : Held) → slice_get self.old place ≡ Some before → self.new ≡ slice_set self.old place (record before { named = true }) }
     {
-        self.batches[place].named = true;
+        write_mark(&mut self.batches, place);
     }
 }

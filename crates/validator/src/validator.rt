@@ -23,6 +23,7 @@ use crate::taking::take;
 use admission::{Refusal, Step, Tables, votes_agree};
 use committee::Committee;
 use header::Checked;
+use seed::TableSeed;
 use sigface::Sign;
 use std::alloc::{AllocError, Global};
 use std::marker::Model;
@@ -69,7 +70,8 @@ impl<'a, S: Sign> Validator<'a, S> {
     {
         spec_machine::fresh_is_sound();
         config.limits_hold();
-        let tables = Tables::new(alloc, config.committee(), config.own())?;
+        let seed = TableSeed::of(config.signer());
+        let tables = Tables::new(alloc, config.committee(), config.own(), seed)?;
         Ok(Validator {
             alloc,
             config,

@@ -1,21 +1,10 @@
 -- What waits, and what is ready.
-use Rattle.std.specs.Prelude.{◌≡◌, ◌≢◌, List, ◌∷◌, ◌++◌, Bool, true, false, None, Any}
+use Rattle.std.specs.Prelude.{◌≡◌, List, ◌∷◌, ◌++◌, Bool, true, false, Any}
 use Rattle.std.specs.Fn.{Mut, CalledAt}
 use Rattle.std.specs.List.{FoldsTo}
-use Rattle.std.specs.Option.{option_map_or}
-use Rattle.std.specs.Str.{bytes_eq}
 use Rattle.wire.specs.Events.{Event}
-use Rattle.wire.specs.declared.keys.Digest.{Digest}
 use Rattle.header.specs.Digested.{certificate_digest_in}
 use denote.Ref.{Bor}
-
--- it is a certificate
-abbrev pub IsCertificate : Event → Type 0
-IsCertificate event = certificate_digest_in event.message ≢ None
-
--- it is the certificate of this digest
-abbrev pub has_digest : Digest → Event → Bool
-has_digest digest event = option_map_or (λ other. bytes_eq other.0 digest.0) (certificate_digest_in event.message) false
 
 -- one of this certificate digest waits
 abbrev pub Waits : List Event → Event → Type 0

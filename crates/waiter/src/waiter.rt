@@ -2,14 +2,16 @@
 
 ghost use Rattle.std.specs.Prelude.{◌≡◌, ◌≢◌, ◌<◌, ◌≤◌, ◌++◌, [], ◌∷◌, ◌↔◌, Some, None, Ok, true, length, take, slice_get, IfSome, IfNone, OnOk, OnErr, IsErrOf};
 ghost use Rattle.std.specs.Fn.{CalledAt};
-ghost use Rattle.std.specs.List.{list_any};
 ghost use Rattle.wire.specs.Events.{Event};
 ghost use Rattle.header.specs.Digested.{certificate_digest_in};
+ghost use Rattle.indexmap.specs.IndexMap.{values};
 ghost use Rattle.waiter.specs.declared.waiter.TheConstants.{MAX_WAITING};
-ghost use Rattle.waiter.specs.Waiting.{has_digest, Waits, AnswersNo, IsFirstReady};
+ghost use Rattle.waiter.specs.Waiting.{Waits, AnswersNo, IsFirstReady};
 
 use crate::refusal::WaitRefusal;
 use header::Checked;
+use indexmap::IndexMap;
+use seed::TableSeed;
 use std::alloc::Global;
 use std::marker::Model;
 use wire::Digest;
@@ -24,7 +26,8 @@ pub fn limits_in_numbers()
 
 /// Certificates that wait for their parents. Contracts see them with their senders, in the order of offering.
 pub struct Waiter {
-    waiting: Vec<Checked>,
+    // By the certificate digest, in the order of offering.
+    waiting: IndexMap<Digest, Checked, TableSeed>,
 }
 
 impl Drop for Waiter {
@@ -36,40 +39,24 @@ impl Drop for Waiter {
 impl Model for Waiter {
     ghost use Rattle.std.specs.Prelude.{List, length, ◌≤◌, All};
     ghost use Rattle.wire.specs.Events.{Event};
+    ghost use Rattle.indexmap.specs.IndexMap.{values};
     ghost use Rattle.waiter.specs.declared.waiter.TheConstants.{MAX_WAITING};
-    ghost use Rattle.waiter.specs.Waiting.{IsCertificate};
+    ghost use Rattle.waiter.specs.Keyed.{IsUnderItsDigest};
 
     ghost Value = { List Event };
 
-    ghost view = { λ w. w.waiting.items };
+    ghost view = { λ w. values w.waiting };
 
-    ghost invariant = { λ w. All IsCertificate w.waiting.items × (length w.waiting.items ≤ MAX_WAITING) };
-}
-
-// Whether it is the certificate of this digest.
-fn has_digest(checked: &Checked, digest: &Digest) -> bool
-    ensures { result ≡ has_digest digest.now checked.now }
-{
-    match checked.certificate_digest() {
-        Some(other) => *other == *digest,
-        None => false,
-    }
-}
-
-// Whether the certificate of this digest waits.
-fn is_among(waiting: &[Checked], digest: &Digest) -> bool
-    ensures { result ≡ list_any (has_digest digest.now) waiting.now }
-{
-    waiting.iter().any(|checked| has_digest(checked, digest))
+    ghost invariant = { λ w. All IsUnderItsDigest w.waiting.entries × (length w.waiting.entries ≤ MAX_WAITING) };
 }
 
 impl Waiter {
-    /// No certificate waits.
-    pub fn new(alloc: Global) -> Waiter
+    /// No certificate waits. Its table begins its hashes at the seed.
+    pub fn new(alloc: Global, seed: TableSeed) -> Waiter
         ensures { result ≡ [] }
     {
         Waiter {
-            waiting: Vec::new(alloc),
+            waiting: IndexMap::with_hasher(alloc, seed),
         }
     }
 
@@ -87,13 +74,13 @@ impl Waiter {
         let Some(digest) = checked.certificate_digest().copied() else {
             return Err(WaitRefusal::NotACertificate);
         };
-        if is_among(&self.waiting, &digest) {
+        if self.waiting.contains_key(&digest) {
             return Ok(());
         }
         if count >= MAX_WAITING {
             return Err(WaitRefusal::Full);
         }
-        self.waiting.push(checked)?;
+        self.waiting.insert(digest, checked)?;
         Ok(())
     }
 
@@ -105,7 +92,8 @@ impl Waiter {
         ensures none { IfNone result (self.new ≡ self.old) }
     {
         let place = self.first_ready(ready)?;
-        Some(self.waiting.remove(place))
+        let (_, checked) = self.waiting.shift_remove_index(place)?;
+        Some(checked)
     }
 
     // The place of the first of which the answer is yes.
@@ -115,8 +103,10 @@ impl Waiter {
         ensures none { IfNone result ((last : F) × AnswersNo F.FnMut ready self.now last) }
     {
         for place in 0..self.waiting.len() {
-            if ready(&self.waiting[place]) {
-                return Some(place);
+            if let Some((_, checked)) = self.waiting.get_index(place) {
+                if ready(checked) {
+                    return Some(place);
+                }
             }
         }
         None

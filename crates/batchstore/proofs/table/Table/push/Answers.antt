@@ -1,18 +1,32 @@
-use Rattle.std.proofs.Common.{◌≡◌, ℕ, List, ◌∷◌, [], ◌++◌, Some, cond, length, ap, ◌∙◌}
-use Rattle.std.specs.BTreeMap.{is_at}
-use Rattle.std.specs.Map.{lookup}
-use Rattle.batchstore.specs.Kept.{compared}
+use Rattle.std.proofs.Common.{◌≡◌, List, ◌∷◌, [], ◌++◌, None, ap, ◌∙◌}
+use Rattle.std.specs.Map.{values_of}
+use Rattle.std.specs.Str.{bytes_eq}
+use Rattle.std.proofs.lemmas.List.Elements.{recursion_from_All, All-from_recursion}
+use Rattle.indexmap.specs.IndexMap.{get}
+use Rattle.indexmap.proofs.CallerLemmas.{insert_entry-new}
+use Rattle.wire.specs.declared.keys.Digest.{Digest}
+use Rattle.batchstore.specs.Kept.{IsUnderItsDigest}
+use Rattle.batchstore.specs.Stock.{found}
 use Rattle.batchstore.specs.declared.held.Held.{Held}
-use Rattle.batchstore.proofs.Places.{places_push}
+use Rattle.batchstore.proofs.Keyed.{lookup-found, values-push, keyed-push}
 use Rattle.batchstore.proofs.table.Table.push.Goals as goal
 
 pub invariant_of-self-2 : goal.invariant_of-self-2
 invariant_of-self-2 c =
-    let inside = c.self.inside in
-    let batches = inside.batches.items in
-    let digest = c.args.digest in
-    let count : c.len.result ≡ length batches = c.len.ensures ∙ c.reserve.ensures.len ∙ inside.batches.ok.0 in
-    let pushed : c.push.new.self.items ≡ batches ++ c.args.held ∷ [] = c.in_ok-push.ensures.items ∙ ap (λ (l : List Held). l ++ c.args.held ∷ []) c.reserve.ensures.items in
-    rw pushed
-    (places_push inside.places.entries c.insert.new.self.entries batches digest c.args.held c.self.invariant c.requires.digested (rw (← c.self.view_is) at c.requires.new)
-    (λ other. c.in_ok-insert.ensures.updates.0 other ∙ ap (λ (n : ℕ). cond (is_at (compared digest) other) (Some n) (lookup (is_at (compared other)) inside.places.entries)) count))
+    let entries = c.self.inside.batches.entries in
+    let keyed = recursion_from_All IsUnderItsDigest entries c.self.invariant in
+    let unfound : found c.args.digest (values_of entries) ≡ None = rw (← c.self.view_is) at c.requires.new in
+    let absent : get (λ (x y : Digest). bytes_eq x.0 y.0) c.self.inside.batches c.args.digest ≡ None = lookup-found c.args.digest entries keyed ∙ unfound in
+    let grown : c.insert.new.self.entries ≡ entries ++ (c.args.digest, c.args.held) ∷ [] =
+    c.in_ok-insert.ensures.entries ∙ insert_entry-new (λ (x y : Digest). bytes_eq x.0 y.0) c.self.inside.batches c.args.digest c.args.held absent in
+    rw grown (All-from_recursion IsUnderItsDigest (entries ++ (c.args.digest, c.args.held) ∷ []) (keyed-push entries c.args.digest c.args.held c.requires.digested keyed))
+
+pub returns-clause-ok : goal.returns-clause-ok
+returns-clause-ok c =
+    let entries = c.self.inside.batches.entries in
+    let keyed = recursion_from_All IsUnderItsDigest entries c.self.invariant in
+    let unfound : found c.args.digest (values_of entries) ≡ None = rw (← c.self.view_is) at c.requires.new in
+    let absent : get (λ (x y : Digest). bytes_eq x.0 y.0) c.self.inside.batches c.args.digest ≡ None = lookup-found c.args.digest entries keyed ∙ unfound in
+    let grown : c.insert.new.self.entries ≡ entries ++ (c.args.digest, c.args.held) ∷ [] =
+    c.in_ok-insert.ensures.entries ∙ insert_entry-new (λ (x y : Digest). bytes_eq x.0 y.0) c.self.inside.batches c.args.digest c.args.held absent in
+    ap (λ (es : List (Digest × Held)). values_of es) grown ∙ values-push entries c.args.digest c.args.held ∙ ap (λ (l : List Held). l ++ c.args.held ∷ []) c.self.view_is

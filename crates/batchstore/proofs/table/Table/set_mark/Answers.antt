@@ -1,19 +1,25 @@
-use Rattle.std.proofs.Common.{◌≡◌, ◌<◌, List, Some, true, length, refl, ap, sym, ◌∙◌, slice_get, slice_set}
-use Rattle.std.proofs.lemmas.Option.{get_or_from_slice_get, slice_get_read}
+use Rattle.std.proofs.Common.{◌<◌, List, length, refl, ap, ◌∙◌, slice_set, true}
+use Rattle.std.specs.Map.{values_of}
+use Rattle.std.proofs.lemmas.List.Elements.{recursion_from_All, All-from_recursion}
+use Rattle.indexmap.specs.IndexMap.{set_value_at}
+use Rattle.wire.specs.declared.keys.Digest.{Digest}
+use Rattle.batchstore.specs.Kept.{IsUnderItsDigest}
 use Rattle.batchstore.specs.declared.held.Held.{Held}
-use Rattle.batchstore.proofs.Places.{places_set}
+use Rattle.batchstore.proofs.Keyed.{stands_at, values-set, keyed-set}
 use Rattle.batchstore.proofs.table.Table.set_mark.Goals as goal
 
 pub invariant_of-self : goal.invariant_of-self
-invariant_of-self c = λ digest.
-    let batches = c.self.inside.batches.items in
-    let old = c.index_mut.result.now in
-    let low : c.args.place < length batches = rw (← c.self.view_is) at c.requires in
-    let at : slice_get batches c.args.place ≡ Some old = slice_get_read batches (length batches) c.args.place old refl low c.index_mut.ensures.value in
-    c.self.invariant digest ∙ sym (places_set digest batches c.args.place old (record old { named = true }) at refl)
+invariant_of-self c =
+    let entries = c.self.inside.batches.entries in
+    let low : c.args.place < length (values_of entries) = rw (← c.self.view_is) at c.requires in
+    let there = stands_at (values_of entries) c.args.place low in
+    let new : Held = record there.0 { named = true } in
+    rw (c.write_mark.ensures there.0 there.1)
+    (All-from_recursion IsUnderItsDigest (set_value_at entries c.args.place new) (keyed-set entries c.args.place there.0 new there.1 refl (recursion_from_All IsUnderItsDigest entries c.self.invariant)))
 
 pub returns : goal.returns
 returns c = λ before is.
-    let batches = c.self.inside.batches.items in
-    let same : before ≡ c.index_mut.result.now = sym (c.index_mut.ensures.value ∙ get_or_from_slice_get batches c.args.place before c.index_mut.result.now (rw (← c.self.view_is) at is)) in
-    ap (λ (held : Held). slice_set batches c.args.place (record held { named = true })) (sym same) ∙ ap (λ (l : List Held). slice_set l c.args.place (record before { named = true })) c.self.view_is
+    let entries = c.self.inside.batches.entries in
+    let new : Held = record before { named = true } in
+    ap (λ (es : List (Digest × Held)). values_of es) (c.write_mark.ensures before (rw (← c.self.view_is) at is)) ∙ values-set entries c.args.place new
+    ∙ ap (λ (l : List Held). slice_set l c.args.place new) c.self.view_is

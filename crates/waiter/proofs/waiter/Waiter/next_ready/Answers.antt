@@ -1,35 +1,34 @@
-use Rattle.std.proofs.Common.{◌≡◌, Some, true, take, drop, slice_get, suc, ap, subst, ◌∙◌, arith, sym}
+use Rattle.std.proofs.Common.{◌≡◌, Some, true, take, drop, slice_get, suc, sym, ap, subst, ◌∙◌, arith, List}
+use Rattle.std.specs.Prelude.{remove}
 use Rattle.std.specs.Fn.{CalledAt}
+use Rattle.std.specs.Map.{values_of}
 use Rattle.std.proofs.lemmas.List.Elements.{recursion_from_All, All-from_recursion}
-use Rattle.std.proofs.lemmas.Option.{get_or_from_slice_get, slice_get_within}
+use Rattle.indexmap.proofs.SetLemmas.{map-remove}
 use Rattle.wire.specs.Events.{Event}
-use Rattle.waiter.specs.Waiting.{IsCertificate}
-use Rattle.waiter.proofs.Keeping.{each_without, parted}
+use Rattle.wire.specs.declared.keys.Digest.{Digest}
+use Rattle.waiter.specs.Keyed.{IsUnderItsDigest}
+use Rattle.waiter.proofs.Keeping.{value_at, parted, keyed_without}
 use Rattle.waiter.proofs.waiter.Waiter.next_ready.Goals as goal
 
-pub remove-requires : goal.remove-requires
-remove-requires g c =
-    let said = c.in_ok-place.ensures.found in
-    let low = slice_get_within c.self.inside.waiting.items c.in_ok-place.place said.0 (rw (← c.self.view_is) at said.3) in
-    omega (arith, low, c.self.inside.waiting.ok.0)
-
-pub invariant_of-self : goal.invariant_of-self
-invariant_of-self g c =
-    let waiting = c.self.inside.waiting.items in
-    (rw c.remove.ensures.items (All-from_recursion IsCertificate _ (each_without IsCertificate waiting c.in_ok-place.place (recursion_from_All IsCertificate waiting c.self.invariant.0))), omega (arith, c.remove.ensures.len, c.self.invariant.1))
+pub invariant_of-self-2 : goal.invariant_of-self-2
+invariant_of-self-2 g c =
+    let entries = c.self.inside.waiting.entries in
+    (rw c.shift_remove_index.ensures.entries (All-from_recursion IsUnderItsDigest _ (keyed_without entries _ (recursion_from_All IsUnderItsDigest entries c.self.invariant.0))), omega (arith, c.shift_remove_index.ensures.len, c.self.invariant.1))
 
 pub returns-clause-first : goal.returns-clause-first
 returns-clause-first g c =
     let place = c.in_ok-place.place in
-    let checked = c.remove.result in
+    let checked = c.in_ok-checked.checked in
     let said = c.in_ok-place.ensures.found in
-    let at : slice_get c.self.inside.waiting.items place ≡ Some said.0 = rw (← c.self.view_is) at said.3 in
-    let same : said.0 ≡ checked = sym (c.remove.ensures.value ∙ get_or_from_slice_get c.self.inside.waiting.items place said.0 checked at) in
+    let there = value_at c.self.inside.waiting.entries place (c.in_ok-checked.field-0-0, checked) (sym c.in_ok-checked.ensures.entry) in
+    let at : slice_get c.args.self.now place ≡ Some checked = rw (← c.self.view_is) there in
+    let both : Some said.0 ≡ Some checked = sym said.3 ∙ at in
+    let same : said.0 ≡ checked = cc in
     record {
       front = take place c.args.self.now;
       back = drop (suc place) c.args.self.now;
-      stood = parted c.args.self.now place checked (said.3 ∙ ap (λ (e : Event). Some e) same);
-      left = cc;
+      stood = parted c.args.self.now place checked at;
+      left = ap (λ (es : List (Digest × Event)). values_of es) c.shift_remove_index.ensures.entries ∙ map-remove (λ (e : Digest × Event). e.1) c.self.inside.waiting.entries place ∙ ap (λ (l : List Event). remove l place) c.self.view_is;
       asked = said.1;
       last = said.2;
       passed_over = said.4;

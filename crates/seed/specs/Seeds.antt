@@ -1,0 +1,15 @@
+-- Where the tables of a node begin their hashes.
+use Rattle.std.specs.Prelude.{[], ◌∷◌}
+use Rattle.std.specs.Hash.DefaultHasher as sip
+use Rattle.sha2.specs.Sha256.{sha256}
+use Rattle.wire.specs.declared.keys.Digest.{Digest}
+use Rattle.wire.specs.declared.keys.Signature.{Signature}
+use Rattle.seed.specs.declared.TableSeed.{TableSeed}
+
+-- what is signed for a seed: the digest of the letter L
+abbrev pub seed_digest : Digest
+seed_digest = record { 0 = sha256 (0x4c ∷ []) }
+
+-- the seed of who signs so: a hasher that has read the signature
+abbrev pub seed_of : (Digest → Signature) → TableSeed
+seed_of sign = record { begun = sip.write sip.initial (sign seed_digest).0 }

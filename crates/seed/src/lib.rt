@@ -1,0 +1,43 @@
+//! Where the tables of a node begin their hashes: at bytes that its signer alone can make.
+#![tactic(auto)]
+
+ghost use Rattle.std.specs.Prelude.{◌≡◌};
+ghost use Rattle.seed.specs.Seeds.{seed_of};
+
+use sha2::{Digest as Hashing, Sha256};
+use sigface::Sign;
+use std::hash::{BuildHasher, DefaultHasher, Hasher};
+use wire::Digest;
+
+/// What is digested and signed for a seed: the letter L. No other digest that is signed begins with it.
+const SEED_LETTER: u8 = 0x4c;
+
+/// Where a table begins its hashes: SipHash-1-3 (Aumasson and Bernstein, 2012) that has read secret bytes. Who
+/// doesn't know these can't choose keys that lie in one place. It needs no randomness, and is the same in each run.
+#[derive(Clone, Copy)]
+pub struct TableSeed {
+    begun: DefaultHasher,
+}
+
+impl TableSeed {
+    /// The seed of this signer: begun with its signature of the SHA-256 (FIPS 180-4) of the letter L. It is as
+    /// secret as the signer's key.
+    pub fn of<S: Sign>(signer: &S) -> TableSeed
+        ensures { result ≡ seed_of (S.signature_of signer.now) }
+    {
+        let signature = signer.sign(&Digest(Sha256::digest([SEED_LETTER])));
+        let mut begun = DefaultHasher::new();
+        begun.write(&signature.0);
+        TableSeed { begun }
+    }
+}
+
+impl BuildHasher for TableSeed {
+    type Hasher = DefaultHasher;
+
+    ghost build_hasher = { λ seed. seed.begun };
+
+    fn build_hasher(&self) -> DefaultHasher {
+        self.begun
+    }
+}

@@ -1,0 +1,9 @@
+-- How the waiting certificates are kept.
+use Rattle.std.specs.Prelude.{◌≡◌, Some}
+use Rattle.wire.specs.Events.{Event}
+use Rattle.wire.specs.declared.keys.Digest.{Digest}
+use Rattle.header.specs.Digested.{certificate_digest_in}
+
+-- an event is a certificate, under its digest
+abbrev pub IsUnderItsDigest : Digest × Event → Type 0
+IsUnderItsDigest entry = certificate_digest_in entry.1.message ≡ Some entry.0
