@@ -342,6 +342,16 @@ impl<'a> BatchStore<'a> {
         self.committee
     }
 
+    /// The batch that was accepted as the one of this place, from 0 on, if so many are held.
+    pub fn batch_at(&self, place: usize) -> Option<&Batch>
+        ensures { option_copied result ≡ option_map (λ (held : Held). held.batch) (slice_get self.now.held place) }
+    {
+        match self.held.at(place) {
+            Some(held) => Some(&held.batch),
+            None => None,
+        }
+    }
+
     /// How many batches are held.
     pub fn len(&self) -> usize
         ensures { result ≡ length self.now.held }

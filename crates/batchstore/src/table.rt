@@ -1,6 +1,6 @@
 //! The batches of a store, found by their digests.
 
-ghost use Rattle.std.specs.Prelude.{◌≡◌, ◌<◌, [], ◌∷◌, ◌++◌, true, None, Some, IfSome, OnOk, OnErr, length, option_map, slice_get, slice_set};
+ghost use Rattle.std.specs.Prelude.{◌≡◌, ◌<◌, [], ◌∷◌, ◌++◌, true, None, Some, IfSome, OnOk, OnErr, length, option_copied, option_map, slice_get, slice_set};
 ghost use Rattle.indexmap.specs.IndexMap.{values, set_value_at};
 ghost use Rattle.batchstore.specs.Stock.{digest_of, found};
 ghost use Rattle.batchstore.specs.declared.held.Held.{Held};
@@ -34,11 +34,7 @@ impl Model for Table {
 }
 
 // Gives the batch at this place these members.
-fn write_members(
-    batches: &mut IndexMap<Digest, Held, TableSeed>,
-    place: usize,
-    members: MemberSet,
-)
+fn write_members(batches: &mut IndexMap<Digest, Held, TableSeed>, place: usize, members: MemberSet)
     ensures { (before : Held) → slice_get (values batches.old) place ≡ Some before → batches.new.entries ≡ set_value_at batches.old.entries place (record before { acknowledged = members }) }
 {
     if let Some(held) = batches.get_index_mut(place) {
@@ -68,6 +64,16 @@ impl Table {
         ensures { result ≡ length self.now }
     {
         self.batches.len()
+    }
+
+    // What is held of the batch that was accepted as the one of this place, from 0 on.
+    pub(crate) fn at(&self, place: usize) -> Option<&Held>
+        ensures { option_copied result ≡ slice_get self.now place }
+    {
+        match self.batches.get_index(place) {
+            Some((_, held)) => Some(held),
+            None => None,
+        }
     }
 
     // What is held of the batch of this digest, with its place.
