@@ -3,8 +3,10 @@
 use crate::parts::words::{Told, author_of, list, member_in, numbers_in, parted};
 use batchstore::BatchStore;
 use committee::Committee;
+use seed::TableSeed;
+use sigface::HashSign;
 use std::alloc::{AllocError, Global};
-use wire::{Author, Batch, BatchReference, Digest, OpenBatch, batch_digest};
+use wire::{Author, Batch, BatchReference, Digest, Key, OpenBatch, batch_digest};
 
 // A batch of an author and worker with one transaction, the byte of this number. None where there is no room, which never is.
 fn batch_of(
@@ -27,7 +29,8 @@ pub fn store(alloc: Global, committee: &Committee, words: &str, answer: &mut Str
     if own.0 >= committee.size() {
         return answer.push_str("no member\n");
     }
-    let mut store = BatchStore::new(alloc, committee, own);
+    let seed = TableSeed::of(&HashSign::new(Key([7; 32])));
+    let mut store = BatchStore::new(alloc, committee, own, seed);
     let mut digests = Vec::new(alloc);
     for word in words.split_whitespace() {
         obey(alloc, &mut store, &mut digests, word, answer)?;
@@ -45,7 +48,9 @@ fn obey(
     let (name, rest) = parted(word, '-');
     let numbers = numbers_in(alloc, rest)?;
     match name {
-        "put" => put_of(alloc, store, digests, &numbers, answer),
+        "put" | "share" => put_of(alloc, store, digests, name, &numbers, answer),
+        "many" => many(alloc, store, digests, &numbers, answer),
+        "all" => all(store, digests, answer),
         "least" => least(alloc, store, digests, answer),
         _ => look(store, name, digests, &numbers, answer),
     }
@@ -73,6 +78,7 @@ fn put_of(
     alloc: Global,
     store: &mut BatchStore,
     digests: &mut Vec<Digest>,
+    name: &str,
     numbers: &[u64],
     answer: &mut String,
 ) -> Told {
@@ -81,7 +87,54 @@ fn put_of(
     };
     let (worker, byte) = ((*worker).min(65_535) as u16, (*byte).min(255) as u8);
     let batch = batch_of(alloc, author_of(*author), worker, byte)?;
-    put(store, digests, batch, answer)
+    match (name, &batch) {
+        ("share", Some(sent)) => share(store, digests, sent, answer),
+        _ => put(store, digests, batch, answer),
+    }
+}
+
+// Puts a batch that has one owner more, and tells whether the body that is held is the very bytes of it.
+fn share(
+    store: &mut BatchStore,
+    digests: &mut Vec<Digest>,
+    sent: &Batch,
+    answer: &mut String,
+) -> Told {
+    put(store, digests, Some(sent.share()?), answer)?;
+    let held = store.get(&batch_digest(sent));
+    let one = held.is_some_and(|held| held.body().as_ptr() == sent.body().as_ptr());
+    writeln!(answer, "one body {one}")
+}
+
+// Puts one batch each of so many workers of a member, and tells how many are held then.
+fn many(
+    alloc: Global,
+    store: &mut BatchStore,
+    digests: &mut Vec<Digest>,
+    numbers: &[u64],
+    answer: &mut String,
+) -> Told {
+    let [author, count] = numbers else {
+        return answer.push_str("bad word\n");
+    };
+    for worker in 0..(*count).min(65_535) as u16 {
+        if let Some(batch) = batch_of(alloc, author_of(*author), worker, 0)? {
+            digests.push(batch_digest(&batch))?;
+            let _ = store.put(batch);
+        }
+    }
+    list("held", &[store.len() as u64], answer)
+}
+
+// How many of the batches that were put stand at the place of their put.
+fn all(store: &BatchStore, digests: &[Digest], answer: &mut String) -> Told {
+    let mut there: u64 = 0;
+    for (place, digest) in digests.iter().enumerate() {
+        let held = store.batch_at(place);
+        let is = held.is_some_and(|held| batch_digest(held) == *digest);
+        there = there.saturating_add(is as u64);
+    }
+    list("in the order of acceptance", &[there], answer)
 }
 
 fn digest_at(digests: &[Digest], place: u64) -> Digest {

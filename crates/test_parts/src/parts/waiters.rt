@@ -4,9 +4,11 @@ use crate::parts::members::add_members;
 use crate::parts::words::{Told, bad, list};
 use committee::Committee;
 use header::{Checked, recheck};
+use seed::TableSeed;
+use sigface::HashSign;
 use std::alloc::{AllocError, Global};
 use waiter::Waiter;
-use wire::{Author, CERTIFICATE_TAG, HEADER_TAG, Message};
+use wire::{Author, CERTIFICATE_TAG, HEADER_TAG, Key, Message};
 use wire_read::decode;
 
 /// A committee, and what waits.
@@ -23,7 +25,7 @@ pub fn open(alloc: Global, waiting: &mut Option<Waiting>, answer: &mut String) -
     text.push_str("]\n")?;
     match Committee::read(alloc, &text) {
         Ok(committee) => {
-            let waiter = Waiter::new(alloc);
+            let waiter = Waiter::new(alloc, TableSeed::of(&HashSign::new(Key([7; 32]))));
             *waiting = Some(Waiting { committee, waiter });
             Ok(())
         }
