@@ -1,7 +1,7 @@
 //! The disk.
 
 ghost use Rattle.std.specs.Prelude.{◌≡◌, ◌+◌, ◌^◌, ◌<◌, ◌≤◌, ◌∷◌, ◌++◌, [], ℕ, true, false, length, take, drop, IfOk, IfSome, OnOk, OnErr, Ok, IsOk};
-ghost use Rattle.diskmodel.specs.Disk.{written, IsTorn, IsCut, ComesBy, NoneNew, LeavesOnly, HasCause};
+ghost use Rattle.diskmodel.specs.Disk.{written, IsTorn, IsCut, ComesBy, NoneNew, LeavesOnly, HasCause, Makes};
 ghost use Rattle.diskmodel.specs.declared.call.Call.TheVariants.{Wrote, Cut, Synced};
 ghost use Rattle.std.proofs.Props.{props};
 ghost use Rattle.disk_file.specs.Stories.{Adds, SameCalls, begun, failing, IsSound, held, TimePasses};
@@ -153,6 +153,8 @@ impl Disk for FileDisk {
 
     ghost faults = { λ disk. disk.tape.faults };
 
+    ghost calls = { λ disk. disk.tape.calls };
+
     ghost content_is_outcome = { λ disk. disk.sound.possible };
 
     ghost counts_now = { λ disk t c. counts_last disk.tape.first disk.tape.calls t c };
@@ -165,6 +167,7 @@ impl Disk for FileDisk {
         ensures outcomes { NoneNew (CanStopAt self.old) (CanStopAt self.new) }
         ensures time { TimePasses (story_of self.old) (story_of self.new) }
         ensures cause { HasCause (story_of self.old).faults (story_of self.new).faults result }
+        ensures calls { (story_of self.new).calls ≡ (story_of self.old).calls }
 
         // It fails only behind another failure.
         ensures down { StaysDown self.old self.new result }
@@ -182,6 +185,7 @@ impl Disk for FileDisk {
         ensures outcomes { NoneNew (CanStopAt self.old) (CanStopAt self.new) }
         ensures time { TimePasses (story_of self.old) (story_of self.new) }
         ensures cause { HasCause (story_of self.old).faults (story_of self.new).faults result }
+        ensures calls { (story_of self.new).calls ≡ (story_of self.old).calls }
 
         // It fails only behind another failure, or where a byte was written.
         ensures down { StaysDown self.old self.new result }
@@ -206,6 +210,7 @@ impl Disk for FileDisk {
         ensures outcomes { ComesBy (IsTorn at (length bytes.now)) (CanStopAt self.old) (CanStopAt self.new) }
         ensures time { TimePasses (story_of self.old) (story_of self.new) }
         ensures cause { HasCause (story_of self.old).faults (story_of self.new).faults result }
+        ensures calls { Makes (Wrote at bytes.now) result (story_of self.old).calls (story_of self.new).calls }
         ensures recorded { OnOk result (Adds (Wrote at bytes.now) (story_of self.old) (story_of self.new)) }
 
         // A write that fails may have had any part of its effect.
@@ -230,6 +235,7 @@ impl Disk for FileDisk {
         ensures outcomes { ComesBy (IsCut len) (CanStopAt self.old) (CanStopAt self.new) }
         ensures time { TimePasses (story_of self.old) (story_of self.new) }
         ensures cause { HasCause (story_of self.old).faults (story_of self.new).faults result }
+        ensures calls { Makes (Cut len) result (story_of self.old).calls (story_of self.new).calls }
         ensures recorded { OnOk result (Adds (Cut len) (story_of self.old) (story_of self.new)) }
         ensures noted { is_down self.old ≡ false → (story_of self.new).calls ≡ (story_of self.old).calls ++ Cut len ∷ [] }
         ensures down { StaysDown self.old self.new result }
@@ -251,6 +257,7 @@ impl Disk for FileDisk {
         ensures outcomes { NoneNew (CanStopAt self.old) (CanStopAt self.new) }
         ensures time { TimePasses (story_of self.old) (story_of self.new) }
         ensures cause { HasCause (story_of self.old).faults (story_of self.new).faults result }
+        ensures calls { Makes Synced result (story_of self.old).calls (story_of self.new).calls }
         ensures recorded { OnOk result (Adds Synced (story_of self.old) (story_of self.new)) }
 
         // One that fails makes nothing firm.

@@ -1,5 +1,6 @@
 -- What the calls of a disk do to its bytes, and what a stop may leave of them.
-use Rattle.std.specs.Prelude.{◌<◌, ◌≡◌, ◌⊎◌, ℕ, ◌+◌, ◌≤◌, max, min, List, ◌++◌, length, take, drop, Result, OnOk, OnErr}
+use Rattle.std.specs.Prelude.{◌<◌, ◌≡◌, ◌⊎◌, ℕ, ◌+◌, ◌≤◌, max, min, List, [], ◌∷◌, ◌++◌, length, take, drop, Result, OnOk, OnErr}
+use Rattle.diskmodel.specs.declared.call.Call.{Call}
 use Rattle.diskmodel.specs.declared.disk.DiskFault.{DiskFault}
 
 -- old with these bytes written at this place, which is within it or at its end
@@ -45,6 +46,11 @@ pub record HasCause {T : Type 0} (before now : ℕ) (result : Result T DiskFault
   pub later : before ≤ now
   pub failed : OnErr result (before < now)
   pub none : OnOk result (now ≡ before)
+
+-- this call was made behind the others; one that failed was made, or it wasn't
+pub record Makes {T : Type 0} (call : Call) (result : Result T DiskFault) (old new : List Call) : Type 0 where
+  pub made : OnOk result (new ≡ old ++ call ∷ [])
+  pub failed : OnErr result ((new ≡ old) ⊎ (new ≡ old ++ call ∷ []))
 
 -- a stop at any moment since old leaves bytes of which P holds
 pub record AtEachMoment {D : Type 0} (clock : D → ℕ) (outcome_since : D → ℕ → List ℕ → Type 0) (old new : D) (P : List ℕ → Type 0) : Type 0 where

@@ -1,6 +1,6 @@
 -- What clauses see of a disk in memory.
-use Rattle.std.specs.Prelude.{◌≡◌, ℕ, List, length, Option, Some, Result, IsErr, OnOk, OnErr}
-use Rattle.std.specs.List.{Contains}
+use Rattle.std.specs.Prelude.{◌≡◌, ℕ, List, length, not, Option, Some, Result, IsErr, OnErr}
+use Rattle.std.specs.List.{Contains, filter}
 use Rattle.diskmodel.specs.Disk.{GoesOn}
 use Rattle.diskmodel.specs.declared.disk.DiskFault.{DiskFault}
 use Rattle.diskmodel.specs.declared.call.Call.{Call}
@@ -9,6 +9,7 @@ use Rattle.diskmodel.specs.declared.memory.MemDisk.{MemDisk}
 use Rattle.diskmodel.specs.declared.switch.Words.{Words}
 use Rattle.diskmodel.specs.Countdowns.{Counts, counts_of, counts_for, counting}
 use Rattle.diskmodel.specs.Outcomes.{State, state, IsOutcome, IsOutcomeSince}
+use Rattle.diskmodel.specs.Kept.{is_stop}
 use Rattle.diskmodel.specs.Recorded.{IsAsBefore}
 
 -- the bytes that it began with
@@ -18,6 +19,14 @@ first_of disk = disk.history.first.items
 -- the calls so far
 abbrev pub calls_of : MemDisk → List Call
 calls_of disk = disk.history.calls.items
+
+-- those of these calls that are no stops
+abbrev pub made_in : List Call → List Call
+made_in calls = filter (λ call. not (is_stop (Some call))) calls
+
+-- the calls so far, without the stops
+abbrev pub made_of : MemDisk → List Call
+made_of disk = made_in (calls_of disk)
 
 -- what the calls come to
 abbrev pub state_of : MemDisk → State

@@ -1,7 +1,9 @@
 //! What a disk promises, and what a stop of the machine may leave of it.
 
 ghost use Rattle.std.specs.Prelude.{◌≡◌, ◌+◌, ◌≤◌, List, ℕ, length, take, drop, IfOk, OnOk};
-ghost use Rattle.diskmodel.specs.Disk.{written, IsTorn, IsCut, ComesBy, NoneNew, LeavesOnly, GoesOn, HasCause};
+ghost use Rattle.diskmodel.specs.Disk.{written, IsTorn, IsCut, ComesBy, NoneNew, LeavesOnly, GoesOn, HasCause, Makes};
+ghost use Rattle.diskmodel.specs.declared.call.Call.{Call};
+ghost use Rattle.diskmodel.specs.declared.call.Call.TheVariants.{Wrote, Cut, Synced};
 
 use thiserror::Error;
 
@@ -28,13 +30,17 @@ pub trait Disk {
     /// How often the disk has failed.
     ghost faults: { Self → ℕ };
 
+    /// The calls that wrote, cut or synced it, from the first to the last. One that failed may stand there or not.
+    ghost calls: { Self → List Call };
+
     /// The length.
     fn len(&mut self) -> Result<u64, DiskFault>
         ensures value { IfOk result (λ len. len ≡ length (content self.old)) }
         ensures content { content self.new ≡ content self.old }
         ensures outcomes { NoneNew (outcome self.old) (outcome self.new) }
         ensures time { GoesOn (clock self.old) (clock self.new) (outcome_since self.old) (outcome_since self.new) (outcome self.new) }
-        ensures cause { HasCause (faults self.old) (faults self.new) result };
+        ensures cause { HasCause (faults self.old) (faults self.new) result }
+        ensures calls { calls self.new ≡ calls self.old };
 
     /// Fills the buffer with the bytes from this place on.
     fn read_at(&mut self, at: u64, buffer: &mut [u8]) -> Result<(), DiskFault>
@@ -43,7 +49,8 @@ pub trait Disk {
         ensures content { content self.new ≡ content self.old }
         ensures outcomes { NoneNew (outcome self.old) (outcome self.new) }
         ensures time { GoesOn (clock self.old) (clock self.new) (outcome_since self.old) (outcome_since self.new) (outcome self.new) }
-        ensures cause { HasCause (faults self.old) (faults self.new) result };
+        ensures cause { HasCause (faults self.old) (faults self.new) result }
+        ensures calls { calls self.new ≡ calls self.old };
 
     /// Writes the bytes at this place, within the disk or at its end, which moves with them.
     fn write_at(&mut self, at: u64, bytes: &[u8]) -> Result<(), DiskFault>
@@ -51,7 +58,8 @@ pub trait Disk {
         ensures content { OnOk result (content self.new ≡ written (content self.old) at bytes.now) }
         ensures outcomes { ComesBy (IsTorn at (length bytes.now)) (outcome self.old) (outcome self.new) }
         ensures time { GoesOn (clock self.old) (clock self.new) (outcome_since self.old) (outcome_since self.new) (outcome self.new) }
-        ensures cause { HasCause (faults self.old) (faults self.new) result };
+        ensures cause { HasCause (faults self.old) (faults self.new) result }
+        ensures calls { Makes (Wrote at bytes.now) result (calls self.old) (calls self.new) };
 
     /// Cuts the disk to a length, which is at most its own.
     fn cut(&mut self, len: u64) -> Result<(), DiskFault>
@@ -59,7 +67,8 @@ pub trait Disk {
         ensures content { OnOk result (content self.new ≡ take len (content self.old)) }
         ensures outcomes { ComesBy (IsCut len) (outcome self.old) (outcome self.new) }
         ensures time { GoesOn (clock self.old) (clock self.new) (outcome_since self.old) (outcome_since self.new) (outcome self.new) }
-        ensures cause { HasCause (faults self.old) (faults self.new) result };
+        ensures cause { HasCause (faults self.old) (faults self.new) result }
+        ensures calls { Makes (Cut len) result (calls self.old) (calls self.new) };
 
     /// Once it has succeeded, a stop leaves what a read gives.
     fn sync(&mut self) -> Result<(), DiskFault>
@@ -67,7 +76,8 @@ pub trait Disk {
         ensures content { content self.new ≡ content self.old }
         ensures outcomes { NoneNew (outcome self.old) (outcome self.new) }
         ensures time { GoesOn (clock self.old) (clock self.new) (outcome_since self.old) (outcome_since self.new) (outcome self.new) }
-        ensures cause { HasCause (faults self.old) (faults self.new) result };
+        ensures cause { HasCause (faults self.old) (faults self.new) result }
+        ensures calls { Makes Synced result (calls self.old) (calls self.new) };
 
     /// What a read gives is among what a stop may leave.
     ghost content_is_outcome: { (disk : Self) → outcome disk (content disk) };
@@ -88,5 +98,6 @@ pub trait StopDisk: Disk {
         ensures outcomes { NoneNew (Self.outcome self.old) (Self.outcome self.new) }
         ensures others { NoneNew (Self.outcome self.new) (Self.outcome self.old) }
         ensures time { GoesOn (Self.clock self.old) (Self.clock self.new) (Self.outcome_since self.old) (Self.outcome_since self.new) (Self.outcome self.new) }
-        ensures faults { Self.faults self.new ≡ Self.faults self.old };
+        ensures faults { Self.faults self.new ≡ Self.faults self.old }
+        ensures calls { Self.calls self.new ≡ Self.calls self.old };
 }

@@ -1,6 +1,7 @@
 //! A disk whose syncs pass a gate, so that a test can hold a thread right before one.
 ghost use Rattle.std.specs.Prelude.{◌≡◌, ◌+◌, ◌≤◌, length, take, drop, IfOk, OnOk};
-ghost use Rattle.diskmodel.specs.Disk.{written, IsTorn, IsCut, ComesBy, NoneNew, GoesOn, HasCause};
+ghost use Rattle.diskmodel.specs.Disk.{written, IsTorn, IsCut, ComesBy, NoneNew, GoesOn, HasCause, Makes};
+ghost use Rattle.diskmodel.specs.declared.call.Call.TheVariants.{Wrote, Cut};
 ghost use Rattle.diskmodel.specs.Gated.{disk_of, gate_of};
 
 use crate::disk::{Disk, DiskFault, StopDisk};
@@ -59,6 +60,8 @@ impl<D: Disk, G: Gate> Disk for GatedDisk<D, G> {
 
     ghost faults = { λ gated. D.faults gated.disk };
 
+    ghost calls = { λ gated. D.calls gated.disk };
+
     ghost content_is_outcome = { λ gated. D.content_is_outcome gated.disk };
 
     ghost counts_now = { λ gated. D.counts_now gated.disk };
@@ -71,6 +74,7 @@ impl<D: Disk, G: Gate> Disk for GatedDisk<D, G> {
         ensures outcomes { NoneNew (D.outcome self.old.disk) (D.outcome self.new.disk) }
         ensures time { GoesOn (D.clock self.old.disk) (D.clock self.new.disk) (D.outcome_since self.old.disk) (D.outcome_since self.new.disk) (D.outcome self.new.disk) }
         ensures cause { HasCause (D.faults self.old.disk) (D.faults self.new.disk) result }
+        ensures calls { D.calls self.new.disk ≡ D.calls self.old.disk }
 
         // Only a sync passes the gate.
         ensures gate { self.new.gate ≡ self.old.gate }
@@ -85,6 +89,7 @@ impl<D: Disk, G: Gate> Disk for GatedDisk<D, G> {
         ensures outcomes { NoneNew (D.outcome self.old.disk) (D.outcome self.new.disk) }
         ensures time { GoesOn (D.clock self.old.disk) (D.clock self.new.disk) (D.outcome_since self.old.disk) (D.outcome_since self.new.disk) (D.outcome self.new.disk) }
         ensures cause { HasCause (D.faults self.old.disk) (D.faults self.new.disk) result }
+        ensures calls { D.calls self.new.disk ≡ D.calls self.old.disk }
         ensures gate { self.new.gate ≡ self.old.gate }
     {
         self.disk.read_at(at, buffer)
@@ -96,6 +101,7 @@ impl<D: Disk, G: Gate> Disk for GatedDisk<D, G> {
         ensures outcomes { ComesBy (IsTorn at (length bytes.now)) (D.outcome self.old.disk) (D.outcome self.new.disk) }
         ensures time { GoesOn (D.clock self.old.disk) (D.clock self.new.disk) (D.outcome_since self.old.disk) (D.outcome_since self.new.disk) (D.outcome self.new.disk) }
         ensures cause { HasCause (D.faults self.old.disk) (D.faults self.new.disk) result }
+        ensures calls { Makes (Wrote at bytes.now) result (D.calls self.old.disk) (D.calls self.new.disk) }
         ensures gate { self.new.gate ≡ self.old.gate }
     {
         self.disk.write_at(at, bytes)
@@ -107,6 +113,7 @@ impl<D: Disk, G: Gate> Disk for GatedDisk<D, G> {
         ensures outcomes { ComesBy (IsCut len) (D.outcome self.old.disk) (D.outcome self.new.disk) }
         ensures time { GoesOn (D.clock self.old.disk) (D.clock self.new.disk) (D.outcome_since self.old.disk) (D.outcome_since self.new.disk) (D.outcome self.new.disk) }
         ensures cause { HasCause (D.faults self.old.disk) (D.faults self.new.disk) result }
+        ensures calls { Makes (Cut len) result (D.calls self.old.disk) (D.calls self.new.disk) }
         ensures gate { self.new.gate ≡ self.old.gate }
     {
         self.disk.cut(len)
@@ -125,6 +132,7 @@ impl<D: StopDisk, G: Gate> StopDisk for GatedDisk<D, G> {
         ensures others { NoneNew (D.outcome self.new.disk) (D.outcome self.old.disk) }
         ensures time { GoesOn (D.clock self.old.disk) (D.clock self.new.disk) (D.outcome_since self.old.disk) (D.outcome_since self.new.disk) (D.outcome self.new.disk) }
         ensures faults { D.faults self.new.disk ≡ D.faults self.old.disk }
+        ensures calls { D.calls self.new.disk ≡ D.calls self.old.disk }
         ensures gate { self.new.gate ≡ self.old.gate }
     {
         self.disk.stop();

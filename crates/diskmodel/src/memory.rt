@@ -198,10 +198,10 @@ impl MemDisk {
 
 impl Disk for MemDisk {
     ghost use Rattle.diskmodel.specs.Outcomes.{IsOutcome, IsOutcomeSince, counts_last, only_last};
-    ghost use Rattle.diskmodel.specs.Disk.{written, IsTorn, IsCut, ComesBy, LeavesOnly};
+    ghost use Rattle.diskmodel.specs.Disk.{written, IsTorn, IsCut, ComesBy, LeavesOnly, Makes};
     ghost use Rattle.diskmodel.specs.Recorded.{Adds};
     ghost use Rattle.diskmodel.specs.Countdowns.{counts_for};
-    ghost use Rattle.diskmodel.specs.Memory.{content_of, CanStopAt, told_of, switch_of, TimeGoesOn, IsUndisturbed, Heeds};
+    ghost use Rattle.diskmodel.specs.Memory.{content_of, made_of, CanStopAt, told_of, switch_of, TimeGoesOn, IsUndisturbed, Heeds};
     ghost use Rattle.diskmodel.specs.Refusals.{IsRefused, room_for};
 
     ghost content = { λ disk. disk.history.content.items };
@@ -213,6 +213,8 @@ impl Disk for MemDisk {
     ghost outcome_since = { λ disk. IsOutcomeSince disk.history.first.items disk.history.calls.items };
 
     ghost faults = { λ disk. disk.faults.count };
+
+    ghost calls = { made_of };
 
     ghost content_is_outcome = { λ disk. disk.history.kept.possible };
 
@@ -226,6 +228,7 @@ impl Disk for MemDisk {
         ensures outcomes { NoneNew (CanStopAt self.old) (CanStopAt self.new) }
         ensures time { TimeGoesOn self.old self.new }
         ensures cause { HasCause self.old.faults.count self.new.faults.count result }
+        ensures calls { made_of self.new ≡ made_of self.old }
 
         // It doesn't count as a call.
         ensures unchanged { self.new ≡ self.old }
@@ -240,6 +243,7 @@ impl Disk for MemDisk {
         ensures outcomes { NoneNew (CanStopAt self.old) (CanStopAt self.new) }
         ensures time { TimeGoesOn self.old self.new }
         ensures cause { HasCause self.old.faults.count self.new.faults.count result }
+        ensures calls { made_of self.new ≡ made_of self.old }
 
         // Without a switch it fails only where it has been told to. It isn't in the record.
         ensures heeds { Heeds CallKind.Read self.old self.new result }
@@ -258,6 +262,7 @@ impl Disk for MemDisk {
         ensures outcomes { ComesBy (IsTorn at (length bytes.now)) (CanStopAt self.old) (CanStopAt self.new) }
         ensures time { TimeGoesOn self.old self.new }
         ensures cause { HasCause self.old.faults.count self.new.faults.count result }
+        ensures calls { Makes (Call.Wrote at bytes.now) result (made_of self.old) (made_of self.new) }
         ensures recorded { OnOk result (Adds (Call.Wrote at bytes.now) self.old.history self.new.history) }
         ensures heeds { Heeds CallKind.Write self.old self.new result }
 
@@ -275,6 +280,7 @@ impl Disk for MemDisk {
         ensures outcomes { ComesBy (IsCut len) (CanStopAt self.old) (CanStopAt self.new) }
         ensures time { TimeGoesOn self.old self.new }
         ensures cause { HasCause self.old.faults.count self.new.faults.count result }
+        ensures calls { Makes (Call.Cut len) result (made_of self.old) (made_of self.new) }
         ensures recorded { OnOk result (Adds (Call.Cut len) self.old.history self.new.history) }
         ensures heeds { Heeds CallKind.Cut self.old self.new result }
         ensures succeeds { switch_of self.old ≡ None → OnErr result (Contains (counts_for (told_of self.old) CallKind.Cut) 1 ⊎ IsRefused (room_for 0) self.old.refusals self.new.refusals) }
@@ -290,6 +296,7 @@ impl Disk for MemDisk {
         ensures outcomes { NoneNew (CanStopAt self.old) (CanStopAt self.new) }
         ensures time { TimeGoesOn self.old self.new }
         ensures cause { HasCause self.old.faults.count self.new.faults.count result }
+        ensures calls { Makes Call.Synced result (made_of self.old) (made_of self.new) }
         ensures recorded { OnOk result (Adds Call.Synced self.old.history self.new.history) }
         ensures heeds { Heeds CallKind.Sync self.old self.new result }
         ensures succeeds { switch_of self.old ≡ None → OnErr result (Contains (counts_for (told_of self.old) CallKind.Sync) 1 ⊎ IsRefused (room_for (length (content_of self.old))) self.old.refusals self.new.refusals) }
@@ -301,7 +308,7 @@ impl Disk for MemDisk {
 }
 
 impl StopDisk for MemDisk {
-    ghost use Rattle.diskmodel.specs.Memory.{content_of, CanStopAt, choice_of, told_of, switch_of, TimeGoesOn};
+    ghost use Rattle.diskmodel.specs.Memory.{content_of, made_of, CanStopAt, choice_of, told_of, switch_of, TimeGoesOn};
 
     /// It takes no memory, and no choice is left behind it.
     fn stop(&mut self)
@@ -310,6 +317,7 @@ impl StopDisk for MemDisk {
         ensures others { NoneNew (CanStopAt self.new) (CanStopAt self.old) }
         ensures time { TimeGoesOn self.old self.new }
         ensures faults { self.new.faults.count ≡ self.old.faults.count }
+        ensures calls { made_of self.new ≡ made_of self.old }
 
         // Each outcome comes by its choice. Without one a read gives what it gave.
         ensures chosen { (found : List ℕ) → choice_of self.old ≡ Some found → CanStopAt self.old found → content_of self.new ≡ found }

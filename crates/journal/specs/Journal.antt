@@ -1,10 +1,12 @@
 -- What a journal on a disk is, and what a stop of the machine leaves of it.
 use Rattle.std.specs.Prelude.{◌≡◌, ◌⊎◌, ℕ, ◌+◌, ◌-◌, ◌<◌, ◌≤◌, List, [], ◌∷◌, ◌++◌, length, take, Result, Ok, Err}
 use Rattle.diskmodel.specs.Disk.{LeavesOnly}
-use Rattle.journal.specs.declared.layout.TheConstants.{CLOSED}
+use Rattle.diskmodel.specs.declared.call.Call.{Call}
+use Rattle.diskmodel.specs.declared.call.Call.TheVariants.{Wrote, Synced}
+use Rattle.journal.specs.declared.layout.TheConstants.{CLOSED, OPEN}
 use Rattle.journal.specs.declared.record.Record.{Record}
 use Rattle.journal.specs.declared.journal.Journal.{Journal}
-use Rattle.journal.specs.Format.{kept, walk, stands, ScansTo}
+use Rattle.journal.specs.Format.{group_bytes, kept, walk, stands, ScansTo}
 
 -- the disk of a journal
 abbrev pub disk_of : {D : Type 0} → Journal D → D
@@ -22,6 +24,18 @@ pub record IsAlive {D : Type 0} (content : D → List ℕ) (outcome : D → List
   pub ends_closed : EndsClosed (content (disk_of journal))
   pub len : journal.len ≡ length (content (disk_of journal))
   pub firm : LeavesOnly (content (disk_of journal)) (outcome (disk_of journal))
+
+-- the calls that add a group of these records to a file of this length: it is written behind the file's closed gate, and synced; then
+-- that gate is opened, in a write of its own, and synced
+abbrev pub append_calls : ℕ → List (List ℕ) → List Call
+append_calls len records = Wrote len (group_bytes records) ∷ Synced ∷ Wrote (len - 1) (OPEN ∷ []) ∷ Synced ∷ []
+
+-- some of these calls were made behind the old ones, from the first on
+pub record MadeSome (calls old new : List Call) : Type 0 where
+  pub made : List Call
+  pub left : List Call
+  pub are : calls ≡ made ++ left
+  pub is : new ≡ old ++ made
 
 -- these records, and then those of a group whose gate is at this place
 abbrev pub with_group : ℕ → List (List ℕ) → Result (List Record) ℕ → Result (List Record) ℕ

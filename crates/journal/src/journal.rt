@@ -1,9 +1,9 @@
 //! A journal on a disk.
 
-ghost use Rattle.std.specs.Prelude.{◌≡◌, ◌≢◌, ◌⊎◌, ◌↔◌, ◌+◌, ◌-◌, ◌*◌, ◌^◌, ◌<◌, ◌≤◌, List, ℕ, length, Ok, Err, IfOk, IfErr, OnOk, OnErr, IsErrOf};
+ghost use Rattle.std.specs.Prelude.{◌≡◌, ◌≢◌, ◌⊎◌, ◌↔◌, ◌+◌, ◌-◌, ◌*◌, ◌^◌, ◌<◌, ◌≤◌, List, ℕ, ◌++◌, length, Ok, Err, IfOk, IfErr, OnOk, OnErr, IsErrOf};
 ghost use Rattle.diskmodel.specs.Disk.{LeavesOnly, AtEachMoment, NoneNew};
 ghost use Rattle.journal.specs.Format.{group_bytes, stands, file_with, ScansTo};
-ghost use Rattle.journal.specs.Journal.{disk_of, EndsClosed, IsAlive, stands_with, IsClosedUp, IsBeforeOrAfter, StandsAsOneOf};
+ghost use Rattle.journal.specs.Journal.{disk_of, append_calls, EndsClosed, IsAlive, MadeSome, stands_with, IsClosedUp, IsBeforeOrAfter, StandsAsOneOf};
 
 use crate::error::{Failed, JournalError};
 use crate::group::Group;
@@ -111,6 +111,10 @@ impl<D: Disk> Journal<D> {
         // At `Device` nothing can be added any more.
         ensures dead { IsErrOf result JournalError.Device → ¬ IsAlive D.content D.outcome self.new }
 
+        // The disk has made the four calls that add the group, or some of them.
+        ensures calls { OnOk result (D.calls (disk_of self.new) ≡ D.calls (disk_of self.old) ++ append_calls (length (D.content (disk_of self.old))) group) }
+        ensures calls_err { OnErr result (MadeSome (append_calls (length (D.content (disk_of self.old))) group) (D.calls (disk_of self.old)) (D.calls (disk_of self.new))) }
+
         ensures full { IsErrOf result JournalError.Full ↔ (MAX_JOURNAL_BYTES < length (D.content (disk_of self.old)) + length (group_bytes group)) }
         ensures unchanged { IsErrOf result JournalError.Full → self.new ≡ self.old }
     {
@@ -153,6 +157,8 @@ fn write_group<D: Disk>(disk: &mut D, len: u64, group: &Group) -> Result<(), Jou
     ensures errors { IfErr result (λ error. error ≡ JournalError.Device) }
     ensures device { OnErr result (D.faults disk.old < D.faults disk.new) }
     ensures no_fault { OnOk result (D.faults disk.new ≡ D.faults disk.old) }
+    ensures calls { OnOk result (D.calls disk.new ≡ D.calls disk.old ++ append_calls len group.now) }
+    ensures calls_err { OnErr result (MadeSome (append_calls len group.now) (D.calls disk.old) (D.calls disk.new)) }
 {
     disk.write_at(len, group.bytes())?;
     // The group has to be firm before its gate is opened.
