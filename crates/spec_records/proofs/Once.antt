@@ -37,4 +37,4 @@ one_record charter one other committee checked also same =
     (λ i. record { sender = record { 0 = sender i }; message = message i })
 
 pub no_configuration : NoConfiguration
-no_configuration event charter own same = omega (arith, ap (λ (l : List ℕ). get_or l 0 0) same)
+no_configuration event version charter own same = omega (arith, ap (λ (l : List ℕ). get_or l 0 0) same)

@@ -1,24 +1,52 @@
 -- The records of the journal: the bytes that an event has there, and those that a node's configuration has.
-use Rattle.std.specs.Prelude.{◌≡◌, ◌≢◌, ℕ, List, ◌∷◌, ◌++◌, length, None}
+use Rattle.std.specs.Prelude.{◌≡◌, ◌≢◌, ⊤, ℕ, ◌<◌, ◌^◌, List, [], ◌∷◌, ◌++◌, length, None, All}
 use Rattle.std.specs.List.{flat_map}
 use Rattle.std.specs.Int.{w16, w32, to_be_bytes}
 use Rattle.committee.specs.Charter.{Charter, IsCharter}
 use Rattle.header.specs.Checks.{fault_of, accepts_all}
 use Rattle.wire.specs.Events.{Event}
+use Rattle.wire.specs.Fields.{AreBytes}
 use Rattle.wire.specs.Grammar.{IsMessage}
 use Rattle.wire.specs.Spelling.{spelling}
 use Rattle.wire.specs.declared.keys.Author.{Author}
+use Rattle.spec_records.specs.declared.version.Version.{Version}
+use Rattle.spec_records.specs.declared.version.Version.TheVariants.{First, Second}
 
 -- the record of an event: its kind, the sender, the message
 abbrev pub record_of : Event → List ℕ
 record_of event = 1 ∷ to_be_bytes w16 event.sender.0 ++ spelling event.message
 
+-- ---- a node's configuration
+
+-- the number of a version
+abbrev pub number_of : Version → ℕ
+number_of First = 1
+number_of Second = 2
+
+-- the stakes of a record: from the second version on it has them
+abbrev pub stakes_of : Version → List ℕ → List ℕ
+stakes_of First stakes = []
+stakes_of Second stakes = flat_map (to_be_bytes w32) stakes
+
 -- the record of a node's configuration: its kind, the version, the own number, the depth, how many workers a member has, how many
--- batches a member holds, how many members there are, and their keys
-abbrev pub configuration_of : Charter → Author → List ℕ
-configuration_of charter own =
-    0 ∷ 1 ∷ to_be_bytes w16 own.0 ++ to_be_bytes w16 charter.depth ++ to_be_bytes w16 charter.workers ++ to_be_bytes w32 charter.batches
-    ++ to_be_bytes w16 (length charter.keys) ++ flat_map (λ key. key.0) charter.keys
+-- batches a member holds, how many members there are, their keys, and their stakes where the version has them
+abbrev pub configuration_of : Version → Charter → Author → List ℕ
+configuration_of version charter own =
+    0 ∷ number_of version ∷ to_be_bytes w16 own.0 ++ to_be_bytes w16 charter.depth ++ to_be_bytes w16 charter.workers ++ to_be_bytes w32 charter.batches
+    ++ to_be_bytes w16 (length charter.keys) ++ flat_map (λ key. key.0) charter.keys ++ stakes_of version charter.stakes
+
+-- a version can tell a committee: the first has no stakes, so each is 1
+abbrev pub CanTell : Version → Charter → Type 0
+CanTell First charter = All (λ stake. stake ≡ 1) charter.stakes
+CanTell Second charter = ⊤
+
+-- a sound committee whose keys have 32 bytes each, with a number of two bytes
+pub record IsConfiguration (charter : Charter) (own : Author) : Type 0 where
+  pub sound : IsCharter charter
+  pub keys : All (λ key. AreBytes 32 key.0) charter.keys
+  pub fits : own.0 < 2 ^ 16
+
+-- ---- laws
 
 -- an event that passed the checks of a committee, whatever its signatures, and keeps all limits. The model's IsTaken says the same of a
 -- node and its committee; it is said twice since neither crate stands on the other
@@ -31,6 +59,12 @@ abbrev pub OneRecord : Type 0
 OneRecord = (charter : Charter) (one other : Event) → IsCharter charter → IsChecked charter one → IsChecked charter other
     → record_of one ≡ record_of other → one ≡ other
 
--- and no event's record is a configuration's
+-- no event's record is a configuration's, in any version
 abbrev pub NoConfiguration : Type 0
-NoConfiguration = (event : Event) (charter : Charter) (own : Author) → record_of event ≢ configuration_of charter own
+NoConfiguration = (event : Event) (version : Version) (charter : Charter) (own : Author) → record_of event ≢ configuration_of version charter own
+
+-- and a record is that of one configuration only, of those that its version can tell
+abbrev pub OneConfiguration : Type 0
+OneConfiguration = (version other : Version) (charter also : Charter) (own number : Author) → IsConfiguration charter own → IsConfiguration also number
+    → CanTell version charter → CanTell other also → configuration_of version charter own ≡ configuration_of other also number
+    → (charter ≡ also) × (own ≡ number)

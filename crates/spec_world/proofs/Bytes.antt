@@ -10,7 +10,9 @@ use Rattle.spec_model.specs.Admitting.{IsTaken}
 use Rattle.spec_model.specs.Histories.{History}
 use Rattle.spec_model.specs.Nodes.{Node}
 use Rattle.spec_model.specs.Words.{Event}
-use Rattle.spec_records.specs.Records.{record_of, configuration_of}
+use Rattle.spec_records.specs.Records.{record_of, number_of, stakes_of, configuration_of}
+use Rattle.spec_records.specs.declared.version.Version.{Version}
+use Rattle.spec_records.specs.declared.version.Version.TheVariants.{First, Second}
 use Rattle.wire.specs.Batches.{Contents, transaction_bytes, batch_body, IsTransaction, IsBatch}
 use Rattle.wire.specs.Fields as fields
 use Rattle.wire.specs.Grammar.{IsHeaderBody, IsMessage}
@@ -113,19 +115,34 @@ record_are node event is =
     let rest = to_be_bytes w16 event.sender.0 ++ spelling event.message in
     one_more 1 rest (omega arith) (with_two event.sender.0 (spelling event.message) (message_are event.message is.message))
 
+-- the number of a version is a byte
+number_small : (version : Version) → number_of version < 256
+number_small First = omega arith
+number_small Second = omega arith
+
+-- the stakes of a record
+stakes_are : (version : Version) (stakes : List ℕ) → AreBytes (stakes_of version stakes)
+stakes_are First stakes = All-nil (λ b. b < 256)
+stakes_are Second [] = All-nil (λ b. b < 256)
+stakes_are Second (stake ∷ stakes) = with_four stake (stakes_of Second stakes) (stakes_are Second stakes)
+
 -- the record of a node's configuration, where its keys are bytes
-pub configuration_are : (node : Node) → All (λ key. fields.AreBytes 32 key.0) node.charter.keys → AreBytes (configuration_of node.charter node.own)
-configuration_are node keys =
+pub configuration_are : (version : Version) (node : Node) → All (λ key. fields.AreBytes 32 key.0) node.charter.keys → AreBytes (configuration_of version node.charter node.own)
+configuration_are version node keys =
     let charter = node.charter in
-    let text = flat_map (λ (key : Key). key.0) charter.keys in
+    let stakes = stakes_of version charter.stakes in
+    let text = flat_map (λ (key : Key). key.0) charter.keys ++ stakes in
     let counted = to_be_bytes w16 (length charter.keys) ++ text in
     let batches = to_be_bytes w32 charter.batches ++ counted in
     let workers = to_be_bytes w16 charter.workers ++ batches in
     let depth = to_be_bytes w16 charter.depth ++ workers in
     let own = to_be_bytes w16 node.own.0 ++ depth in
-    let are : AreBytes text = in_turn (λ (key : Key). fields.AreBytes 32 key.0) (λ (key : Key). key.0) (λ key is. is.each) charter.keys keys in
+    let each : AreBytes (flat_map (λ (key : Key). key.0) charter.keys) =
+    in_turn (λ (key : Key). fields.AreBytes 32 key.0) (λ (key : Key). key.0) (λ key is. is.each) charter.keys keys in
+    let are : AreBytes text = joined (flat_map (λ (key : Key). key.0) charter.keys) stakes each (stakes_are version charter.stakes) in
     let from_workers : AreBytes workers = with_two charter.workers batches (with_four charter.batches counted (with_two (length charter.keys) text are)) in
-    one_more 0 (1 ∷ own) (omega arith) (one_more 1 own (omega arith) (with_two node.own.0 depth (with_two charter.depth workers from_workers)))
+    let number : number_of version < 256 = number_small version in
+    one_more 0 (number_of version ∷ own) (omega arith) (one_more (number_of version) own number (with_two node.own.0 depth (with_two charter.depth workers from_workers)))
 
 -- ---- groups
 

@@ -52,10 +52,11 @@ pub holds_same : (node : Node) (file left : List ℕ) (history : History) → Ho
 holds_same node file left history held same = record {
   records = held.records;
   stands_for = same ∙ held.stands_for;
+  version = held.version;
   are = held.are;
   alone = held.alone;
   each_taken = held.each_taken;
-  ones = held.ones;
+  can_tell = held.can_tell;
 }
 
 -- and with a group of the records of these events more
@@ -66,15 +67,16 @@ holds_more node file left history more held taken is =
     let last = kept (length file - 1) group in
     record {
       records = held.records ++ last;
+      version = held.version;
       stands_for = is ∙ ap (with_group (length file - 1) group) held.stands_for;
       are = map-append (λ (one : Record). one.bytes) held.records last
           ∙ (λ i. held.are i ++ bytes_of-kept (length file - 1) group i)
-          ∙ ap (λ (l : List (List ℕ)). journal_of node [] ++ l) (sym (map-append record_of history more));
+          ∙ ap (λ (l : List (List ℕ)). journal_of held.version node [] ++ l) (sym (map-append record_of history more));
       alone = subst (All IsBehind) (sym (drop-append-le 1 held.records last (some_record node file history held)))
           (All-append IsBehind (drop 1 held.records) last held.alone
           (kept_behind (length file - 1) group (omega (arith, journal_long node file history held))));
       each_taken = All-append (IsTaken node) history more held.each_taken taken;
-      ones = held.ones;
+      can_tell = held.can_tell;
     }
 
 -- ---- one history
@@ -95,7 +97,7 @@ same_events node sound (event ∷ one) (next ∷ other) taken also same =
 one_history : (node : Node) (bytes : List ℕ) (one other : History) → IsNode node → Holds node bytes one → Holds node bytes other → one ≡ other
 one_history node bytes one other sound held also =
     let records = ok_is held.records also.records (sym held.stands_for ∙ also.stands_for) in
-    let journals : journal_of node one ≡ journal_of node other = sym held.are ∙ ap bytes_of records ∙ also.are in
+    let journals : journal_of held.version node one ≡ journal_of also.version node other = sym held.are ∙ ap bytes_of records ∙ also.are in
     same_events node sound one other held.each_taken also.each_taken (ap (λ (l : List (List ℕ)). drop 1 l) journals)
 
 -- and stand for no other

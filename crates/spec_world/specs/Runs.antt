@@ -4,6 +4,7 @@ use Rattle.journal.specs.Format.{FitsGroup, file_with}
 use Rattle.journal.specs.declared.layout.TheConstants.{CLOSED}
 use Rattle.spec_model.specs.Nodes.{Node, IsNode}
 use Rattle.spec_records.specs.Records.{record_of, configuration_of}
+use Rattle.spec_records.specs.declared.version.Version.TheVariants.{Second}
 use Rattle.wire.specs.Fields.{AreBytes}
 use Rattle.spec_world.specs.World.{no_group, World, content_in, MayStop, run_on}
 use Rattle.spec_world.specs.Steps.{Move, take_to, device_call, settle, restart, IsStep, Leads, IsRun}
@@ -12,13 +13,13 @@ use Rattle.spec_world.specs.Steps.{Move, take_to, device_call, settle, restart, 
 abbrev pub AreKeys : Node → Type 0
 AreKeys node = All (λ key. AreBytes 32 key.0) node.charter.keys
 
--- an opening leaves of an empty disk one closed gate, and then the group of the configuration alone
+-- an opening leaves of an empty disk one closed gate, and then the group of the configuration alone, in the second version
 abbrev pub first_bytes : Node → List ℕ
-first_bytes node = file_with (CLOSED ∷ []) (configuration_of node.charter node.own ∷ [])
+first_bytes node = file_with (CLOSED ∷ []) (configuration_of Second node.charter node.own ∷ [])
 
--- a run without moves leads to that, where each stake is 1
+-- a run without moves leads to that, whatever the stakes are
 abbrev pub RunsBegin : Type 0
-RunsBegin = (node : Node) → IsNode node → AreKeys node → All (λ stake. stake ≡ 1) node.charter.stakes → IsRun node [] (run_on (first_bytes node) [] [])
+RunsBegin = (node : Node) → IsNode node → AreKeys node → IsRun node [] (run_on (first_bytes node) [] [])
 
 -- a stop is always possible: it may leave what a read gives
 abbrev pub StopsArePossible : Type 0

@@ -11,7 +11,8 @@ use Rattle.spec_model.specs.Admitting.{IsTaken}
 use Rattle.spec_model.specs.Histories.{History}
 use Rattle.spec_model.specs.Nodes.{Node}
 use Rattle.spec_model.specs.Words.{Digest, Output}
-use Rattle.spec_records.specs.Records.{record_of, configuration_of}
+use Rattle.spec_records.specs.Records.{record_of, configuration_of, CanTell}
+use Rattle.spec_records.specs.declared.version.Version.{Version}
 
 -- ---- what there is
 
@@ -67,20 +68,20 @@ pub record World : Type 0 where
 abbrev pub bytes_of : List Record → List (List ℕ)
 bytes_of records = map (λ kept. kept.bytes) records
 
--- the records of a node's journal: its configuration, and then those of its events
-abbrev pub journal_of : Node → History → List (List ℕ)
-journal_of node history = configuration_of node.charter node.own ∷ map record_of history
+-- the records of a node's journal in a version: its configuration, and then those of its events
+abbrev pub journal_of : Version → Node → History → List (List ℕ)
+journal_of version node history = configuration_of version node.charter node.own ∷ map record_of history
 
--- the bytes of a disk are a journal of the node with these events, each as the node takes it. The configuration is alone in the first
--- group, whose gate is at place 0
+-- the bytes of a disk are a journal of the node with these events, each as the node takes it, in a version that can tell the node's
+-- committee: the first only where each stake is 1. The configuration is alone in the first group, whose gate is at place 0
 pub record Holds (node : Node) (bytes : List ℕ) (history : History) : Type 0 where
   pub records : List Record
   pub stands_for : stands bytes ≡ Ok records
-  pub are : bytes_of records ≡ journal_of node history
+  pub version : Version
+  pub are : bytes_of records ≡ journal_of version node history
   pub alone : All (λ kept. 0 < kept.gate) (drop 1 records)
   pub each_taken : All (IsTaken node) history
-  -- the configuration's record has no stakes, so each is 1
-  pub ones : All (λ stake. stake ≡ 1) node.charter.stakes
+  pub can_tell : CanTell version node.charter
 
 -- the bytes of a disk stand for these events: they are a journal with them, or there is no record yet, and no event
 pub data StandsFor (node : Node) (bytes : List ℕ) (history : History) : Type 0 where

@@ -13,8 +13,8 @@ pub fn never_takes_back()
     ensures { NothingTakenBack }
 {}
 
-/// There are such runs: of a node whose keys have 32 bytes each and whose stakes are all 1 they begin on what an
-/// opening leaves of an empty disk.
+/// There are such runs: of a node whose keys have 32 bytes each, whatever its stakes are, they begin on what an opening
+/// leaves of an empty disk.
 pub fn runs_begin()
     ensures { RunsBegin }
 {}
