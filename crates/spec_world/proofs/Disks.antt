@@ -1,9 +1,10 @@
 -- What a stop may leave in each phase of an append.
-use Rattle.std.proofs.Common.{◌≡◌, ◌⊎◌, ℕ, ◌+◌, ◌-◌, ◌<◌, ◌≤◌, max, false, List, [], ◌∷◌, ◌++◌, length, take, drop, get_or, Some, inl, inr, ⊎_elim, refl, sym, ap, ◌∙◌, subst, arith, length-append, length-take, length-drop}
+use Rattle.std.proofs.Common.{◌≡◌, ◌⊎◌, ℕ, ◌+◌, ◌-◌, ◌<◌, ◌≤◌, max, false, List, [], ◌∷◌, ◌++◌, length, take, drop, get_or, Some, inl, inr, ⊎_elim, refl, sym, ap, ◌∙◌, subst, arith, append_assoc, length-append, length-take, length-drop, map, ◌≢◌}
 use Rattle.std.proofs.lemmas.Bool.{or_from}
-use Rattle.std.proofs.lemmas.List.{ext_get_or, get_or-take, get_or-drop}
+use Rattle.std.proofs.lemmas.List.{append-nil, ext_get_or, get_or-take, get_or-drop}
 use Rattle.std.proofs.lemmas.Option.{same_Some, none-some}
-use Rattle.std.proofs.lemmas.List.Elements.{All-nil}
+use Rattle.std.specs.Prelude.{All}
+use Rattle.std.proofs.lemmas.List.Elements.{All-nil, All-head}
 use Rattle.diskmodel.specs.declared.call.Call.{Call}
 use Rattle.diskmodel.specs.declared.call.Call.TheVariants.{Wrote, Synced}
 use Rattle.diskmodel.specs.declared.call.Span.{Span}
@@ -16,8 +17,10 @@ use Rattle.journal.specs.Format.{FitsGroup, group_bytes, file_with, stands}
 use Rattle.journal.specs.Journal.{EndsClosed, stands_with, IsBeforeOrAfter}
 use Rattle.journal.specs.declared.layout.TheConstants.{OPEN}
 use Rattle.journal.proofs.Stops.{torn_behind, torn_gate, staged_before, written_behind, Added, added}
+use Rattle.spec_model.specs.Histories.{History}
+use Rattle.spec_records.specs.Records.{record_of}
 use Rattle.spec_world.proofs.Bytes.{one_more, joined, longer_bytes}
-use Rattle.spec_world.specs.World.{Phase, no_group, group_taken, group_written, group_synced, gate_opened, gate_synced, call_in}
+use Rattle.spec_world.specs.World.{Phase, not_begun, group_written, group_synced, gate_opened, gate_synced, first_of, events_of, call_in, call_for}
 use Rattle.spec_world.specs.Steps.{next_phase}
 
 -- ---- one write on firm bytes
@@ -54,16 +57,15 @@ torn_on_firm file at bytes found within left =
 
 -- what the calls come to in a phase, where this was the file when the group was taken
 abbrev pub IsAt : Phase → State → List ℕ → List (List ℕ) → Type 0
-IsAt no_group s file group = s ≡ firmed file
-IsAt group_taken s file group = s ≡ firmed file
+IsAt not_begun s file group = s ≡ firmed file
 IsAt group_written s file group = s ≡ after (firmed file) (Wrote (length file) (group_bytes group))
 IsAt group_synced s file group = s ≡ firmed (file ++ group_bytes group)
 IsAt gate_opened s file group = s ≡ after (firmed (file ++ group_bytes group)) (Wrote (length file - 1) (OPEN ∷ []))
 IsAt gate_synced s file group = s ≡ firmed (file_with file group)
 
--- a group that was taken fits
+-- a group whose append has begun fits
 abbrev pub Fits : Phase → List (List ℕ) → Type 0
-Fits no_group group = Unit {0}
+Fits not_begun group = Unit {0}
 Fits _ group = FitsGroup group
 
 module _ (file : List ℕ) (ends : EndsClosed file) (group : List (List ℕ)) where
@@ -83,8 +85,7 @@ module _ (file : List ℕ) (ends : EndsClosed file) (group : List (List ℕ)) wh
 
   -- what is left stands for the records of the file, or for these with the whole group
   pub leaves : (phase : Phase) (s : State) (found : List ℕ) → Fits phase group → IsAt phase s file group → CanLeave s found → IsBeforeOrAfter file group found
-  leaves no_group s found fits is left = inl (ap stands (firm_only file found (subst (λ (t : State). CanLeave t found) is left)))
-  leaves group_taken s found fits is left = inl (ap stands (firm_only file found (subst (λ (t : State). CanLeave t found) is left)))
+  leaves not_begun s found fits is left = inl (ap stands (firm_only file found (subst (λ (t : State). CanLeave t found) is left)))
   leaves group_written s found fits is left =
       inl (torn_behind file ends (length (group_bytes group)) found
       (torn_on_firm file (length file) (group_bytes group) found (omega arith) (subst (λ (t : State). CanLeave t found) is left)))
@@ -99,8 +100,7 @@ module _ (file : List ℕ) (ends : EndsClosed file) (group : List (List ℕ)) wh
 
   -- what a read gives is what a stop may leave
   pub read_possible : (phase : Phase) (s : State) → AreBytes file → AreBytes (group_bytes group) → IsAt phase s file group → CanLeave s s.content
-  read_possible no_group s are also is = subst (λ (t : State). CanLeave t t.content) (sym is) (possible_firm file are)
-  read_possible group_taken s are also is = subst (λ (t : State). CanLeave t t.content) (sym is) (possible_firm file are)
+  read_possible not_begun s are also is = subst (λ (t : State). CanLeave t t.content) (sym is) (possible_firm file are)
   read_possible group_written s are also is =
       subst (λ (t : State). CanLeave t t.content) (sym is) (possible_write (firmed file) (length file) (group_bytes group) (possible_firm file are) also (omega arith))
   read_possible group_synced s are also is =
@@ -114,10 +114,9 @@ module _ (file : List ℕ) (ends : EndsClosed file) (group : List (List ℕ)) wh
       subst (λ (t : State). CanLeave t t.content) (sym is) (possible_firm (file_with file group) (longer_bytes file group are also))
 
   -- the next call leads to the next phase
-  pub called : (phase : Phase) (s : State) (call : Call) → Fits phase group → IsAt phase s file group → call_in phase s.content group ≡ Some call
+  pub called : (phase : Phase) (s : State) (call : Call) → FitsGroup group → IsAt phase s file group → call_in phase s.content group ≡ Some call
       → IsAt (next_phase phase) (after s call) file group
-  called no_group s call fits is due = absurd (none-some call due)
-  called group_taken s call fits is due =
+  called not_begun s call fits is due =
       ap (after s) (sym (same_Some _ call due)) ∙ ap (λ (t : State). after t (Wrote (length t.content) (group_bytes group))) is
   called group_written s call fits is due =
       ap (after s) (sym (same_Some _ call due)) ∙ ap (λ (t : State). after t Synced) is ∙ ap firmed (written_behind file ends (group_bytes group))
@@ -130,11 +129,40 @@ module _ (file : List ℕ) (ends : EndsClosed file) (group : List (List ℕ)) wh
       ap (after s) (sym (same_Some _ call due)) ∙ ap (λ (t : State). after t Synced) is ∙ ap firmed (opened_is fits)
   called gate_synced s call fits is due = absurd (none-some call due)
 
--- and its group fits
-pub fits_next : (phase : Phase) (group : List (List ℕ)) (content : List ℕ) (call : Call) → Fits phase group → call_in phase content group ≡ Some call → Fits (next_phase phase) group
-fits_next no_group group content call fits due = tt
-fits_next group_taken group content call fits due = fits
-fits_next group_written group content call fits due = fits
-fits_next group_synced group content call fits due = fits
-fits_next gate_opened group content call fits due = fits
-fits_next gate_synced group content call fits due = fits
+-- a group that fits does so in each phase
+pub fits_in : (phase : Phase) (group : List (List ℕ)) → FitsGroup group → Fits phase group
+fits_in not_begun group fits = tt
+fits_in group_written group fits = fits
+fits_in group_synced group fits = fits
+fits_in gate_opened group fits = fits
+fits_in gate_synced group fits = fits
+
+-- ---- the groups on their way
+
+abbrev pub FitsAsGroup : History → Type 0
+FitsAsGroup events = FitsGroup (map record_of events)
+
+pub first_fits : (groups : List History) (phase : Phase) → All FitsAsGroup groups → (groups ≡ [] → phase ≡ not_begun) → Fits phase (map record_of (first_of groups))
+first_fits [] phase all idle = subst (λ (p : Phase). Fits p []) (sym (idle refl)) tt
+first_fits (group ∷ groups) phase all idle = fits_in phase (map record_of group) (All-head FitsAsGroup group groups all)
+
+-- where a call is due it is that of the first group, which fits
+pub due_first : (groups : List History) (phase : Phase) (content : List ℕ) (call : Call) → All FitsAsGroup groups → call_for groups phase content ≡ Some call
+    → FitsAsGroup (first_of groups) × (call_in phase content (map record_of (first_of groups)) ≡ Some call)
+due_first [] phase content call all due = absurd (none-some call due)
+due_first (group ∷ groups) phase content call all due = (All-head FitsAsGroup group groups all, due)
+
+-- the first group, and the others
+pub events_split : (groups : List History) → events_of groups ≡ first_of groups ++ events_of (drop 1 groups)
+events_split [] = refl
+events_split (group ∷ groups) = refl
+
+-- where there are some, one more behind them isn't the first
+pub first_stays : (groups : List History) (more : History) → groups ≢ [] → first_of (groups ++ more ∷ []) ≡ first_of groups
+first_stays [] more some = absurd (some refl)
+first_stays (group ∷ groups) more some = refl
+
+-- one group more
+pub events_push : (groups : List History) (more : History) → events_of (groups ++ more ∷ []) ≡ events_of groups ++ more
+events_push [] more = append-nil more
+events_push (group ∷ groups) more = ap (λ l. group ++ l) (events_push groups more) ∙ sym (append_assoc group (events_of groups) more)

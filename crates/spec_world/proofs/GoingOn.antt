@@ -1,21 +1,28 @@
 -- That runs go on: what a stop leaves can be opened, and what is accepted can be settled.
-use Rattle.std.proofs.Common.{◌≡◌, ℕ, ◌+◌, ◌-◌, ◌<◌, List, [], ◌∷◌, ◌++◌, length, take, drop, Result, Ok, Err, refl}
+use Rattle.std.proofs.Common.{◌≡◌, ℕ, ◌+◌, ◌-◌, ◌<◌, ◌≤◌, List, [], ◌∷◌, ◌++◌, length, map, take, Some, Result, Ok, Err, refl, ap, sym, ◌∙◌, subst, arith, append_assoc}
+use Rattle.std.proofs.lemmas.List.{append-nil, length-map}
 use Rattle.std.proofs.lemmas.List.Elements.{All-take}
-use Rattle.diskmodel.specs.Outcomes.{AreBytes, state}
+use Rattle.std.proofs.lemmas.Option.{same_Some, none-some}
+use Rattle.diskmodel.specs.Disk.{written}
+use Rattle.diskmodel.specs.Outcomes.{AreBytes, State, after, firmed, state}
 use Rattle.diskmodel.specs.declared.call.Call.{Call}
 use Rattle.diskmodel.specs.declared.call.Call.TheVariants.{Wrote, Synced}
+use Rattle.diskmodel.proofs.Calls.{after_all-push}
+use Rattle.diskmodel.proofs.Torn.{length-written}
 use Rattle.journal.specs.Format.{group_bytes, scan, only_records, stands}
 use Rattle.journal.specs.declared.layout.TheConstants.{OPEN}
 use Rattle.journal.specs.declared.record.Record.{Record}
 use Rattle.journal.proofs.Stops.{repaired_cut}
 use Rattle.spec_model.specs.Histories.{History}
 use Rattle.spec_model.specs.Nodes.{Node}
-use Rattle.spec_world.specs.World.{no_group, group_taken, World, Holds, group_in, content_in, as_journal, MayStop, between, inside, run_on, IsOpened}
-use Rattle.spec_world.specs.Steps.{next_phase}
-use Rattle.spec_world.specs.Runs.{StopsArePossible, RunsGoOn, GroupsSettle}
+use Rattle.spec_records.specs.Records.{record_of}
+use Rattle.spec_world.specs.World.{Phase, not_begun, group_written, group_synced, gate_opened, World, Holds, events_of, first_of, group_in, content_in, call_in, call_for, as_journal, MayStop, between, inside, run_on, IsOpened}
+use Rattle.spec_world.specs.Steps.{take_to, device_call, settle, group_to, IsCalled, next_phase, Leads}
+use Rattle.spec_world.specs.Runs.{StopsArePossible, RunsGoOn, GroupsSettle, AppendsMakeCalls}
 use Rattle.spec_world.proofs.Bytes.{group_in_bytes}
 use Rattle.spec_world.proofs.Disks.{read_possible}
 use Rattle.spec_world.proofs.Law.{run_stands}
+use Rattle.spec_world.proofs.Moving.{all_stand, taken_more}
 use Rattle.spec_world.proofs.Recovering.{ok_is, journal_long, holds_same}
 use Rattle.spec_world.proofs.Standing.{left, group_events}
 
@@ -61,7 +68,7 @@ runs_go_on node moves world found sound run may =
 pub stops_are_possible : StopsArePossible
 stops_are_possible node moves world sound run =
     let at = run_stands node moves world sound run in
-    let events = drop (length world.settled) world.taken in
+    let events = first_of world.groups in
     between (read_possible at.file at.ends_closed (group_in world) world.phase (state world.bytes_at_start world.calls) at.are_bytes (group_in_bytes node events (group_events node world at)) at.disk)
 
 -- ---- what is accepted can be settled
@@ -71,34 +78,110 @@ abbrev called_on : World → Call → World
 called_on world call = record world { calls = world.calls ++ call ∷ []; phase = next_phase world.phase }
 
 pub groups_settle : GroupsSettle
-groups_settle node world count free fits =
-    let one : World = record world { taken = take count world.accepted; phase = group_taken } in
+groups_settle node moves world count sound run none fits =
+    let at = run_stands node moves world sound run in
+    let idle = at.idle none in
+    let group = group_to world count in
+    let one : World = record world { groups = group ∷ []; phase = not_begun } in
     let two = called_on one (Wrote (length (content_in one)) (group_bytes (group_in one))) in
     let three = called_on two Synced in
     let four = called_on three (Wrote (length (content_in three) - length (group_bytes (group_in three)) - 1) (OPEN ∷ [])) in
     let five = called_on four Synced in
-    let six : World = record five { settled = five.taken; phase = no_group } in (
-      six,
+    let six : World = record five { settled = world.settled ++ group; groups = []; phase = not_begun } in
+    let leads : Leads node world (take_to count ∷ device_call ∷ device_call ∷ device_call ∷ device_call ∷ settle ∷ []) six = (
+      one,
+      record { fits = fits; is = λ i. record world { groups = sym none i ++ group ∷ []; phase = sym idle i } },
       (
-        one,
-        record { free = free; fits = fits; is = refl },
+        two,
+        record { call = Wrote (length (content_in one)) (group_bytes (group_in one)); due = refl; is = refl },
         (
-          two,
-          record { call = Wrote (length (content_in one)) (group_bytes (group_in one)); due = refl; is = refl },
+          three,
+          record { call = Synced; due = refl; is = refl },
           (
-            three,
-            record { call = Synced; due = refl; is = refl },
+            four,
+            record { call = Wrote (length (content_in three) - length (group_bytes (group_in three)) - 1) (OPEN ∷ []); due = refl; is = refl },
             (
-              four,
-              record { call = Wrote (length (content_in three) - length (group_bytes (group_in three)) - 1) (OPEN ∷ []); due = refl; is = refl },
-              (
-                five,
-                record { call = Synced; due = refl; is = refl },
-                (six, record { done = refl; is = refl }, refl),
-              ),
+              five,
+              record { call = Synced; due = refl; is = refl },
+              (six, record { done = refl; is = refl }, refl),
             ),
           ),
         ),
       ),
-      refl,
+    ) in
+    let then = all_stand node (take_to count ∷ device_call ∷ device_call ∷ device_call ∷ device_call ∷ settle ∷ []) world six at leads in
+    let some : 1 ≤ length group = omega (arith, fits.some, length-map group record_of) in (
+      six,
+      leads,
+      record {
+        began = refl;
+        accepted = refl;
+        settled = ap (λ l. world.settled ++ l) (sym (append-nil group)) ∙ ap (λ l. world.settled ++ events_of (l ++ group ∷ [])) (sym none) ∙ taken_more world count at.taken some;
+        groups = refl;
+        phase = refl;
+        waiting = refl;
+        given = refl;
+        holds = subst (λ bytes. Holds node bytes (six.began ++ six.settled)) (sym (ap (λ (s : State). s.content) then.disk)) then.holds;
+      },
     )
+
+-- ---- the calls of an append
+
+due_group : (groups : List History) (phase : Phase) (content : List ℕ) (call : Call) → call_for groups phase content ≡ Some call → call_in phase content (map record_of (first_of groups)) ≡ Some call
+due_group [] phase content call due = absurd (none-some call due)
+due_group (group ∷ groups) phase content call due = due
+
+-- the call that is made, by its phase
+one_call : (world next : World) (phase : Phase) (step : IsCalled world next) → world.phase ≡ phase → call_in phase (content_in world) (group_in world) ≡ Some step.call
+one_call world next phase step is =
+    ap (λ (p : Phase). call_in p (content_in world) (group_in world)) (sym is) ∙ due_group world.groups world.phase (content_in world) step.call step.due
+
+-- what a read gives behind it
+content_next : (world next : World) (step : IsCalled world next) → content_in next ≡ (after (state world.bytes_at_start world.calls) step.call).content
+content_next world next step = ap content_in step.is ∙ ap (λ (s : State). s.content) (after_all-push (firmed world.bytes_at_start) world.calls step.call)
+
+phase_next : (world next : World) (phase : Phase) (step : IsCalled world next) → world.phase ≡ phase → next.phase ≡ next_phase phase
+phase_next world next phase step is = ap (λ (w : World). w.phase) step.is ∙ ap next_phase is
+
+group_next : (world next : World) (step : IsCalled world next) → group_in next ≡ group_in world
+group_next world next step = ap group_in step.is
+
+calls_next : (world next : World) (step : IsCalled world next) → next.calls ≡ world.calls ++ step.call ∷ []
+calls_next world next step = ap (λ (w : World). w.calls) step.is
+
+pub appends_make_calls : AppendsMakeCalls
+appends_make_calls node world next begun leads =
+    let one = leads.0 in
+    let first = leads.1 in
+    let two = leads.2.0 in
+    let second = leads.2.1 in
+    let three = leads.2.2.0 in
+    let third = leads.2.2.1 in
+    let four = leads.2.2.2.0 in
+    let fourth = leads.2.2.2.1 in
+    let bytes = group_bytes (group_in world) in
+    let len = length (content_in world) in
+    let in_one = phase_next world one not_begun first begun in
+    let in_two = phase_next one two group_written second in_one in
+    let in_three = phase_next two three group_synced third in_two in
+    let write : Wrote len bytes ≡ first.call = same_Some _ first.call (one_call world one not_begun first begun) in
+    let sync : Synced ≡ second.call = same_Some _ second.call (one_call one two group_written second in_one) in
+    let group : group_in two ≡ group_in world = group_next one two second ∙ group_next world one first in
+    let gate : Wrote (length (content_in two) - length (group_bytes (group_in two)) - 1) (OPEN ∷ []) ≡ third.call = same_Some _ third.call (one_call two three group_synced third in_two) in
+    let last : Synced ≡ fourth.call = same_Some _ fourth.call (one_call three four gate_opened fourth in_three) in
+    let grown : content_in one ≡ written (content_in world) len bytes =
+    content_next world one first ∙ ap (λ (c : Call). (after (state world.bytes_at_start world.calls) c).content) (sym write) in
+    let kept : content_in two ≡ content_in one = content_next one two second ∙ ap (λ (c : Call). (after (state one.bytes_at_start one.calls) c).content) (sym sync) in
+    let long : length (content_in two) ≡ len + length bytes =
+    omega (arith, ap length kept, ap length grown, length-written (content_in world) len bytes (omega arith)) in
+    let place : length (content_in two) - length (group_bytes (group_in two)) - 1 ≡ len - 1 = omega (arith, long, ap (λ (g : List (List ℕ)). length (group_bytes g)) group) in
+    let opened : third.call ≡ Wrote (len - 1) (OPEN ∷ []) = sym gate ∙ ap (λ (n : ℕ). Wrote n (OPEN ∷ [])) place in
+    let all : four.calls ≡ (((world.calls ++ Wrote len bytes ∷ []) ++ Synced ∷ []) ++ Wrote (len - 1) (OPEN ∷ []) ∷ []) ++ Synced ∷ [] =
+    calls_next three four fourth
+    ∙ ap (λ (l : List Call). l ++ fourth.call ∷ [])
+    (calls_next two three third ∙ ap (λ (l : List Call). l ++ third.call ∷ []) (calls_next one two second ∙ ap (λ (l : List Call). l ++ second.call ∷ []) (calls_next world one first)))
+    ∙ (λ i. (((world.calls ++ sym write i ∷ []) ++ sym sync i ∷ []) ++ opened i ∷ []) ++ sym last i ∷ []) in
+    ap (λ (w : World). w.calls) (sym leads.2.2.2.2) ∙ all
+    ∙ append_assoc ((world.calls ++ Wrote len bytes ∷ []) ++ Synced ∷ []) (Wrote (len - 1) (OPEN ∷ []) ∷ []) (Synced ∷ [])
+    ∙ append_assoc (world.calls ++ Wrote len bytes ∷ []) (Synced ∷ []) (Wrote (len - 1) (OPEN ∷ []) ∷ Synced ∷ [])
+    ∙ append_assoc world.calls (Wrote len bytes ∷ []) (Synced ∷ Wrote (len - 1) (OPEN ∷ []) ∷ Synced ∷ [])

@@ -3,6 +3,7 @@ use Rattle.std.proofs.Common.{ap, ◌≡◌, ◌⊎◌, ℕ, List, [], ◌++◌,
 use Rattle.std.specs.Prelude.{Contains}
 use Rattle.std.proofs.lemmas.Bool.{cases_lt}
 use Rattle.std.proofs.lemmas.Option.{none-some}
+use Rattle.std.proofs.lemmas.List.{append-nil}
 use Rattle.std.proofs.lemmas.List.Elements.{All-nil, All-contains}
 use Rattle.spec_laws.specs.Laws.{Begins}
 use Rattle.spec_laws.proofs.Given.{given_grows}
@@ -14,14 +15,14 @@ use Rattle.spec_model.specs.Histories.{History}
 use Rattle.spec_model.specs.Holdings.{order}
 use Rattle.spec_model.specs.Nodes.{Node, IsNode}
 use Rattle.spec_model.specs.Words.{Digest, Output}
-use Rattle.spec_world.specs.World.{Outgoing, put_out, read, Given, World, StandsFor, as_journal, as_new, MayStop}
+use Rattle.spec_world.specs.World.{Outgoing, put_out, read, Given, World, events_of, first_of, StandsFor, as_journal, as_new, MayStop}
 use Rattle.spec_world.specs.Steps.{Move, IsRun}
 use Rattle.spec_world.specs.Promise.{Ballot, vote_in, vote_given, order_given, IsNoLater, IsRecovered, NeverTakesBack, NothingTakenBack}
 use Rattle.spec_world.proofs.Ballots.{votes_agree}
 use Rattle.spec_world.proofs.Moving.{all_stand}
 use Rattle.spec_world.proofs.Orders.{shorter_begins, IsEnded, goes_out, order_of, orders_begin}
 use Rattle.spec_world.proofs.Recovering.{journal_long, stands_once}
-use Rattle.spec_world.proofs.Standing.{IsKept, Stands, left, legal_between, settled_legal, begins_standing}
+use Rattle.spec_world.proofs.Standing.{IsKept, Stands, with_first, left, legal_between, settled_legal, begins_standing}
 
 -- the output that has a vote may be given out
 pub record HasVote (node : Node) (history : History) (ballot : Ballot) : Type 0 where
@@ -71,9 +72,9 @@ module _ (node : Node) (world : World) (at : Stands node world) where
         | inr less ↦ inl (shorter_begins one.history other.history all first second less)
       ]
 
-  settled_alone : (history : History) → (history ≡ world.began ++ world.settled) ⊎ (history ≡ world.began ++ world.taken) → world.taken ≡ world.settled → history ≡ world.began ++ world.settled
+  settled_alone : (history : History) → (history ≡ world.began ++ world.settled) ⊎ (history ≡ world.began ++ with_first world) → world.groups ≡ [] → history ≡ world.began ++ world.settled
   settled_alone history (inl settled) idle = settled
-  settled_alone history (inr taken) idle = taken ∙ ap (λ l. world.began ++ l) idle
+  settled_alone history (inr first) idle = first ∙ ap (λ l. world.began ++ (world.settled ++ first_of l)) idle ∙ ap (λ l. world.began ++ l) (append-nil world.settled)
 
   recovered_there : (bytes : List ℕ) (history : History) → MayStop world bytes → StandsFor node bytes history → IsRecovered node world history
   recovered_there bytes history may stands_for =
@@ -84,7 +85,7 @@ module _ (node : Node) (world : World) (at : Stands node world) where
         accepted = is_left.is_between.accepted;
         settled = is_left.is_between.settled;
         whole = is_left.is_between.whole;
-        without_group = λ free. settled_alone is_left.history is_left.is_between.whole (at.idle free);
+        without_group = λ none. settled_alone is_left.history is_left.is_between.whole none;
       })
 
   only_there : (bytes : List ℕ) (one other : History) → MayStop world bytes → StandsFor node bytes one → StandsFor node bytes other → one ≡ other
@@ -94,7 +95,7 @@ module _ (node : Node) (world : World) (at : Stands node world) where
 
   never : NeverTakesBack node world
   never = record {
-    in_order = record { settled = at.settled; taken = at.taken; legal = at.legal };
+    in_order = record { settled = record { rest = events_of world.groups; parts = refl }; taken = at.taken; legal = at.legal };
     stands = λ bytes may. let is_left = left node world bytes at may in (is_left.history, as_journal is_left.holds);
     only = only_there;
     recovered = recovered_there;

@@ -1,9 +1,11 @@
 -- Each step keeps what holds of the world.
-use Rattle.std.proofs.Common.{◌≡◌, ℕ, ◌+◌, ◌≤◌, List, [], ◌∷◌, ◌++◌, map, length, take, drop, refl, ap, sym, ◌∙◌, subst, arith, append_assoc, length-take, length-drop, take-append-drop}
+use Rattle.std.proofs.Common.{◌≡◌, ℕ, ◌+◌, ◌≤◌, List, [], ◌∷◌, ◌++◌, map, length, take, drop, Some, refl, ap, sym, ◌∙◌, subst, arith, append_assoc, length-take, length-drop, take-append-drop}
 use Rattle.std.specs.Prelude.{All}
-use Rattle.std.proofs.lemmas.List.{take_all, take-append-le, length_push, length-map}
-use Rattle.std.proofs.lemmas.List.Elements.{All-append, All-push, All-map, All-weaker, All-contains}
-use Rattle.diskmodel.specs.Outcomes.{state, firmed}
+use Rattle.std.proofs.lemmas.List.{take_all, take-append-le, drop_at, length_push, length-map}
+use Rattle.std.proofs.lemmas.Option.{none-some}
+use Rattle.std.proofs.lemmas.List.Elements.{All-append, All-push, All-map, All-weaker, All-contains, All-drop}
+use Rattle.diskmodel.specs.declared.call.Call.{Call}
+use Rattle.diskmodel.specs.Outcomes.{State, state, firmed}
 use Rattle.diskmodel.proofs.Calls.{after_all-push}
 use Rattle.journal.specs.Format.{file_with}
 use Rattle.spec_laws.specs.Laws.{Begins}
@@ -16,14 +18,14 @@ use Rattle.spec_model.specs.Words.{Event, Output}
 use Rattle.spec_model.specs.declared.admission.Admission.{Admission}
 use Rattle.spec_model.specs.declared.admission.Admission.TheVariants.{New, Known, Refused}
 use Rattle.spec_records.specs.Records.{record_of}
-use Rattle.spec_world.specs.World.{Phase, no_group, group_taken, group_written, group_synced, gate_opened, gate_synced, Waiting, Outgoing, put_out, read, World, Holds, group_in}
-use Rattle.spec_world.specs.Steps.{Move, accept, take_to, device_call, settle, release, read_order, restart, ticketed, with_new, with_known, with_given, IsAnswered, IsTakenTo, IsCalled, IsSettled, IsReleased, IsRestarted, next_phase, IsStep, Leads}
+use Rattle.spec_world.specs.World.{Phase, not_begun, Waiting, Outgoing, put_out, read, World, Holds, events_of, taken_in, first_of, group_in, call_for}
+use Rattle.spec_world.specs.Steps.{Move, accept, take_to, device_call, settle, release, read_order, restart, ticketed, with_new, with_known, with_given, IsAnswered, IsTakenTo, IsCalled, IsSettled, IsReleased, IsRestarted, next_phase, group_to, IsStep, Leads}
 use Rattle.spec_world.proofs.Answered.{new_put, known_put}
 use Rattle.spec_world.proofs.Bytes.{group_in_bytes, longer_bytes}
-use Rattle.spec_world.proofs.Disks.{IsAt, Fits, called, fits_next, longer_stands, longer_ends}
+use Rattle.spec_world.proofs.Disks.{IsAt, Fits, FitsAsGroup, first_fits, due_first, events_push, called, longer_stands, longer_ends}
 use Rattle.spec_world.proofs.Orders.{begins_same, begins_trans, begins_join, shorter_begins, IsPut, IsEnded}
 use Rattle.spec_world.proofs.Recovering.{holds_more, stands_once}
-use Rattle.spec_world.proofs.Standing.{IsDue, IsKept, Stands, left, legal_between, group_events, taken_is, begins_standing}
+use Rattle.spec_world.proofs.Standing.{IsDue, IsKept, Stands, with_first, first_and_others, settled_accepted, left, legal_between, group_events, begins_standing}
 
 -- ---- an event is accepted
 
@@ -54,8 +56,7 @@ new_accepted node world event outputs at is_taken is =
     subst (λ h. All (IsPut node h) outputs) (joined ∙ ap (λ l. world.began ++ l) (sym all)) (new_put node history event outputs legal is) in
     record {
       legal = subst (IsLegal node) joined legal;
-      taken = begins_trans world.taken world.accepted longer at.taken (record { rest = event ∷ []; parts = refl });
-      settled = at.settled;
+      taken = begins_trans (taken_in world) world.accepted longer at.taken (record { rest = event ∷ []; parts = refl });
       file = at.file;
       ends_closed = at.ends_closed;
       are_bytes = at.are_bytes;
@@ -78,7 +79,6 @@ known_accepted node world event outputs at is =
     record {
       legal = at.legal;
       taken = at.taken;
-      settled = at.settled;
       file = at.file;
       ends_closed = at.ends_closed;
       are_bytes = at.are_bytes;
@@ -99,85 +99,96 @@ answered_stands node world next event (Refused refusal) at is_taken is answered 
 
 -- ---- an append
 
-busy : group_taken ≡ no_group → ⊥
-busy same = cc
+-- where a group is on its way, its phase stays, and where none is, none has begun
+taken_at : (groups : List History) (phase : Phase) (s : State) (file : List ℕ) (more : History) → (groups ≡ [] → phase ≡ not_begun) → IsAt phase s file (map record_of (first_of groups))
+    → IsAt phase s file (map record_of (first_of (groups ++ more ∷ [])))
+taken_at [] phase s file more idle is =
+    subst (λ (p : Phase). IsAt p s file (map record_of more)) (sym (idle refl)) (subst (λ (p : Phase). IsAt p s file []) (idle refl) is)
+taken_at (group ∷ groups) phase s file more idle is = is
 
--- no call leads to a phase without a group
-was_idle : (phase : Phase) → next_phase phase ≡ no_group → phase ≡ no_group
-was_idle no_group same = refl
-was_idle group_taken same = absurd cc
-was_idle group_written same = absurd cc
-was_idle group_synced same = absurd cc
-was_idle gate_opened same = absurd cc
-was_idle gate_synced same = same
+-- a group that is taken stands behind what was taken
+pub taken_more : (world : World) (count : ℕ) → Begins (taken_in world) world.accepted → 1 ≤ length (group_to world count) → world.settled ++ events_of (world.groups ++ group_to world count ∷ []) ≡ take count world.accepted
+taken_more world count begins some =
+    let all = taken_in world in
+    let more = group_to world count in
+    let part = take count world.accepted in
+    let long : length all ≤ length part = omega (arith, some, length-drop (length all) part) in
+    let front = shorter_begins all part world.accepted begins (record { rest = drop count world.accepted; parts = sym (take-append-drop count world.accepted) }) long in
+    let rest : more ≡ front.rest = ap (drop (length all)) front.parts ∙ drop_at all front.rest (length all) refl in
+    ap (λ l. world.settled ++ l) (events_push world.groups more) ∙ sym (append_assoc world.settled (events_of world.groups) more) ∙ ap (λ l. all ++ l) rest ∙ sym front.parts
+
+some_more : (groups : List History) (more : History) → groups ++ more ∷ [] ≡ [] → ⊥
+some_more [] more none = cc
+some_more (group ∷ groups) more none = cc
 
 take_stands : (node : Node) (world next : World) (count : ℕ) → Stands node world → IsTakenTo world count next → Stands node next
 take_stands node world next count at step =
-    let some = take count world.accepted in
-    let group = map record_of (drop (length world.settled) some) in
-    let long : length world.settled ≤ length some =
-    omega (arith, step.fits.some, length-map (drop (length world.settled) some) record_of, length-drop (length world.settled) some) in
-    let all = begins_trans world.settled world.taken world.accepted at.settled at.taken in
-    let begins : Begins some world.accepted = record { rest = drop count world.accepted; parts = sym (take-append-drop count world.accepted) } in
-    let before : state world.bytes_at_start world.calls ≡ firmed at.file = subst (λ (p : Phase). IsAt p (state world.bytes_at_start world.calls) at.file (group_in world)) step.free at.disk in
+    let more = group_to world count in
+    let some : 1 ≤ length more = omega (arith, step.fits.some, length-map more record_of) in
     subst (Stands node) (sym step.is) (record {
       legal = at.legal;
-      taken = begins;
-      settled = shorter_begins world.settled some world.accepted all begins long;
+      taken = record { rest = drop count world.accepted; parts = sym (take-append-drop count world.accepted) ∙ ap (λ l. l ++ drop count world.accepted) (sym (taken_more world count at.taken some)) };
       file = at.file;
       ends_closed = at.ends_closed;
       are_bytes = at.are_bytes;
       holds = at.holds;
-      disk = before;
-      fits = step.fits;
-      idle = λ free. absurd (busy free);
+      disk = taken_at world.groups world.phase (state world.bytes_at_start world.calls) at.file more at.idle at.disk;
+      fits = All-push FitsAsGroup world.groups more at.fits step.fits;
+      idle = λ none. absurd (some_more world.groups more none);
       waiting = at.waiting;
       given = at.given;
     })
 
+-- no call is due where no group is on its way
+none_due : (groups : List History) (phase : Phase) (content : List ℕ) (call : Call) → call_for groups phase content ≡ Some call → groups ≡ [] → ⊥
+none_due [] phase content call due none = none-some call due
+none_due (group ∷ groups) phase content call due none = cc
+
 call_stands : (node : Node) (world next : World) → Stands node world → IsCalled world next → Stands node next
 call_stands node world next at step =
     let s = state world.bytes_at_start world.calls in
-    let now = called at.file at.ends_closed (group_in world) world.phase s step.call at.fits at.disk step.due in
+    let first = due_first world.groups world.phase s.content step.call at.fits step.due in
+    let now = called at.file at.ends_closed (group_in world) world.phase s step.call first.0 at.disk first.1 in
     let calls = after_all-push (firmed world.bytes_at_start) world.calls step.call in
     subst (Stands node) (sym step.is) (record {
       legal = at.legal;
       taken = at.taken;
-      settled = at.settled;
       file = at.file;
       ends_closed = at.ends_closed;
       are_bytes = at.are_bytes;
       holds = at.holds;
       disk = subst (λ t. IsAt (next_phase world.phase) t at.file (group_in world)) (sym calls) now;
-      fits = fits_next world.phase (group_in world) s.content step.call at.fits step.due;
-      idle = λ free. at.idle (was_idle world.phase free);
+      fits = at.fits;
+      idle = λ none. absurd (none_due world.groups world.phase s.content step.call step.due none);
       waiting = at.waiting;
       given = at.given;
     })
 
+others_fit : (groups : List History) → All FitsAsGroup groups → All FitsAsGroup (drop 1 groups)
+others_fit groups all = All-drop FitsAsGroup 1 groups all
+
 settle_stands : (node : Node) (world next : World) → Stands node world → IsSettled world next → Stands node next
 settle_stands node world next at step =
     let group = group_in world in
-    let fits = subst (λ (p : Phase). Fits p group) step.done at.fits in
+    let more = first_of world.groups in
+    let fits = subst (λ (p : Phase). Fits p group) step.done (first_fits world.groups world.phase at.fits at.idle) in
     let disk : state world.bytes_at_start world.calls ≡ firmed (file_with at.file group) = subst (λ (p : Phase). IsAt p (state world.bytes_at_start world.calls) at.file group) step.done at.disk in
-    let more = drop (length world.settled) world.taken in
-    let holds = subst (Holds node (file_with at.file group)) (taken_is world at.settled)
+    let holds = subst (Holds node (file_with at.file group)) (append_assoc world.began world.settled more)
     (holds_more node at.file (file_with at.file group) (world.began ++ world.settled) more at.holds (group_events node world at) (longer_stands at.file at.ends_closed group fits)) in
-    let grown = begins_join world.began world.settled world.taken at.settled in
+    let grown = begins_join world.began world.settled (with_first world) (record { rest = more; parts = refl }) in
     subst (Stands node) (sym step.is) (record {
       legal = at.legal;
-      taken = at.taken;
-      settled = begins_same world.taken;
+      taken = subst (λ l. Begins l world.accepted) (first_and_others world) at.taken;
       file = file_with at.file group;
       ends_closed = longer_ends at.file at.ends_closed group fits;
       are_bytes = longer_bytes at.file group at.are_bytes (group_in_bytes node more (group_events node world at));
       holds = holds;
       disk = disk;
-      fits = tt;
-      idle = λ free. refl;
+      fits = others_fit world.groups at.fits;
+      idle = λ none. refl;
       waiting = at.waiting;
-      given = All-weaker (IsKept node (world.began ++ world.settled)) (IsKept node (world.began ++ world.taken))
-          (λ g kept. record { begins = begins_trans g.history (world.began ++ world.settled) (world.began ++ world.taken) kept.begins grown; ended = kept.ended }) world.given at.given;
+      given = All-weaker (IsKept node (world.began ++ world.settled)) (IsKept node (world.began ++ with_first world))
+          (λ g kept. record { begins = begins_trans g.history (world.began ++ world.settled) (world.began ++ with_first world) kept.begins grown; ended = kept.ended }) world.given at.given;
     })
 
 -- ---- something goes out
@@ -188,7 +199,6 @@ given_stands node world next outgoing history at begins ended is =
     subst (Stands node) (sym is) (record {
       legal = at.legal;
       taken = at.taken;
-      settled = at.settled;
       file = at.file;
       ends_closed = at.ends_closed;
       are_bytes = at.are_bytes;
@@ -204,7 +214,7 @@ release_stands : (node : Node) (world next : World) (waiting : Waiting) → Stan
 release_stands node world next waiting at step =
     let due = All-contains (IsDue node world.began world.accepted) world.waiting waiting at.waiting step.waits in
     let some = take waiting.ticket world.accepted in
-    let all = begins_trans world.settled world.taken world.accepted at.settled at.taken in
+    let all = settled_accepted node world at in
     let short : length some ≤ length world.settled = omega (arith, step.ready, length-take waiting.ticket world.accepted) in
     let begins = shorter_begins some world.settled world.accepted (record { rest = drop waiting.ticket world.accepted; parts = sym (take-append-drop waiting.ticket world.accepted) }) all short in
     given_stands node world next (put_out waiting.output) (world.began ++ some) at (begins_join world.began some world.settled begins) due.put step.is

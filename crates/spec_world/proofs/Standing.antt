@@ -11,9 +11,9 @@ use Rattle.spec_laws.proofs.Legal.{legal-begins}
 use Rattle.spec_model.specs.Admitting.{IsTaken, IsLegal}
 use Rattle.spec_model.specs.Histories.{History}
 use Rattle.spec_model.specs.Nodes.{Node}
-use Rattle.spec_world.specs.World.{no_group, Waiting, Given, World, Holds, group_in, MayStop, between, inside, run_on, IsOpened}
+use Rattle.spec_world.specs.World.{not_begun, Waiting, Given, World, Holds, events_of, taken_in, first_of, group_in, MayStop, between, inside, run_on, IsOpened}
 use Rattle.spec_world.specs.Steps.{next_phase}
-use Rattle.spec_world.proofs.Disks.{IsAt, Fits, leaves, called, fits_next}
+use Rattle.spec_world.proofs.Disks.{IsAt, FitsAsGroup, fits_in, first_fits, due_first, events_split, leaves, called}
 use Rattle.spec_world.proofs.Recovering.{holds_same, holds_more}
 use Rattle.spec_world.proofs.Orders.{begins_same, begins_trans, begins_join, IsPut, IsEnded}
 
@@ -31,72 +31,88 @@ pub record IsKept (node : Node) (settled : History) (given : Given) : Type 0 whe
 
 pub record Stands (node : Node) (world : World) : Type 0 where
   pub legal : IsLegal node (world.began ++ world.accepted)
-  pub taken : Begins world.taken world.accepted
-  pub settled : Begins world.settled world.taken
-  -- the file from before the group that was taken
+  pub taken : Begins (taken_in world) world.accepted
+  -- the file from before the first group on its way
   pub file : List ℕ
   pub ends_closed : EndsClosed file
   pub are_bytes : AreBytes file
   pub holds : Holds node file (world.began ++ world.settled)
   pub disk : IsAt world.phase (state world.bytes_at_start world.calls) file (group_in world)
-  pub fits : Fits world.phase (group_in world)
-  pub idle : world.phase ≡ no_group → world.taken ≡ world.settled
+  pub fits : All FitsAsGroup world.groups
+  pub idle : world.groups ≡ [] → world.phase ≡ not_begun
   pub waiting : All (IsDue node world.began world.accepted) world.waiting
   pub given : All (IsKept node (world.began ++ world.settled)) world.given
 
 -- ---- what a stop leaves
 
--- what is taken is what is settled and the group's events
-pub taken_is : (world : World) → Begins world.settled world.taken → (world.began ++ world.settled) ++ drop (length world.settled) world.taken ≡ world.began ++ world.taken
-taken_is world begins =
-    let rest : drop (length world.settled) world.taken ≡ begins.rest = ap (drop (length world.settled)) begins.parts ∙ drop_at world.settled begins.rest (length world.settled) refl in
-    ap (λ l. (world.began ++ world.settled) ++ l) rest ∙ append_assoc world.began world.settled begins.rest ∙ ap (λ l. world.began ++ l) (sym begins.parts)
+-- what is settled, and the first group on its way
+abbrev pub with_first : World → History
+with_first world = world.settled ++ first_of world.groups
 
--- the events of the group are taken ones
-pub group_events : (node : Node) (world : World) → Stands node world → All (IsTaken node) (drop (length world.settled) world.taken)
-group_events node world stands =
+-- with the first group all that is taken begins with it
+pub first_and_others : (world : World) → taken_in world ≡ with_first world ++ events_of (drop 1 world.groups)
+first_and_others world =
+    ap (λ l. world.settled ++ l) (events_split world.groups) ∙ sym (append_assoc world.settled (first_of world.groups) (events_of (drop 1 world.groups)))
+
+first_begins : (world : World) → Begins (with_first world) (taken_in world)
+first_begins world = record { rest = events_of (drop 1 world.groups); parts = first_and_others world }
+
+pub first_accepted : (node : Node) (world : World) → Stands node world → Begins (with_first world) world.accepted
+first_accepted node world at = begins_trans (with_first world) (taken_in world) world.accepted (first_begins world) at.taken
+
+-- what is settled was accepted
+pub settled_accepted : (node : Node) (world : World) → Stands node world → Begins world.settled world.accepted
+settled_accepted node world at = begins_trans world.settled (taken_in world) world.accepted (record { rest = events_of world.groups; parts = refl }) at.taken
+
+-- the events of the first group are taken ones
+pub group_events : (node : Node) (world : World) → Stands node world → All (IsTaken node) (first_of world.groups)
+group_events node world at =
     let all : All (IsTaken node) world.accepted =
-    subst (All (IsTaken node)) (drop_at world.began world.accepted (length world.began) refl) (All-drop (IsTaken node) (length world.began) (world.began ++ world.accepted) stands.legal.taken) in
-    let front : take (length world.taken) world.accepted ≡ world.taken = ap (take (length world.taken)) stands.taken.parts ∙ take_at world.taken stands.taken.rest (length world.taken) refl in
-    let some : All (IsTaken node) world.taken = subst (All (IsTaken node)) front (All-take (IsTaken node) (length world.taken) world.accepted all) in
-    All-drop (IsTaken node) (length world.settled) world.taken some
+    subst (All (IsTaken node)) (drop_at world.began world.accepted (length world.began) refl) (All-drop (IsTaken node) (length world.began) (world.began ++ world.accepted) at.legal.taken) in
+    let some = with_first world in
+    let begins = first_accepted node world at in
+    let front : take (length some) world.accepted ≡ some = ap (take (length some)) begins.parts ∙ take_at some begins.rest (length some) refl in
+    let those : All (IsTaken node) some = subst (All (IsTaken node)) front (All-take (IsTaken node) (length some) world.accepted all) in
+    subst (All (IsTaken node)) (drop_at world.settled (first_of world.groups) (length world.settled) refl) (All-drop (IsTaken node) (length world.settled) some those)
 
--- bytes that stand for what is settled, or for what is taken
+-- bytes that stand for what is settled, or for that with the first group
 holds_one : (node : Node) (world : World) (found : List ℕ) (at : Stands node world) → IsBeforeOrAfter at.file (group_in world) found
-    → Holds node found (world.began ++ world.settled) ⊎ Holds node found (world.began ++ world.taken)
+    → Holds node found (world.began ++ world.settled) ⊎ Holds node found (world.began ++ with_first world)
 holds_one node world found at (inl before) = inl (holds_same node at.file found (world.began ++ world.settled) at.holds before)
 holds_one node world found at (inr behind) =
-    let more = drop (length world.settled) world.taken in
-    inr (subst (Holds node found) (taken_is world at.settled) (holds_more node at.file found (world.began ++ world.settled) more at.holds (group_events node world at) behind))
+    let more = first_of world.groups in
+    inr (subst (Holds node found) (append_assoc world.began world.settled more) (holds_more node at.file found (world.began ++ world.settled) more at.holds (group_events node world at) behind))
 
 pub left_holds : (node : Node) (world : World) (found : List ℕ) → Stands node world → MayStop world found
-    → Holds node found (world.began ++ world.settled) ⊎ Holds node found (world.began ++ world.taken)
+    → Holds node found (world.began ++ world.settled) ⊎ Holds node found (world.began ++ with_first world)
 left_holds node world found at (between outcome) =
-    holds_one node world found at (leaves at.file at.ends_closed (group_in world) world.phase (state world.bytes_at_start world.calls) found at.fits at.disk outcome)
+    holds_one node world found at
+    (leaves at.file at.ends_closed (group_in world) world.phase (state world.bytes_at_start world.calls) found (first_fits world.groups world.phase at.fits at.idle) at.disk outcome)
 left_holds node world found at (inside call due outcome) =
     let s = state world.bytes_at_start world.calls in
+    let first = due_first world.groups world.phase s.content call at.fits due in
     let now : CanLeave (after s call) found = subst (λ t. CanLeave t found) (after_all-push (firmed world.bytes_at_start) world.calls call) outcome in
     holds_one node world found at (leaves at.file at.ends_closed (group_in world) (next_phase world.phase) (after s call) found
-    (fits_next world.phase (group_in world) s.content call at.fits due)
-    (called at.file at.ends_closed (group_in world) world.phase s call at.fits at.disk due) now)
+    (fits_in (next_phase world.phase) (group_in world) first.0)
+    (called at.file at.ends_closed (group_in world) world.phase s call first.0 at.disk first.1) now)
 
 -- a history that what is settled begins, and that begins what was accepted: it is one of two
 pub record IsBetween (world : World) (history : History) : Type 0 where
   pub accepted : Begins history (world.began ++ world.accepted)
   pub settled : Begins (world.began ++ world.settled) history
-  pub whole : (history ≡ world.began ++ world.settled) ⊎ (history ≡ world.began ++ world.taken)
+  pub whole : (history ≡ world.began ++ world.settled) ⊎ (history ≡ world.began ++ with_first world)
 
 settled_between : (node : Node) (world : World) → Stands node world → IsBetween world (world.began ++ world.settled)
 settled_between node world at = record {
-  accepted = begins_join world.began world.settled world.accepted (begins_trans world.settled world.taken world.accepted at.settled at.taken);
+  accepted = begins_join world.began world.settled world.accepted (settled_accepted node world at);
   settled = begins_same (world.began ++ world.settled);
   whole = inl refl;
 }
 
-taken_between : (node : Node) (world : World) → Stands node world → IsBetween world (world.began ++ world.taken)
-taken_between node world at = record {
-  accepted = begins_join world.began world.taken world.accepted at.taken;
-  settled = begins_join world.began world.settled world.taken at.settled;
+first_between : (node : Node) (world : World) → Stands node world → IsBetween world (world.began ++ with_first world)
+first_between node world at = record {
+  accepted = begins_join world.began (with_first world) world.accepted (first_accepted node world at);
+  settled = begins_join world.began world.settled (with_first world) (record { rest = first_of world.groups; parts = refl });
   whole = inr refl;
 }
 
@@ -110,7 +126,7 @@ pub left : (node : Node) (world : World) (found : List ℕ) → Stands node worl
 left node world found at may =
     elim (left_holds node world found at may) [
       | inl held ↦ record { history = world.began ++ world.settled; holds = held; is_between = settled_between node world at }
-      | inr held ↦ record { history = world.began ++ world.taken; holds = held; is_between = taken_between node world at }
+      | inr held ↦ record { history = world.began ++ with_first world; holds = held; is_between = first_between node world at }
     ]
 
 pub legal_between : (node : Node) (world : World) (history : History) → Stands node world → IsBetween world history → IsLegal node history
@@ -129,14 +145,13 @@ begins_standing node first began given legal opened kept =
     record {
       legal = subst (IsLegal node) same legal;
       taken = begins_same [];
-      settled = begins_same [];
       file = first;
       ends_closed = opened.ends_closed;
       are_bytes = opened.are_bytes;
       holds = subst (Holds node first) same opened.holds;
       disk = refl;
-      fits = tt;
-      idle = λ free. refl;
+      fits = All-nil FitsAsGroup;
+      idle = λ none. refl;
       waiting = All-nil (IsDue node began []);
       given = subst (λ h. All (IsKept node h) given) same kept;
     }

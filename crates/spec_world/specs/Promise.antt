@@ -10,7 +10,7 @@ use Rattle.spec_model.specs.Slots.{header_digest}
 use Rattle.spec_model.specs.Words.{Author, Digest, Event, HeaderBody, Output}
 use Rattle.spec_model.specs.declared.admission.Admission.TheVariants.{New, Known}
 use Rattle.wire.specs.declared.output.Output.TheVariants as output
-use Rattle.spec_world.specs.World.{no_group, Outgoing, put_out, read, Given, World, StandsFor, MayStop}
+use Rattle.spec_world.specs.World.{Outgoing, put_out, read, Given, World, taken_in, first_of, StandsFor, MayStop}
 use Rattle.spec_world.specs.Steps.{Move, IsRun}
 
 -- ---- votes
@@ -63,20 +63,20 @@ GoesOut node history (read digests) = digests ≡ order node history
 
 -- ---- the promise
 
--- what is found again: a legal history that begins what the run began with and accepted, and that what is settled begins. It has the
--- group that was taken as a whole or not at all, and where there is none it is what is settled
+-- what is found again: a legal history that begins what the run began with and accepted, and that what is settled begins. Of the
+-- groups on their way it has the first one as a whole or not at all, and no other; where there is none it is what is settled
 pub record IsRecovered (node : Node) (world : World) (history : History) : Type 0 where
   pub legal : IsLegal node history
   pub accepted : Begins history (world.began ++ world.accepted)
   pub settled : Begins (world.began ++ world.settled) history
-  pub whole : (history ≡ world.began ++ world.settled) ⊎ (history ≡ world.began ++ world.taken)
-  pub without_group : world.phase ≡ no_group → history ≡ world.began ++ world.settled
+  pub whole : (history ≡ world.began ++ world.settled) ⊎ (history ≡ world.began ++ (world.settled ++ first_of world.groups))
+  pub without_group : world.groups ≡ [] → history ≡ world.began ++ world.settled
 
 -- what this run settled it had taken, and what it took it had accepted, in that order; all of it is a legal history, behind what the
 -- run began with
 pub record IsInOrder (node : Node) (world : World) : Type 0 where
-  pub settled : Begins world.settled world.taken
-  pub taken : Begins world.taken world.accepted
+  pub settled : Begins world.settled (taken_in world)
+  pub taken : Begins (taken_in world) world.accepted
   pub legal : IsLegal node (world.began ++ world.accepted)
 
 -- what holds of each world: nothing that was given out is taken back, whatever a stop leaves now

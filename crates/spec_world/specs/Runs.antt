@@ -1,13 +1,14 @@
 -- That there are runs to speak of.
-use Rattle.std.specs.Prelude.{◌≡◌, ℕ, List, [], ◌∷◌, length, take, drop, map, All}
+use Rattle.std.specs.Prelude.{◌≡◌, ℕ, List, [], ◌∷◌, ◌++◌, length, take, map, All}
 use Rattle.journal.specs.Format.{FitsGroup, file_with}
+use Rattle.journal.specs.Journal.{append_calls}
 use Rattle.journal.specs.declared.layout.TheConstants.{CLOSED}
 use Rattle.spec_model.specs.Nodes.{Node, IsNode}
 use Rattle.spec_records.specs.Records.{record_of, configuration_of}
 use Rattle.spec_records.specs.declared.version.Version.TheVariants.{Second}
 use Rattle.wire.specs.Fields.{AreBytes}
-use Rattle.spec_world.specs.World.{no_group, World, content_in, MayStop, run_on}
-use Rattle.spec_world.specs.Steps.{Move, take_to, device_call, settle, restart, IsStep, Leads, IsRun}
+use Rattle.spec_world.specs.World.{not_begun, World, Holds, group_in, content_in, MayStop, run_on}
+use Rattle.spec_world.specs.Steps.{Move, take_to, device_call, settle, restart, group_to, IsStep, Leads, IsRun}
 
 -- each key has 32 bytes
 abbrev pub AreKeys : Node → Type 0
@@ -30,7 +31,24 @@ abbrev pub RunsGoOn : Type 0
 RunsGoOn = (node : Node) (moves : List Move) (world : World) (found : List ℕ) → IsNode node → IsRun node moves world → MayStop world found
     → (next : World) × IsStep node world (restart found) next
 
--- accepted events that fit a group can be settled, by these moves
+-- behind that the accepted events up to so many are settled, no group is on its way, and the disk has what is settled; nothing else
+-- changed
+pub record IsSettledTo (node : Node) (world : World) (count : ℕ) (next : World) : Type 0 where
+  pub began : next.began ≡ world.began
+  pub accepted : next.accepted ≡ world.accepted
+  pub settled : next.settled ≡ take count world.accepted
+  pub groups : next.groups ≡ []
+  pub phase : next.phase ≡ not_begun
+  pub waiting : next.waiting ≡ world.waiting
+  pub given : next.given ≡ world.given
+  pub holds : Holds node (content_in next) (next.began ++ next.settled)
+
+-- accepted events that fit a group can be settled where no group is on its way, by these moves
 abbrev pub GroupsSettle : Type 0
-GroupsSettle = (node : Node) (world : World) (count : ℕ) → world.phase ≡ no_group → FitsGroup (map record_of (drop (length world.settled) (take count world.accepted)))
-    → (next : World) × Leads node world (take_to count ∷ device_call ∷ device_call ∷ device_call ∷ device_call ∷ settle ∷ []) next × (next.settled ≡ take count world.accepted)
+GroupsSettle = (node : Node) (moves : List Move) (world : World) (count : ℕ) → IsNode node → IsRun node moves world → world.groups ≡ [] → FitsGroup (map record_of (group_to world count))
+    → (next : World) × Leads node world (take_to count ∷ device_call ∷ device_call ∷ device_call ∷ device_call ∷ settle ∷ []) next × IsSettledTo node world count next
+
+-- the four device calls of an append are those that a journal makes of the disk to add the group
+abbrev pub AppendsMakeCalls : Type 0
+AppendsMakeCalls = (node : Node) (world next : World) → world.phase ≡ not_begun → Leads node world (device_call ∷ device_call ∷ device_call ∷ device_call ∷ []) next
+    → next.calls ≡ world.calls ++ append_calls (length (content_in world)) (group_in world)

@@ -10,7 +10,7 @@ use Rattle.spec_model.specs.Words.{Event, Output}
 use Rattle.spec_model.specs.declared.admission.Admission.{Admission}
 use Rattle.spec_model.specs.declared.admission.Admission.TheVariants.{New, Known, Refused}
 use Rattle.spec_records.specs.Records.{record_of}
-use Rattle.spec_world.specs.World.{Phase, no_group, group_taken, group_written, group_synced, gate_opened, gate_synced, Waiting, Outgoing, put_out, read, World, StandsFor, IsOpened, next_call, MayStop, run_on}
+use Rattle.spec_world.specs.World.{Phase, not_begun, group_written, group_synced, gate_opened, gate_synced, Waiting, Outgoing, put_out, read, World, taken_in, first_of, StandsFor, IsOpened, next_call, MayStop, run_on}
 
 -- ---- the moves
 
@@ -48,7 +48,7 @@ IsAnswered world event (Refused refusal) next = ⊥
 
 -- behind a device call
 abbrev pub next_phase : Phase → Phase
-next_phase group_taken = group_written
+next_phase not_begun = group_written
 next_phase group_written = group_synced
 next_phase group_synced = gate_opened
 next_phase gate_opened = gate_synced
@@ -63,11 +63,15 @@ pub record IsAccepted (node : Node) (world : World) (event : Event) (next : Worl
   pub is_taken : IsTaken node event
   pub is : IsAnswered world event (admit node (world.began ++ world.accepted) event) next
 
--- so many of the accepted events are taken, and those that aren't settled are a group: any that fits, not the longest one alone
+-- the accepted events that follow those taken, up to so many of all
+abbrev pub group_to : World → ℕ → History
+group_to world count = drop (length (taken_in world)) (take count world.accepted)
+
+-- so many of the accepted events are taken, and those that weren't are a group behind the ones on their way: any that fits, not the
+-- longest one alone
 pub record IsTakenTo (world : World) (count : ℕ) (next : World) : Type 0 where
-  pub free : world.phase ≡ no_group
-  pub fits : FitsGroup (map record_of (drop (length world.settled) (take count world.accepted)))
-  pub is : next ≡ record world { taken = take count world.accepted; phase = group_taken }
+  pub fits : FitsGroup (map record_of (group_to world count))
+  pub is : next ≡ record world { groups = world.groups ++ group_to world count ∷ [] }
 
 -- the next device call is made, and does not fail
 pub record IsCalled (world : World) (next : World) : Type 0 where
@@ -75,10 +79,10 @@ pub record IsCalled (world : World) (next : World) : Type 0 where
   pub due : next_call world ≡ Some call
   pub is : next ≡ record world { calls = world.calls ++ call ∷ []; phase = next_phase world.phase }
 
--- behind the last device call what was taken is settled
+-- behind the last device call the first group is settled, and the append of the next one can begin
 pub record IsSettled (world : World) (next : World) : Type 0 where
   pub done : world.phase ≡ gate_synced
-  pub is : next ≡ record world { settled = world.taken; phase = no_group }
+  pub is : next ≡ record world { settled = world.settled ++ first_of world.groups; groups = drop 1 world.groups; phase = not_begun }
 
 -- an output goes out whose ticket is settled. It stays, so it may go out again: a node gives it once, which is one case of this
 pub record IsReleased (world : World) (waiting : Waiting) (next : World) : Type 0 where

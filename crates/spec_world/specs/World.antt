@@ -1,5 +1,6 @@
 -- The world of one node over all its runs: what it accepted, what of that is on its disk, and what it gave out.
 use Rattle.std.specs.Prelude.{◌≡◌, ◌<◌, ℕ, ◌-◌, List, [], ◌∷◌, ◌++◌, map, length, drop, Option, Some, None, Ok, All}
+use Rattle.std.specs.List.{flat_map}
 use Rattle.diskmodel.specs.Outcomes.{AreBytes, IsOutcome, state}
 use Rattle.diskmodel.specs.declared.call.Call.{Call}
 use Rattle.diskmodel.specs.declared.call.Call.TheVariants.{Wrote, Synced}
@@ -18,10 +19,8 @@ use Rattle.spec_records.specs.declared.version.Version.{Version}
 
 -- the moments of an append between its device calls
 pub data Phase : Type 0 where
-  -- there is no group
-  no_group : Phase
-  -- one was taken, and nothing is written of it
-  group_taken : Phase
+  -- nothing of the group is written
+  not_begun : Phase
   -- it was written behind the file's closed gate
   group_written : Phase
   -- that is synced
@@ -49,10 +48,11 @@ pub record Given : Type 0 where
 pub record World : Type 0 where
   -- the history with which this run began
   pub began : History
-  -- the events that this run accepted, oldest first; of these those that were taken for the disk, and those that are settled there
+  -- the events that this run accepted, oldest first; of these those that are settled on the disk, and behind them the groups that were
+  -- taken and are on their way there, oldest first: the append is at the first of them
   pub accepted : History
-  pub taken : History
   pub settled : History
+  pub groups : List History
   -- the disk: its bytes when this run began, all of them firm, and its calls since
   pub bytes_at_start : List ℕ
   pub calls : List Call
@@ -61,6 +61,19 @@ pub record World : Type 0 where
   pub waiting : List Waiting
   -- all that was given out in all runs, oldest first
   pub given : List Given
+
+-- the events of these groups
+abbrev pub events_of : List History → History
+events_of groups = flat_map (λ group. group) groups
+
+-- all that was taken for the disk: what is settled there, and what is on its way
+abbrev pub taken_in : World → History
+taken_in world = world.settled ++ events_of world.groups
+
+-- the first of these groups; where there is none, no events
+abbrev pub first_of : List History → History
+first_of [] = []
+first_of (group ∷ groups) = group
 
 -- ---- what bytes stand for
 
@@ -90,9 +103,9 @@ pub data StandsFor (node : Node) (bytes : List ℕ) (history : History) : Type 0
 
 -- ---- the disk
 
--- the records of the group that was taken
+-- the records of the first group on its way
 abbrev pub group_in : World → List (List ℕ)
-group_in world = map record_of (drop (length world.settled) world.taken)
+group_in world = map record_of (first_of world.groups)
 
 -- what a read of the disk gives
 abbrev pub content_in : World → List ℕ
@@ -101,15 +114,19 @@ content_in world = (state world.bytes_at_start world.calls).content
 -- the next device call of an append, by what a read of the disk gives and by the group: the group is written behind the file's end; a
 -- sync; the gate before the group is opened, in a write of its own; a sync
 abbrev pub call_in : Phase → List ℕ → List (List ℕ) → Option Call
-call_in no_group content group = None
-call_in group_taken content group = Some (Wrote (length content) (group_bytes group))
+call_in not_begun content group = Some (Wrote (length content) (group_bytes group))
 call_in group_written content group = Some Synced
 call_in group_synced content group = Some (Wrote (length content - length (group_bytes group) - 1) (OPEN ∷ []))
 call_in gate_opened content group = Some Synced
 call_in gate_synced content group = None
 
+-- no call is due where no group is on its way
+abbrev pub call_for : List History → Phase → List ℕ → Option Call
+call_for [] phase content = None
+call_for (group ∷ groups) phase content = call_in phase content (map record_of group)
+
 abbrev pub next_call : World → Option Call
-next_call world = call_in world.phase (content_in world) (group_in world)
+next_call world = call_for world.groups world.phase (content_in world)
 
 -- what a stop may leave now: what it may leave after the calls so far, or after the next call too, which it then came into. A call
 -- that fails is such a stop: it may have had any part of its effect, and the disk is opened again
@@ -122,7 +139,7 @@ pub data MayStop (world : World) (found : List ℕ) : Type 0 where
 -- a run that has just begun on a disk with these bytes
 abbrev pub run_on : List ℕ → History → List Given → World
 run_on bytes began given =
-    record { began = began; accepted = []; taken = []; settled = []; bytes_at_start = bytes; calls = []; phase = no_group; waiting = []; given = given }
+    record { began = began; accepted = []; settled = []; groups = []; bytes_at_start = bytes; calls = []; phase = not_begun; waiting = []; given = given }
 
 -- a disk as an opening leaves it, all firm: bytes that are a journal of the node with these events, and end with their closed gate
 pub record IsOpened (node : Node) (bytes : List ℕ) (history : History) : Type 0 where

@@ -3,7 +3,7 @@
 #![tactic(auto)]
 
 ghost use Rattle.spec_world.specs.Promise.{NothingTakenBack};
-ghost use Rattle.spec_world.specs.Runs.{RunsBegin, StopsArePossible, RunsGoOn, GroupsSettle};
+ghost use Rattle.spec_world.specs.Runs.{RunsBegin, StopsArePossible, RunsGoOn, GroupsSettle, AppendsMakeCalls};
 
 /// Over every list of runs of one node, in every interleaving of accepts, takes, writes, syncs, settlements and
 /// releases, each run stopped at any moment, also inside a write, recovery finds the state after a beginning of the
@@ -29,8 +29,13 @@ pub fn runs_go_on()
     ensures { RunsGoOn }
 {}
 
-/// Accepted events that fit a group can be settled, where there is no group: taken, written, synced, their gate opened
-/// and synced.
+/// Accepted events that fit a group can be settled, where no group is on its way: taken, written, synced, their gate opened
+/// and synced. The disk then has what is settled, and nothing else changed.
 pub fn groups_settle()
     ensures { GroupsSettle }
+{}
+
+/// The four device calls of an append are those that `Journal::append` makes of its disk.
+pub fn appends_make_calls()
+    ensures { AppendsMakeCalls }
 {}
