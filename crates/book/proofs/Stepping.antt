@@ -1,21 +1,21 @@
 -- What a book does is a step of its world.
-use Rattle.std.proofs.Common.{◌≡◌, ◌⊎◌, ℕ, ◌+◌, ◌≤◌, List, [], ◌∷◌, ◌++◌, length, take, drop, map, inl, inr, Bool, true, false, refl, sym, ap, ◌∙◌, subst, arith}
+use Rattle.std.proofs.Common.{◌≡◌, ◌⊎◌, ℕ, ◌+◌, ◌≤◌, List, [], ◌∷◌, ◌++◌, length, take, drop, map, inl, inr, Bool, true, false, refl, sym, ap, ◌∙◌, subst, arith, length-append}
 use Rattle.std.specs.Prelude.{Option, Some, None, All, Contains, nat_le, if◌then◌else◌}
 use Rattle.std.proofs.lemmas.Bool.{cases_Bool, leb-true}
-use Rattle.std.proofs.lemmas.List.{take_all, length-map, length-drop}
+use Rattle.std.proofs.lemmas.List.{take_at, length-map}
 use Rattle.std.proofs.lemmas.List.Elements.{All-append, All-weaker, All-head, All-tail, All-contains_itself, Contains-append_left, Contains-append_right}
 use Rattle.journal.specs.Format.{FitsGroup}
 use Rattle.spec_model.specs.Histories.{History}
 use Rattle.spec_model.specs.Nodes.{Node}
 use Rattle.spec_model.specs.Words.{Event, Output}
 use Rattle.spec_records.specs.Records.{record_of}
-use Rattle.spec_world.specs.World.{World, Waiting, no_group, group_taken, gate_synced, group_in, put_out}
-use Rattle.spec_world.specs.Steps.{accept, take_to, settle, release, ticketed, with_new, with_known, with_given, IsAnswered}
+use Rattle.spec_world.specs.World.{World, Waiting, not_begun, gate_synced, events_of, taken_in, first_of, group_in, put_out}
+use Rattle.spec_world.specs.Steps.{accept, take_to, settle, release, ticketed, with_new, with_known, with_given, group_to, IsAnswered}
+use Rattle.spec_world.proofs.Groups.{first_and_others, taken_more}
 use Rattle.book.specs.Book.{Shown, Stands, with_settled, TakesNew, TakesKnown, releasable}
 use Rattle.book.specs.Queue.{settled_head}
 use Rattle.book.specs.Pending.{IsLongestBeginning}
-use Rattle.book.specs.Steps.{run_of, IsOf, Moves, AcceptIsAStep, TakeIsAStep, SettleIsAStep, ReleaseIsAStep}
-use Rattle.book.proofs.Due.{begins_length}
+use Rattle.book.specs.Steps.{run_of, IsOf, Moves, AcceptIsAStep, TakesBehind, TakeIsAStep, SettleIsAStep, ReleaseIsAStep}
 use Rattle.book.proofs.Flushing.{stands_taken, records_taken}
 
 -- what waits goes on waiting behind more outputs, and they wait too
@@ -36,10 +36,6 @@ head_of false settled (first ∷ rest) output is =
       | inr not ↦ (let none : ◌≡◌ {A = Option Output} None (Some output) = rw not at is in absurd cc)
     ]
 
--- a group that is taken is one
-taken_is_no_none : group_taken ≡ no_group → ⊥
-taken_is_no_none same = absurd cc
-
 module _ {S : Type 0} (node : Node) (world : World) (before later : Shown S) (is_of : IsOf node world before) where
   accepts : (event : Event) → TakesNew node before later event ⊎ TakesKnown node before later event → Moves node world (accept event) later
   accepts event (inl new) =
@@ -51,7 +47,6 @@ module _ {S : Type 0} (node : Node) (world : World) (before later : Shown S) (is
         is_of = record {
           stands = new.stands (run_of world) is_of.stands;
           waits = subst (All (Contains next.waiting)) (sym queue) (waits_more world.waiting before.queue (ticketed (length world.accepted + 1) new.outputs) is_of.waits);
-          free = is_of.free;
         };
       }
   accepts event (inr known) =
@@ -64,44 +59,49 @@ module _ {S : Type 0} (node : Node) (world : World) (before later : Shown S) (is
         is_of = record {
           stands = known.stands (run_of world) is_of.stands;
           waits = subst (All (Contains next.waiting)) (sym queue) (waits_more world.waiting before.queue (ticketed (length world.accepted) known.outputs) is_of.waits);
-          free = is_of.free;
         };
       }
 
-  takes : (group : List (List ℕ)) → world.phase ≡ no_group → IsLongestBeginning before.pending group later.pending
-      → later ≡ record before { pending = later.pending; taken = before.taken + length group }
-      → (moves : Moves node world (take_to (length world.taken + length group)) later) × (group_in moves.next ≡ group)
-  takes group free longest is =
-      let same = is_of.free free in
-      let count = length world.taken + length group in
-      let records : group ≡ map record_of (drop (length world.settled) (take count world.accepted)) =
-      records_taken node (run_of world) before later is_of.stands group longest ∙ ap (λ (l : History). map record_of (drop (length l) (take count world.accepted))) same in (
-        record {
-          next = record world { taken = take count world.accepted; phase = group_taken };
-          step = record { free = free; fits = subst FitsGroup records longest.fits; is = refl };
+  takes : (group : List (List ℕ)) → IsLongestBeginning before.pending group later.pending
+      → later ≡ record before { pending = later.pending; taken = before.taken + length group } → TakesBehind node world group later
+  takes group longest is =
+      let count = length (taken_in world) + length group in
+      let events = group_to world count in
+      let records : group ≡ map record_of events = records_taken node (run_of world) before later is_of.stands group longest in
+      let fits : FitsGroup (map record_of events) = subst FitsGroup records longest.fits in
+      let some : 1 ≤ length events = omega (arith, fits.some, length-map events record_of) in
+      let next : World = record world { groups = world.groups ++ events ∷ [] } in
+      let all : taken_in next ≡ take count world.accepted = taken_more world count is_of.stands.taken_begins some in
+      record {
+        moves = record {
+          next = next;
+          step = record { fits = fits; is = refl };
           is_of = record {
-            stands = stands_taken node (run_of world) before later is_of.stands group longest is;
+            stands = subst (λ (l : History). Stands node (record (run_of world) { taken = l }) later) (sym all) (stands_taken node (run_of world) before later is_of.stands group longest is);
             waits = subst (λ (b : Shown S). All (Contains world.waiting) b.queue) (sym is) is_of.waits;
-            free = λ none. absurd (taken_is_no_none none);
           };
-        },
-        sym records,
-      )
+        };
+        events = events;
+        groups = refl;
+        records = records;
+      }
 
   settles : (group : List (List ℕ)) → world.phase ≡ gate_synced → group_in world ≡ group → Stands node (with_settled (run_of world) (length group)) later → later.queue ≡ before.queue
       → Moves node world settle later
   settles group done is stands queue =
-      let count = length world.settled + length group in
-      let rest = drop (length world.settled) world.taken in
-      let within = begins_length world.settled world.taken is_of.stands.settled_begins in
-      let number : length world.taken ≤ count = omega (arith, ap length is, length-map rest record_of, length-drop (length world.settled) world.taken, within) in
+      let more = first_of world.groups in
+      let some = world.settled ++ more in
+      let others = events_of (drop 1 world.groups) in
+      let all : taken_in world ≡ some ++ others = first_and_others world in
+      let number : length world.settled + length group ≡ length some = omega (arith, ap length is, length-map more record_of, length-append world.settled more) in
+      let settled : take (length world.settled + length group) (taken_in world) ≡ some = ap (take (length world.settled + length group)) all ∙ take_at some others (length world.settled + length group) (sym number) in
       record {
-        next = record world { settled = world.taken; phase = no_group };
+        next = record world { settled = some; groups = drop 1 world.groups; phase = not_begun };
         step = record { done = done; is = refl };
         is_of = record {
-          stands = subst (λ (l : History). Stands node (record (run_of world) { settled = l }) later) (take_all count world.taken number) stands;
+          stands = subst (λ (l : History). Stands node (record (run_of world) { settled = some; taken = l }) later) all
+              (subst (λ (l : History). Stands node (record (run_of world) { settled = l }) later) settled stands);
           waits = subst (All (Contains world.waiting)) (sym queue) is_of.waits;
-          free = λ none. refl;
         };
       }
 
@@ -122,8 +122,7 @@ module _ {S : Type 0} (node : Node) (world : World) (before later : Shown S) (is
           is_of = record {
             stands = stands;
             waits = subst (All (Contains world.waiting)) (sym (ap (λ (b : Shown S). b.queue) later_is ∙ ap (drop 1) head.2)) (All-tail (Contains world.waiting) first head.1 waits);
-            free = is_of.free;
-          };
+            };
         },
       )
 
@@ -131,7 +130,7 @@ pub accept_is_a_step : (S : Type 0) → AcceptIsAStep S
 accept_is_a_step S node world before later event is_of takes = accepts node world before later is_of event takes
 
 pub take_is_a_step : (S : Type 0) → TakeIsAStep S
-take_is_a_step S node world before later group is_of free longest is = takes node world before later is_of group free longest is
+take_is_a_step S node world before later group is_of longest is = takes node world before later is_of group longest is
 
 pub settle_is_a_step : (S : Type 0) → SettleIsAStep S
 settle_is_a_step S node world before later group is_of done is stands queue = settles node world before later is_of group done is stands queue

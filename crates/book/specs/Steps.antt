@@ -1,22 +1,22 @@
 -- What a book does is a step of its world.
-use Rattle.std.specs.Prelude.{◌≡◌, ◌⊎◌, ℕ, ◌+◌, List, length, drop, Some, All, Contains}
+use Rattle.std.specs.Prelude.{◌≡◌, ◌⊎◌, ℕ, ◌+◌, List, [], ◌∷◌, ◌++◌, length, map, drop, Some, All, Contains}
+use Rattle.spec_model.specs.Histories.{History}
 use Rattle.spec_model.specs.Nodes.{Node}
 use Rattle.spec_model.specs.Words.{Event, Output}
-use Rattle.spec_world.specs.World.{World, no_group, gate_synced, group_in}
+use Rattle.spec_records.specs.Records.{record_of}
+use Rattle.spec_world.specs.World.{World, gate_synced, taken_in, group_in}
 use Rattle.spec_world.specs.Steps.{Move, accept, take_to, settle, release, IsStep}
 use Rattle.book.specs.Book.{Shown, Run, Stands, with_settled, TakesNew, TakesKnown, releasable}
 use Rattle.book.specs.Pending.{IsLongestBeginning}
 
 -- the run of a world
 abbrev pub run_of : World → Run
-run_of world = record { began = world.began; accepted = world.accepted; taken = world.taken; settled = world.settled }
+run_of world = record { began = world.began; accepted = world.accepted; taken = taken_in world; settled = world.settled }
 
--- a book is that of a world: it stands at its run, what it queues waits there, and where there is no group all that was taken is
--- settled
+-- a book is that of a world: it stands at its run, and what it queues waits there
 pub record IsOf {S : Type 0} (node : Node) (world : World) (book : Shown S) : Type 0 where
   pub stands : Stands node (run_of world) book
   pub waits : All (Contains world.waiting) book.queue
-  pub free : world.phase ≡ no_group → world.taken ≡ world.settled
 
 -- a move leads from a world to one whose book this is
 pub record Moves {S : Type 0} (node : Node) (world : World) (move : Move) (book : Shown S) : Type 0 where
@@ -29,13 +29,19 @@ abbrev pub AcceptIsAStep : Type 0 → Type 0
 AcceptIsAStep S = (node : Node) (world : World) (before later : Shown S) (event : Event) → IsOf node world before
     → TakesNew node before later event ⊎ TakesKnown node before later event → Moves node world (accept event) later
 
--- a group that is taken, where none is, is that of the world
-abbrev pub TakeIsAStep : Type 0 → Type 0
-TakeIsAStep S = (node : Node) (world : World) (before later : Shown S) (group : List (List ℕ)) → IsOf node world before → world.phase ≡ no_group
-    → IsLongestBeginning before.pending group later.pending → later ≡ record before { pending = later.pending; taken = before.taken + length group }
-    → (moves : Moves node world (take_to (length world.taken + length group)) later) × (group_in moves.next ≡ group)
+-- a group that is taken, also before another one is settled, is the last one on its way there
+pub record TakesBehind {S : Type 0} (node : Node) (world : World) (group : List (List ℕ)) (later : Shown S) : Type 0 where
+  pub moves : Moves node world (take_to (length (taken_in world) + length group)) later
+  pub events : History
+  pub groups : moves.next.groups ≡ world.groups ++ events ∷ []
+  pub records : group ≡ map record_of events
 
--- the world's group, once its gate is synced, is settled there
+abbrev pub TakeIsAStep : Type 0 → Type 0
+TakeIsAStep S = (node : Node) (world : World) (before later : Shown S) (group : List (List ℕ)) → IsOf node world before
+    → IsLongestBeginning before.pending group later.pending → later ≡ record before { pending = later.pending; taken = before.taken + length group }
+    → TakesBehind node world group later
+
+-- the first group on its way in the world, once its gate is synced, is settled there
 abbrev pub SettleIsAStep : Type 0 → Type 0
 SettleIsAStep S = (node : Node) (world : World) (before later : Shown S) (group : List (List ℕ)) → IsOf node world before → world.phase ≡ gate_synced → group_in world ≡ group
     → Stands node (with_settled (run_of world) (length group)) later → later.queue ≡ before.queue → Moves node world settle later

@@ -9,12 +9,12 @@ pub fn accept_is_a_step<S: Sign>()
     ensures { AcceptIsAStep S }
 {}
 
-/// A group that a book takes, where none is taken, is taken in its world.
+/// A group that a book takes, also before another one is settled, is taken in its world, behind those on their way.
 pub fn take_is_a_step<S: Sign>()
     ensures { TakeIsAStep S }
 {}
 
-/// The group that a book settles, once its gate is synced, is settled in its world.
+/// The group that a book settles is settled in its world, where it is the first on its way and its gate is synced.
 pub fn settle_is_a_step<S: Sign>()
     ensures { SettleIsAStep S }
 {}

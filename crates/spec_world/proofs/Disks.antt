@@ -1,7 +1,7 @@
 -- What a stop may leave in each phase of an append.
-use Rattle.std.proofs.Common.{◌≡◌, ◌⊎◌, ℕ, ◌+◌, ◌-◌, ◌<◌, ◌≤◌, max, false, List, [], ◌∷◌, ◌++◌, length, take, drop, get_or, Some, inl, inr, ⊎_elim, refl, sym, ap, ◌∙◌, subst, arith, append_assoc, length-append, length-take, length-drop, map, ◌≢◌}
+use Rattle.std.proofs.Common.{◌≡◌, ◌⊎◌, ℕ, ◌+◌, ◌-◌, ◌<◌, ◌≤◌, max, false, List, [], ◌∷◌, ◌++◌, length, take, drop, get_or, Some, inl, inr, ⊎_elim, refl, sym, ap, ◌∙◌, subst, arith, length-append, length-take, length-drop, map}
 use Rattle.std.proofs.lemmas.Bool.{or_from}
-use Rattle.std.proofs.lemmas.List.{append-nil, ext_get_or, get_or-take, get_or-drop}
+use Rattle.std.proofs.lemmas.List.{ext_get_or, get_or-take, get_or-drop}
 use Rattle.std.proofs.lemmas.Option.{same_Some, none-some}
 use Rattle.std.specs.Prelude.{All}
 use Rattle.std.proofs.lemmas.List.Elements.{All-nil, All-head}
@@ -151,18 +151,3 @@ pub due_first : (groups : List History) (phase : Phase) (content : List ℕ) (ca
     → FitsAsGroup (first_of groups) × (call_in phase content (map record_of (first_of groups)) ≡ Some call)
 due_first [] phase content call all due = absurd (none-some call due)
 due_first (group ∷ groups) phase content call all due = (All-head FitsAsGroup group groups all, due)
-
--- the first group, and the others
-pub events_split : (groups : List History) → events_of groups ≡ first_of groups ++ events_of (drop 1 groups)
-events_split [] = refl
-events_split (group ∷ groups) = refl
-
--- where there are some, one more behind them isn't the first
-pub first_stays : (groups : List History) (more : History) → groups ≢ [] → first_of (groups ++ more ∷ []) ≡ first_of groups
-first_stays [] more some = absurd (some refl)
-first_stays (group ∷ groups) more some = refl
-
--- one group more
-pub events_push : (groups : List History) (more : History) → events_of (groups ++ more ∷ []) ≡ events_of groups ++ more
-events_push [] more = append-nil more
-events_push (group ∷ groups) more = ap (λ l. group ++ l) (events_push groups more) ∙ sym (append_assoc group (events_of groups) more)

@@ -21,8 +21,9 @@ use Rattle.spec_world.specs.Steps.{take_to, device_call, settle, group_to, IsCal
 use Rattle.spec_world.specs.Runs.{StopsArePossible, RunsGoOn, GroupsSettle, AppendsMakeCalls}
 use Rattle.spec_world.proofs.Bytes.{group_in_bytes}
 use Rattle.spec_world.proofs.Disks.{read_possible}
+use Rattle.spec_world.proofs.Groups.{taken_more}
 use Rattle.spec_world.proofs.Law.{run_stands}
-use Rattle.spec_world.proofs.Moving.{all_stand, taken_more}
+use Rattle.spec_world.proofs.Moving.{all_stand}
 use Rattle.spec_world.proofs.Recovering.{ok_is, journal_long, holds_same}
 use Rattle.spec_world.proofs.Standing.{left, group_events}
 

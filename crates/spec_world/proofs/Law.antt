@@ -19,10 +19,11 @@ use Rattle.spec_world.specs.World.{Outgoing, put_out, read, Given, World, events
 use Rattle.spec_world.specs.Steps.{Move, IsRun}
 use Rattle.spec_world.specs.Promise.{Ballot, vote_in, vote_given, order_given, IsNoLater, IsRecovered, NeverTakesBack, NothingTakenBack}
 use Rattle.spec_world.proofs.Ballots.{votes_agree}
+use Rattle.spec_world.proofs.Groups.{with_first}
 use Rattle.spec_world.proofs.Moving.{all_stand}
 use Rattle.spec_world.proofs.Orders.{shorter_begins, IsEnded, goes_out, order_of, orders_begin}
 use Rattle.spec_world.proofs.Recovering.{journal_long, stands_once}
-use Rattle.spec_world.proofs.Standing.{IsKept, Stands, with_first, left, legal_between, settled_legal, begins_standing}
+use Rattle.spec_world.proofs.Standing.{IsKept, Stands, left, legal_between, settled_legal, begins_standing}
 
 -- the output that has a vote may be given out
 pub record HasVote (node : Node) (history : History) (ballot : Ballot) : Type 0 where

@@ -9,3 +9,4 @@ mod Moving
 mod Orders
 pub mod Recovering
 mod Standing
+pub mod Groups

@@ -22,10 +22,11 @@ use Rattle.spec_world.specs.World.{Phase, not_begun, Waiting, Outgoing, put_out,
 use Rattle.spec_world.specs.Steps.{Move, accept, take_to, device_call, settle, release, read_order, restart, ticketed, with_new, with_known, with_given, IsAnswered, IsTakenTo, IsCalled, IsSettled, IsReleased, IsRestarted, next_phase, group_to, IsStep, Leads}
 use Rattle.spec_world.proofs.Answered.{new_put, known_put}
 use Rattle.spec_world.proofs.Bytes.{group_in_bytes, longer_bytes}
-use Rattle.spec_world.proofs.Disks.{IsAt, Fits, FitsAsGroup, first_fits, due_first, events_push, called, longer_stands, longer_ends}
+use Rattle.spec_world.proofs.Disks.{IsAt, Fits, FitsAsGroup, first_fits, due_first, called, longer_stands, longer_ends}
+use Rattle.spec_world.proofs.Groups.{with_first, first_and_others, taken_more}
 use Rattle.spec_world.proofs.Orders.{begins_same, begins_trans, begins_join, shorter_begins, IsPut, IsEnded}
 use Rattle.spec_world.proofs.Recovering.{holds_more, stands_once}
-use Rattle.spec_world.proofs.Standing.{IsDue, IsKept, Stands, with_first, first_and_others, settled_accepted, left, legal_between, group_events, begins_standing}
+use Rattle.spec_world.proofs.Standing.{IsDue, IsKept, Stands, settled_accepted, left, legal_between, group_events, begins_standing}
 
 -- ---- an event is accepted
 
@@ -105,17 +106,6 @@ taken_at : (groups : List History) (phase : Phase) (s : State) (file : List ℕ)
 taken_at [] phase s file more idle is =
     subst (λ (p : Phase). IsAt p s file (map record_of more)) (sym (idle refl)) (subst (λ (p : Phase). IsAt p s file []) (idle refl) is)
 taken_at (group ∷ groups) phase s file more idle is = is
-
--- a group that is taken stands behind what was taken
-pub taken_more : (world : World) (count : ℕ) → Begins (taken_in world) world.accepted → 1 ≤ length (group_to world count) → world.settled ++ events_of (world.groups ++ group_to world count ∷ []) ≡ take count world.accepted
-taken_more world count begins some =
-    let all = taken_in world in
-    let more = group_to world count in
-    let part = take count world.accepted in
-    let long : length all ≤ length part = omega (arith, some, length-drop (length all) part) in
-    let front = shorter_begins all part world.accepted begins (record { rest = drop count world.accepted; parts = sym (take-append-drop count world.accepted) }) long in
-    let rest : more ≡ front.rest = ap (drop (length all)) front.parts ∙ drop_at all front.rest (length all) refl in
-    ap (λ l. world.settled ++ l) (events_push world.groups more) ∙ sym (append_assoc world.settled (events_of world.groups) more) ∙ ap (λ l. all ++ l) rest ∙ sym front.parts
 
 some_more : (groups : List History) (more : History) → groups ++ more ∷ [] ≡ [] → ⊥
 some_more [] more none = cc

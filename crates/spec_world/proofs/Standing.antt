@@ -13,7 +13,8 @@ use Rattle.spec_model.specs.Histories.{History}
 use Rattle.spec_model.specs.Nodes.{Node}
 use Rattle.spec_world.specs.World.{not_begun, Waiting, Given, World, Holds, events_of, taken_in, first_of, group_in, MayStop, between, inside, run_on, IsOpened}
 use Rattle.spec_world.specs.Steps.{next_phase}
-use Rattle.spec_world.proofs.Disks.{IsAt, FitsAsGroup, fits_in, first_fits, due_first, events_split, leaves, called}
+use Rattle.spec_world.proofs.Disks.{IsAt, FitsAsGroup, fits_in, first_fits, due_first, leaves, called}
+use Rattle.spec_world.proofs.Groups.{with_first, first_and_others}
 use Rattle.spec_world.proofs.Recovering.{holds_same, holds_more}
 use Rattle.spec_world.proofs.Orders.{begins_same, begins_trans, begins_join, IsPut, IsEnded}
 
@@ -44,15 +45,6 @@ pub record Stands (node : Node) (world : World) : Type 0 where
   pub given : All (IsKept node (world.began ++ world.settled)) world.given
 
 -- ---- what a stop leaves
-
--- what is settled, and the first group on its way
-abbrev pub with_first : World → History
-with_first world = world.settled ++ first_of world.groups
-
--- with the first group all that is taken begins with it
-pub first_and_others : (world : World) → taken_in world ≡ with_first world ++ events_of (drop 1 world.groups)
-first_and_others world =
-    ap (λ l. world.settled ++ l) (events_split world.groups) ∙ sym (append_assoc world.settled (first_of world.groups) (events_of (drop 1 world.groups)))
 
 first_begins : (world : World) → Begins (with_first world) (taken_in world)
 first_begins world = record { rest = events_of (drop 1 world.groups); parts = first_and_others world }
