@@ -1,21 +1,23 @@
 -- What a book does is a step of its world.
-use Rattle.std.proofs.Common.{◌≡◌, ◌⊎◌, ℕ, ◌+◌, ◌≤◌, List, [], ◌∷◌, ◌++◌, length, take, drop, map, inl, inr, Bool, true, false, refl, sym, ap, ◌∙◌, subst, arith, length-append}
+use Rattle.std.proofs.Common.{◌≡◌, ◌⊎◌, ℕ, ◌+◌, ◌≤◌, List, [], ◌∷◌, ◌++◌, length, take, drop, map, inl, inr, Bool, true, false, refl, sym, ap, ◌∙◌, subst, arith, length-append, length-take}
 use Rattle.std.specs.Prelude.{Option, Some, None, All, Contains, nat_le, if◌then◌else◌}
 use Rattle.std.proofs.lemmas.Bool.{cases_Bool, leb-true}
-use Rattle.std.proofs.lemmas.List.{take_at, length-map}
+use Rattle.std.proofs.lemmas.List.{append-nil, take_all, take_at, length-map}
 use Rattle.std.proofs.lemmas.List.Elements.{All-append, All-weaker, All-head, All-tail, All-contains_itself, Contains-append_left, Contains-append_right}
 use Rattle.journal.specs.Format.{FitsGroup}
 use Rattle.spec_model.specs.Histories.{History}
-use Rattle.spec_model.specs.Nodes.{Node}
+use Rattle.spec_model.specs.Nodes.{Node, IsNode}
 use Rattle.spec_model.specs.Words.{Event, Output}
 use Rattle.spec_records.specs.Records.{record_of}
 use Rattle.spec_world.specs.World.{World, Waiting, not_begun, gate_synced, events_of, taken_in, first_of, group_in, put_out}
-use Rattle.spec_world.specs.Steps.{accept, take_to, settle, release, ticketed, with_new, with_known, with_given, group_to, IsAnswered}
+use Rattle.spec_world.specs.Steps.{Move, accept, settle, release, ticketed, with_new, with_known, with_given, group_to, IsAnswered, IsRun}
+use Rattle.spec_world.proofs.GoingOn.{groups_settle}
 use Rattle.spec_world.proofs.Groups.{first_and_others, taken_more}
-use Rattle.book.specs.Book.{Shown, Stands, with_settled, TakesNew, TakesKnown, releasable}
+use Rattle.book.specs.Book.{Shown, Run, Stands, with_taken, with_settled, TakesNew, TakesKnown, releasable}
 use Rattle.book.specs.Queue.{settled_head}
+use Rattle.book.specs.OnTheWay.{Flushes, GoesDown}
 use Rattle.book.specs.Pending.{IsLongestBeginning}
-use Rattle.book.specs.Steps.{run_of, IsOf, Moves, AcceptIsAStep, TakesBehind, TakeIsAStep, SettleIsAStep, ReleaseIsAStep}
+use Rattle.book.specs.Steps.{run_of, IsOf, Moves, AcceptIsAStep, TakesBehind, TakeIsAStep, SettleIsAStep, ReleaseIsAStep, FlushesThere, FlushIsSteps, FailIsAStep}
 use Rattle.book.proofs.Flushing.{stands_taken, records_taken}
 
 -- what waits goes on waiting behind more outputs, and they wait too
@@ -122,9 +124,86 @@ module _ {S : Type 0} (node : Node) (world : World) (before later : Shown S) (is
           is_of = record {
             stands = stands;
             waits = subst (All (Contains world.waiting)) (sym (ap (λ (b : Shown S). b.queue) later_is ∙ ap (drop 1) head.2)) (All-tail (Contains world.waiting) first head.1 waits);
-            };
+          };
         },
       )
+
+-- ---- a round of one owner
+
+-- the run behind a group that is taken and settled where no other is on its way
+run_there : (world next : World) (group count : ℕ) → world.groups ≡ [] → count ≡ length world.settled + group → next.began ≡ world.began → next.accepted ≡ world.accepted
+    → next.settled ≡ take count world.accepted → next.groups ≡ [] → with_settled (with_taken (run_of world) group) group ≡ run_of next
+run_there world next group count none is began accepted settled idle =
+    let all : taken_in world ≡ world.settled = ap (λ (l : List History). world.settled ++ events_of l) none ∙ append-nil world.settled in
+    let number : length (taken_in world) + group ≡ count = omega (arith, ap length all, is) in
+    let taken : take (length (taken_in world) + group) world.accepted ≡ take count world.accepted = ap (λ n. take n world.accepted) number in
+    let again : take (length world.settled + group) (take (length (taken_in world) + group) world.accepted) ≡ take count world.accepted =
+    (λ i. take (sym is i) (taken i)) ∙ take_all count (take count world.accepted) (omega (arith, length-take count world.accepted)) in
+    let later : taken_in next ≡ next.settled = ap (λ (l : List History). next.settled ++ events_of l) idle ∙ append-nil next.settled in
+    (λ i. record {
+      began = sym began i;
+      accepted = sym accepted i;
+      taken = (taken ∙ sym settled ∙ sym later) i;
+      settled = (again ∙ sym settled) i;
+    })
+
+module _ {S : Type 0} (node : Node) (moves : List Move) (world : World) (before later : Shown S) (sound : IsNode node) (run : IsRun node moves world) (is_of : IsOf node world before) (none : world.groups ≡ []) where
+  flushes : (old new : List ℕ) (count : ℕ) → Flushes node before later old new count → FlushesThere node world (length world.settled + count) later
+  flushes old new count flush =
+      let all : taken_in world ≡ world.settled = ap (λ (l : List History). world.settled ++ events_of l) none ∙ append-nil world.settled in
+      let number : length (taken_in world) + length flush.group ≡ length world.settled + count = omega (arith, ap length all, flush.counts) in
+      let records : flush.group ≡ map record_of (group_to world (length world.settled + count)) =
+      records_taken node (run_of world) before later is_of.stands flush.group flush.takes ∙ ap (λ (n : ℕ). map record_of (group_to world n)) number in
+      let there = groups_settle node moves world (length world.settled + count) sound run none (subst FitsGroup records flush.takes.fits) in
+      let next = there.0 in
+      let settled = there.2 in
+      let runs = run_there world next (length flush.group) (length world.settled + count) none (omega (arith, flush.counts)) settled.began settled.accepted settled.settled settled.groups in
+      let queue : later.queue ≡ before.queue = ap (λ (b : Shown S). b.queue) flush.is in
+      record {
+        next = next;
+        leads = there.1;
+        settled = settled;
+        is_of = record {
+          stands = subst (λ (r : Run). Stands node r later) runs (flush.stands (run_of world) is_of.stands);
+          waits = subst (λ (l : List Waiting). All (Contains l) later.queue) (sym settled.waiting) (subst (All (Contains world.waiting)) (sym queue) is_of.waits);
+        };
+      }
+
+-- where it goes down, the group stays taken
+fails : {S : Type 0} (node : Node) (world : World) (before later : Shown S) → IsOf node world before → (down : GoesDown node before later) → TakesBehind node world down.group later
+fails {S} node world before later is_of down =
+    let up : Shown S = record before { pending = later.pending; taken = before.taken + length down.group } in
+    let takes = takes node world before up is_of down.group down.takes refl in
+    let same : later ≡ record up { down = true } = down.is in
+    let stands = takes.moves.is_of.stands in
+    let next = takes.moves.next in
+    record {
+      moves = record {
+        next = next;
+        step = takes.moves.step;
+        is_of = record {
+          stands = subst (Stands node (run_of next)) (sym same) (record {
+            legal = stands.legal;
+            at = stands.at;
+            taken_begins = stands.taken_begins;
+            settled_begins = stands.settled_begins;
+            pending = stands.pending;
+            accepted = stands.accepted;
+            taken = stands.taken;
+            settled = stands.settled;
+            due = stands.due;
+            rising = stands.rising;
+            ordered = stands.ordered;
+            lengths = stands.lengths;
+            tickets = stands.tickets;
+          });
+          waits = subst (λ (b : Shown S). All (Contains next.waiting) b.queue) (sym same) takes.moves.is_of.waits;
+        };
+      };
+      events = takes.events;
+      groups = takes.groups;
+      records = takes.records;
+    }
 
 pub accept_is_a_step : (S : Type 0) → AcceptIsAStep S
 accept_is_a_step S node world before later event is_of takes = accepts node world before later is_of event takes
@@ -137,3 +216,9 @@ settle_is_a_step S node world before later group is_of done is stands queue = se
 
 pub release_is_a_step : (S : Type 0) → ReleaseIsAStep S
 release_is_a_step S node world before later output is_of is later_is stands = releases node world before later is_of output is later_is stands
+
+pub flush_is_steps : (S : Type 0) → FlushIsSteps S
+flush_is_steps S node moves world before later old new count sound run is_of none flush = flushes node moves world before later sound run is_of none old new count flush
+
+pub fail_is_a_step : (S : Type 0) → FailIsAStep S
+fail_is_a_step S node world before later is_of down = fails node world before later is_of down

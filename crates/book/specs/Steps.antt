@@ -1,12 +1,14 @@
 -- What a book does is a step of its world.
 use Rattle.std.specs.Prelude.{◌≡◌, ◌⊎◌, ℕ, ◌+◌, List, [], ◌∷◌, ◌++◌, length, map, drop, Some, All, Contains}
 use Rattle.spec_model.specs.Histories.{History}
-use Rattle.spec_model.specs.Nodes.{Node}
+use Rattle.spec_model.specs.Nodes.{Node, IsNode}
 use Rattle.spec_model.specs.Words.{Event, Output}
 use Rattle.spec_records.specs.Records.{record_of}
 use Rattle.spec_world.specs.World.{World, gate_synced, taken_in, group_in}
-use Rattle.spec_world.specs.Steps.{Move, accept, take_to, settle, release, IsStep}
+use Rattle.spec_world.specs.Runs.{IsSettledTo}
+use Rattle.spec_world.specs.Steps.{Move, accept, take_to, device_call, settle, release, IsStep, Leads, IsRun}
 use Rattle.book.specs.Book.{Shown, Run, Stands, with_settled, TakesNew, TakesKnown, releasable}
+use Rattle.book.specs.OnTheWay.{Flushes, GoesDown}
 use Rattle.book.specs.Pending.{IsLongestBeginning}
 
 -- the run of a world
@@ -51,3 +53,18 @@ abbrev pub ReleaseIsAStep : Type 0 → Type 0
 ReleaseIsAStep S = (node : Node) (world : World) (before later : Shown S) (output : Output) → IsOf node world before → releasable before ≡ Some output
     → later ≡ record before { queue = drop 1 before.queue } → Stands node (run_of world) later
     → (ticket : ℕ) × Moves node world (release (record { ticket = ticket; output = output })) later
+
+-- a round of one owner that settled a group: it is taken, the disk makes its four calls, and it is settled
+pub record FlushesThere {S : Type 0} (node : Node) (world : World) (count : ℕ) (later : Shown S) : Type 0 where
+  pub next : World
+  pub leads : Leads node world (take_to count ∷ device_call ∷ device_call ∷ device_call ∷ device_call ∷ settle ∷ []) next
+  pub settled : IsSettledTo node world count next
+  pub is_of : IsOf node next later
+
+abbrev pub FlushIsSteps : Type 0 → Type 0
+FlushIsSteps S = (node : Node) (moves : List Move) (world : World) (before later : Shown S) (old new : List ℕ) (count : ℕ) → IsNode node → IsRun node moves world → IsOf node world before
+    → world.groups ≡ [] → Flushes node before later old new count → FlushesThere node world (length world.settled + count) later
+
+-- one that took the book down: the group is taken, and stays on its way
+abbrev pub FailIsAStep : Type 0 → Type 0
+FailIsAStep S = (node : Node) (world : World) (before later : Shown S) → IsOf node world before → (down : GoesDown node before later) → TakesBehind node world down.group later

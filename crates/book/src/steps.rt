@@ -1,6 +1,6 @@
 //! That what a book does is a step of its world: laws, each what a function without a body ensures.
 
-ghost use Rattle.book.specs.Steps.{AcceptIsAStep, TakeIsAStep, SettleIsAStep, ReleaseIsAStep};
+ghost use Rattle.book.specs.Steps.{AcceptIsAStep, TakeIsAStep, SettleIsAStep, ReleaseIsAStep, FlushIsSteps, FailIsAStep};
 
 use sigface::Sign;
 
@@ -22,4 +22,15 @@ pub fn settle_is_a_step<S: Sign>()
 /// What a book releases goes out in its world.
 pub fn release_is_a_step<S: Sign>()
     ensures { ReleaseIsAStep S }
+{}
+
+/// Where `OwnBook::flush` settles a group with no other on its way, its world takes that group, makes the four device calls and
+/// settles it.
+pub fn flush_is_steps<S: Sign>()
+    ensures { FlushIsSteps S }
+{}
+
+/// Where it takes the book down, its world takes the group.
+pub fn fail_is_a_step<S: Sign>()
+    ensures { FailIsAStep S }
 {}

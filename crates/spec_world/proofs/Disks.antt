@@ -20,7 +20,7 @@ use Rattle.journal.proofs.Stops.{torn_behind, torn_gate, staged_before, written_
 use Rattle.spec_model.specs.Histories.{History}
 use Rattle.spec_records.specs.Records.{record_of}
 use Rattle.spec_world.proofs.Bytes.{one_more, joined, longer_bytes}
-use Rattle.spec_world.specs.World.{Phase, not_begun, group_written, group_synced, gate_opened, gate_synced, first_of, events_of, call_in, call_for}
+use Rattle.spec_world.specs.World.{Phase, not_begun, group_written, group_synced, gate_opened, gate_synced, first_of, call_in, call_for}
 use Rattle.spec_world.specs.Steps.{next_phase}
 
 -- ---- one write on firm bytes

@@ -18,13 +18,13 @@ use Rattle.spec_model.specs.Nodes.{Node}
 use Rattle.spec_records.specs.Records.{record_of}
 use Rattle.spec_world.specs.World.{Phase, not_begun, group_written, group_synced, gate_opened, World, Holds, events_of, first_of, group_in, content_in, call_in, call_for, as_journal, MayStop, between, inside, run_on, IsOpened}
 use Rattle.spec_world.specs.Steps.{take_to, device_call, settle, group_to, IsCalled, next_phase, Leads}
-use Rattle.spec_world.specs.Runs.{StopsArePossible, RunsGoOn, GroupsSettle, AppendsMakeCalls}
+use Rattle.spec_world.specs.Runs.{StopsArePossible, RunsGoOn, RunsBeginWithWhatStands, GroupsSettle, AppendsMakeCalls}
 use Rattle.spec_world.proofs.Bytes.{group_in_bytes}
 use Rattle.spec_world.proofs.Disks.{read_possible}
 use Rattle.spec_world.proofs.Groups.{taken_more}
 use Rattle.spec_world.proofs.Law.{run_stands}
 use Rattle.spec_world.proofs.Moving.{all_stand}
-use Rattle.spec_world.proofs.Recovering.{ok_is, journal_long, holds_same}
+use Rattle.spec_world.proofs.Recovering.{ok_is, journal_long, holds_same, stands_once}
 use Rattle.spec_world.proofs.Standing.{left, group_events}
 
 -- ---- what an opening leaves
@@ -63,6 +63,14 @@ runs_go_on node moves world found sound run may =
     let is_left = left node world found (run_stands node moves world sound run) may in
     let is_opened = openable node found is_left.history is_left.holds (left_bytes world found may) in
     (run_on is_opened.0 is_left.history world.given, record { left = may; stands_for = as_journal is_left.holds; opened = is_opened.1; is = refl })
+
+pub runs_begin_with_what_stands : RunsBeginWithWhatStands
+runs_begin_with_what_stands node moves world found history sound run may stands_for =
+    let at = run_stands node moves world sound run in
+    let is_left = left node world found at may in
+    let is_opened = openable node found is_left.history is_left.holds (left_bytes world found may) in
+    let same : is_left.history ≡ history = sym (stands_once node found is_left.history history sound is_left.holds stands_for) in
+    (run_on is_opened.0 is_left.history world.given, record { left = may; stands_for = as_journal is_left.holds; opened = is_opened.1; is = refl }, same, refl)
 
 -- ---- a stop is always possible
 

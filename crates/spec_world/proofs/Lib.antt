@@ -3,7 +3,7 @@ mod Beginning
 mod Ballots
 mod Bytes
 mod Disks
-mod GoingOn
+pub mod GoingOn
 mod Law
 mod Moving
 mod Orders

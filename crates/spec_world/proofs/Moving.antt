@@ -1,7 +1,7 @@
 -- Each step keeps what holds of the world.
-use Rattle.std.proofs.Common.{◌≡◌, ℕ, ◌+◌, ◌≤◌, List, [], ◌∷◌, ◌++◌, map, length, take, drop, Some, refl, ap, sym, ◌∙◌, subst, arith, append_assoc, length-take, length-drop, take-append-drop}
+use Rattle.std.proofs.Common.{◌≡◌, ℕ, ◌+◌, ◌≤◌, List, [], ◌∷◌, ◌++◌, map, length, take, drop, Some, refl, ap, sym, ◌∙◌, subst, arith, append_assoc, length-take, take-append-drop}
 use Rattle.std.specs.Prelude.{All}
-use Rattle.std.proofs.lemmas.List.{take_all, take-append-le, drop_at, length_push, length-map}
+use Rattle.std.proofs.lemmas.List.{take_all, take-append-le, length_push, length-map}
 use Rattle.std.proofs.lemmas.Option.{none-some}
 use Rattle.std.proofs.lemmas.List.Elements.{All-append, All-push, All-map, All-weaker, All-contains, All-drop}
 use Rattle.diskmodel.specs.declared.call.Call.{Call}
@@ -18,7 +18,7 @@ use Rattle.spec_model.specs.Words.{Event, Output}
 use Rattle.spec_model.specs.declared.admission.Admission.{Admission}
 use Rattle.spec_model.specs.declared.admission.Admission.TheVariants.{New, Known, Refused}
 use Rattle.spec_records.specs.Records.{record_of}
-use Rattle.spec_world.specs.World.{Phase, not_begun, Waiting, Outgoing, put_out, read, World, Holds, events_of, taken_in, first_of, group_in, call_for}
+use Rattle.spec_world.specs.World.{Phase, not_begun, Waiting, Outgoing, put_out, read, World, Holds, taken_in, first_of, group_in, call_for}
 use Rattle.spec_world.specs.Steps.{Move, accept, take_to, device_call, settle, release, read_order, restart, ticketed, with_new, with_known, with_given, IsAnswered, IsTakenTo, IsCalled, IsSettled, IsReleased, IsRestarted, next_phase, group_to, IsStep, Leads}
 use Rattle.spec_world.proofs.Answered.{new_put, known_put}
 use Rattle.spec_world.proofs.Bytes.{group_in_bytes, longer_bytes}

@@ -3,11 +3,12 @@ use Rattle.std.specs.Prelude.{◌≡◌, ℕ, List, [], ◌∷◌, ◌++◌, len
 use Rattle.journal.specs.Format.{FitsGroup, file_with}
 use Rattle.journal.specs.Journal.{append_calls}
 use Rattle.journal.specs.declared.layout.TheConstants.{CLOSED}
+use Rattle.spec_model.specs.Histories.{History}
 use Rattle.spec_model.specs.Nodes.{Node, IsNode}
 use Rattle.spec_records.specs.Records.{record_of, configuration_of}
 use Rattle.spec_records.specs.declared.version.Version.TheVariants.{Second}
 use Rattle.wire.specs.Fields.{AreBytes}
-use Rattle.spec_world.specs.World.{not_begun, World, Holds, group_in, content_in, MayStop, run_on}
+use Rattle.spec_world.specs.World.{not_begun, World, Holds, group_in, content_in, StandsFor, MayStop, run_on}
 use Rattle.spec_world.specs.Steps.{Move, take_to, device_call, settle, restart, group_to, IsStep, Leads, IsRun}
 
 -- each key has 32 bytes
@@ -30,6 +31,11 @@ StopsArePossible = (node : Node) (moves : List Move) (world : World) → IsNode 
 abbrev pub RunsGoOn : Type 0
 RunsGoOn = (node : Node) (moves : List Move) (world : World) (found : List ℕ) → IsNode node → IsRun node moves world → MayStop world found
     → (next : World) × IsStep node world (restart found) next
+
+-- and it begins with the history for which that stands
+abbrev pub RunsBeginWithWhatStands : Type 0
+RunsBeginWithWhatStands = (node : Node) (moves : List Move) (world : World) (found : List ℕ) (history : History) → IsNode node → IsRun node moves world → MayStop world found
+    → StandsFor node found history → (next : World) × IsStep node world (restart found) next × (next.began ≡ history) × (next.given ≡ world.given)
 
 -- behind that the accepted events up to so many are settled, no group is on its way, and the disk has what is settled; nothing else
 -- changed

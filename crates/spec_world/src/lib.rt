@@ -3,7 +3,7 @@
 #![tactic(auto)]
 
 ghost use Rattle.spec_world.specs.Promise.{NothingTakenBack};
-ghost use Rattle.spec_world.specs.Runs.{RunsBegin, StopsArePossible, RunsGoOn, GroupsSettle, AppendsMakeCalls};
+ghost use Rattle.spec_world.specs.Runs.{RunsBegin, StopsArePossible, RunsGoOn, RunsBeginWithWhatStands, GroupsSettle, AppendsMakeCalls};
 
 /// Over every list of runs of one node, in every interleaving of accepts, takes, writes, syncs, settlements and
 /// releases, each run stopped at any moment, also inside a write, recovery finds the state after a beginning of the
@@ -27,6 +27,11 @@ pub fn stops_are_possible()
 /// Whatever a stop leaves in any of these worlds, a new run can begin on it.
 pub fn runs_go_on()
     ensures { RunsGoOn }
+{}
+
+/// That run begins with the history for which the bytes stand, and nothing that was given out is forgotten.
+pub fn runs_begin_with_what_stands()
+    ensures { RunsBeginWithWhatStands }
 {}
 
 /// Accepted events that fit a group can be settled, where no group is on its way: taken, written, synced, their gate opened
