@@ -1,5 +1,5 @@
 -- What holds of the record of a configuration.
-use Rattle.std.proofs.Common.{◌≡◌, ℕ, zero, suc, ◌+◌, ◌*◌, ◌<◌, ◌≤◌, ◌^◌, Bool, true, false, List, [], ◌∷◌, ◌++◌, length, take, Some, refl, sym, ap, ◌∙◌, subst, eqb, inl, inr, arith, append_assoc}
+use Rattle.std.proofs.Common.{◌≡◌, ℕ, zero, suc, ◌+◌, ◌<◌, ◌≤◌, ◌^◌, Bool, true, false, cond, List, [], ◌∷◌, ◌++◌, length, take, Some, None, refl, sym, ap, ◌∙◌, subst, eqb, inl, inr, arith, append_assoc}
 use Rattle.std.specs.Prelude.{◌==◌, All, sum, slice_get}
 use Rattle.std.specs.Int.{w16, to_be_bytes, from_be_bytes}
 use Rattle.std.specs.List.{list_all, flat_map}
@@ -11,8 +11,10 @@ use Rattle.std.proofs.lemmas.Nat.{from_be_bytes-to_be_bytes_2}
 use Rattle.std.proofs.lemmas.Option.{same_Some}
 use Rattle.committee.specs.Charter.{Charter, IsCharter, total_of}
 use Rattle.committee.proofs.StakeLemmas.{sum-bounds}
-use Rattle.spec_records.specs.Records.{configuration_of}
-use Rattle.recovery.specs.Told.{members_in, has_ones, has_front, is_configuration}
+use Rattle.spec_records.specs.Records.{number_of, configuration_of, CanTell}
+use Rattle.spec_records.specs.declared.version.Version.{Version}
+use Rattle.spec_records.specs.declared.version.Version.TheVariants.{First, Second}
+use Rattle.recovery.specs.Told.{members_in, size_in, has_ones, can_tell, has_front, is_configuration, shaped_version}
 use Rattle.wire.specs.declared.keys.Author.{Author}
 use Rattle.wire.specs.declared.keys.Key.{Key}
 
@@ -57,34 +59,71 @@ ones_counted charter total size sound total_is size_is =
           ∙ not_true (has_ones charter) (λ ones. other (total_is ∙ ones_sum charter.stakes ones ∙ sound.staked ∙ sym size_is))
     ]
 
--- ---- keys
+-- ---- versions
 
-abbrev key_bytes : Key → List ℕ
-key_bytes key = key.0
+pub all_pass : {X : Type 0} (test : X → Bool) (P : X → Type 0) → ((x : X) → P x → test x ≡ true) → (xs : List X) → All P xs → list_all test xs ≡ true
+all_pass test P each [] all = refl
+all_pass test P each (x ∷ xs) all = and_from (test x) (list_all test xs) (each x (All-head P x xs all)) (all_pass test P each xs (All-tail P x xs all))
 
--- one key more
-keys_suc : (keys : List Key) (m : ℕ) (key : Key) → slice_get keys m ≡ Some key → flat_map key_bytes (take (suc m) keys) ≡ flat_map key_bytes (take m keys) ++ key.0
-keys_suc [] m key is = absurd (cc)
-keys_suc (first ∷ keys) zero key is = append-nil first.0 ∙ ap key_bytes (same_Some first key is)
-keys_suc (first ∷ keys) (suc m) key is =
-    ap (λ (l : List ℕ). first.0 ++ l) (keys_suc keys m key is) ∙ sym (append_assoc first.0 (flat_map key_bytes (take m keys)) key.0)
+pub all_passed : {X : Type 0} (test : X → Bool) (P : X → Type 0) → ((x : X) → test x ≡ true → P x) → (xs : List X) → list_all test xs ≡ true → All P xs
+all_passed test P each [] all = All-nil P
+all_passed test P each (x ∷ xs) all =
+    let parts = and_parts (test x) (list_all test xs) all in
+    All-cons P x xs (each x parts.0) (all_passed test P each xs parts.1)
 
-pub keys_more : (keys : List Key) (m : ℕ) (key : Key) → slice_get keys m ≡ Some key → flat_map key_bytes (take (m + 1) keys) ≡ flat_map key_bytes (take m keys) ++ key.0
-keys_more keys m key is = let same : m + 1 ≡ suc m = omega arith in ap (λ (n : ℕ). flat_map key_bytes (take n keys)) same ∙ keys_suc keys m key is
+-- whether a version can tell a committee says that it can
+pub tells_of : (version : Version) (charter : Charter) → can_tell version charter ≡ true → CanTell version charter
+tells_of First charter so = all_passed (λ stake. eqb stake 1) (λ stake. stake ≡ 1) (λ stake so. eqb-true stake 1 so) charter.stakes so
+tells_of Second charter so = tt
+
+pub told_of : (version : Version) (charter : Charter) → CanTell version charter → can_tell version charter ≡ true
+told_of First charter can = all_pass (λ stake. eqb stake 1) (λ stake. stake ≡ 1) (λ stake is. eq-eqb stake 1 is) charter.stakes can
+told_of Second charter can = refl
+
+-- ---- lists
+
+-- the bytes of one element more
+each_suc : {X : Type 0} (f : X → List ℕ) (xs : List X) (m : ℕ) (x : X) → slice_get xs m ≡ Some x → flat_map f (take (suc m) xs) ≡ flat_map f (take m xs) ++ f x
+each_suc f [] m x is = absurd (cc)
+each_suc f (first ∷ xs) zero x is = append-nil (f first) ∙ ap f (same_Some first x is)
+each_suc f (first ∷ xs) (suc m) x is =
+    ap (λ (l : List ℕ). f first ++ l) (each_suc f xs m x is) ∙ sym (append_assoc (f first) (flat_map f (take m xs)) (f x))
+
+pub each_more : {X : Type 0} (f : X → List ℕ) (xs : List X) (m : ℕ) (x : X) → slice_get xs m ≡ Some x → flat_map f (take (m + 1) xs) ≡ flat_map f (take m xs) ++ f x
+each_more f xs m x is = let same : m + 1 ≡ suc m = omega arith in ap (λ (n : ℕ). flat_map f (take n xs)) same ∙ each_suc f xs m x is
 
 -- ---- the shape
 
-pub shape_short : (bytes : List ℕ) → length bytes < 14 → false ≡ is_configuration bytes
+pub shape_short : (version : Version) (bytes : List ℕ) → length bytes < 14 → false ≡ is_configuration version bytes
 unfolding is_configuration
-shape_short bytes short =
-    sym (and_right (has_front bytes) (eqb (length bytes) (14 + members_in bytes * 32)) (ne_eqb (length bytes) (14 + members_in bytes * 32) (λ same. omega (arith, same))))
+shape_short version bytes short =
+    let size = size_in version (members_in bytes) in
+    sym (and_right (has_front version bytes) (eqb (length bytes) size) (ne_eqb (length bytes) size (λ same. omega (arith, same))))
 
 -- the configuration of a committee has it, if its keys have 32 bytes each
-pub shape_is : (charter : Charter) (own : Author) → length charter.keys < 2 ^ 16 → length (configuration_of charter own) ≡ 14 + length charter.keys * 32 → is_configuration (configuration_of charter own) ≡ true
+shape_is : (version : Version) (charter : Charter) (own : Author) → length charter.keys < 2 ^ 16 → length (configuration_of version charter own) ≡ size_in version (length charter.keys)
+    → is_configuration version (configuration_of version charter own) ≡ true
 unfolding is_configuration
-shape_is charter own small long =
+shape_is version charter own small long =
+    let configuration = configuration_of version charter own in
     let members : from_be_bytes w16 (to_be_bytes w16 (length charter.keys)) ≡ length charter.keys = from_be_bytes-to_be_bytes_2 (length charter.keys) small in
-    eq-eqb (length (configuration_of charter own)) (14 + from_be_bytes w16 (to_be_bytes w16 (length charter.keys)) * 32) (long ∙ ap (λ (n : ℕ). 14 + n * 32) (sym members))
+    let size = size_in version (from_be_bytes w16 (to_be_bytes w16 (length charter.keys))) in
+    and_from (has_front version configuration) (eqb (length configuration) size) (eq-eqb (number_of version) (number_of version) refl)
+    (eq-eqb (length configuration) size (long ∙ ap (size_in version) (sym members)))
+
+-- one of the second version has no other
+not_first : (charter : Charter) (own : Author) → is_configuration First (configuration_of Second charter own) ≡ false
+unfolding is_configuration
+not_first charter own = refl
+
+pub shaped_is : (version : Version) (charter : Charter) (own : Author) → length charter.keys < 2 ^ 16 → length (configuration_of version charter own) ≡ size_in version (length charter.keys)
+    → shaped_version (configuration_of version charter own) ≡ Some version
+shaped_is First charter own small long =
+    let configuration = configuration_of First charter own in
+    ap (λ (b : Bool). cond b (Some First) (cond (is_configuration Second configuration) (Some Second) None)) (shape_is First charter own small long)
+shaped_is Second charter own small long = (λ i. cond (not_first charter own i) (Some First) (cond (shape_is Second charter own small long i) (Some Second) None))
+
+-- ---- keys
 
 -- what holds of each key so far, and of one more
 more_hold : (P : Key → Type 0) (keys : List Key) (m : ℕ) (key : Key) → slice_get keys m ≡ Some key → P key → All P (take m keys) → All P (take (suc m) keys)

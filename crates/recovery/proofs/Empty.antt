@@ -9,6 +9,7 @@ use Rattle.journal.specs.declared.record.Record.{Record}
 use Rattle.journal.proofs.Walks.{walk_closed, body_stands}
 use Rattle.spec_model.specs.Nodes.{Node}
 use Rattle.spec_records.specs.Records.{configuration_of}
+use Rattle.spec_records.specs.declared.version.Version.{Version}
 use Rattle.recovery.specs.Told.{KeepsOrBegins}
 
 abbrev Found : Type 0
@@ -100,14 +101,14 @@ group_length : (bytes : List ℕ) → length (group_bytes (bytes ∷ [])) ≡ 9 
 group_length bytes = omega (arith, length-append (bytes ++ []) (0 ∷ []), length-append bytes [])
 
 -- so that a short record's group fits behind it
-pub never_full : (file : List ℕ) (record_bytes : List ℕ) → EndsClosed file → stands file ≡ Ok [] → length record_bytes ≤ 1006 → MAX_JOURNAL_BYTES < length file + length (group_bytes (record_bytes ∷ [])) → ⊥
+pub never_full : (file : List ℕ) (record_bytes : List ℕ) → EndsClosed file → stands file ≡ Ok [] → length record_bytes ≤ 1130 → MAX_JOURNAL_BYTES < length file + length (group_bytes (record_bytes ∷ [])) → ⊥
 never_full file record_bytes ends none short full =
     omega (arith, full, empty_length file ends none, group_length record_bytes, short)
 
 -- what a stop leaves while a first record is added to it
-pub begins_with : (node : Node) (file left : List ℕ) → EndsClosed file → stands file ≡ Ok [] → IsBeforeOrAfter file (configuration_of node.charter node.own ∷ []) left → KeepsOrBegins node file left
-begins_with node file left ends none (inl same) = inl ([], none, same ∙ none)
-begins_with node file left ends none (inr with_it) =
-    let configuration = configuration_of node.charter node.own in
+pub begins_with : (version : Version) (node : Node) (file left : List ℕ) → EndsClosed file → stands file ≡ Ok [] → IsBeforeOrAfter file (configuration_of version node.charter node.own ∷ []) left → KeepsOrBegins version node file left
+begins_with version node file left ends none (inl same) = inl ([], none, same ∙ none)
+begins_with version node file left ends none (inr with_it) =
+    let configuration = configuration_of version node.charter node.own in
     let gate : length file - 1 ≡ 0 = omega (arith, empty_length file ends none) in
     inr (none, with_it ∙ ap (with_group (length file - 1) (configuration ∷ [])) none ∙ ap (λ (place : ℕ). Ok (kept_at place configuration ∷ [])) gate)

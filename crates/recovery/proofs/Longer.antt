@@ -1,9 +1,8 @@
 -- What bytes are told as with a group of new events more.
 use Rattle.std.proofs.Common.{◌≡◌, ◌≢◌, ℕ, ◌-◌, ◌<◌, ◌≤◌, ◌^◌, Bool, true, false, cond, inl, inr, List, [], ◌∷◌, ◌++◌, length, map, Option, Some, None, Result, Ok, Err, refl, sym, ap, ◌∙◌, subst, arith, append_assoc, append-nil}
-use Rattle.std.specs.Prelude.{◌&&◌, not, nat_lt}
+use Rattle.std.specs.Prelude.{nat_lt}
 use Rattle.std.specs.Int.{w16, to_be_bytes, from_be_bytes}
-use Rattle.std.specs.Str.{bytes_eq}
-use Rattle.std.proofs.lemmas.Bool.{cases_Bool, cases_lt, and_parts, and_from, lt-ltb, ltb-true}
+use Rattle.std.proofs.lemmas.Bool.{cases_Bool, cases_lt, and_from, lt-ltb, ltb-true}
 use Rattle.std.proofs.lemmas.List.Folds.{list_all-append}
 use Rattle.std.proofs.lemmas.Nat.{from_be_bytes-to_be_bytes_2}
 use Rattle.committee.specs.Charter.{Charter, IsCharter}
@@ -11,7 +10,7 @@ use Rattle.header.specs.Checks.{fault_of, accepts_all, is_member}
 use Rattle.journal.specs.Format.{kept_at, kept, stands}
 use Rattle.journal.specs.Journal.{with_group, stands_with}
 use Rattle.journal.specs.declared.error.JournalError.{JournalError}
-use Rattle.journal.specs.declared.error.JournalError.TheVariants.{Damaged, ConfigMismatch}
+use Rattle.journal.specs.declared.error.JournalError.TheVariants.{Damaged}
 use Rattle.journal.specs.declared.record.Record.{Record}
 use Rattle.journal.proofs.Walks.{stands_short}
 use Rattle.spec_laws.proofs.Legal.{legal-begins, legal-last, Adds}
@@ -19,10 +18,11 @@ use Rattle.spec_model.specs.Admitting.{IsTaken, IsLegal}
 use Rattle.spec_model.specs.Histories.{History}
 use Rattle.spec_model.specs.Nodes.{Node, IsNode}
 use Rattle.spec_model.specs.Words.{Event}
-use Rattle.spec_records.specs.Records.{record_of, configuration_of}
+use Rattle.spec_records.specs.Records.{record_of}
+use Rattle.spec_records.specs.declared.version.Version.{Version}
 use Rattle.wire_read.proofs.Messages.{is_read}
-use Rattle.recovery.specs.Told.{checked_in, if_passed, sender_in, event_in, read_event, read_events, unless, is_configuration, is_alone, has_ones, first_fault, told}
-use Rattle.recovery.proofs.Telling.{event_is, read_new, read_nil, read_ok, read_err, journal_cons, told_records, told_damaged, ok_told}
+use Rattle.recovery.specs.Told.{checked_in, if_passed, sender_in, event_in, read_event, read_events, unless, shaped_version, is_alone, is_own, first_fault, told}
+use Rattle.recovery.proofs.Telling.{event_is, read_new, read_nil, read_ok, read_err, journal_cons, told_records, told_damaged, ok_told, by_version}
 
 -- ---- the record of an event
 
@@ -96,13 +96,9 @@ unless_ok None (Ok found) history is = (refl, is_found found history is)
     is_found a b same = cc
 unless_ok None (Err place) history is = absurd (cc)
 
--- the fault of a first record, by what its tests give
-abbrev by_tests : Bool → Bool → Bool → ℕ → Option JournalError
-by_tests shape ones own place = cond (not shape) (Some (Damaged place)) (cond (not ones) (Some ConfigMismatch) (cond (not own) (Some ConfigMismatch) None))
-
-shape_true : (shape ones own : Bool) (place : ℕ) → by_tests shape ones own place ≡ None → shape ≡ true
-shape_true true ones own place none = refl
-shape_true false ones own place none = absurd (cc)
+alone_true : (alone : Bool) (version : Option Version) (own : Version → Bool) (place : ℕ) → by_version own (cond alone version None) place ≡ None → alone ≡ true
+alone_true true version own place none = refl
+alone_true false version own place none = absurd (cc)
 
 kept_alone : (gate : ℕ) (group : List (List ℕ)) → 0 < gate → is_alone (kept gate group) ≡ true
 kept_alone gate [] behind = refl
@@ -112,12 +108,12 @@ kept_alone gate (bytes ∷ group) behind = and_from (nat_lt 0 gate) (is_alone (k
 no_fault_more : (node : Node) (first : Record) (events : List Record) (gate : ℕ) (group : List (List ℕ)) → 0 < gate → first_fault node first events ≡ None
     → first_fault node first (events ++ kept gate group) ≡ None
 no_fault_more node first events gate group behind none =
-    let own = bytes_eq first.bytes (configuration_of node.charter node.own) in
-    let shape = shape_true (is_configuration first.bytes && is_alone events) (has_ones node.charter) own first.gate none in
-    let parts = and_parts (is_configuration first.bytes) (is_alone events) shape in
+    let version = shaped_version first.bytes in
+    let own = is_own node first.bytes in
+    let before = alone_true (is_alone events) version own first.gate none in
     let alone : is_alone (events ++ kept gate group) ≡ true =
-    list_all-append (λ (one : Record). nat_lt 0 one.gate) events (kept gate group) ∙ and_from (is_alone events) (is_alone (kept gate group)) parts.1 (kept_alone gate group behind) in
-    ap (λ (b : Bool). by_tests (is_configuration first.bytes && b) (has_ones node.charter) own first.gate) (alone ∙ sym parts.1) ∙ none
+    list_all-append (λ (one : Record). nat_lt 0 one.gate) events (kept gate group) ∙ and_from (is_alone events) (is_alone (kept gate group)) before (kept_alone gate group behind) in
+    ap (λ (b : Bool). by_version own (cond b version None) first.gate) (alone ∙ sym before) ∙ none
 
 -- ---- a journal with a group more
 

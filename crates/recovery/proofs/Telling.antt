@@ -1,6 +1,6 @@
 -- What readings of records, and of a journal, come to.
 use Rattle.std.proofs.Common.{drop-cons, ◌≡◌, ◌≢◌, ℕ, suc, ◌-◌, ◌+◌, ◌<◌, inl, inr, Bool, true, false, cond, eqb, ltb, ◌≤◌, List, [], ◌∷◌, ◌++◌, length, drop, Option, Some, None, Result, Ok, Err, refl, sym, ap, ◌∙◌, subst, arith}
-use Rattle.std.specs.Prelude.{get_or, not, ◌&&◌, slice_index, IfOk, IfErr}
+use Rattle.std.specs.Prelude.{get_or, not, slice_index, IfOk, IfErr}
 use Rattle.std.specs.Option.{option_map_or}
 use Rattle.std.specs.Str.{bytes_eq}
 use Rattle.std.proofs.lemmas.Bool.{cases_Bool, and_from, cond-true, cond-false, lt-ltb, le-ltb, eq-eqb, ne_eqb}
@@ -23,13 +23,15 @@ use Rattle.admission.specs.Answers.{IsAnswer, is_new_step}
 use Rattle.admission.specs.declared.step.Step.{Step}
 use Rattle.admission.specs.declared.step.Step.TheVariants.{New, Known}
 use Rattle.spec_machine.specs.Machine.{fresh}
-use Rattle.spec_records.specs.Records.{configuration_of}
+use Rattle.spec_records.specs.Records.{configuration_of, CanTell}
+use Rattle.spec_records.specs.declared.version.Version.{Version}
 use Rattle.admission.specs.declared.tables.Tables.{Tables}
 use Rattle.validator.specs.Standing.{AreAtSound}
 use Rattle.wire.specs.Reading.{Faults, message_of}
 use Rattle.wire.specs.declared.error.WireError.{WireError}
 use Rattle.wire.specs.declared.error.WireError.TheVariants as wire
-use Rattle.recovery.specs.Told.{checked_in, sender_in, event_in, with_new, read_event, go_on, read_events, or_damaged, unless, is_configuration, is_alone, has_ones, stakes_fault, first_fault, read_journal, told_by, told, Tells, StandsAt, IsOld, IsToldAsOneOf, KeepsOrBegins, KeepsRecords}
+use Rattle.recovery.specs.Told.{checked_in, sender_in, event_in, with_new, read_event, go_on, read_events, or_damaged, unless, can_tell, shaped_version, first_version, is_own, mismatch, first_fault, read_journal, told_by, told, Tells, StandsAt, IsOld, IsToldAsOneOf, KeepsOrBegins, KeepsRecords}
+use Rattle.recovery.proofs.Configured.{told_of}
 
 -- an error of which more is known
 pub err_weaker : {A E : Type 0} (r : Result A E) (P Q : E → Type 0) → ((e : E) → P e → Q e) → IfErr r P → IfErr r Q
@@ -192,40 +194,23 @@ fails_there node records count one tables error is fails reached =
 
 -- ---- a journal
 
--- the fault of a first record, by what its tests give
-abbrev pub by_tests : Bool → Bool → Bool → ℕ → Option JournalError
-by_tests shape ones own place = cond (not shape) (Some (Damaged place)) (cond (not ones) (Some ConfigMismatch) (cond (not own) (Some ConfigMismatch) None))
+-- the fault of a first record, by its version
+abbrev pub by_version : (Version → Bool) → Option Version → ℕ → Option JournalError
+by_version own version place = option_map_or (λ v. mismatch (own v)) version (Some (Damaged place))
 
-abbrev is_own_configuration : Node → Record → Bool
-is_own_configuration node first = bytes_eq first.bytes (configuration_of node.charter node.own)
+pub fault_shape : (node : Node) (first : Record) (events : List Record) → first_version first events ≡ None → first_fault node first events ≡ Some (Damaged first.gate)
+fault_shape node first events none = ap (λ (version : Option Version). by_version (is_own node first.bytes) version first.gate) none
 
-pub fault_shape : (node : Node) (first : Record) (events : List Record) (shape : Bool) → shape ≡ (is_configuration first.bytes && is_alone events) → shape ≡ false
-    → first_fault node first events ≡ Some (Damaged first.gate)
-fault_shape node first events shape shape_is off = ap (λ (b : Bool). by_tests b (has_ones node.charter) (is_own_configuration node first) first.gate) (sym shape_is ∙ off)
+fault_own : (node : Node) (first : Record) (events : List Record) (version : Version) → first_version first events ≡ Some version → first_fault node first events ≡ mismatch (is_own node first.bytes version)
+fault_own node first events version is = ap (λ (version : Option Version). by_version (is_own node first.bytes) version first.gate) is
 
-with_shape : (node : Node) (first : Record) (events : List Record) (shape ones : Bool) → shape ≡ (is_configuration first.bytes && is_alone events) → shape ≡ true → ones ≡ has_ones node.charter
-    → first_fault node first events ≡ by_tests true ones (is_own_configuration node first) first.gate
-with_shape node first events shape ones shape_is so ones_is = (λ i. by_tests ((sym shape_is ∙ so) i) (sym ones_is i) (is_own_configuration node first) first.gate)
+pub fault_other : (node : Node) (first : Record) (events : List Record) (version : Version) (own : Bool) → first_version first events ≡ Some version → own ≡ is_own node first.bytes version → own ≡ false
+    → first_fault node first events ≡ Some ConfigMismatch
+fault_other node first events version own is own_is off = fault_own node first events version is ∙ ap mismatch (sym own_is ∙ off)
 
-pub fault_stakes : (node : Node) (first : Record) (events : List Record) (shape ones : Bool) → shape ≡ (is_configuration first.bytes && is_alone events) → shape ≡ true → ones ≡ has_ones node.charter
-    → ones ≡ false → first_fault node first events ≡ Some ConfigMismatch
-fault_stakes node first events shape ones shape_is so ones_is off =
-    with_shape node first events shape ones shape_is so ones_is ∙ ap (λ (b : Bool). by_tests true b (is_own_configuration node first) first.gate) off
-
-fault_own : (node : Node) (first : Record) (events : List Record) (shape ones own : Bool) → shape ≡ (is_configuration first.bytes && is_alone events) → shape ≡ true → ones ≡ has_ones node.charter
-    → ones ≡ true → own ≡ bytes_eq first.bytes (configuration_of node.charter node.own) → first_fault node first events ≡ by_tests true true own first.gate
-fault_own node first events shape ones own shape_is so ones_is each own_is =
-    with_shape node first events shape ones shape_is so ones_is ∙ (λ i. by_tests true (each i) (sym own_is i) first.gate)
-
-pub fault_other : (node : Node) (first : Record) (events : List Record) (shape ones own : Bool) → shape ≡ (is_configuration first.bytes && is_alone events) → shape ≡ true → ones ≡ has_ones node.charter
-    → ones ≡ true → own ≡ bytes_eq first.bytes (configuration_of node.charter node.own) → own ≡ false → first_fault node first events ≡ Some ConfigMismatch
-fault_other node first events shape ones own shape_is so ones_is each own_is off =
-    fault_own node first events shape ones own shape_is so ones_is each own_is ∙ ap (λ (b : Bool). by_tests true true b first.gate) off
-
-pub fault_none : (node : Node) (first : Record) (events : List Record) (shape ones own : Bool) → shape ≡ (is_configuration first.bytes && is_alone events) → shape ≡ true → ones ≡ has_ones node.charter
-    → ones ≡ true → own ≡ bytes_eq first.bytes (configuration_of node.charter node.own) → own ≡ true → first_fault node first events ≡ None
-fault_none node first events shape ones own shape_is so ones_is each own_is same =
-    fault_own node first events shape ones own shape_is so ones_is each own_is ∙ ap (λ (b : Bool). by_tests true true b first.gate) same
+pub fault_none : (node : Node) (first : Record) (events : List Record) (version : Version) (own : Bool) → first_version first events ≡ Some version → own ≡ is_own node first.bytes version → own ≡ true
+    → first_fault node first events ≡ None
+fault_none node first events version own is own_is so = fault_own node first events version is ∙ ap mismatch (sym own_is ∙ so)
 
 -- an error of a reading of records is that of the journal behind a first record without a fault
 pub fails_told : (fault : Option JournalError) (read : Result History ℕ) (error : JournalError) → fault ≡ None → FailsAs error read → Tells error (unless fault read)
@@ -245,7 +230,7 @@ fault_told fault read Full is = ap (λ (f : Option JournalError). unless f read)
 pub ok_told : (fault : Option JournalError) (read : Result History ℕ) (history : History) → fault ≡ None → read ≡ Ok history → unless fault read ≡ Ok history
 ok_told fault read history none is = ap (λ (f : Option JournalError). unless f read) none ∙ ap or_damaged is
 
-pub journal_nil : (node : Node) → read_journal node [] ≡ unless (stakes_fault node.charter) (Ok [])
+pub journal_nil : (node : Node) → read_journal node [] ≡ Ok []
 unfolding read_journal
 journal_nil node = refl
 
@@ -274,14 +259,6 @@ pub behind_fault : (node : Node) (first : Record) (events : List Record) (error 
 unfolding read_journal
 behind_fault node first events error is = ap (λ (f : Option JournalError). unless f (read_events node [] events)) is
 
--- a committee with other stakes
-pub fresh_fault : (node : Node) (ones : Bool) → ones ≡ has_ones node.charter → ones ≡ false → read_journal node [] ≡ Err ConfigMismatch
-unfolding read_journal
-fresh_fault node ones ones_is off = ap (λ (b : Bool). unless (cond b None (Some ConfigMismatch)) (Ok [])) (sym ones_is ∙ off)
-
-fresh_none : (node : Node) (ones : Bool) → ones ≡ has_ones node.charter → ones ≡ true → stakes_fault node.charter ≡ None
-fresh_none node ones ones_is so = ap (λ (b : Bool). cond b None (Some ConfigMismatch)) (sym ones_is ∙ so)
-
 -- where the first record has no fault tables stand at what the others have
 stands_unless : (node : Node) (fault : Option JournalError) (read : Result History ℕ) (told_is : Result History JournalError) (tables : Tables) → told_is ≡ unless fault read → fault ≡ None → StandsAt node read tables → StandsAt node told_is tables
 stands_unless node fault read told_is tables is none stands = record {
@@ -295,19 +272,20 @@ pub stands_behind : (node : Node) (first : Record) (events : List Record) (table
     → StandsAt node (read_journal node (first ∷ events)) tables
 stands_behind node first events tables none stands = stands_unless node (first_fault node first events) (read_events node [] events) (read_journal node (first ∷ events)) tables (journal_cons node first events) none stands
 
-pub stands_fresh : (node : Node) (ones : Bool) (tables : Tables) → ones ≡ has_ones node.charter → ones ≡ true → StandsAt node (read_events node [] []) tables → StandsAt node (read_journal node []) tables
-stands_fresh node ones tables ones_is so stands =
-    stands_unless node (stakes_fault node.charter) (read_events node [] []) (read_journal node []) tables (journal_nil node ∙ ap (unless (stakes_fault node.charter)) (sym (read_nil node []))) (fresh_none node ones ones_is so) stands
+-- without records the others are none
+fresh_is : (node : Node) → read_journal node [] ≡ unless None (read_events node [] [])
+fresh_is node = journal_nil node ∙ ap (unless None) (sym (read_nil node []))
+
+pub stands_fresh : (node : Node) (tables : Tables) → StandsAt node (read_events node [] []) tables → StandsAt node (read_journal node []) tables
+stands_fresh node tables stands = stands_unless node None (read_events node [] []) (read_journal node []) tables (fresh_is node) refl stands
 
 -- an error of the others
 pub fails_behind : (node : Node) (first : Record) (events : List Record) (error : JournalError) → first_fault node first events ≡ None → FailsAs error (read_events node [] events)
     → Tells error (read_journal node (first ∷ events))
 fails_behind node first events error none fails = tells_same error _ _ (sym (journal_cons node first events)) (fails_told (first_fault node first events) (read_events node [] events) error none fails)
 
-pub fails_fresh : (node : Node) (ones : Bool) (error : JournalError) → ones ≡ has_ones node.charter → ones ≡ true → FailsAs error (read_events node [] []) → Tells error (read_journal node [])
-fails_fresh node ones error ones_is so fails =
-    tells_same error _ _ (sym (journal_nil node ∙ ap (unless (stakes_fault node.charter)) (sym (read_nil node []))))
-    (fails_told (stakes_fault node.charter) (read_events node [] []) error (fresh_none node ones ones_is so) fails)
+pub fails_fresh : (node : Node) (error : JournalError) → FailsAs error (read_events node [] []) → Tells error (read_journal node [])
+fails_fresh node error fails = tells_same error _ _ (sym (fresh_is node)) (fails_told None (read_events node [] []) error refl fails)
 
 pub fails_not : (error : JournalError) (read : Result History ℕ) → FailsAs error read → (error ≢ Device) × (error ≢ Full)
 fails_not Memory read fails = ((λ same. cc), (λ same. cc))
@@ -315,10 +293,6 @@ fails_not (Damaged gate) read fails = ((λ same. cc), (λ same. cc))
 fails_not Device read fails = absurd fails
 fails_not ConfigMismatch read fails = absurd fails
 fails_not Full read fails = absurd fails
-
-ones_told : (ones : Bool) (history : History) → unless (cond ones None (Some ConfigMismatch)) (Ok []) ≡ Ok history → ones ≡ true
-ones_told true history is = refl
-ones_told false history is = absurd (cc)
 
 same_bytes : (bytes : List ℕ) → bytes_eq bytes bytes ≡ false → ⊥
 same_bytes bytes off = grind (arith, bytes_eq-Decides bytes bytes)
@@ -329,25 +303,25 @@ bytes_same bytes = elim (cases_Bool (bytes_eq bytes bytes)) [ inl so ↦ so | in
 -- ---- the configuration written
 
 -- a journal told as without records stays so with the configuration alone
-pub told_written : (node : Node) (before behind : List ℕ) (place : ℕ) → has_ones node.charter ≡ true → is_configuration (configuration_of node.charter node.own) ≡ true → stands before ≡ Ok []
-    → stands behind ≡ Ok (kept_at place (configuration_of node.charter node.own) ∷ []) → told node behind ≡ told node before
-told_written node before behind place ones shape none written =
-    let one = kept_at place (configuration_of node.charter node.own) in
-    let free : first_fault node one [] ≡ None = (λ i. by_tests (and_from (is_configuration one.bytes) true shape refl i) (ones i) (bytes_same one.bytes i) place) in
+told_written : (version : Version) (node : Node) (before behind : List ℕ) (place : ℕ) → can_tell version node.charter ≡ true
+    → shaped_version (configuration_of version node.charter node.own) ≡ Some version → stands before ≡ Ok []
+    → stands behind ≡ Ok (kept_at place (configuration_of version node.charter node.own) ∷ []) → told node behind ≡ told node before
+told_written version node before behind place tells shape none written =
+    let one = kept_at place (configuration_of version node.charter node.own) in
+    let own : is_own node one.bytes version ≡ true = and_from (can_tell version node.charter) (bytes_eq one.bytes one.bytes) tells (bytes_same one.bytes) in
+    let free : first_fault node one [] ≡ None = fault_none node one [] version (is_own node one.bytes version) shape refl own in
     told_records node behind (one ∷ []) written ∙ journal_cons node one [] ∙ ap (λ (f : Option JournalError). unless f (read_events node [] [])) free
     ∙ ap or_damaged (read_nil node [])
-    ∙ sym (told_records node before [] none ∙ journal_nil node ∙ ap (λ (b : Bool). unless (cond b None (Some ConfigMismatch)) (Ok [])) ones)
+    ∙ sym (told_records node before [] none ∙ journal_nil node)
 
 -- so does whatever a stop leaves while it is written
-pub told_before_or_after : (node : Node) (before left : List ℕ) → has_ones node.charter ≡ true → is_configuration (configuration_of node.charter node.own) ≡ true → stands before ≡ Ok []
-    → IsBeforeOrAfter before (configuration_of node.charter node.own ∷ []) left → told node left ≡ told node before
-told_before_or_after node before left ones shape none (inl same) = told_same node left before same
-told_before_or_after node before left ones shape none (inr with_it) =
-    told_written node before left (length before - 1) ones shape none (with_it ∙ ap (with_group (length before - 1) (configuration_of node.charter node.own ∷ [])) none)
-
--- without records only stakes of 1 are told
-pub ones_from : (node : Node) (records : List Record) (history : History) → records ≡ [] → read_journal node records ≡ Ok history → has_ones node.charter ≡ true
-ones_from node records history none is = ones_told (has_ones node.charter) history (sym (journal_nil node) ∙ ap (read_journal node) (sym none) ∙ is)
+pub told_before_or_after : (version : Version) (node : Node) (before left : List ℕ) → CanTell version node.charter
+    → shaped_version (configuration_of version node.charter node.own) ≡ Some version → stands before ≡ Ok []
+    → IsBeforeOrAfter before (configuration_of version node.charter node.own ∷ []) left → told node left ≡ told node before
+told_before_or_after version node before left can shape none (inl same) = told_same node left before same
+told_before_or_after version node before left can shape none (inr with_it) =
+    told_written version node before left (length before - 1) (told_of version node.charter can) shape none
+    (with_it ∙ ap (with_group (length before - 1) (configuration_of version node.charter node.own ∷ [])) none)
 
 -- ---- openings
 
@@ -370,9 +344,9 @@ keeps_one node outcome left (inl possible) = inl possible
 keeps_one node outcome left (inr (first, possible, same)) = inr (first, possible, inl same)
 
 -- and what is kept of bytes that stand for the same is kept of these
-pub keeps_same : (node : Node) (file mid left : List ℕ) → stands mid ≡ stands file → KeepsOrBegins node mid left → KeepsOrBegins node file left
-keeps_same node file mid left same (inl (records, before, after)) = inl (records, sym same ∙ before, after)
-keeps_same node file mid left same (inr (none, begun)) = inr (sym same ∙ none, begun)
+pub keeps_same : (version : Version) (node : Node) (file mid left : List ℕ) → stands mid ≡ stands file → KeepsOrBegins version node mid left → KeepsOrBegins version node file left
+keeps_same version node file mid left same (inl (records, before, after)) = inl (records, sym same ∙ before, after)
+keeps_same version node file mid left same (inr (none, begun)) = inr (sym same ∙ none, begun)
 
 pub stands_same : (node : Node) (one other : Result History JournalError) (tables : Tables) → one ≡ other → StandsAt node one tables → StandsAt node other tables
 stands_same node one other tables same stands = subst (λ r. StandsAt node r tables) same stands

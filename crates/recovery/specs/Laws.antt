@@ -1,5 +1,5 @@
 -- That what bytes are told as is what they stand for, both ways, and so in the world of all runs.
-use Rattle.std.specs.Prelude.{◌≡◌, ◌⊎◌, ℕ, List, Ok, All}
+use Rattle.std.specs.Prelude.{◌≡◌, ◌⊎◌, ℕ, List, Ok}
 use Rattle.diskmodel.specs.Outcomes.{AreBytes}
 use Rattle.journal.specs.declared.error.JournalError.{JournalError}
 use Rattle.journal.specs.declared.error.JournalError.TheVariants.{Memory, Device}
@@ -22,10 +22,10 @@ abbrev pub ToldStandsFor : Type 0
 ToldStandsFor = (node : Node) (bytes : List ℕ) (history : History) → IsNode node → AreBytes bytes → told node bytes ≡ Ok history
     → StandsFor node bytes history × IsLegal node history
 
--- and each legal history for which bytes stand is what they are told as, where each stake is 1: others have no configuration
+-- and each legal history for which bytes stand is what they are told as
 abbrev pub WhatStandsIsTold : Type 0
-WhatStandsIsTold = (node : Node) (bytes : List ℕ) (history : History) → AreKeys node → All (λ stake. stake ≡ 1) node.charter.stakes
-    → StandsFor node bytes history → IsLegal node history → told node bytes ≡ Ok history
+WhatStandsIsTold = (node : Node) (bytes : List ℕ) (history : History) → AreKeys node → StandsFor node bytes history → IsLegal node history
+    → told node bytes ≡ Ok history
 
 -- bytes are told as what the world promises to be found again
 pub record IsFound (node : Node) (world : World) (bytes : List ℕ) : Type 0 where
@@ -34,7 +34,7 @@ pub record IsFound (node : Node) (world : World) (bytes : List ℕ) : Type 0 whe
   pub stands_for : StandsFor node bytes history
   pub recovered : IsRecovered node world history
 
--- whatever a stop leaves in a world of the node is told as such a history. That each stake is 1 the runs have by themselves
+-- whatever a stop leaves in a world of the node is told as such a history
 abbrev pub WorldsAreTold : Type 0
 WorldsAreTold = (node : Node) (moves : List Move) (world : World) (bytes : List ℕ) → IsNode node → AreKeys node → IsRun node moves world
     → MayStop world bytes → IsFound node world bytes

@@ -1,5 +1,5 @@
 -- What the bytes of a node's journal are told as: the events that they have, or why they are none of this node's.
-use Rattle.std.specs.Prelude.{◌≡◌, ◌≢◌, ◌⊎◌, All, ℕ, ◌+◌, ◌*◌, ◌==◌, ◌&&◌, not, nat_lt, Bool, List, [], ◌∷◌, ◌++◌, length, drop, Option, Some, None, is_none, Result, Ok, Err, slice_index, if◌then◌else◌}
+use Rattle.std.specs.Prelude.{◌≡◌, ◌≢◌, ◌⊎◌, All, ℕ, ◌+◌, ◌*◌, ◌==◌, ◌&&◌, not, nat_lt, Bool, true, List, [], ◌∷◌, ◌++◌, length, drop, Option, Some, None, is_none, Result, Ok, Err, slice_index, if◌then◌else◌}
 use Rattle.std.specs.Int.{w16, from_be_bytes}
 use Rattle.std.specs.List.{list_all}
 use Rattle.std.specs.Option.{option_map_or}
@@ -21,8 +21,10 @@ use Rattle.spec_model.specs.Nodes.{Node}
 use Rattle.spec_model.specs.Words.{Author, Event, Message}
 use Rattle.spec_model.specs.declared.refusal.Refusal.{Refusal}
 use Rattle.spec_model.specs.declared.refusal.Refusal.TheVariants as refusals
-use Rattle.spec_records.specs.Records.{configuration_of}
-use Rattle.recovery.specs.declared.configuration.TheConstants.{SETTINGS_BYTES, KEY_BYTES}
+use Rattle.spec_records.specs.Records.{number_of, configuration_of}
+use Rattle.spec_records.specs.declared.version.Version.{Version}
+use Rattle.spec_records.specs.declared.version.Version.TheVariants.{First, Second}
+use Rattle.recovery.specs.declared.configuration.TheConstants.{SETTINGS_BYTES, KEY_BYTES, STAKE_BYTES}
 use Rattle.recovery.specs.declared.events.TheConstants.{EVENT, FRONT_BYTES}
 use Rattle.admission.specs.declared.tables.Tables.{Tables}
 use Rattle.validator.specs.Standing.{AreAtSound}
@@ -80,35 +82,57 @@ read_events node history (kept ∷ rest) = go_on (λ later. read_events node lat
 abbrev pub members_in : List ℕ → ℕ
 members_in bytes = from_be_bytes w16 (slice_index bytes 12 ∷ slice_index bytes 13 ∷ [])
 
--- bytes begin as a configuration: its kind, the version
-abbrev pub has_front : List ℕ → Bool
-has_front bytes = (slice_index bytes 0 == 0) && (slice_index bytes 1 == 1)
+-- how many bytes the stakes of so many members have in a version
+abbrev pub stakes_size : Version → ℕ → ℕ
+stakes_size First members = 0
+stakes_size Second members = members * STAKE_BYTES
 
--- bytes have the shape of a configuration: they begin as one, and have the length that its members give
-unfoldable pub is_configuration : List ℕ → Bool
-is_configuration bytes = has_front bytes && (length bytes == SETTINGS_BYTES + members_in bytes * KEY_BYTES)
+-- how many bytes a configuration of so many members has in a version
+abbrev pub size_in : Version → ℕ → ℕ
+size_in version members = SETTINGS_BYTES + members * KEY_BYTES + stakes_size version members
+
+-- bytes begin as a configuration of a version: its kind, the version's number
+abbrev pub has_front : Version → List ℕ → Bool
+has_front version bytes = (slice_index bytes 0 == 0) && (slice_index bytes 1 == number_of version)
+
+-- bytes have the shape of a configuration of a version: they begin as one, and have the length that its members give
+unfoldable pub is_configuration : Version → List ℕ → Bool
+is_configuration version bytes = has_front version bytes && (length bytes == size_in version (members_in bytes))
+
+-- the version in whose shape bytes are
+abbrev pub shaped_version : List ℕ → Option Version
+shaped_version bytes = if is_configuration First bytes then Some First else if is_configuration Second bytes then Some Second else None
 
 -- none of these records stands in the first group, whose gate is at place 0
 abbrev pub is_alone : List Record → Bool
 is_alone events = list_all (λ kept. nat_lt 0 kept.gate) events
 
--- each stake is 1: a configuration of this version has no stakes
+-- each stake is 1
 abbrev pub has_ones : Charter → Bool
 has_ones charter = list_all (λ stake. stake == 1) charter.stakes
 
+-- a version can tell a committee: the first one, which has no stakes, only where each is 1
+abbrev pub can_tell : Version → Charter → Bool
+can_tell First charter = has_ones charter
+can_tell Second charter = true
+
 -- ---- a journal
 
--- why a committee has no configuration of this version: a stake isn't 1
-abbrev pub stakes_fault : Charter → Option JournalError
-stakes_fault charter = if has_ones charter then None else Some ConfigMismatch
+-- the version of a first record with these behind it: its shape says it, where it is alone in the first group
+abbrev pub first_version : Record → List Record → Option Version
+first_version first events = if is_alone events then shaped_version first.bytes else None
+
+-- bytes are the node's own configuration in a version that can tell its committee
+abbrev pub is_own : Node → List ℕ → Version → Bool
+is_own node bytes version = can_tell version node.charter && bytes_eq bytes (configuration_of version node.charter node.own)
+
+-- what is wrong with a configuration that is another one than the node's own
+abbrev pub mismatch : Bool → Option JournalError
+mismatch own = if own then None else Some ConfigMismatch
 
 -- why a first record with these behind it isn't the node's own configuration, alone in the first group
 abbrev pub first_fault : Node → Record → List Record → Option JournalError
-first_fault node first events =
-    if not (is_configuration first.bytes && is_alone events) then Some (Damaged first.gate)
-    else if not (has_ones node.charter) then Some ConfigMismatch
-    else if not (bytes_eq first.bytes (configuration_of node.charter node.own)) then Some ConfigMismatch
-    else None
+first_fault node first events = option_map_or (λ version. mismatch (is_own node first.bytes version)) (first_version first events) (Some (Damaged first.gate))
 
 -- what was read, or damage at its place
 abbrev pub or_damaged : Result History ℕ → Result History JournalError
@@ -122,7 +146,7 @@ unless None read = or_damaged read
 
 -- the events of a journal's records, or why they are none. Without a record there is no event
 unfoldable pub read_journal : Node → List Record → Result History JournalError
-read_journal node [] = unless (stakes_fault node.charter) (Ok [])
+read_journal node [] = Ok []
 read_journal node (first ∷ events) = unless (first_fault node first events) (read_events node [] events)
 
 -- what reading the groups gave
@@ -158,13 +182,14 @@ IsOld (Err refusal) = refusal ≢ refusals.Memory
 abbrev pub HasTexts : List ℕ → Type 0
 HasTexts file = (records : List Record) → stands file ≡ Ok records → All IsText (drop 1 records)
 
--- these bytes stand for records, and what is left of them for the same, whoever's they are, or where they are none for the node's configuration alone
-abbrev pub KeepsOrBegins : Node → List ℕ → List ℕ → Type 0
-KeepsOrBegins node file left = HaveSameRecords file left ⊎ ((stands file ≡ Ok []) × (stands left ≡ Ok (kept_at 0 (configuration_of node.charter node.own) ∷ [])))
+-- these bytes stand for records, and what is left of them for the same, whoever's they are, or where they are none for the
+-- node's configuration in a version alone
+abbrev pub KeepsOrBegins : Version → Node → List ℕ → List ℕ → Type 0
+KeepsOrBegins version node file left = HaveSameRecords file left ⊎ ((stands file ≡ Ok []) × (stands left ≡ Ok (kept_at 0 (configuration_of version node.charter node.own) ∷ [])))
 
 -- what is left is one of these outcomes byte for byte, or so of one of them: what stands for no records is one of them
 abbrev pub KeepsRecords : Node → (List ℕ → Type 0) → List ℕ → Type 0
-KeepsRecords node outcome left = outcome left ⊎ ((first : List ℕ) × outcome first × KeepsOrBegins node first left)
+KeepsRecords node outcome left = outcome left ⊎ ((first : List ℕ) × outcome first × KeepsOrBegins Second node first left)
 
 -- what a stop leaves is told as one of these outcomes is
 abbrev pub IsToldAsOneOf : Node → (List ℕ → Type 0) → List ℕ → Type 0

@@ -1,20 +1,16 @@
-//! The record of a node's configuration.
+//! The record of a node's configuration, as it is read.
 
-ghost use Rattle.std.specs.Prelude.{◌≡◌, ◌+◌, ◌*◌, ◌≤◌, ◌++◌, [], ◌∷◌, length, flat_map, true, All, IfOk, OnOk};
-ghost use Rattle.committee.specs.declared.members.TheConstants.{MAX_MEMBERS};
-ghost use Rattle.journal.specs.Format.{FitsGroup};
-ghost use Rattle.spec_records.specs.Records.{configuration_of};
-ghost use Rattle.recovery.specs.Told.{has_ones as told_ones, has_front, is_configuration as told_configuration};
+ghost use Rattle.std.specs.Prelude.{◌≡◌, ◌+◌, ◌*◌, ◌≤◌, true, length, All};
+ghost use Rattle.spec_records.specs.Records.{number_of, CanTell};
+ghost use Rattle.recovery.specs.Told.{has_ones as told_ones, can_tell as told_by_version, stakes_size, size_in, has_front, is_configuration as told_configuration, shaped_version as told_version};
 ghost use Rattle.wire.specs.Fields.{AreBytes, EachIsByte};
 
 use committee::Committee;
-use journal::Group;
-use std::alloc::{AllocError, Global};
-use wire::numbers::two_bytes;
+use spec_records::Version;
 use wire::{Author, Key};
 
-/// What a configuration begins with: its kind, and the version of the journal.
-const FRONT: [u8; 2] = [0, 1];
+/// The kind of a record that has a configuration.
+pub const CONFIGURATION: u8 = 0;
 
 /// The bytes of a configuration before the members' keys.
 pub const SETTINGS_BYTES: usize = 14;
@@ -22,79 +18,68 @@ pub const SETTINGS_BYTES: usize = 14;
 /// The bytes of a key.
 pub const KEY_BYTES: usize = 32;
 
-/// The record of a member's configuration: kind, version, own number, depth, workers, batches, members, and their keys.
-pub fn configuration(
-    alloc: Global,
-    committee: &Committee,
-    own: Author,
-) -> Result<Vec<u8>, AllocError>
-    ensures bytes { IfOk result (λ bytes. bytes.items ≡ configuration_of committee.now own) }
-    ensures len { IfOk result (λ bytes. length bytes.items ≡ SETTINGS_BYTES + length committee.now.keys * KEY_BYTES) }
-    ensures fits { IfOk result (λ bytes. FitsGroup (bytes.items ∷ [])) }
-{
-    let mut bytes = Vec::new(alloc);
-    bytes.extend_from_slice(&FRONT)?;
-    bytes.extend_from_slice(&two_bytes(own.0))?;
-    bytes.extend_from_slice(&two_bytes(committee.depth() as u16))?;
-    bytes.extend_from_slice(&two_bytes(committee.workers()))?;
-    bytes.extend_from_slice(&committee.batches().to_be_bytes())?;
-    bytes.extend_from_slice(&two_bytes(committee.size()))?;
-    put_keys(&mut bytes, committee)?;
-    Ok(bytes)
-}
+/// The bytes of a stake.
+pub const STAKE_BYTES: usize = 4;
 
-// Puts the members' keys behind the bytes.
-fn put_keys(bytes: &mut Vec<u8>, committee: &Committee) -> Result<(), AllocError>
-    ensures keys { OnOk result (bytes.new.items ≡ bytes.old.items ++ flat_map (λ key. key.0) committee.now.keys) }
-    ensures len { OnOk result (length bytes.new.items ≡ length bytes.old.items + length committee.now.keys * KEY_BYTES) }
+/// The number by which a record names its version.
+pub fn number_of(version: Version) -> u8
+    ensures { result ≡ number_of version }
 {
-    for member in 0..committee.size() {
-        match committee.key(Author(member)) {
-            Some(key) => bytes.extend_from_slice(&key.0)?,
-            None => unreachable!(),
-        }
-    }
-    Ok(())
-}
-
-/// The group of a configuration alone.
-pub fn configuration_group(
-    alloc: Global,
-    committee: &Committee,
-    own: Author,
-) -> Result<Group, AllocError>
-    ensures group { IfOk result (λ group. group ≡ configuration_of committee.now own ∷ []) }
-    ensures shape { OnOk result (told_configuration (configuration_of committee.now own) ≡ true) }
-    ensures short { OnOk result (length (configuration_of committee.now own) ≤ SETTINGS_BYTES + MAX_MEMBERS * KEY_BYTES) }
-{
-    committee.limits_hold();
-    let own = configuration(alloc, committee, own)?;
-    let mut records = Vec::new(alloc);
-    records.push(own)?;
-    match Group::new(alloc, records)? {
-        Some(group) => Ok(group),
-        None => unreachable!(),
+    match version {
+        Version::First => 1,
+        Version::Second => 2,
     }
 }
 
-/// Whether bytes have the shape of a configuration: its kind, the version, and the length that its members give.
+/// The version in whose shape bytes are, if they have a configuration's.
+pub fn shaped_version(bytes: &[u8]) -> Option<Version>
+    ensures { result ≡ told_version bytes.now }
+{
+    if is_configuration(Version::First, bytes) {
+        Some(Version::First)
+    } else if is_configuration(Version::Second, bytes) {
+        Some(Version::Second)
+    } else {
+        None
+    }
+}
+
+// Whether bytes have the shape of a configuration: its kind, the version, and the length that its members give.
 #[tactic(auto, unfolding(crate::specs::Told::is_configuration))]
-pub fn is_configuration(bytes: &[u8]) -> bool
-    ensures { result ≡ told_configuration bytes.now }
+fn is_configuration(version: Version, bytes: &[u8]) -> bool
+    ensures { result ≡ told_configuration version bytes.now }
 {
     if bytes.len() < SETTINGS_BYTES {
         return false;
     }
-    let members = u16::from_be_bytes([bytes[12], bytes[13]]) as usize;
-    has_front(bytes) && bytes.len() == SETTINGS_BYTES + members * KEY_BYTES
+    let members = u16::from_be_bytes([bytes[12], bytes[13]]);
+    has_front(version, bytes) && bytes.len() == size_in(version, members)
 }
 
 // Whether bytes begin as a configuration.
-fn has_front(bytes: &[u8]) -> bool
+fn has_front(version: Version, bytes: &[u8]) -> bool
     requires { 2 ≤ length bytes.now }
-    ensures { result ≡ has_front bytes.now }
+    ensures { result ≡ has_front version bytes.now }
 {
-    bytes[0] == FRONT[0] && bytes[1] == FRONT[1]
+    bytes[0] == CONFIGURATION && bytes[1] == number_of(version)
+}
+
+// How many bytes a configuration of so many members has.
+fn size_in(version: Version, members: u16) -> usize
+    ensures { result ≡ size_in version members }
+{
+    SETTINGS_BYTES + members as usize * KEY_BYTES + stakes_size(version, members)
+}
+
+// How many bytes the stakes of so many members have.
+fn stakes_size(version: Version, members: u16) -> usize
+    ensures value { result ≡ stakes_size version members }
+    ensures most { result ≤ members * STAKE_BYTES }
+{
+    match version {
+        Version::First => 0,
+        Version::Second => members as usize * STAKE_BYTES,
+    }
 }
 
 /// What holds of the keys of a committee: each has 32 bytes. It looks at each key, and does nothing.
@@ -123,8 +108,19 @@ pub fn are_bytes(bytes: &[u8])
     let _ = bytes;
 }
 
-/// Whether each stake is 1.
-pub fn has_ones(committee: &Committee) -> bool
+/// Whether a version can tell a committee: the first one, which has no stakes, only where each is 1.
+pub fn can_tell(version: Version, committee: &Committee) -> bool
+    ensures value { result ≡ told_by_version version committee.now }
+    ensures tells { result ≡ true → CanTell version committee.now }
+{
+    match version {
+        Version::First => has_ones(committee),
+        Version::Second => true,
+    }
+}
+
+// Whether each stake is 1.
+fn has_ones(committee: &Committee) -> bool
     ensures { result ≡ told_ones committee.now }
 {
     committee.limits_hold();

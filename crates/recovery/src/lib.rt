@@ -5,10 +5,12 @@ mod configuration;
 mod desk;
 mod driving;
 mod events;
+mod first_group;
 mod frames;
 mod reopening;
 mod standing;
 
+pub use configuration::can_tell;
 pub use driving::{Command, DriveError, drive};
-pub use reopening::reopen;
+pub use reopening::{reopen, write_configuration};
 pub use standing::{told_stands_for, what_stands_is_told, worlds_are_told};

@@ -5,28 +5,29 @@ ghost use Rattle.std.specs.Str.{bytes_eq};
 ghost use Rattle.diskmodel.specs.Disk.{AtEachMoment};
 ghost use Rattle.journal.specs.Format.{stands};
 ghost use Rattle.journal.specs.Journal.{disk_of, IsAlive, IsClosedUp};
-ghost use Rattle.spec_records.specs.Records.{configuration_of};
+ghost use Rattle.spec_records.specs.Records.{configuration_of, CanTell};
 ghost use Rattle.validator.specs.Setting.{node_of};
 ghost use Rattle.recovery.specs.Laws.{StandsForAt, HoldsAt, IsLeft, AreLeftTold, IsNoRefusal};
-ghost use Rattle.recovery.specs.Told.{IsText, HasTexts, is_configuration as told_configuration, is_alone as told_alone, has_ones as told_ones, read_journal, told, Tells, StandsAt, IsToldAsOneOf, KeepsOrBegins, KeepsRecords};
+ghost use Rattle.recovery.specs.Told.{IsText, HasTexts, first_version as told_version, is_alone as told_alone, is_own as told_own, read_journal, told, Tells, StandsAt, IsToldAsOneOf, KeepsOrBegins, KeepsRecords};
 
-use crate::configuration::{
-    configuration, configuration_group, has_ones, is_configuration, keys_hold,
-};
+use crate::configuration::{can_tell, keys_hold, shaped_version};
 use crate::events::replay;
+use crate::first_group::{configuration, configuration_group};
 use crate::standing::worlds_are_told;
 use diskmodel::Disk;
 use journal::{Failed, Journal, JournalError, Record};
 use sigface::Sign;
+use spec_records::Version;
 use std::alloc::{AllocError, Global};
 use validator::{Config, Validator};
 
-/// Opens a node on a disk: its journal, and the validator after the events there. An empty journal gets the configuration.
+/// Opens a node on a disk: its journal, and the validator after the events there. An empty journal gets the configuration,
+/// in the second version. One of the first version goes on in it.
 ///
 /// # Errors
 /// In this order: `Device` or `Memory`, where the disk or the memory fails; `Damaged` with the place of an open gate
-/// without a whole group behind it; `Damaged` with that of the first group, where its one record isn't a configuration;
-/// `ConfigMismatch`, where it is another one; `Damaged` with the place of the group of the first record that is no event,
+/// without a whole group behind it; `Damaged` with that of the first group, where its one record isn't a configuration of
+/// either version; `ConfigMismatch`, where it is another one, or of the first version and a stake isn't 1; `Damaged` with the place of the group of the first record that is no event,
 /// fails the checks, or isn't new. The disk is handed back.
 pub fn reopen<'a, S: Sign, D: Disk>(
     alloc: Global,
@@ -108,13 +109,13 @@ fn validator_on<'a, S: Sign, D: Disk>(
     ensures never_full { IfErr result (λ error. error ≢ JournalError.Full) }
     ensures unchanged { IfErr result (λ error. error ≢ JournalError.Device → D.content (disk_of journal.new) ≡ D.content (disk_of journal.old)) }
     ensures any_moment { AtEachMoment D.clock D.outcome_since (disk_of journal.old) (disk_of journal.new) (λ left. told (node_of S.own_key S.signature_of config.now) left ≡ told (node_of S.own_key S.signature_of config.now) (D.content (disk_of journal.old))) }
-    ensures keeps { AtEachMoment D.clock D.outcome_since (disk_of journal.old) (disk_of journal.new) (KeepsOrBegins (node_of S.own_key S.signature_of config.now) (D.content (disk_of journal.old))) }
+    ensures keeps { AtEachMoment D.clock D.outcome_since (disk_of journal.old) (disk_of journal.new) (KeepsOrBegins Version.Second (node_of S.own_key S.signature_of config.now) (D.content (disk_of journal.old))) }
     ensures texts { OnOk result (All IsText (drop 1 records.now)) }
     ensures texts_left { OnOk result (HasTexts (D.content (disk_of journal.new))) }
 {
     let validator = validator_after(alloc, config, records)?;
     if records.is_empty() {
-        write_configuration(alloc, config, journal)?;
+        write_configuration(alloc, Version::Second, config, journal)?;
     }
     Ok(validator)
 }
@@ -147,9 +148,6 @@ fn fresh_validator<'a, S: Sign>(
     ensures err { IfErr result (λ error. Tells error (read_journal (node_of S.own_key S.signature_of config.now) [])) }
     ensures never { IfErr result (λ error. (error ≢ JournalError.Device) × (error ≢ JournalError.Full)) }
 {
-    if !has_ones(config.committee()) {
-        return Err(JournalError::ConfigMismatch);
-    }
     replay(alloc, config, &[])
 }
 
@@ -166,23 +164,25 @@ fn validator_behind<'a, S: Sign>(
     ensures never { IfErr result (λ error. (error ≢ JournalError.Device) × (error ≢ JournalError.Full)) }
     ensures texts { OnOk result (All IsText events.now) }
 {
-    if !has_shape(first, events) {
-        return Err(JournalError::Damaged(first.gate));
-    }
-    if !has_ones(config.committee()) {
-        return Err(JournalError::ConfigMismatch);
-    }
-    if !is_own(alloc, config, first.bytes.as_slice())? {
+    let version = match first_version(first, events) {
+        Some(version) => version,
+        None => return Err(JournalError::Damaged(first.gate)),
+    };
+    if !is_own(alloc, config, version, first.bytes.as_slice())? {
         return Err(JournalError::ConfigMismatch);
     }
     replay(alloc, config, events)
 }
 
-// Whether the first record has the shape of a configuration, and is alone in its group.
-fn has_shape(first: &Record, events: &[Record]) -> bool
-    ensures { result ≡ (told_configuration first.now.bytes && told_alone events.now) }
+// The version of the first record, if it has the shape of a configuration, and is alone in its group.
+fn first_version(first: &Record, events: &[Record]) -> Option<Version>
+    ensures { result ≡ told_version first.now events.now }
 {
-    is_configuration(first.bytes.as_slice()) && is_alone(events)
+    if is_alone(events) {
+        shaped_version(first.bytes.as_slice())
+    } else {
+        None
+    }
 }
 
 // Whether none of these records stands in the first group.
@@ -192,23 +192,29 @@ fn is_alone(events: &[Record]) -> bool
     events.iter().all(|event| event.gate > 0)
 }
 
-// Whether these bytes are this configuration's.
-fn is_own<S: Sign>(alloc: Global, config: &Config<S>, bytes: &[u8]) -> Result<bool, AllocError>
-    ensures { IfOk result (λ own. own ≡ bytes_eq bytes.now (configuration_of config.now.charter config.now.own)) }
+// Whether these bytes are this configuration's, in a version that can tell its committee.
+fn is_own<S: Sign>(
+    alloc: Global,
+    config: &Config<S>,
+    version: Version,
+    bytes: &[u8],
+) -> Result<bool, AllocError>
+    ensures { IfOk result (λ own. own ≡ told_own (node_of S.own_key S.signature_of config.now) bytes.now version) }
 {
-    let own = configuration(alloc, config.committee(), config.own())?;
-    Ok(bytes == own.as_slice())
+    let own = configuration(alloc, version, config.committee(), config.own())?;
+    Ok(can_tell(version, config.committee()) && bytes == own.as_slice())
 }
 
-// Writes the group of the configuration alone.
-fn write_configuration<S: Sign, D: Disk>(
+/// Writes the first group of an empty journal: the configuration alone, in a version that can tell the committee.
+pub fn write_configuration<S: Sign, D: Disk>(
     alloc: Global,
+    version: Version,
     config: &Config<S>,
     journal: &mut Journal<D>,
 ) -> Result<(), JournalError>
     requires alive { IsAlive D.content D.outcome journal.old }
     requires empty { stands (D.content (disk_of journal.old)) ≡ Ok [] }
-    requires ones { told_ones config.now.charter ≡ true }
+    requires can_tell { CanTell version config.now.charter }
 
     ensures alive { OnOk result (IsAlive D.content D.outcome journal.new) }
     ensures configured { OnOk result (stands (D.content (disk_of journal.new)) ≢ Ok []) }
@@ -219,9 +225,9 @@ fn write_configuration<S: Sign, D: Disk>(
     ensures no_fault { OnOk result (D.faults (disk_of journal.new) ≡ D.faults (disk_of journal.old)) }
     ensures unchanged { IfErr result (λ error. error ≡ JournalError.Memory → journal.new ≡ journal.old) }
     ensures any_moment { AtEachMoment D.clock D.outcome_since (disk_of journal.old) (disk_of journal.new) (λ left. told (node_of S.own_key S.signature_of config.now) left ≡ told (node_of S.own_key S.signature_of config.now) (D.content (disk_of journal.old))) }
-    ensures keeps { AtEachMoment D.clock D.outcome_since (disk_of journal.old) (disk_of journal.new) (KeepsOrBegins (node_of S.own_key S.signature_of config.now) (D.content (disk_of journal.old))) }
+    ensures keeps { AtEachMoment D.clock D.outcome_since (disk_of journal.old) (disk_of journal.new) (KeepsOrBegins version (node_of S.own_key S.signature_of config.now) (D.content (disk_of journal.old))) }
 {
-    let group = configuration_group(alloc, config.committee(), config.own())?;
+    let group = configuration_group(alloc, version, config.committee(), config.own())?;
     let _ = journal.append(group)?.records();
     Ok(())
 }

@@ -10,8 +10,7 @@ pub fn told_stands_for()
     journal::groups_stand();
 }
 
-/// Each legal history for which bytes stand is what they are told as, where the node's keys have 32 bytes each and its
-/// stakes are all 1.
+/// Each legal history for which bytes stand is what they are told as, where the node's keys have 32 bytes each.
 pub fn what_stands_is_told()
     ensures { WhatStandsIsTold }
 {}

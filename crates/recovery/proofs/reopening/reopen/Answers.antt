@@ -3,6 +3,7 @@ use borrow.Author.Rules.{in_lives}
 use Rattle.std.specs.Prelude.{All}
 use Rattle.std.proofs.lemmas.Result.{err_from_is_err_and}
 use Rattle.journal.specs.Journal.{disk_of, StandsAsOneOf}
+use Rattle.spec_records.specs.declared.version.Version.TheVariants.{Second}
 use Rattle.validator.specs.Setting.{node_of}
 use Rattle.recovery.specs.Told.{IsText, told, IsToldAsOneOf, KeepsOrBegins, KeepsRecords}
 use Rattle.diskmodel.proofs.Clock.{weaker, joins}
@@ -131,8 +132,8 @@ returns-in-Ok-clause-keeps g c =
     let mid = g.D.Disk.content middle in
     let P : List ℕ → Type 0 = KeepsRecords node outcome in
     let first = weaker g.D.Disk.clock g.D.Disk.outcome_since c.args.disk middle P (StandsAsOneOf outcome) c.in_ok-journal.ensures.any_moment (λ left is. keeps_one node outcome left is) in
-    joins g.D.Disk.clock g.D.Disk.outcome_since c.args.disk middle (disk_of c.validator_on.new.journal) P (KeepsOrBegins node mid) first c.validator_on.ensures.keeps
-    (λ left kept. inr (file, g.met.D.Disk.content_is_outcome c.args.disk, keeps_same node file mid left c.in_ok-journal.ensures.same kept))
+    joins g.D.Disk.clock g.D.Disk.outcome_since c.args.disk middle (disk_of c.validator_on.new.journal) P (KeepsOrBegins Second node mid) first c.validator_on.ensures.keeps
+    (λ left kept. inr (file, g.met.D.Disk.content_is_outcome c.args.disk, keeps_same Second node file mid left c.in_ok-journal.ensures.same kept))
 
 pub returns-clause-keeps_err : goal.returns-clause-keeps_err
 returns-clause-keeps_err g c =
@@ -143,6 +144,6 @@ returns-clause-keeps_err g c =
     let mid = g.D.Disk.content middle in
     let P : List ℕ → Type 0 = KeepsRecords node outcome in
     let first = weaker g.D.Disk.clock g.D.Disk.outcome_since c.args.disk middle P (StandsAsOneOf outcome) c.in_ok-journal.ensures.any_moment (λ left is. keeps_one node outcome left is) in
-    let whole = joins g.D.Disk.clock g.D.Disk.outcome_since c.args.disk middle (disk_of c.validator_on.new.journal) P (KeepsOrBegins node mid) first c.validator_on.ensures.keeps
-    (λ left kept. inr (file, g.met.D.Disk.content_is_outcome c.args.disk, keeps_same node file mid left c.in_ok-journal.ensures.same kept)) in
+    let whole = joins g.D.Disk.clock g.D.Disk.outcome_since c.args.disk middle (disk_of c.validator_on.new.journal) P (KeepsOrBegins Second node mid) first c.validator_on.ensures.keeps
+    (λ left kept. inr (file, g.met.D.Disk.content_is_outcome c.args.disk, keeps_same Second node file mid left c.in_ok-journal.ensures.same kept)) in
     rw c.into_disk.ensures whole

@@ -5,11 +5,12 @@ use Rattle.std.proofs.lemmas.List.{nil_from_length}
 use Rattle.std.proofs.lemmas.Result.{err_from_is_err_and}
 use Rattle.journal.specs.Format.{stands}
 use Rattle.journal.specs.Journal.{disk_of}
+use Rattle.spec_records.specs.declared.version.Version.TheVariants.{Second}
 use Rattle.validator.specs.Setting.{node_of}
 use Rattle.recovery.specs.Told.{told, read_journal, KeepsOrBegins}
 use Rattle.recovery.proofs.Opened.{same_texts}
 use Rattle.diskmodel.proofs.Clock.{started}
-use Rattle.recovery.proofs.Telling.{told_same, told_records, tells_same, stands_same, ones_from}
+use Rattle.recovery.proofs.Telling.{told_same, told_records, tells_same, stands_same}
 use Rattle.recovery.proofs.reopening.validator_on.Goals as goal
 use Rattle.recovery.proofs.reopening.validator_on.Goals.{then-is_empty+in_ok-write_configuration, else-is_empty}
 
@@ -37,12 +38,6 @@ write_configuration-requires-clause-empty g c =
     let none : c.args.records.now ≡ [] = nil_from_length c.args.records.now (eqb-true (length c.args.records.now) 0 (sym c.is_empty.ensures ∙ c.if-is_empty.true)) in
     c.requires.records ∙ ap Ok none
 
-pub write_configuration-requires-clause-ones : goal.write_configuration-requires-clause-ones
-write_configuration-requires-clause-ones g c =
-    let node = node_of g.S.Sign.own_key g.S.Sign.signature_of c.args.config.now in
-    let none : c.args.records.now ≡ [] = nil_from_length c.args.records.now (eqb-true (length c.args.records.now) 0 (sym c.is_empty.ensures ∙ c.if-is_empty.true)) in
-    ones_from node c.args.records.now c.in_ok-validator.ensures.stands.history none c.in_ok-validator.ensures.stands.is_read
-
 pub returns-clause-same : goal.returns-clause-same
 returns-clause-same g c =
     let node = node_of g.S.Sign.own_key g.S.Sign.signature_of c.args.config.now in
@@ -68,7 +63,7 @@ pub returns-in_err-validator-clause-keeps : goal.returns-in_err-validator-clause
 returns-in_err-validator-clause-keeps g c =
     let old = disk_of c.args.journal.now in
     let node = node_of g.S.Sign.own_key g.S.Sign.signature_of c.args.config.now in
-    started g.D.Disk.clock g.D.Disk.outcome_since old (KeepsOrBegins node (g.D.Disk.content old))
+    started g.D.Disk.clock g.D.Disk.outcome_since old (KeepsOrBegins Second node (g.D.Disk.content old))
     (λ left now. inl (c.args.records.now, c.requires.records, ap stands (c.requires.alive.firm left (g.met.D.Disk.only_now old left now)) ∙ c.requires.records))
 
 pub returns-clause-keeps : goal.returns-clause-keeps
@@ -79,7 +74,7 @@ returns-clause-keeps g c =
       | then-is_empty+in_ok-write_configuration w ↦ rw w.journal-is w.write_configuration.ensures.keeps
       | else-is_empty w ↦
           rw w.journal-is
-          (started g.D.Disk.clock g.D.Disk.outcome_since old (KeepsOrBegins node (g.D.Disk.content old))
+          (started g.D.Disk.clock g.D.Disk.outcome_since old (KeepsOrBegins Second node (g.D.Disk.content old))
           (λ left now. inl (c.args.records.now, c.requires.records, ap stands (c.requires.alive.firm left (g.met.D.Disk.only_now old left now)) ∙ c.requires.records)))
     ]
 

@@ -2,8 +2,8 @@ use Rattle.std.proofs.Common.{◌≡◌, ◌∷◌, [], Option, Some, None, leng
 use Rattle.std.specs.Prelude.{SomeIff, is_some}
 use Rattle.std.proofs.lemmas.Bool.{false≢true}
 use Rattle.journal.specs.Format.{FitsGroup, contents}
-use Rattle.recovery.proofs.Configured.{shape_is}
-use Rattle.recovery.proofs.configuration.configuration_group.Goals as goal
+use Rattle.recovery.proofs.Configured.{shaped_is}
+use Rattle.recovery.proofs.first_group.configuration_group.Goals as goal
 
 not_none : {T : Type 0} (r : Option T) (P : Type 0) (v : T) → SomeIff r P v → r ≡ None → P → ⊥
 not_none None P v none is holds = none holds
@@ -16,4 +16,4 @@ unreachable-requires c =
     not_none _ _ _ c.in_ok-group.ensures c.in-None.is (subst FitsGroup (sym records) fits)
 
 pub returns-clause-shape : goal.returns-clause-shape
-returns-clause-shape c = shape_is c.args.committee.now c.args.own (omega (arith, c.limits_hold.ensures.size)) (ap length (sym c.in_ok-own.ensures.bytes) ∙ c.in_ok-own.ensures.len)
+returns-clause-shape c = shaped_is c.args.version c.args.committee.now c.args.own (omega (arith, c.limits_hold.ensures.size)) (ap length (sym c.in_ok-own.ensures.bytes) ∙ c.in_ok-own.ensures.len)

@@ -1,8 +1,9 @@
-use Rattle.recovery.proofs.configuration.configuration.Goals as goal
+use Rattle.recovery.proofs.first_group.configuration.Goals as goal
 
 pub returns-clause-bytes : goal.returns-clause-bytes
 returns-clause-bytes c =
     rw (
+      c.in_ok-put_stakes.ensures.stakes,
       c.in_ok-put_keys.ensures.keys,
       c.in_ok-extend_from_slice-6.ensures.items,
       c.in_ok-extend_from_slice-5.ensures.items,
@@ -11,6 +12,7 @@ returns-clause-bytes c =
       c.in_ok-extend_from_slice-2.ensures.items,
       c.in_ok-extend_from_slice.ensures.items,
       c.new-bytes.ensures.items,
+      c.number_of.ensures,
       c.two_bytes.ensures.bytes,
       c.two_bytes-2.ensures.bytes,
       c.two_bytes-3.ensures.bytes,

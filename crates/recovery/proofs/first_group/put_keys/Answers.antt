@@ -1,7 +1,8 @@
 use Rattle.std.proofs.Common.{◌++◌, ap, sym, ◌∙◌, append_assoc, rules, take, List, ℕ}
 use Rattle.std.specs.List.{flat_map}
-use Rattle.recovery.proofs.Configured.{keys_more}
-use Rattle.recovery.proofs.configuration.put_keys.Goals as goal
+use Rattle.wire.specs.declared.keys.Key.{Key}
+use Rattle.recovery.proofs.Configured.{each_more}
+use Rattle.recovery.proofs.first_group.put_keys.Goals as goal
 
 pub loop-member-preserved : goal.loop-member-preserved
 loop-member-preserved c =
@@ -12,6 +13,6 @@ loop-member-preserved c =
       keys = c.in_ok-extend_from_slice-in-Some.ensures.items
           ∙ ap (λ (l : List ℕ). l ++ key.0) c.loop-member.invariant.keys
           ∙ append_assoc before (flat_map (λ k. k.0) (take c.loop-member.member keys)) key.0
-          ∙ ap (λ (l : List ℕ). before ++ l) (sym (keys_more keys c.loop-member.member key (sym c.in-Some.ensures.value)));
+          ∙ ap (λ (l : List ℕ). before ++ l) (sym (each_more (λ (k : Key). k.0) keys c.loop-member.member key (sym c.in-Some.ensures.value)));
       len = search rules;
     }

@@ -1,7 +1,7 @@
 use Rattle.std.proofs.Common.{◌≡◌, ◌+◌, ◌*◌, ◌++◌, length, take}
 use Rattle.std.specs.List.{flat_map}
 use Rattle.recovery.specs.declared.configuration.TheConstants.{KEY_BYTES}
-use Rattle.recovery.proofs.configuration.put_keys.Given as goal
+use Rattle.recovery.proofs.first_group.put_keys.Given as goal
 
 -- each member's key so far has been added
 abbrev pub invariant-loop-member : goal.invariant-loop-member
