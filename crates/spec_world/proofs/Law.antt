@@ -44,15 +44,15 @@ vote_later node history later ballot legal begins has = record {
 }
 
 module _ (node : Node) (world : World) (at : Stands node world) where
-  kept : (given : Given) → Contains world.given given → IsKept node (world.began ++ world.settled) given
+  pub kept : (given : Given) → Contains world.given given → IsKept node (world.began ++ world.settled) given
   kept given there = All-contains (IsKept node (world.began ++ world.settled)) world.given given at.given there
 
-  vote_there : (given : Given) (ballot : Ballot) → Contains world.given given → vote_given given.outgoing ≡ Some ballot → HasVote node (world.began ++ world.settled) ballot
+  pub vote_there : (given : Given) (ballot : Ballot) → Contains world.given given → vote_given given.outgoing ≡ Some ballot → HasVote node (world.began ++ world.settled) ballot
   vote_there given ballot there is =
       let is_kept = kept given there in
       vote_later node given.history (world.began ++ world.settled) ballot (settled_legal node world at) is_kept.begins (has_vote node given.history given.outgoing ballot is_kept.ended is)
 
-  legal_at : (given : Given) → Contains world.given given → IsLegal node given.history
+  pub legal_at : (given : Given) → Contains world.given given → IsLegal node given.history
   legal_at given there =
       let begins = (kept given there).begins in
       legal-begins node given.history begins.rest (subst (IsLegal node) begins.parts (settled_legal node world at))
@@ -111,7 +111,7 @@ module _ (node : Node) (world : World) (at : Stands node world) where
   }
 
 -- an empty disk stands for no event
-empty_stands : (node : Node) (history : History) → StandsFor node [] history → history ≡ []
+pub empty_stands : (node : Node) (history : History) → StandsFor node [] history → history ≡ []
 empty_stands node history (as_journal held) = absurd (omega (arith, journal_long node [] history held))
 empty_stands node history (as_new none empty) = empty
 

@@ -10,3 +10,4 @@ mod Orders
 pub mod Recovering
 mod Standing
 pub mod Groups
+pub mod Lasting

@@ -3,3 +3,4 @@ pub mod Steps
 pub mod Promise
 pub mod Runs
 pub mod Text
+pub mod Lasting

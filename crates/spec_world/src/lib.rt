@@ -2,6 +2,7 @@
 //! ensures.
 #![tactic(auto)]
 
+ghost use Rattle.spec_world.specs.Lasting.{SettledGrows, GivenStays, EventsCameIn, GivenVotesAreSettled, GivenOrdersAreSettled};
 ghost use Rattle.spec_world.specs.Promise.{NothingTakenBack};
 ghost use Rattle.spec_world.specs.Runs.{RunsBegin, StopsArePossible, RunsGoOn, RunsBeginWithWhatStands, GroupsSettle, AppendsMakeCalls};
 
@@ -43,4 +44,29 @@ pub fn groups_settle()
 /// The four device calls of an append are those that `Journal::append` makes of its disk.
 pub fn appends_make_calls()
     ensures { AppendsMakeCalls }
+{}
+
+/// What is settled only grows, over each step and each stop.
+pub fn settled_grows()
+    ensures { SettledGrows }
+{}
+
+/// What was given out stays given out.
+pub fn given_stays()
+    ensures { GivenStays }
+{}
+
+/// Each event of a run came in by a move, in this run or in an earlier one.
+pub fn events_came_in()
+    ensures { EventsCameIn }
+{}
+
+/// A vote that was given out is the one of what is settled.
+pub fn given_votes_are_settled()
+    ensures { GivenVotesAreSettled }
+{}
+
+/// An order that was given out is a beginning of the settled order.
+pub fn given_orders_are_settled()
+    ensures { GivenOrdersAreSettled }
 {}

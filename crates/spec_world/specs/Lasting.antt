@@ -1,0 +1,38 @@
+-- What stays in all of a node's runs, and where what it has comes from.
+use Rattle.std.specs.Prelude.{◌≡◌, List, ◌++◌, Some, Contains}
+use Rattle.spec_laws.specs.Laws.{Begins}
+use Rattle.spec_model.specs.Histories.{History}
+use Rattle.spec_model.specs.Holdings.{order, voted_digest}
+use Rattle.spec_model.specs.Nodes.{Node, IsNode}
+use Rattle.spec_model.specs.Words.{Digest, Event}
+use Rattle.spec_world.specs.World.{Given, World}
+use Rattle.spec_world.specs.Steps.{Move, accept, IsStep, IsRun}
+use Rattle.spec_world.specs.Promise.{Ballot, vote_given, order_given}
+
+-- what a node's disk holds for good: what this run began with, and what of it is settled
+abbrev pub settled_in : World → History
+settled_in world = world.began ++ world.settled
+
+-- that only grows, over each step and each stop
+abbrev pub SettledGrows : Type 0
+SettledGrows = (node : Node) (moves : List Move) (world : World) (move : Move) (next : World) → IsNode node → IsRun node moves world → IsStep node world move next
+    → Begins (settled_in world) (settled_in next)
+
+-- what was given out stays given out
+abbrev pub GivenStays : Type 0
+GivenStays = (node : Node) (world : World) (move : Move) (next : World) → IsStep node world move next → Begins world.given next.given
+
+-- each event of a run came in by a move, in this run or in an earlier one
+abbrev pub EventsCameIn : Type 0
+EventsCameIn = (node : Node) (moves : List Move) (world : World) (event : Event) → IsNode node → IsRun node moves world → Contains (world.began ++ world.accepted) event
+    → Contains moves (accept event)
+
+-- a vote that was given out is the one of what is settled
+abbrev pub GivenVotesAreSettled : Type 0
+GivenVotesAreSettled = (node : Node) (moves : List Move) (world : World) (given : Given) (ballot : Ballot) → IsNode node → IsRun node moves world → Contains world.given given
+    → vote_given given.outgoing ≡ Some ballot → voted_digest (settled_in world) ballot.round ballot.author.0 ≡ Some ballot.header
+
+-- an order that was given out is a beginning of the settled order
+abbrev pub GivenOrdersAreSettled : Type 0
+GivenOrdersAreSettled = (node : Node) (moves : List Move) (world : World) (given : Given) (digests : List Digest) → IsNode node → IsRun node moves world → Contains world.given given
+    → order_given (order node given.history) given.outgoing ≡ Some digests → Begins digests (order node (settled_in world))
