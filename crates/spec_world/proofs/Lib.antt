@@ -1,13 +1,13 @@
 mod Answered
-mod Beginning
-mod Ballots
+pub mod Beginning
+pub mod Ballots
 mod Bytes
 mod Disks
 pub mod GoingOn
-mod Law
+pub mod Law
 mod Moving
-mod Orders
+pub mod Orders
 pub mod Recovering
-mod Standing
+pub mod Standing
 pub mod Groups
 pub mod Lasting

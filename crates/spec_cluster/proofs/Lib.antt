@@ -1,0 +1,3 @@
+mod Running
+mod Signing
+mod Together

@@ -1,0 +1,94 @@
+-- The runs of each member of a cluster, and what was assumed where an event came in.
+use Rattle.std.proofs.Common.{◌≡◌, ◌≢◌, ℕ, true, false, cond, List, [], ◌∷◌, inl, inr, ap, sym, ◌∙◌, subst}
+use Rattle.std.specs.Prelude.{◌==◌, Contains}
+use Rattle.std.proofs.lemmas.Bool.{cases_Bool, eqb-true, eq-eqb, true≢false}
+use Rattle.spec_laws.specs.Laws.{Begins}
+use Rattle.spec_laws.proofs.Lists.{Contains-nothing, Contains-cases}
+use Rattle.spec_model.specs.Words.{Event}
+use Rattle.spec_world.specs.World.{World, run_on}
+use Rattle.spec_world.specs.Steps.{Move, accept, IsStep, IsRun, IsRestarted}
+use Rattle.spec_world.specs.Steps as one
+use Rattle.spec_world.proofs.Beginning.{runs_begin}
+use Rattle.spec_world.proofs.Lasting.{given_stays}
+use Rattle.spec_world.proofs.Orders.{begins_same, begins_trans}
+use Rattle.spec_cluster.specs.Cluster.{Cluster, Worlds, Turn, Passes, IsTurn, Leads, IsReached, ClustersBegin}
+
+-- the steps of one member
+abbrev pub moves_of : ℕ → List Turn → List Move
+moves_of member [] = []
+moves_of member (turn ∷ turns) = cond (turn.member == member) (turn.move ∷ moves_of member turns) (moves_of member turns)
+
+-- another number is another member
+unlike : (one other : ℕ) → (one == other) ≡ false → other ≢ one
+unlike one other differs same = true≢false (sym (eq-eqb one other (sym same)) ∙ differs)
+
+module _ (cluster : Cluster) (Assumed : Worlds → Turn → Type 0) where
+  -- ---- each member's steps lead from its world to its world
+
+  pub runs_on : (member : ℕ) (worlds : Worlds) (turns : List Turn) (last : Worlds) → Leads cluster Assumed worlds turns last
+      → one.Leads (cluster.node member) (worlds member) (moves_of member turns) (last member)
+  runs_on member worlds [] last leads = ap (λ (w : Worlds). w member) leads
+  runs_on member worlds (turn ∷ turns) last leads =
+      let next = leads.0 in
+      let is_turn = leads.2 in
+      let rest = runs_on member next turns last leads.3 in
+      elim (cases_Bool (turn.member == member)) [
+        | inl same ↦
+            let is : turn.member ≡ member = eqb-true turn.member member same in
+            rw same (next member, subst (λ m. IsStep (cluster.node m) (worlds m) turn.move (next m)) is is_turn.step, rest)
+        | inr differs ↦
+            rw differs (subst (λ (w : World). one.Leads (cluster.node member) w (moves_of member turns) (last member)) (is_turn.others member (unlike turn.member member differs)) rest)
+      ]
+
+  pub each_runs : (member : ℕ) (turns : List Turn) (worlds : Worlds) → IsReached cluster Assumed turns worlds → cluster.honest member ≡ true
+      → IsRun (cluster.node member) (moves_of member turns) (worlds member)
+  each_runs member turns worlds reached honest = record { first = reached.first member; begins = reached.begins member honest; leads = runs_on member reached.first turns worlds reached.leads }
+
+  -- ---- what was given out stays so
+
+  given_one : (worlds : Worlds) (turn : Turn) (next : Worlds) → IsTurn cluster worlds turn next → (member : ℕ) → Begins (worlds member).given (next member).given
+  given_one worlds turn next is_turn member =
+      elim (cases_Bool (turn.member == member)) [
+        | inl same ↦
+            subst (λ m. Begins (worlds m).given (next m).given) (eqb-true turn.member member same)
+            (given_stays (cluster.node turn.member) (worlds turn.member) turn.move (next turn.member) is_turn.step)
+        | inr differs ↦ subst (λ (w : World). Begins (worlds member).given w.given) (sym (is_turn.others member (unlike turn.member member differs))) (begins_same (worlds member).given)
+      ]
+
+  pub given_all : (worlds : Worlds) (turns : List Turn) (last : Worlds) → Leads cluster Assumed worlds turns last → (member : ℕ) → Begins (worlds member).given (last member).given
+  given_all worlds [] last leads member = subst (λ (w : Worlds). Begins (worlds member).given (w member).given) leads (begins_same (worlds member).given)
+  given_all worlds (turn ∷ turns) last leads member =
+      begins_trans (worlds member).given (leads.0 member).given (last member).given (given_one worlds turn leads.0 leads.2 member) (given_all leads.0 turns last leads.3 member)
+
+  -- ---- where an event came in
+
+  pub record CameAt (event : Event) (last : Worlds) : Type 0 where
+    pub before : Worlds
+    pub turn : Turn
+    pub move : turn.move ≡ accept event
+    pub assumed : Assumed before turn
+    pub passed : Passes cluster turn.move
+    pub given : (member : ℕ) → Begins (before member).given (last member).given
+
+  pub came_at : (member : ℕ) (event : Event) (worlds : Worlds) (turns : List Turn) (last : Worlds) → Leads cluster Assumed worlds turns last
+      → Contains (moves_of member turns) (accept event) → CameAt event last
+  came_at member event worlds [] last leads inside = absurd (Contains-nothing (accept event) inside)
+  came_at member event worlds (turn ∷ turns) last leads inside =
+      elim (cases_Bool (turn.member == member)) [
+        | inl same ↦
+            let inside' : Contains (turn.move ∷ moves_of member turns) (accept event) = rw same at inside in
+            elim (Contains-cases turn.move (moves_of member turns) (accept event) inside') [
+              | inl here ↦ record { before = worlds; turn = turn; move = here; assumed = leads.1; passed = leads.2.passed; given = given_all worlds (turn ∷ turns) last leads }
+              | inr later ↦ came_at member event leads.0 turns last leads.3 later
+            ]
+        | inr differs ↦
+            let inside' : Contains (moves_of member turns) (accept event) = rw differs at inside in
+            came_at member event leads.0 turns last leads.3 inside'
+      ]
+
+-- ---- there are such clusters
+
+pub clusters_begin : ClustersBegin
+clusters_begin cluster members keys = λ member honest.
+    let run = runs_begin (cluster.node member) (members member honest).is (keys member honest) in
+    subst (IsRestarted (cluster.node member) (run_on [] [] []) []) run.leads run.begins

@@ -1,0 +1,9 @@
+use Rattle.spec_world.proofs.Law.{nothing_taken_back}
+use Rattle.spec_cluster.proofs.Together.{agreement}
+use Rattle.spec_cluster.proofs.agreement.Goals as goal
+
+pub returns-clause-alone : goal.returns-clause-alone
+returns-clause-alone c = nothing_taken_back
+
+pub returns-clause-together : goal.returns-clause-together
+returns-clause-together c = agreement

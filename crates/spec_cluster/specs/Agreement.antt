@@ -1,0 +1,41 @@
+-- What the honest members of a cluster agree on.
+use Rattle.std.specs.Prelude.{◌≡◌, ℕ, true, List, Some, Contains}
+use Rattle.committee.specs.Charter.{IsCharter}
+use Rattle.spec_accord.specs.Accord.{Agree}
+use Rattle.spec_laws.specs.Laws.{Begins}
+use Rattle.spec_model.specs.Histories.{History}
+use Rattle.spec_model.specs.Holdings.{certificates, order}
+use Rattle.spec_model.specs.Words.{Certificate, Digest}
+use Rattle.spec_world.specs.Lasting.{settled_in}
+use Rattle.spec_world.specs.Promise.{order_given}
+use Rattle.spec_world.specs.World.{Given}
+use Rattle.spec_cluster.specs.Cluster.{Cluster, Worlds, Turn, AreMembers, IsReached}
+use Rattle.spec_cluster.specs.Premises.{FewFaulty, NoTwoTexts, Fair}
+
+-- a member held a certificate at what it had settled, now or before: each history that was ever settled begins what is settled now
+pub record HeldIt (cluster : Cluster) (worlds : Worlds) (member : ℕ) (certificate : Certificate) : Type 0 where
+  pub honest : cluster.honest member ≡ true
+  pub history : History
+  pub settled : Begins history (settled_in (worlds member))
+  pub held : Contains (certificates (cluster.node member) history) certificate
+
+-- a member gave an order out, in this run or in an earlier one
+pub record GaveIt (cluster : Cluster) (worlds : Worlds) (member : ℕ) (digests : List Digest) : Type 0 where
+  pub honest : cluster.honest member ≡ true
+  pub given : Given
+  pub among : Contains (worlds member).given given
+  pub is : order_given (order (cluster.node member) given.history) given.outgoing ≡ Some digests
+
+pub record AreAgreed (cluster : Cluster) (worlds : Worlds) : Type 0 where
+  -- certificates of one author and round have one header
+  pub certificates : (member also : ℕ) (one other : Certificate) → HeldIt cluster worlds member one → HeldIt cluster worlds also other
+      → one.header.author ≡ other.header.author → one.header.round ≡ other.header.round → one.header ≡ other.header
+  -- of two orders one begins the other
+  pub orders : (member also : ℕ) (one other : List Digest) → GaveIt cluster worlds member one → GaveIt cluster worlds also other → Agree one other
+
+-- In every cluster of whose members no more than is tolerated are faulty, whatever they give whom and whoever stops when, no two
+-- certificates that honest members held at what they had settled name one author and round with different headers, and of any two
+-- orders that they gave out one begins the other
+abbrev pub Agreement : Type 0
+Agreement = (cluster : Cluster) (value : ℕ → ℕ) (turns : List Turn) (worlds : Worlds) → IsCharter cluster.charter → AreMembers cluster → FewFaulty cluster
+    → IsReached cluster (Fair cluster value) turns worlds → NoTwoTexts cluster worlds → AreAgreed cluster worlds

@@ -1,0 +1,67 @@
+-- A cluster: the members of one committee, those of them who are honest, and the world of each of these.
+use Rattle.std.specs.Prelude.{◌≡◌, ◌≢◌, ◌<◌, ℕ, Bool, true, List, [], ◌∷◌, length, None, ⊤}
+use Rattle.committee.specs.Charter.{Charter}
+use Rattle.header.specs.Checks.{Accepts, fault_of}
+use Rattle.spec_model.specs.Nodes.{Node, IsNode}
+use Rattle.spec_world.specs.World.{World, run_on}
+use Rattle.spec_world.specs.Runs.{AreKeys, first_bytes}
+use Rattle.spec_world.specs.Steps.{Move, accept, IsStep, IsRestarted}
+
+-- the committee, the verifier that all use, who is honest, and what an honest member is as a node; of the others nothing is said
+pub record Cluster : Type 0 where
+  pub charter : Charter
+  pub accepts : Accepts
+  pub honest : ℕ → Bool
+  pub node : ℕ → Node
+
+-- the world of each honest member, over all its runs
+abbrev pub Worlds : Type 0
+Worlds = ℕ → World
+
+-- an honest member is a node of this committee, with its own number
+pub record IsMember (cluster : Cluster) (member : ℕ) : Type 0 where
+  pub within : member < length cluster.charter.keys
+  pub number : (cluster.node member).own.0 ≡ member
+  pub charter : (cluster.node member).charter ≡ cluster.charter
+  pub is : IsNode (cluster.node member)
+
+abbrev pub AreMembers : Cluster → Type 0
+AreMembers cluster = (member : ℕ) → cluster.honest member ≡ true → IsMember cluster member
+
+-- ---- turns
+
+-- a step of one honest member: an event is given to it by whomever, its disk makes a call, something goes out, it stops
+pub record Turn : Type 0 where
+  pub member : ℕ
+  pub move : Move
+
+-- an event that is given passed the checks, with its signatures
+abbrev pub Passes : Cluster → Move → Type 0
+Passes cluster (accept event) = fault_of cluster.charter cluster.accepts event ≡ None
+Passes cluster _ = ⊤
+
+-- one world makes the step, and the others stay as they are
+pub record IsTurn (cluster : Cluster) (worlds : Worlds) (turn : Turn) (next : Worlds) : Type 0 where
+  pub honest : cluster.honest turn.member ≡ true
+  pub passed : Passes cluster turn.move
+  pub step : IsStep (cluster.node turn.member) (worlds turn.member) turn.move (next turn.member)
+  pub others : (other : ℕ) → other ≢ turn.member → next other ≡ worlds other
+
+-- each honest member begins as after a stop that leaves an empty disk, with nothing given out
+abbrev pub Begin : Cluster → Worlds → Type 0
+Begin cluster worlds = (member : ℕ) → cluster.honest member ≡ true → IsRestarted (cluster.node member) (run_on [] [] []) [] (worlds member)
+
+-- these turns lead from some worlds to others, and of each of them it holds, in the worlds before it, what is assumed of a turn
+abbrev pub Leads : Cluster → (Worlds → Turn → Type 0) → Worlds → List Turn → Worlds → Type 0
+Leads cluster Assumed worlds [] last = worlds ≡ last
+Leads cluster Assumed worlds (turn ∷ turns) last = (next : Worlds) × Assumed worlds turn × IsTurn cluster worlds turn next × Leads cluster Assumed next turns last
+
+pub record IsReached (cluster : Cluster) (Assumed : Worlds → Turn → Type 0) (turns : List Turn) (worlds : Worlds) : Type 0 where
+  pub first : Worlds
+  pub begins : Begin cluster first
+  pub leads : Leads cluster Assumed first turns worlds
+
+-- there are such clusters: where each key has 32 bytes, the members begin on what an opening leaves of an empty disk
+abbrev pub ClustersBegin : Type 0
+ClustersBegin = (cluster : Cluster) → AreMembers cluster → ((member : ℕ) → cluster.honest member ≡ true → AreKeys (cluster.node member))
+    → Begin cluster (λ member. run_on (first_bytes (cluster.node member)) [] [])

@@ -1,0 +1,3 @@
+pub mod Cluster
+pub mod Premises
+pub mod Agreement

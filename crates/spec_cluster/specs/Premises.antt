@@ -1,0 +1,64 @@
+-- What is assumed of a cluster: who is honest, digests, signatures and coins.
+use Rattle.std.specs.Prelude.{◌≡◌, ◌≤◌, ℕ, Bool, not, true, false, Option, Some, None, Contains, ⊤}
+use Rattle.std.specs.List.{list_any}
+use Rattle.std.specs.Option.{option_map_or}
+use Rattle.committee.specs.Charter.{weight, tolerated_of}
+use Rattle.header.specs.Checks.{is_signed, header_signed, vote_signed}
+use Rattle.spec_accord.specs.Members.{Party, NoClash, Signed, signed_in}
+use Rattle.spec_model.specs.Slots.{same_digest}
+use Rattle.spec_model.specs.Words.{Digest, Message}
+use Rattle.wire.specs.Digests.{header_digest_of}
+use Rattle.wire.specs.declared.message.Message.TheVariants as message
+use Rattle.wire.specs.declared.output.Output.TheVariants as output
+use Rattle.spec_world.specs.Lasting.{settled_in}
+use Rattle.spec_world.specs.Steps.{Move, accept}
+use Rattle.spec_world.specs.World.{Outgoing, put_out, World}
+use Rattle.spec_cluster.specs.Cluster.{Cluster, Worlds, Turn}
+
+-- the honest members, each with what it has settled now
+abbrev pub party_of : Cluster → Worlds → Party
+party_of cluster worlds =
+    record { charter = cluster.charter; accepts = cluster.accepts; honest = cluster.honest; node = cluster.node; settled = λ member. settled_in (worlds member) }
+
+-- the members who aren't honest weigh together no more than is tolerated
+abbrev pub FewFaulty : Cluster → Type 0
+FewFaulty cluster = weight cluster.charter (λ member. not (cluster.honest member)) ≤ tolerated_of cluster.charter
+
+-- of the texts of headers and certificates of which honest members' settled histories tell no two different ones share a digest
+abbrev pub NoTwoTexts : Cluster → Worlds → Type 0
+NoTwoTexts cluster worlds = NoClash (party_of cluster worlds)
+
+-- ---- signatures
+
+-- the digest that a member signed in what it gave out: its header's, a vote's, or its own vote's in its certificate
+abbrev pub signed_by_giver : Outgoing → Option Digest
+signed_by_giver (put_out (output.Header header)) = Some (header_signed header.body)
+signed_by_giver (put_out (output.Vote vote)) = Some (vote_signed vote.header.0 vote.round vote.author)
+signed_by_giver (put_out (output.Certificate certificate)) =
+    Some (vote_signed (header_digest_of certificate.header) certificate.header.round certificate.header.author)
+signed_by_giver _ = None
+
+-- a member has signed this digest in something that it gave out
+abbrev pub has_signed : World → Digest → Bool
+has_signed world digest = list_any (λ given. option_map_or (same_digest digest) (signed_by_giver given.outgoing) false) world.given
+
+-- no vote of an honest member in a message is forged: of each good one that member has signed the digest in what it gave out before
+abbrev pub NoForgery : Cluster → Worlds → Message → Type 0
+NoForgery cluster worlds message = (vote : Signed) → Contains (signed_in message) vote → cluster.honest vote.signer.0 ≡ true
+    → is_signed cluster.charter cluster.accepts vote.signer vote.digest vote.signature ≡ true → has_signed (worlds vote.signer.0) vote.digest ≡ true
+
+-- ---- coins
+
+-- a coin has its wave's one value
+abbrev pub HasCoin : (ℕ → ℕ) → Message → Type 0
+HasCoin value (message.Coin coin) = coin.value ≡ value coin.wave
+HasCoin value _ = ⊤
+
+-- ---- both, of what is given at a turn
+
+abbrev pub IsFair : Cluster → (ℕ → ℕ) → Worlds → Move → Type 0
+IsFair cluster value worlds (accept event) = NoForgery cluster worlds event.message × HasCoin value event.message
+IsFair cluster value worlds _ = ⊤
+
+abbrev pub Fair : Cluster → (ℕ → ℕ) → Worlds → Turn → Type 0
+Fair cluster value worlds turn = IsFair cluster value worlds turn.move

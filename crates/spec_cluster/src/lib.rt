@@ -1,0 +1,22 @@
+//! A cluster: the members of one committee, each honest one a node over all its runs, and what these agree on. Laws, each
+//! of which is what a function without a body ensures.
+#![tactic(auto)]
+
+ghost use Rattle.spec_world.specs.Promise.{NothingTakenBack};
+ghost use Rattle.spec_cluster.specs.Agreement.{Agreement};
+ghost use Rattle.spec_cluster.specs.Cluster.{ClustersBegin};
+
+/// Each honest member by itself takes nothing back, whatever the others are. And in a cluster of whose members no more than
+/// is tolerated are faulty, where no two different texts of headers and certificates that honest members settled share a
+/// digest, where no honest member's vote is forged, and where a wave's coin has one value: whatever is given to whom, and
+/// whoever stops when, no two certificates that honest members held at what they had settled name one author and round with
+/// different headers, and of any two orders that honest members gave out, before or after any stops, one begins the other.
+pub fn agreement()
+    ensures alone { NothingTakenBack }
+    ensures together { Agreement }
+{}
+
+/// There are such clusters: where each key has 32 bytes, the members begin on what an opening leaves of an empty disk.
+pub fn clusters_begin()
+    ensures { ClustersBegin }
+{}
