@@ -266,7 +266,7 @@ def book(count):
 
 def reopen(count):
     keys = b''.join(bytes([member + 1]) * 32 for member in range(MEMBERS))
-    text = group([b'\0\1' + u16(0) + u16(50) + u16(1) + u32(1048576) + u16(MEMBERS) + keys])
+    text = group([b'\0\2' + u16(0) + u16(50) + u16(1) + u32(1048576) + u16(MEMBERS) + keys + u32(1) * MEMBERS])
     records, coins, full, last = [], Coins(), 0, None
     for _, made in rounds():
         round_ = made[0].round

@@ -27,8 +27,8 @@ use validator::{Config, Validator};
 /// # Errors
 /// In this order: `Device` or `Memory`, where the disk or the memory fails; `Damaged` with the place of an open gate
 /// without a whole group behind it; `Damaged` with that of the first group, where its one record isn't a configuration of
-/// either version; `ConfigMismatch`, where it is another one, or of the first version and a stake isn't 1; `Damaged` with the place of the group of the first record that is no event,
-/// fails the checks, or isn't new. The disk is handed back.
+/// either version; `ConfigMismatch`, where it is another one, or has no stakes and a stake isn't 1; `Damaged` with the
+/// place of the group of the first record that is no event, fails the checks, or isn't new. The disk is handed back.
 pub fn reopen<'a, S: Sign, D: Disk>(
     alloc: Global,
     config: &'a Config<S>,
