@@ -4,12 +4,12 @@ use Rattle.std.specs.Prelude.{Option, Some, None, All, Contains, nat_le, if◌th
 use Rattle.std.proofs.lemmas.Bool.{cases_Bool, leb-true}
 use Rattle.std.proofs.lemmas.List.{append-nil, take_all, take_at, length-map}
 use Rattle.std.proofs.lemmas.List.Elements.{All-append, All-weaker, All-head, All-tail, All-contains_itself, Contains-append_left, Contains-append_right}
-use Rattle.journal.specs.Format.{FitsGroup}
+use Rattle.journal.specs.Format.{FitsGroup, file_with}
 use Rattle.spec_model.specs.Histories.{History}
 use Rattle.spec_model.specs.Nodes.{Node, IsNode}
 use Rattle.spec_model.specs.Words.{Event, Output}
 use Rattle.spec_records.specs.Records.{record_of}
-use Rattle.spec_world.specs.World.{World, Waiting, not_begun, gate_synced, events_of, taken_in, first_of, group_in, put_out}
+use Rattle.spec_world.specs.World.{World, Waiting, not_begun, gate_synced, events_of, taken_in, first_of, group_in, put_out, content_in}
 use Rattle.spec_world.specs.Steps.{Move, accept, settle, release, ticketed, with_new, with_known, with_given, group_to, IsAnswered, IsRun}
 use Rattle.spec_world.proofs.GoingOn.{groups_settle}
 use Rattle.spec_world.proofs.Groups.{first_and_others, taken_more}
@@ -148,8 +148,8 @@ run_there world next group count none is began accepted settled idle =
     })
 
 module _ {S : Type 0} (node : Node) (moves : List Move) (world : World) (before later : Shown S) (sound : IsNode node) (run : IsRun node moves world) (is_of : IsOf node world before) (none : world.groups ≡ []) where
-  flushes : (old new : List ℕ) (count : ℕ) → Flushes node before later old new count → FlushesThere node world (length world.settled + count) later
-  flushes old new count flush =
+  flushes : (old new : List ℕ) (count : ℕ) → content_in world ≡ old → Flushes node before later old new count → FlushesThere node world (length world.settled + count) new later
+  flushes old new count file flush =
       let all : taken_in world ≡ world.settled = ap (λ (l : List History). world.settled ++ events_of l) none ∙ append-nil world.settled in
       let number : length (taken_in world) + length flush.group ≡ length world.settled + count = omega (arith, ap length all, flush.counts) in
       let records : flush.group ≡ map record_of (group_to world (length world.settled + count)) =
@@ -167,6 +167,7 @@ module _ {S : Type 0} (node : Node) (moves : List Move) (world : World) (before 
           stands = subst (λ (r : Run). Stands node r later) runs (flush.stands (run_of world) is_of.stands);
           waits = subst (λ (l : List Waiting). All (Contains l) later.queue) (sym settled.waiting) (subst (All (Contains world.waiting)) (sym queue) is_of.waits);
         };
+        content = settled.content ∙ (λ i. file_with (file i) (sym records i)) ∙ sym flush.written;
       }
 
 -- where it goes down, the group stays taken
@@ -218,7 +219,7 @@ pub release_is_a_step : (S : Type 0) → ReleaseIsAStep S
 release_is_a_step S node world before later output is_of is later_is stands = releases node world before later is_of output is later_is stands
 
 pub flush_is_steps : (S : Type 0) → FlushIsSteps S
-flush_is_steps S node moves world before later old new count sound run is_of none flush = flushes node moves world before later sound run is_of none old new count flush
+flush_is_steps S node moves world before later old new count sound run is_of none file flush = flushes node moves world before later sound run is_of none old new count file flush
 
 pub fail_is_a_step : (S : Type 0) → FailIsAStep S
 fail_is_a_step S node world before later is_of down = fails node world before later is_of down

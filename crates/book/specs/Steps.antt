@@ -4,7 +4,7 @@ use Rattle.spec_model.specs.Histories.{History}
 use Rattle.spec_model.specs.Nodes.{Node, IsNode}
 use Rattle.spec_model.specs.Words.{Event, Output}
 use Rattle.spec_records.specs.Records.{record_of}
-use Rattle.spec_world.specs.World.{World, gate_synced, taken_in, group_in}
+use Rattle.spec_world.specs.World.{World, gate_synced, taken_in, group_in, content_in}
 use Rattle.spec_world.specs.Runs.{IsSettledTo}
 use Rattle.spec_world.specs.Steps.{Move, accept, take_to, device_call, settle, release, IsStep, Leads, IsRun}
 use Rattle.book.specs.Book.{Shown, Run, Stands, with_settled, TakesNew, TakesKnown, releasable}
@@ -54,17 +54,19 @@ ReleaseIsAStep S = (node : Node) (world : World) (before later : Shown S) (outpu
     → later ≡ record before { queue = drop 1 before.queue } → Stands node (run_of world) later
     → (ticket : ℕ) × Moves node world (release (record { ticket = ticket; output = output })) later
 
--- a round of one owner that settled a group: it is taken, the disk makes its four calls, and it is settled
-pub record FlushesThere {S : Type 0} (node : Node) (world : World) (count : ℕ) (later : Shown S) : Type 0 where
+-- a round of one owner that settled a group: it is taken, the four device calls are made, which leave these bytes, and it is settled
+pub record FlushesThere {S : Type 0} (node : Node) (world : World) (count : ℕ) (bytes : List ℕ) (later : Shown S) : Type 0 where
   pub next : World
   pub leads : Leads node world (take_to count ∷ device_call ∷ device_call ∷ device_call ∷ device_call ∷ settle ∷ []) next
   pub settled : IsSettledTo node world count next
   pub is_of : IsOf node next later
+  pub content : content_in next ≡ bytes
 
 abbrev pub FlushIsSteps : Type 0 → Type 0
 FlushIsSteps S = (node : Node) (moves : List Move) (world : World) (before later : Shown S) (old new : List ℕ) (count : ℕ) → IsNode node → IsRun node moves world → IsOf node world before
-    → world.groups ≡ [] → Flushes node before later old new count → FlushesThere node world (length world.settled + count) later
+    → world.groups ≡ [] → content_in world ≡ old → Flushes node before later old new count → FlushesThere node world (length world.settled + count) new later
 
--- one that took the book down: the group is taken, and stays on its way
+-- a round that took the book down: the group is taken, and stays on its way; the device calls that were made before the failure come
+-- behind that
 abbrev pub FailIsAStep : Type 0 → Type 0
 FailIsAStep S = (node : Node) (world : World) (before later : Shown S) → IsOf node world before → (down : GoesDown node before later) → TakesBehind node world down.group later

@@ -33,9 +33,9 @@ pub record AreAgreed (cluster : Cluster) (worlds : Worlds) : Type 0 where
   -- of two orders one begins the other
   pub orders : (member also : ℕ) (one other : List Digest) → GaveIt cluster worlds member one → GaveIt cluster worlds also other → Agree one other
 
--- In every cluster of whose members no more than is tolerated are faulty, whatever they give whom and whoever stops when, no two
--- certificates that honest members held at what they had settled name one author and round with different headers, and of any two
--- orders that they gave out one begins the other
+-- In every cluster whose faulty members weigh no more than is tolerated, whatever is given to whom of which the premises hold, and
+-- whoever stops when, no two certificates that honest members held at what they had settled name one author and round with different
+-- headers, and of any two orders that they gave out one begins the other
 abbrev pub Agreement : Type 0
 Agreement = (cluster : Cluster) (value : ℕ → ℕ) (turns : List Turn) (worlds : Worlds) → IsCharter cluster.charter → AreMembers cluster → FewFaulty cluster
     → IsReached cluster (Fair cluster value) turns worlds → NoTwoTexts cluster worlds → AreAgreed cluster worlds

@@ -30,7 +30,8 @@ AreMembers cluster = (member : ℕ) → cluster.honest member ≡ true → IsMem
 
 -- ---- turns
 
--- a step of one honest member: an event is given to it by whomever, its disk makes a call, something goes out, it stops
+-- a step of one honest member: an event is given to it by whomever, a group is taken, its disk makes a call, a group is settled,
+-- something goes out, it stops
 pub record Turn : Type 0 where
   pub member : ℕ
   pub move : Move
@@ -61,7 +62,7 @@ pub record IsReached (cluster : Cluster) (Assumed : Worlds → Turn → Type 0) 
   pub begins : Begin cluster first
   pub leads : Leads cluster Assumed first turns worlds
 
--- there are such clusters: where each key has 32 bytes, the members begin on what an opening leaves of an empty disk
+-- the members can begin, where each key has 32 bytes: on what an opening leaves of an empty disk
 abbrev pub ClustersBegin : Type 0
 ClustersBegin = (cluster : Cluster) → AreMembers cluster → ((member : ℕ) → cluster.honest member ≡ true → AreKeys (cluster.node member))
     → Begin cluster (λ member. run_on (first_bytes (cluster.node member)) [] [])

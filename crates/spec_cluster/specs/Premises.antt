@@ -24,7 +24,7 @@ party_of cluster worlds =
 abbrev pub FewFaulty : Cluster → Type 0
 FewFaulty cluster = weight cluster.charter (λ member. not (cluster.honest member)) ≤ tolerated_of cluster.charter
 
--- of the texts of headers and certificates of which honest members' settled histories tell no two different ones share a digest
+-- of the texts of headers and certificates of which honest members' settled histories tell, no two different ones share a digest
 abbrev pub NoTwoTexts : Cluster → Worlds → Type 0
 NoTwoTexts cluster worlds = NoClash (party_of cluster worlds)
 
@@ -42,7 +42,7 @@ signed_by_giver _ = None
 abbrev pub has_signed : World → Digest → Bool
 has_signed world digest = list_any (λ given. option_map_or (same_digest digest) (signed_by_giver given.outgoing) false) world.given
 
--- no vote of an honest member in a message is forged: of each good one that member has signed the digest in what it gave out before
+-- no vote of an honest member in a message is forged: of each good one, that member has signed the digest in what it gave out before
 abbrev pub NoForgery : Cluster → Worlds → Message → Type 0
 NoForgery cluster worlds message = (vote : Signed) → Contains (signed_in message) vote → cluster.honest vote.signer.0 ≡ true
     → is_signed cluster.charter cluster.accepts vote.signer vote.digest vote.signature ≡ true → has_signed (worlds vote.signer.0) vote.digest ≡ true

@@ -6,8 +6,8 @@ ghost use Rattle.spec_world.specs.Promise.{NothingTakenBack};
 ghost use Rattle.spec_cluster.specs.Agreement.{Agreement};
 ghost use Rattle.spec_cluster.specs.Cluster.{ClustersBegin};
 
-/// Each honest member by itself takes nothing back, whatever the others are. And in a cluster of whose members no more than
-/// is tolerated are faulty, where no two different texts of headers and certificates that honest members settled share a
+/// Each honest member by itself takes nothing back, whatever the others are. And in a cluster whose faulty members weigh no
+/// more than is tolerated, where no two different texts of headers and certificates that honest members settled share a
 /// digest, where no honest member's vote is forged, and where a wave's coin has one value: whatever is given to whom, and
 /// whoever stops when, no two certificates that honest members held at what they had settled name one author and round with
 /// different headers, and of any two orders that honest members gave out, before or after any stops, one begins the other.
@@ -16,7 +16,7 @@ pub fn agreement()
     ensures together { Agreement }
 {}
 
-/// There are such clusters: where each key has 32 bytes, the members begin on what an opening leaves of an empty disk.
+/// The members of a cluster can begin, where each key has 32 bytes: on what an opening leaves of an empty disk.
 pub fn clusters_begin()
     ensures { ClustersBegin }
 {}

@@ -1,5 +1,5 @@
 -- That runs go on: what a stop leaves can be opened, and what is accepted can be settled.
-use Rattle.std.proofs.Common.{◌≡◌, ℕ, ◌+◌, ◌-◌, ◌<◌, ◌≤◌, List, [], ◌∷◌, ◌++◌, length, map, take, Some, Result, Ok, Err, refl, ap, sym, ◌∙◌, subst, arith, append_assoc}
+use Rattle.std.proofs.Common.{◌≡◌, ℕ, zero, suc, ◌+◌, ◌-◌, ◌<◌, ◌≤◌, List, [], ◌∷◌, ◌++◌, length, map, take, Some, Result, Ok, Err, refl, ap, sym, ◌∙◌, subst, arith, append_assoc}
 use Rattle.std.proofs.lemmas.List.{append-nil, length-map}
 use Rattle.std.proofs.lemmas.List.Elements.{All-take}
 use Rattle.std.proofs.lemmas.Option.{same_Some, none-some}
@@ -9,18 +9,19 @@ use Rattle.diskmodel.specs.declared.call.Call.{Call}
 use Rattle.diskmodel.specs.declared.call.Call.TheVariants.{Wrote, Synced}
 use Rattle.diskmodel.proofs.Calls.{after_all-push}
 use Rattle.diskmodel.proofs.Torn.{length-written}
-use Rattle.journal.specs.Format.{group_bytes, scan, only_records, stands}
+use Rattle.journal.specs.Format.{FitsGroup, file_with, group_bytes, scan, only_records, stands}
+use Rattle.journal.specs.Journal.{EndsClosed, append_calls}
 use Rattle.journal.specs.declared.layout.TheConstants.{OPEN}
 use Rattle.journal.specs.declared.record.Record.{Record}
 use Rattle.journal.proofs.Stops.{repaired_cut}
 use Rattle.spec_model.specs.Histories.{History}
 use Rattle.spec_model.specs.Nodes.{Node}
 use Rattle.spec_records.specs.Records.{record_of}
-use Rattle.spec_world.specs.World.{Phase, not_begun, group_written, group_synced, gate_opened, World, Holds, events_of, first_of, group_in, content_in, call_in, call_for, as_journal, MayStop, between, inside, run_on, IsOpened}
+use Rattle.spec_world.specs.World.{Phase, not_begun, group_written, group_synced, gate_opened, gate_synced, World, Holds, events_of, first_of, group_in, content_in, call_in, call_for, as_journal, MayStop, between, inside, run_on, IsOpened}
 use Rattle.spec_world.specs.Steps.{take_to, device_call, settle, group_to, IsCalled, next_phase, Leads}
 use Rattle.spec_world.specs.Runs.{StopsArePossible, RunsGoOn, RunsBeginWithWhatStands, GroupsSettle, AppendsMakeCalls}
 use Rattle.spec_world.proofs.Bytes.{group_in_bytes}
-use Rattle.spec_world.proofs.Disks.{read_possible}
+use Rattle.spec_world.proofs.Disks.{IsAt, called, read_possible}
 use Rattle.spec_world.proofs.Groups.{taken_more}
 use Rattle.spec_world.proofs.Law.{run_stands}
 use Rattle.spec_world.proofs.Moving.{all_stand}
@@ -86,6 +87,24 @@ stops_are_possible node moves world sound run =
 abbrev called_on : World → Call → World
 called_on world call = record world { calls = world.calls ++ call ∷ []; phase = next_phase world.phase }
 
+-- what the disk comes to behind the four calls
+append_ends : (file : List ℕ) (ends : EndsClosed file) (group : List (List ℕ)) → FitsGroup group → (one : World) → group_in one ≡ group → state one.bytes_at_start one.calls ≡ firmed file
+    → let two = called_on one (Wrote (length (content_in one)) (group_bytes group)) in
+    let three = called_on two Synced in
+    let four = called_on three (Wrote (length (content_in three) - length (group_bytes group) - 1) (OPEN ∷ [])) in
+    let five = called_on four Synced in
+    state five.bytes_at_start five.calls ≡ firmed (file_with file group)
+append_ends file ends group fits one is fresh =
+    let bytes = one.bytes_at_start in
+    let push : (calls : List Call) (call : Call) → state bytes (calls ++ call ∷ []) ≡ after (state bytes calls) call = λ calls call. after_all-push (firmed bytes) calls call in
+    let two = called_on one (Wrote (length (content_in one)) (group_bytes group)) in
+    let three = called_on two Synced in
+    let four = called_on three (Wrote (length (content_in three) - length (group_bytes group) - 1) (OPEN ∷ [])) in
+    let is_two = push one.calls _ ∙ called file ends group not_begun (state bytes one.calls) _ fits fresh refl in
+    let is_three = push two.calls _ ∙ called file ends group group_written (state bytes two.calls) _ fits is_two refl in
+    let is_four = push three.calls _ ∙ called file ends group group_synced (state bytes three.calls) _ fits is_three refl in
+    push four.calls _ ∙ called file ends group gate_opened (state bytes four.calls) _ fits is_four refl
+
 pub groups_settle : GroupsSettle
 groups_settle node moves world count sound run none fits =
     let at = run_stands node moves world sound run in
@@ -118,6 +137,9 @@ groups_settle node moves world count sound run none fits =
         ),
       ),
     ) in
+    let file = at.file in
+    let fresh : state world.bytes_at_start world.calls ≡ firmed file = subst (λ (p : Phase). IsAt p (state world.bytes_at_start world.calls) file (group_in world)) idle at.disk in
+    let appended = append_ends file at.ends_closed (group_in one) fits one refl fresh in
     let then = all_stand node (take_to count ∷ device_call ∷ device_call ∷ device_call ∷ device_call ∷ settle ∷ []) world six at leads in
     let some : 1 ≤ length group = omega (arith, fits.some, length-map group record_of) in (
       six,
@@ -130,6 +152,7 @@ groups_settle node moves world count sound run none fits =
         phase = refl;
         waiting = refl;
         given = refl;
+        content = ap (λ (s : State). s.content) appended ∙ ap (λ (f : List ℕ). file_with f (map record_of group)) (sym (ap (λ (s : State). s.content) fresh));
         holds = subst (λ bytes. Holds node bytes (six.began ++ six.settled)) (sym (ap (λ (s : State). s.content) then.disk)) then.holds;
       },
     )
@@ -158,39 +181,81 @@ group_next world next step = ap group_in step.is
 calls_next : (world next : World) (step : IsCalled world next) → next.calls ≡ world.calls ++ step.call ∷ []
 calls_next world next step = ap (λ (w : World). w.calls) step.is
 
+-- the first calls, by how many there are
+module _ (world one : World) (begun : world.phase ≡ not_begun) (first : IsCalled world one) where
+  bytes : List ℕ
+  bytes = group_bytes (group_in world)
+
+  in_one : one.phase ≡ group_written
+  in_one = phase_next world one not_begun first begun
+
+  write : Wrote (length (content_in world)) (group_bytes (group_in world)) ≡ first.call
+  write = same_Some _ first.call (one_call world one not_begun first begun)
+
+  made_one : one.calls ≡ world.calls ++ Wrote (length (content_in world)) (group_bytes (group_in world)) ∷ []
+  made_one = calls_next world one first ∙ ap (λ (c : Call). world.calls ++ c ∷ []) (sym write)
+
+  grown : content_in one ≡ written (content_in world) (length (content_in world)) (group_bytes (group_in world))
+  grown = content_next world one first ∙ ap (λ (c : Call). (after (state world.bytes_at_start world.calls) c).content) (sym write)
+
+  module _ (two : World) (second : IsCalled one two) where
+    in_two : two.phase ≡ group_synced
+    in_two = phase_next one two group_written second in_one
+
+    sync : Synced ≡ second.call
+    sync = same_Some _ second.call (one_call one two group_written second in_one)
+
+    made_two : two.calls ≡ world.calls ++ Wrote (length (content_in world)) (group_bytes (group_in world)) ∷ Synced ∷ []
+    made_two =
+        calls_next one two second ∙ (λ i. made_one i ++ sym sync i ∷ [])
+        ∙ append_assoc world.calls (Wrote (length (content_in world)) (group_bytes (group_in world)) ∷ []) (Synced ∷ [])
+
+    place : length (content_in two) - length (group_bytes (group_in two)) - 1 ≡ length (content_in world) - 1
+    place =
+        let kept : content_in two ≡ content_in one = content_next one two second ∙ ap (λ (c : Call). (after (state one.bytes_at_start one.calls) c).content) (sym sync) in
+        let group : group_in two ≡ group_in world = group_next one two second ∙ group_next world one first in
+        let long : length (content_in two) ≡ length (content_in world) + length (group_bytes (group_in world)) =
+        omega (arith, ap length kept, ap length grown, length-written (content_in world) (length (content_in world)) (group_bytes (group_in world)) (omega arith)) in
+        omega (arith, long, ap (λ (g : List (List ℕ)). length (group_bytes g)) group)
+
+    module _ (three : World) (third : IsCalled two three) where
+      in_three : three.phase ≡ gate_opened
+      in_three = phase_next two three group_synced third in_two
+
+      opened : third.call ≡ Wrote (length (content_in world) - 1) (OPEN ∷ [])
+      opened = sym (same_Some _ third.call (one_call two three group_synced third in_two)) ∙ ap (λ (n : ℕ). Wrote n (OPEN ∷ [])) place
+
+      made_three : three.calls ≡ world.calls ++ Wrote (length (content_in world)) (group_bytes (group_in world)) ∷ Synced ∷ Wrote (length (content_in world) - 1) (OPEN ∷ []) ∷ []
+      made_three =
+          calls_next two three third ∙ (λ i. made_two i ++ opened i ∷ [])
+          ∙ append_assoc world.calls (Wrote (length (content_in world)) (group_bytes (group_in world)) ∷ Synced ∷ []) (Wrote (length (content_in world) - 1) (OPEN ∷ []) ∷ [])
+
+      module _ (four : World) (fourth : IsCalled three four) where
+        in_four : four.phase ≡ gate_synced
+        in_four = phase_next three four gate_opened fourth in_three
+
+        last : fourth.call ≡ Synced
+        last = sym (same_Some _ fourth.call (one_call three four gate_opened fourth in_three))
+
+        made_four : four.calls ≡ world.calls ++ append_calls (length (content_in world)) (group_in world)
+        made_four =
+            calls_next three four fourth ∙ (λ i. made_three i ++ last i ∷ [])
+            ∙ append_assoc world.calls (Wrote (length (content_in world)) (group_bytes (group_in world)) ∷ Synced ∷ Wrote (length (content_in world) - 1) (OPEN ∷ []) ∷ []) (Synced ∷ [])
+
+        no_fifth : (five : World) → IsCalled four five → ⊥
+        no_fifth five fifth = none-some fifth.call (one_call four five gate_synced fifth in_four)
+
+-- the calls of the world that is reached
+at_last : (one next : World) (calls : List Call) → one ≡ next → one.calls ≡ calls → next.calls ≡ calls
+at_last one next calls same is = ap (λ (w : World). w.calls) (sym same) ∙ is
+
 pub appends_make_calls : AppendsMakeCalls
-appends_make_calls node world next begun leads =
-    let one = leads.0 in
-    let first = leads.1 in
-    let two = leads.2.0 in
-    let second = leads.2.1 in
-    let three = leads.2.2.0 in
-    let third = leads.2.2.1 in
-    let four = leads.2.2.2.0 in
-    let fourth = leads.2.2.2.1 in
-    let bytes = group_bytes (group_in world) in
-    let len = length (content_in world) in
-    let in_one = phase_next world one not_begun first begun in
-    let in_two = phase_next one two group_written second in_one in
-    let in_three = phase_next two three group_synced third in_two in
-    let write : Wrote len bytes ≡ first.call = same_Some _ first.call (one_call world one not_begun first begun) in
-    let sync : Synced ≡ second.call = same_Some _ second.call (one_call one two group_written second in_one) in
-    let group : group_in two ≡ group_in world = group_next one two second ∙ group_next world one first in
-    let gate : Wrote (length (content_in two) - length (group_bytes (group_in two)) - 1) (OPEN ∷ []) ≡ third.call = same_Some _ third.call (one_call two three group_synced third in_two) in
-    let last : Synced ≡ fourth.call = same_Some _ fourth.call (one_call three four gate_opened fourth in_three) in
-    let grown : content_in one ≡ written (content_in world) len bytes =
-    content_next world one first ∙ ap (λ (c : Call). (after (state world.bytes_at_start world.calls) c).content) (sym write) in
-    let kept : content_in two ≡ content_in one = content_next one two second ∙ ap (λ (c : Call). (after (state one.bytes_at_start one.calls) c).content) (sym sync) in
-    let long : length (content_in two) ≡ len + length bytes =
-    omega (arith, ap length kept, ap length grown, length-written (content_in world) len bytes (omega arith)) in
-    let place : length (content_in two) - length (group_bytes (group_in two)) - 1 ≡ len - 1 = omega (arith, long, ap (λ (g : List (List ℕ)). length (group_bytes g)) group) in
-    let opened : third.call ≡ Wrote (len - 1) (OPEN ∷ []) = sym gate ∙ ap (λ (n : ℕ). Wrote n (OPEN ∷ [])) place in
-    let all : four.calls ≡ (((world.calls ++ Wrote len bytes ∷ []) ++ Synced ∷ []) ++ Wrote (len - 1) (OPEN ∷ []) ∷ []) ++ Synced ∷ [] =
-    calls_next three four fourth
-    ∙ ap (λ (l : List Call). l ++ fourth.call ∷ [])
-    (calls_next two three third ∙ ap (λ (l : List Call). l ++ third.call ∷ []) (calls_next one two second ∙ ap (λ (l : List Call). l ++ second.call ∷ []) (calls_next world one first)))
-    ∙ (λ i. (((world.calls ++ sym write i ∷ []) ++ sym sync i ∷ []) ++ opened i ∷ []) ++ sym last i ∷ []) in
-    ap (λ (w : World). w.calls) (sym leads.2.2.2.2) ∙ all
-    ∙ append_assoc ((world.calls ++ Wrote len bytes ∷ []) ++ Synced ∷ []) (Wrote (len - 1) (OPEN ∷ []) ∷ []) (Synced ∷ [])
-    ∙ append_assoc (world.calls ++ Wrote len bytes ∷ []) (Synced ∷ []) (Wrote (len - 1) (OPEN ∷ []) ∷ Synced ∷ [])
-    ∙ append_assoc world.calls (Wrote len bytes ∷ []) (Synced ∷ Wrote (len - 1) (OPEN ∷ []) ∷ Synced ∷ [])
+appends_make_calls node world next zero begun leads = (omega arith, at_last world next _ leads (sym (append-nil world.calls)))
+appends_make_calls node world next (suc zero) begun leads = (omega arith, at_last leads.0 next _ leads.2 (made_one world leads.0 begun leads.1))
+appends_make_calls node world next (suc (suc zero)) begun leads = (omega arith, at_last leads.2.0 next _ leads.2.2 (made_two world leads.0 begun leads.1 leads.2.0 leads.2.1))
+appends_make_calls node world next (suc (suc (suc zero))) begun leads =
+    (omega arith, at_last leads.2.2.0 next _ leads.2.2.2 (made_three world leads.0 begun leads.1 leads.2.0 leads.2.1 leads.2.2.0 leads.2.2.1))
+appends_make_calls node world next (suc (suc (suc (suc zero)))) begun leads =
+    (omega arith, at_last leads.2.2.2.0 next _ leads.2.2.2.2 (made_four world leads.0 begun leads.1 leads.2.0 leads.2.1 leads.2.2.0 leads.2.2.1 leads.2.2.2.0 leads.2.2.2.1))
+appends_make_calls node world next (suc (suc (suc (suc (suc count))))) begun leads =
+    absurd (no_fifth world leads.0 begun leads.1 leads.2.0 leads.2.1 leads.2.2.0 leads.2.2.1 leads.2.2.2.0 leads.2.2.2.1 leads.2.2.2.2.0 leads.2.2.2.2.1)

@@ -15,7 +15,7 @@ use Rattle.spec_model.specs.Histories.{History}
 use Rattle.spec_model.specs.Holdings.{order}
 use Rattle.spec_model.specs.Nodes.{Node, IsNode}
 use Rattle.spec_model.specs.Words.{Digest, Output}
-use Rattle.spec_world.specs.World.{Outgoing, put_out, read, Given, World, events_of, first_of, StandsFor, as_journal, as_new, MayStop}
+use Rattle.spec_world.specs.World.{Outgoing, put_out, read, Given, World, first_of, StandsFor, as_journal, as_new, MayStop}
 use Rattle.spec_world.specs.Steps.{Move, IsRun}
 use Rattle.spec_world.specs.Promise.{Ballot, vote_in, vote_given, order_given, IsNoLater, IsRecovered, NeverTakesBack, NothingTakenBack}
 use Rattle.spec_world.proofs.Ballots.{votes_agree}
@@ -96,7 +96,7 @@ module _ (node : Node) (world : World) (at : Stands node world) where
 
   never : NeverTakesBack node world
   never = record {
-    in_order = record { settled = record { rest = events_of world.groups; parts = refl }; taken = at.taken; legal = at.legal };
+    in_order = record { taken = at.taken; legal = at.legal };
     stands = λ bytes may. let is_left = left node world bytes at may in (is_left.history, as_journal is_left.holds);
     only = only_there;
     recovered = recovered_there;

@@ -72,10 +72,9 @@ pub record IsRecovered (node : Node) (world : World) (history : History) : Type 
   pub whole : (history ≡ world.began ++ world.settled) ⊎ (history ≡ world.began ++ (world.settled ++ first_of world.groups))
   pub without_group : world.groups ≡ [] → history ≡ world.began ++ world.settled
 
--- what this run settled it had taken, and what it took it had accepted, in that order; all of it is a legal history, behind what the
--- run began with
+-- what this run took, which is what it settled and the groups on their way, it had accepted, in that order; all of it is a legal
+-- history, behind what the run began with
 pub record IsInOrder (node : Node) (world : World) : Type 0 where
-  pub settled : Begins world.settled (taken_in world)
   pub taken : Begins (taken_in world) world.accepted
   pub legal : IsLegal node (world.began ++ world.accepted)
 

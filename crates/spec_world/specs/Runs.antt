@@ -1,5 +1,5 @@
 -- That there are runs to speak of.
-use Rattle.std.specs.Prelude.{◌≡◌, ℕ, List, [], ◌∷◌, ◌++◌, length, take, map, All}
+use Rattle.std.specs.Prelude.{◌≡◌, ◌≤◌, ℕ, zero, suc, List, [], ◌∷◌, ◌++◌, length, take, map, All}
 use Rattle.journal.specs.Format.{FitsGroup, file_with}
 use Rattle.journal.specs.Journal.{append_calls}
 use Rattle.journal.specs.declared.layout.TheConstants.{CLOSED}
@@ -37,8 +37,8 @@ abbrev pub RunsBeginWithWhatStands : Type 0
 RunsBeginWithWhatStands = (node : Node) (moves : List Move) (world : World) (found : List ℕ) (history : History) → IsNode node → IsRun node moves world → MayStop world found
     → StandsFor node found history → (next : World) × IsStep node world (restart found) next × (next.began ≡ history) × (next.given ≡ world.given)
 
--- behind that the accepted events up to so many are settled, no group is on its way, and the disk has what is settled; nothing else
--- changed
+-- the accepted events up to so many are settled, no group is on its way, and the disk has what is settled, which is its file with one
+-- group more; nothing else changed
 pub record IsSettledTo (node : Node) (world : World) (count : ℕ) (next : World) : Type 0 where
   pub began : next.began ≡ world.began
   pub accepted : next.accepted ≡ world.accepted
@@ -48,13 +48,19 @@ pub record IsSettledTo (node : Node) (world : World) (count : ℕ) (next : World
   pub waiting : next.waiting ≡ world.waiting
   pub given : next.given ≡ world.given
   pub holds : Holds node (content_in next) (next.began ++ next.settled)
+  pub content : content_in next ≡ file_with (content_in world) (map record_of (group_to world count))
 
 -- accepted events that fit a group can be settled where no group is on its way, by these moves
 abbrev pub GroupsSettle : Type 0
 GroupsSettle = (node : Node) (moves : List Move) (world : World) (count : ℕ) → IsNode node → IsRun node moves world → world.groups ≡ [] → FitsGroup (map record_of (group_to world count))
     → (next : World) × Leads node world (take_to count ∷ device_call ∷ device_call ∷ device_call ∷ device_call ∷ settle ∷ []) next × IsSettledTo node world count next
 
--- the four device calls of an append are those that a journal makes of the disk to add the group
+-- so many device calls
+abbrev pub device_calls : ℕ → List Move
+device_calls zero = []
+device_calls (suc count) = device_call ∷ device_calls count
+
+-- the first device calls of an append are the first of the four that a journal makes of the disk to add the group, and there is no fifth
 abbrev pub AppendsMakeCalls : Type 0
-AppendsMakeCalls = (node : Node) (world next : World) → world.phase ≡ not_begun → Leads node world (device_call ∷ device_call ∷ device_call ∷ device_call ∷ []) next
-    → next.calls ≡ world.calls ++ append_calls (length (content_in world)) (group_in world)
+AppendsMakeCalls = (node : Node) (world next : World) (count : ℕ) → world.phase ≡ not_begun → Leads node world (device_calls count) next
+    → (count ≤ 4) × (next.calls ≡ world.calls ++ take count (append_calls (length (content_in world)) (group_in world)))

@@ -14,8 +14,8 @@ use Rattle.spec_world.specs.World.{Phase, not_begun, group_written, group_synced
 
 -- ---- the moves
 
--- what may happen: an event comes in; so many of the accepted events are to be settled; the append makes its next device call; its
--- group is settled; an output goes out; the settled order is read; the machine stops, leaves these bytes, and they are opened
+-- what may happen: an event comes in; so many of the accepted events are taken, the last of them as a group; the append makes its next
+-- device call; the first group is settled; an output goes out; the settled order is read; the machine stops, leaves these bytes, and they are opened
 pub data Move : Type 0 where
   accept : Event → Move
   take_to : ℕ → Move

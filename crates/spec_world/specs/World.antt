@@ -19,7 +19,7 @@ use Rattle.spec_records.specs.declared.version.Version.{Version}
 
 -- the moments of an append between its device calls
 pub data Phase : Type 0 where
-  -- nothing of the group is written
+  -- nothing of the group is written, or there is none
   not_begun : Phase
   -- it was written behind the file's closed gate
   group_written : Phase
