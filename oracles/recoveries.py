@@ -145,12 +145,13 @@ class Reader:
         return parts
 
 
-def check_body(header):
-    require(3 <= len(header.parents) <= MEMBERS and all(p.author < MEMBERS for p in header.parents))
+def check_body(header, committee):
+    authors = [p.author for p in header.parents]
+    require(len(authors) <= MEMBERS and all(a < MEMBERS for a in authors) and committee.is_quorum(authors))
     require(all(b.worker < WORKERS for b in header.batches))
 
 
-def check(sender, m):
+def check(sender, m, committee):
     """The tests of a message from its sender, but for the signatures."""
     require(sender < MEMBERS)
     if m.tag == 1:
@@ -159,21 +160,21 @@ def check(sender, m):
         require(m.member == sender and (m.tag == 2 or m.header.author < MEMBERS))
     elif m.tag in (3, 5):
         require(m.header.author < MEMBERS and (m.tag == 5 or m.header.author == sender))
-        check_body(m.header)
-        require(m.tag == 3 or (len(m.voters) >= 3 and all(v < MEMBERS for v in m.voters)))
+        check_body(m.header, committee)
+        require(m.tag == 3 or (all(v < MEMBERS for v in m.voters) and committee.is_quorum(m.voters)))
 
 
-def message_of(record):
+def message_of(record, committee):
     """The sender and the message of an event's record."""
     require(len(record) >= 3 and record[0] == 1)
     sender, m = int.from_bytes(record[1:3], 'big'), Reader(record[3:]).message()
-    check(sender, m)
+    check(sender, m, committee)
     return sender, m
 
 
 def answer(node, record):
     """What the event of a record is answered, in a word, and its outputs."""
-    sender, m = message_of(record)
+    sender, m = message_of(record, node.committee)
     if m.tag == 1:
         return node.batch(m.batch, BATCHES)
     if m.tag == 2:
@@ -201,8 +202,20 @@ def record(sender, message):
     return b'\1' + u16(sender) + message
 
 
-def configuration(own=OWN, depth=DEPTH, keys=range(MEMBERS)):
-    return b'\0\1' + u16(own) + u16(depth) + u16(WORKERS) + u32(BATCHES) + u16(len(keys)) + b''.join(map(key, keys))
+def configuration(own=OWN, depth=DEPTH, keys=range(MEMBERS), stakes=None, version=2):
+    front = bytes([0, version]) + u16(own) + u16(depth) + u16(WORKERS) + u32(BATCHES) + u16(len(keys)) + b''.join(map(key, keys))
+    return front + b''.join(map(u32, stakes or [1] * len(keys))) if version > 1 else front
+
+
+# Bytes of a member in a configuration of each version: its key, and its stake.
+MEMBER_BYTES = {1: 32, 2: 36}
+
+
+def version_of(first):
+    """The version of a record that has a configuration's shape."""
+    version = first[1] if len(first) >= 14 and first[0] == 0 else 0
+    has_shape = version in MEMBER_BYTES and len(first) == 14 + MEMBER_BYTES[version] * int.from_bytes(first[12:14], 'big')
+    return version if has_shape else None
 
 
 def group(records):
@@ -250,19 +263,23 @@ class Setting:
     def command(self):
         return 'node %d %d %s' % (self.own, self.depth, ' '.join(map(str, self.stakes)))
 
-    def configuration(self):
-        return configuration(self.own, self.depth)
+    def configuration(self, version=2):
+        return configuration(self.own, self.depth, stakes=self.stakes, version=version)
+
+    def is_told_by(self, first):
+        """The first record is the node's own configuration, in a version that can tell its stakes."""
+        version = version_of(first)
+        return (version > 1 or self.stakes == EQUAL) and first == self.configuration(version)
 
     def read(self, records):
         """The node behind the records, or why there is none."""
         if records:
             first, others = records[0][1], records[1:]
-            has_shape = len(first) >= 14 and first[:2] == b'\0\1' and len(first) == 14 + 32 * int.from_bytes(first[12:14], 'big')
-            if not has_shape or any(place == 0 for place, _ in others):
+            if version_of(first) is None or any(place == 0 for place, _ in others):
                 raise Damaged(0)
-        if self.stakes != EQUAL or (records and first != self.configuration()):
-            return None
-        node = histories.Node(self.depth, histories.Committee(EQUAL))
+            if not self.is_told_by(first):
+                return None
+        node = histories.Node(self.depth, histories.Committee(self.stakes))
         for place, one in records[1:]:
             try:
                 take(node, one)
@@ -378,6 +395,43 @@ class Run:
         return 'carried out%s, file of %d bytes' % (shown(self.written), len(self.file))
 
 
+class Disk:
+    """What a read gives, what the last sync left, and which places were written since, on a disk that began empty."""
+
+    def __init__(self):
+        self.read, self.firm, self.written = b'', b'', set()
+
+    def call(self, name, place=0, text=b''):
+        if name == 'write':
+            self.read = self.read[:place] + text + self.read[place + len(text):]
+            self.written |= set(range(place, place + len(text)))
+        elif name == 'sync':
+            self.firm, self.written = self.read, set()
+
+    def outcomes(self):
+        """Bytes that a stop may leave: as they are read, as the last sync left them, other ones, and one of these in turn."""
+        for fill in range(4):
+            for length in range(len(self.firm), len(self.read) + 1):
+                if length % 4 == fill or length == len(self.read):
+                    yield bytes(self.byte(place, fill) for place in range(length))
+
+    def byte(self, place, fill):
+        if place not in self.written:
+            return self.firm[place]
+        was = self.firm[place] if place < len(self.firm) else None
+        return [self.read[place], was or 0, 0x99, self.read[place] if place % 2 else 0x99][fill]
+
+
+def steps_of(setting, script):
+    """The device calls of a node that opens an empty disk, and then settles each event of the script in a group of its own."""
+    steps, file = [('sync',), ('read',), ('write', 0, b'\0'), ('sync',)], b'\0'
+    for records in [[setting.configuration()]] + [[event] for event in script if event != 'flush']:
+        text = group(records) + b'\0'
+        steps += [('write', len(file), text), ('sync',), ('write', len(file) - 1, b'\1'), ('sync',)]
+        file = file[:-1] + b'\1' + text
+    return steps
+
+
 def shown(text):
     whole = ' sha256 ' + hashlib.sha256(text).hexdigest() if len(text) > 128 else ' x' + text.hex() if text else ''
     return ', %d bytes' % len(text) + whole
@@ -458,17 +512,31 @@ class Cases:
         answers = ['2 Device' + shown(run.written[:before]) for name, before in run.calls if name == call] + [run.told()]
         self.put('drive ' + call, *['%d: %s' % one for one in enumerate(answers, 1)])
 
+    def stops(self, setting):
+        """The script is stopped at each of its calls: what each outcome is opened as."""
+        disk, steps = Disk(), steps_of(setting, self.script)
+        counts = {}
+        for name, *write in steps:
+            counts[name] = counts.get(name, 0) + 1
+            told = dict.fromkeys('then ' + setting.open(outcome)[0] for outcome in disk.outcomes())
+            self.put('stops %s %d' % (name, counts[name]), '2 Device', *told)
+            disk.call(name, *write)
+
     def drive_filling(self):
         text = self.run().written
         self.put('drive x' + text.hex(), '0: 6 Output, filled', '%d: carried out, filled' % len(text))
 
 
 CONFIG = configuration()
+STAKES = [3, 1, 1, 1]
 EMPTY = journal([CONFIG])
 HEADER = Header('h1', 1, 1, GENESIS[:3], [])
 OTHER = Header('k1', 1, 1, GENESIS[1:], [])
 EVENT = record(1, header_message(HEADER))
 FIRST_VOTE = journal([CONFIG], [EVENT])
+OLD_CONFIG = configuration(version=1)
+OLD_EMPTY = journal([OLD_CONFIG])
+OLD_VOTE = journal([OLD_CONFIG], [EVENT])
 BATCH, OWN_BATCH = Batch('b', 2, b'ab'), Batch('o', 0, b'cd')
 NAMING = Header('n', 2, 1, GENESIS[:3], [BATCH])
 OWN_HEADER = Header('m', 0, 1, GENESIS, [])
@@ -510,16 +578,63 @@ def configurations(cases):
     cases.opens('another key', journal([configuration(keys=[0, 1, 2, 4])]))
     cases.opens('seven members', journal([configuration(keys=range(7))]))
     cases.opens('an own journal is another member\'s to it', FIRST_VOTE, Setting(own=1))
-    cases.opens('another version', journal([with_byte(CONFIG, 1, 2)]))
+    cases.opens('a version to come', journal([with_byte(CONFIG, 1, 3)]))
+    cases.opens('a version to come, without stakes', journal([with_byte(OLD_CONFIG, 1, 3)]))
+    cases.opens('no version', journal([with_byte(OLD_CONFIG, 1, 0)]))
+    cases.opens('stakes in the first version', journal([with_byte(CONFIG, 1, 1)]))
+    cases.opens('no stakes in the second version', journal([with_byte(OLD_CONFIG, 1, 2)]))
     cases.opens('a length that the members don\'t give', journal([CONFIG + b'\0']))
     cases.opens('a first record that is too short', journal([CONFIG[:13]]))
     cases.opens('an event comes first', journal([EVENT]))
     cases.opens('an event with the configuration in its group', journal([CONFIG, EVENT]))
     cases.opens('the configuration twice', journal([CONFIG], [CONFIG]))
-    cases.opens('a stake that isn\'t 1 has no configuration', b'', Setting(stakes=[2, 1, 1, 1]))
-    cases.opens('nor for a journal', EMPTY, Setting(stakes=[2, 1, 1, 1]))
-    cases.opens('damage of the first record comes before that', journal([EVENT]), Setting(stakes=[2, 1, 1, 1]))
+    weighing = Setting(stakes=STAKES)
+    cases.opens('stakes that aren\'t all 1', b'', weighing)
+    cases.opens('their journal', journal([weighing.configuration()]), weighing)
+    cases.opens('the journal of other stakes', EMPTY, weighing)
+    cases.opens('their journal is that of other stakes to others', journal([weighing.configuration()]))
+    cases.opens('the same stakes of other members', journal([configuration(stakes=[1, 3, 1, 1])]), weighing)
+    cases.opens('stakes that are all 2', journal([configuration(stakes=[2, 2, 2, 2])]))
+    cases.opens('damage of the first record comes before that', journal([EVENT]), weighing)
     cases.opens('damage of an event comes behind it', behind(EVENT, EVENT), Setting(own=1))
+
+
+def first_version(cases):
+    cases.opens('the configuration alone, in the first version', OLD_EMPTY)
+    cases.opens('the vote on a header, in the first version', OLD_VOTE)
+    cases.opens('bytes behind a closed gate are cut in the first version too', OLD_VOTE + b'\1\2\3')
+    cases.opens('the first version has no stakes', OLD_EMPTY, Setting(stakes=STAKES))
+    cases.opens('nor with events', OLD_VOTE, Setting(stakes=STAKES))
+    cases.opens('stakes that are all 2 aren\'t all 1', OLD_EMPTY, Setting(stakes=[2, 2, 2, 2]))
+    cases.opens('the configuration of another member in the first version', journal([configuration(own=1, version=1)]))
+    cases.opens('another depth in the first version', journal([configuration(depth=51, version=1)]))
+    cases.opens('the configuration twice, in both versions', journal([OLD_CONFIG], [CONFIG]))
+    cases.opens('an event with the configuration in its group, in the first version', journal([OLD_CONFIG, EVENT]))
+    cases.case('a journal of the first version goes on in it', OLD_VOTE)
+    cases.tell(EVENT, record(2, header_message(Header('z', 2, 1, GENESIS[:3], []))), 'flush', 'stop', EVENT)
+    run = cases.drive()
+    assert run.file.startswith(OLD_VOTE[:-1]) and len(run.file) == 345 + 193
+    for call in ('sync', 'read', 'write', 'cut'):
+        cases.drive_failing(call)
+
+
+def stakes(cases):
+    setting = Setting(stakes=STAKES)
+    cases.case('stakes 3, 1, 1, 1: a stop at each call of the first two groups', b'', setting)
+    cases.tell(EVENT, 'flush')
+    cases.drive()
+    cases.stops(setting)
+    votes = [record(voter, vote_message(PLAIN_HEADER, voter)) for voter in (1, 2)]
+    in_three_ways(cases, 'stakes 3, 1, 1, 1: the votes of two are a certificate', record(0, header_message(PLAIN_HEADER)), votes[0], 'flush', votes[1], 'flush',
+                  setting=setting)
+    for title, stakes_are in [('one supporter of the stake 3 commits a leader', STAKES), ('the same with equal stakes', [2, 2, 2, 2])]:
+        in_three_ways(cases, title, *by_one_supporter(), 'flush', setting=Setting(stakes=stakes_are))
+
+
+def by_one_supporter():
+    """A leader with one supporter, member 0."""
+    return certificates('c10 c11 c12 c13 c20 c21 c22 c30 c31 c32 1=1', [
+        ('c10 c11 c12 c13', 'g0 g1 g2'), ('c20', 'c10 c11 c12'), ('c21 c22', 'c10 c12 c13'), ('c30 c31 c32', 'c20 c21 c22')])[0]
 
 
 def events(cases):
@@ -630,7 +745,7 @@ def scripts(cases):
     cases.case('a vote leaves behind its flush, and again behind a stop', b'')
     cases.tell(EVENT, 'flush', 'stop', EVENT)
     run = cases.drive()
-    assert len(run.written) == 230 and run.written[:115] == run.written[115:] and len(run.file) == 345
+    assert len(run.written) == 230 and run.written[:115] == run.written[115:] and len(run.file) == 361
     assert run.written.startswith(bytes.fromhex('0000006f000104'))
     for call in ('sync', 'read', 'write', 'cut'):
         cases.drive_failing(call)
@@ -685,7 +800,8 @@ def faults(cases):
 
 
 def main():
-    assert len(EMPTY) == 152 and len(FIRST_VOTE) == 345 and len(EVENT) == 184
+    assert len(EMPTY) == 168 and len(FIRST_VOTE) == 361 and len(EVENT) == 184 and EMPTY[1:5] == bytes.fromhex('000000a2')
+    assert len(OLD_EMPTY) == 152 and len(OLD_VOTE) == 345 and OLD_EMPTY[1:5] == bytes.fromhex('00000092')
     cases = Cases()
     print("""# crates: recovery ref_script spec_records
 # Openings of a node on hand-made journals, and scripts of commands. `oracles/recoveries.py` writes these cases.
@@ -693,17 +809,20 @@ def main():
 # of the disk, the journal and the book.""")
     empty_files(cases)
     configurations(cases)
+    first_version(cases)
     events(cases)
     groups(cases)
     failures(cases)
     scripts(cases)
     longer_scripts(cases)
     full_groups(cases)
+    stakes(cases)
     faults(cases)
-    cases.case('cut to each length', FIRST_VOTE)
-    cases.lengths(0, 345)
-    cases.case('each byte to each other value', FIRST_VOTE)
-    cases.changes(0, 344, 255)
+    for version, file in [('', FIRST_VOTE), (', in the first version', OLD_VOTE)]:
+        cases.case('cut to each length' + version, file)
+        cases.lengths(0, len(file))
+        cases.case('each byte to each other value' + version, file)
+        cases.changes(0, len(file) - 1, 255)
 
 
 if __name__ == '__main__':

@@ -19,7 +19,7 @@ CALLS = ['first sync', 'read', 'write', 'cut', 'second sync']
 
 # A record of a header over five parents: its kind and sender, the tag, the body, the signature.
 RECORD = 3 + 1 + 14 + 34 * 5 + 64
-CONFIGURATION = 14 + 7 * 32
+CONFIGURATION = 14 + 7 * 36
 
 
 def group(lengths):

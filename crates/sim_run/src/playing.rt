@@ -115,18 +115,20 @@ fn play<R: Wait, I: Read + Drop, W: Write>(
 ) -> Result<Left, Ending> {
     let switch = Switch::new(alloc)?;
     let disk = MemDisk::with_switch(alloc, Vec::new(alloc), &switch)?;
-    let Some(settings) = read_settings(script, writer, gathered)? else {
+    let Some(settings) = read_settings(alloc, script, writer, gathered)? else {
         return Ok(Left { disk, output: None });
     };
     let Some(config) = settings.config(alloc)? else {
         return Err(Ending::BadCommand);
     };
+    let disk = settings.begun(alloc, &config, disk)?;
     let running = Running::open(alloc, &config, &switch, disk)?;
     obey_all(rt, alloc, running, script, writer, gathered)
 }
 
 // Reads what is set, up to a line that sets nothing; there may be none.
 fn read_settings<I: Read + Drop, W: Write>(
+    alloc: Global,
     script: &mut Script<I>,
     writer: &mut W,
     gathered: &mut Gathered,
@@ -137,11 +139,10 @@ fn read_settings<I: Read + Drop, W: Write>(
             return Ok(None);
         }
         match script.command() {
-            Some(Command::Set(setting)) => {
-                if !settings.set(setting) {
-                    return Err(Ending::BadCommand);
-                }
-            }
+            Some(Command::Set(setting)) => match settings.with(alloc, setting)? {
+                Some(next) => settings = next,
+                None => return Err(Ending::BadCommand),
+            },
             _ => return Ok(Some(settings)),
         }
     }

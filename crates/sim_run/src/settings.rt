@@ -1,18 +1,24 @@
-//! What a script may set: the limits of the committee of four, of which the simulator is member 0.
+//! What a script may set: the limits and the stakes of the committee of four, of which the simulator is member 0, and the
+//! version of its first journal.
 
-use committee::{
-    Committee, CommitteeError, MAX_DEPTH, MAX_HELD_BATCHES, MIN_DEPTH, MIN_HELD_BATCHES,
-};
+use crate::ending::Ending;
+use committee::{Committee, CommitteeError};
+use diskmodel::MemDisk;
+use journal::Journal;
+use recovery::{can_tell, write_configuration};
 use sigface::HashSign;
 use sim_script::{BATCHES, DEPTH, OWN, Setting, committee_file, signer};
+use spec_records::Version;
 use std::alloc::{AllocError, Global};
 use validator::Config;
 
-/// The limits that are set.
+/// What is set.
 #[derive(Clone, Copy)]
 pub struct Settings {
     depth: u64,
     batches: u64,
+    stakes: [u64; 4],
+    version: Version,
 }
 
 impl Settings {
@@ -21,35 +27,61 @@ impl Settings {
         Settings {
             depth: DEPTH,
             batches: BATCHES,
+            stakes: [1; 4],
+            version: Version::Second,
         }
     }
 
-    /// Sets one; `false`, and nothing is set, where it is out of its range.
-    pub fn set(&mut self, setting: Setting) -> bool {
+    /// With one more set; `None` where it is out of its range, or where the version can't tell the stakes.
+    pub fn with(&self, alloc: Global, setting: Setting) -> Result<Option<Settings>, AllocError> {
+        let mut settings = *self;
         match setting {
-            Setting::Depth(depth) if (MIN_DEPTH..=MAX_DEPTH).contains(&depth) => {
-                self.depth = depth;
-                true
-            }
-            Setting::Batches(batches) if is_in_range(batches) => {
-                self.batches = batches;
-                true
-            }
-            _ => false,
+            Setting::Depth(depth) => settings.depth = depth,
+            Setting::Batches(batches) => settings.batches = batches,
+            Setting::Stakes(stakes) => settings.stakes = stakes,
+            Setting::FirstVersion => settings.version = Version::First,
+        }
+        match settings.committee(alloc)? {
+            Some(committee) if can_tell(settings.version, &committee) => Ok(Some(settings)),
+            _ => Ok(None),
         }
     }
 
-    /// The node's configuration. With limits in their ranges there is one.
+    /// The node's configuration. With settings in their ranges there is one.
     pub fn config(&self, alloc: Global) -> Result<Option<Config<HashSign>>, AllocError> {
-        let file = committee_file(alloc, self.depth, self.batches)?;
+        match self.committee(alloc)? {
+            Some(committee) => Ok(Config::new(committee, OWN, signer(OWN))),
+            None => Ok(None),
+        }
+    }
+
+    // The committee, where all is in its range.
+    fn committee(&self, alloc: Global) -> Result<Option<Committee>, AllocError> {
+        let mut file = committee_file(alloc, self.depth, self.batches)?;
+        let [first, second, third, fourth] = self.stakes;
+        writeln!(file, "stakes = [{first}, {second}, {third}, {fourth}]")?;
         match Committee::read(alloc, file.as_str()) {
-            Ok(committee) => Ok(Config::new(committee, OWN, signer(OWN))),
+            Ok(committee) => Ok(Some(committee)),
             Err(CommitteeError::Memory) => Err(AllocError),
             Err(_) => Ok(None),
         }
     }
-}
 
-fn is_in_range(batches: u64) -> bool {
-    u64::from(MIN_HELD_BATCHES) <= batches && batches <= u64::from(MAX_HELD_BATCHES)
+    /// The empty disk on which the node opens first. In the first version it gets the journal's first group before that,
+    /// since an opening would write the second.
+    pub fn begun(
+        &self,
+        alloc: Global,
+        config: &Config<HashSign>,
+        disk: MemDisk,
+    ) -> Result<MemDisk, Ending> {
+        if self.version == Version::Second || !can_tell(Version::First, config.committee()) {
+            return Ok(disk);
+        }
+        let (mut journal, records) = Journal::open(alloc, disk).map_err(|failed| failed.error)?;
+        if records.is_empty() {
+            write_configuration(alloc, Version::First, config, &mut journal)?;
+        }
+        Ok(journal.into_disk())
+    }
 }

@@ -4,6 +4,9 @@ use crate::words::{hex_byte, label, member, number, worker};
 use std::str;
 use wire::Author;
 
+/// The version of the journal that a script may set.
+const FIRST_VERSION: u64 = 1;
+
 /// What is set before all else.
 #[derive(Clone, Copy)]
 pub enum Setting {
@@ -11,6 +14,10 @@ pub enum Setting {
     Depth(u64),
     /// How many batches the node holds at most.
     Batches(u64),
+    /// The stakes of the four members, in the order of their numbers.
+    Stakes([u64; 4]),
+    /// The first journal is written in the format's first version.
+    FirstVersion,
 }
 
 /// A batch that a script defines.
@@ -209,8 +216,23 @@ fn setting_of(name: &str, value: &str) -> Option<Setting> {
     match name {
         "depth" => Some(Setting::Depth(number(value)?)),
         "batches" => Some(Setting::Batches(number(value)?)),
+        "stakes" => Some(Setting::Stakes(stakes_of(value)?)),
+        "version" if number(value)? == FIRST_VERSION => Some(Setting::FirstVersion),
         _ => None,
     }
+}
+
+// The stakes of four members, parted by commas.
+fn stakes_of(value: &str) -> Option<[u64; 4]> {
+    let (first, rest) = value.split_once(',')?;
+    let (second, rest) = rest.split_once(',')?;
+    let (third, fourth) = rest.split_once(',')?;
+    Some([
+        number(first)?,
+        number(second)?,
+        number(third)?,
+        number(fourth)?,
+    ])
 }
 
 fn call_of(word: &str) -> Option<Call> {

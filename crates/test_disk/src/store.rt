@@ -97,6 +97,7 @@ pub fn laws_hold() {
     journal::written_groups_stand();
     spec_records::one_record();
     spec_records::no_configuration();
+    spec_records::one_configuration();
     spec_world::never_takes_back();
     spec_world::runs_begin();
     spec_world::runs_go_on();

@@ -1,7 +1,8 @@
-//! An opening in which a call of the disk fails, and the openings on what a stop may leave behind it.
+//! An opening or a script in which a call of the disk fails, and the openings on what a stop may leave behind it.
 
 use crate::memory::{failing_disk, stop_with};
 use crate::store::openings::opened;
+use crate::store::scripts::Script;
 use crate::store::words::{Told, put, put_once};
 use diskmodel::{CallKind, MemDisk};
 use sigface::HashSign;
@@ -14,7 +15,8 @@ const OTHER: u8 = 0x99;
 /// The ways in which the written bytes of an outcome are filled.
 const FILLS: usize = 4;
 
-/// A node that is opened on a file, where the count-th call of this kind is told to fail.
+/// A node that is opened on a file, and carries out a script if there is one, where the count-th call of this kind is told
+/// to fail.
 #[derive(Clone, Copy)]
 pub struct Trial<'a> {
     pub alloc: Global,
@@ -22,10 +24,11 @@ pub struct Trial<'a> {
     pub file: &'a [u8],
     pub kind: CallKind,
     pub count: u64,
+    pub script: Option<Script<'a>>,
 }
 
 impl Trial<'_> {
-    /// What the opening answers, and then what the openings on its outcomes do, each answer once.
+    /// What the opening or the script answers, and then what the openings on its outcomes do, each answer once.
     pub fn tell(&self, answer: &mut String) -> Told {
         let disk = self.play(answer)?;
         put(answer, "\n");
@@ -55,10 +58,13 @@ impl Trial<'_> {
         Ok(())
     }
 
-    /// The disk after the opening.
+    /// The disk after the opening, or after the script.
     fn play(&self, text: &mut String) -> Result<MemDisk, AllocError> {
         let disk = failing_disk(self.alloc, self.file, self.kind, self.count)?;
-        Ok(opened(self.alloc, self.config, disk, text))
+        match &self.script {
+            Some(script) => script.left_by(disk, text),
+            None => Ok(opened(self.alloc, self.config, disk, text)),
+        }
     }
 
     /// Tells how a node is opened after a stop that leaves these bytes, unless that is told already.

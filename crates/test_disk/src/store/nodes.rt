@@ -46,7 +46,8 @@ impl Node {
             "batches" => self.add_batches(words, answer),
             "lengths" => self.tell_lengths(words, answer),
             "changes" => self.tell_changes(words, answer),
-            "fails" => self.tell_fails(words, answer),
+            "fails" => self.tell_fails(words, None, answer),
+            "stops" => self.tell_fails(words, Some(self.script(&[])), answer),
             _ => self.obey_alone(name, words, answer),
         }
     }
@@ -151,7 +152,8 @@ impl Node {
         }
     }
 
-    fn tell_fails(&self, words: &[Word], answer: &mut String) -> Told {
+    /// Opens the node, or has it carry out a script, where a call of a kind with this number fails.
+    fn tell_fails(&self, words: &[Word], script: Option<Script<'_>>, answer: &mut String) -> Told {
         let [Word::Call(kind), Word::Number(count)] = words else {
             return told_bad(answer);
         };
@@ -161,6 +163,7 @@ impl Node {
             file: &self.file,
             kind: *kind,
             count: *count,
+            script,
         };
         trial.tell(answer)
     }

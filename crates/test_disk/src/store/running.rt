@@ -57,11 +57,14 @@ fn record_of(alloc: Global, number: u64) -> Result<Vec<u8>, AllocError> {
     Ok(record)
 }
 
-/// The configuration record: kind, version, own number, depth, workers, batches, members, and their keys.
+/// The configuration record: kind, version, own number, depth, workers, batches, members, their keys, and their stakes.
 fn configuration(alloc: Global) -> Result<Vec<u8>, AllocError> {
-    let mut record = vec![in alloc; 0, 1, 0, 0, 0, 50, 0, 1, 0, 16, 0, 0, 0, 7]?;
+    let mut record = vec![in alloc; 0, 2, 0, 0, 0, 50, 0, 1, 0, 16, 0, 0, 0, 7]?;
     for member in 1..=7 {
         record.extend_from_slice(&[member; 32])?;
+    }
+    for _ in 1..=7 {
+        record.extend_from_slice(&[0, 0, 0, 1])?;
     }
     Ok(record)
 }

@@ -10,6 +10,7 @@ use crate::store::words::{Told, Word, put, put_bytes, put_count, put_other, put_
 use book::MAX_ACCEPTED;
 use diskmodel::{CallKind, MemDisk};
 use header::check;
+use journal::Failed;
 use recovery::{Command, DriveError, drive};
 use sha2::{Digest, Sha256};
 use sigface::{HashSign, HashVerify};
@@ -46,6 +47,9 @@ pub fn lines_of(alloc: Global, words: &[Word]) -> Result<Vec<Line>, AllocError> 
     }
     Ok(lines)
 }
+
+/// The disk behind all commands, or that where they ended early, with the reason.
+pub type Driven = Result<MemDisk, Failed<DriveError, MemDisk>>;
 
 /// Commands that a node carries out, one after the other, on a disk with a file.
 #[derive(Clone, Copy)]
@@ -98,7 +102,7 @@ impl Script<'_> {
         match self.run(self.disk()?, &mut taker)? {
             None => put(&mut told, "bad case"),
             Some(Ok(_)) => put(&mut told, "carried out"),
-            Some(Err(error)) => tell_error(error, &mut told),
+            Some(Err(failed)) => tell_error(failed.error, &mut told),
         }
         put(&mut told, filled(text.get(..room), &taker.bytes));
         Ok(told)
@@ -118,10 +122,29 @@ impl Script<'_> {
                 put_count(answer, ", file of ", disk.bytes().len() as u64, " bytes");
                 Ok(true)
             }
-            Some(Err(error)) => {
-                tell_error(error, answer);
+            Some(Err(failed)) => {
+                tell_error(failed.error, answer);
                 tell_text(&written, answer);
                 Ok(false)
+            }
+        }
+    }
+
+    /// Tells how the commands end on this disk, and gives it back.
+    pub fn left_by(&self, disk: MemDisk, answer: &mut String) -> Result<MemDisk, AllocError> {
+        let mut written = Vec::new(self.alloc);
+        match self.run(disk, &mut written)? {
+            None => {
+                put(answer, "bad case");
+                self.disk()
+            }
+            Some(Ok(disk)) => {
+                put(answer, "carried out");
+                Ok(disk)
+            }
+            Some(Err(failed)) => {
+                tell_error(failed.error, answer);
+                Ok(failed.disk)
             }
         }
     }
@@ -143,12 +166,12 @@ impl Script<'_> {
         Ok(spaced)
     }
 
-    /// The disk behind all commands, or why they ended early; nothing where a message can't come in.
+    /// Carries out all commands on a disk; nothing where a message can't come in.
     pub fn run<W: Write>(
         &self,
         disk: MemDisk,
         writer: &mut W,
-    ) -> Result<Option<Result<MemDisk, DriveError>>, AllocError> {
+    ) -> Result<Option<Driven>, AllocError> {
         let lines = self.spaced_lines()?;
         match commands_of(self.alloc, self.config, &lines)? {
             Some(commands) => Ok(self.carry_out(disk, commands, writer)),
@@ -162,16 +185,13 @@ impl Script<'_> {
         disk: MemDisk,
         commands: Vec<Command>,
         writer: &mut W,
-    ) -> Option<Result<MemDisk, DriveError>>
+    ) -> Option<Driven>
         requires { All (Passes self.now.config.now.charter) commands.items }
     {
         if commands.len() as u64 > MAX_ACCEPTED {
             return None;
         }
-        match drive(self.alloc, self.config, disk, commands, writer) {
-            Ok(disk) => Some(Ok(disk)),
-            Err(failed) => Some(Err(failed.error)),
-        }
+        Some(drive(self.alloc, self.config, disk, commands, writer))
     }
 }
 

@@ -123,6 +123,8 @@ impl Played {
         let (depth, batches) = match setting {
             Setting::Depth(depth) => (depth, BATCHES),
             Setting::Batches(most) => (DEPTH, most),
+            // Stakes have a word of these tests' own, and there is no journal.
+            Setting::Stakes(_) | Setting::FirstVersion => (DEPTH, BATCHES),
         };
         self.node = node_with(self.alloc, depth, batches)?;
         self.tables = fresh(self.alloc, &self.node)?;
