@@ -112,6 +112,27 @@ def batch(number, size=100000, author=1):
     return u16(author) + u16(0) + u32(len(transactions)) + b''.join(u32(len(t)) + t for t in transactions)
 
 
+def vote_bytes(voter, own):
+    """A member's vote on the header of the node."""
+    signature = sign(voter, own.certificate)
+    return b'\4' + own.digest + u64(own.round) + u16(own.author) + u16(voter) + signature, signature
+
+
+def votes(count):
+    """Votes, each with its signature."""
+    return [vote_bytes(one.author, Header(0, one.round, genesis())) for one in pieces(count)]
+
+
+def acks(count):
+    """Acknowledgements, each with its digest, which is that of a header here."""
+    return [(b'\2' + u16(one.author) + one.digest, one.digest) for one in pieces(count)]
+
+
+def coins(count):
+    """Coins, each of which has the number of its wave."""
+    return [(b'\6' + u64(one.round) * 2, one.round) for one in pieces(count)]
+
+
 def pieces(count):
     return [ring()[piece % RING] for piece in range(count)]
 
@@ -303,17 +324,50 @@ def node(count):
     return fold
 
 
+def submit(count):
+    """Small batches of one member, each of which the node acknowledges."""
+    digests = [sha(b'B' + batch(number, 20)) for number in range(count)]
+    fold = over(digests, tested)
+    fold.add(count, sum(over([digest], tested).value for digest in digests) % 2 ** 64)
+    return fold
+
+
+def put(count, held=100):
+    """Small batches, a tenth of what a store holds to each store."""
+    return over([batch(held + place % (held // 10), 20) for place in range(count)], lambda fold, body: fold.add_bytes(body))
+
+
+def run(count):
+    """What a node writes, by its bytes: its first header, and the acknowledgements of small batches. It has no line of errors."""
+    told, fold = Fold(), Fold()
+    outputs = [u16(0xffff) + Header(0, 1, genesis(), True).header_bytes]
+    outputs += [u16(1) + b'\2' + u16(0) + sha(b'B' + batch(number, 20)) for number in range(count)]
+    for output in outputs:
+        told.add(*(u32(len(output)) + output))
+    fold.add(told.value, Fold().value)
+    return fold
+
+
 LITTLE = [
     ('hash', 1000, lambda n: over([sha(BLOCK * n)], tested)),
     ('decode-header', 20, lambda n: over(pieces(n), lambda fold, one: one.add_header(fold))),
     ('decode-certificate', 20, lambda n: over(pieces(n), lambda fold, one: one.add_certificate(fold))),
     ('decode-batch', 3, lambda n: over(batches(n), lambda fold, body: fold.add_bytes(body))),
+    ('decode-vote', 20, lambda n: over(votes(n), lambda fold, one: fold.add_bytes(one[1]))),
+    ('decode-ack', 20, lambda n: over(acks(n), lambda fold, one: fold.add_bytes(one[1]))),
+    ('decode-coin', 20, lambda n: over(coins(n), lambda fold, one: fold.add(one[1]))),
     ('encode-header', 20, lambda n: over(pieces(n), lambda fold, one: encoded(fold, one.header_bytes))),
     ('encode-certificate', 20, lambda n: over(pieces(n), lambda fold, one: encoded(fold, one.certificate_bytes))),
     ('encode-batch', 3, lambda n: over(batches(n), lambda fold, body: encoded(fold, b'\1' + body))),
+    ('encode-vote', 20, lambda n: over(votes(n), lambda fold, one: encoded(fold, one[0]))),
+    ('encode-ack', 20, lambda n: over(acks(n), lambda fold, one: encoded(fold, one[0]))),
+    ('encode-coin', 20, lambda n: over(coins(n), lambda fold, one: encoded(fold, one[0]))),
     ('check-header', 20, lambda n: over(pieces(n), lambda fold, one: tested(fold, one.digest))),
     ('check-certificate', 20, lambda n: over(pieces(n), lambda fold, one: tested(fold, one.certificate))),
     ('check-batch', 3, lambda n: over(batches(n), lambda fold, body: tested(fold, sha(b'B' + body)))),
+    ('check-vote', 20, lambda n: over(pieces(n), lambda fold, one: tested(fold, STAND_IN))),
+    ('check-ack', 20, lambda n: over(pieces(n), lambda fold, one: tested(fold, STAND_IN))),
+    ('check-coin', 20, lambda n: over(pieces(n), lambda fold, one: tested(fold, STAND_IN))),
     ('recheck-header', 20, lambda n: over(pieces(n), lambda fold, one: tested(fold, one.digest))),
     ('recheck-certificate', 20, lambda n: over(pieces(n), lambda fold, one: tested(fold, one.certificate))),
     ('recheck-batch', 3, lambda n: over(batches(n), lambda fold, body: tested(fold, sha(b'B' + body)))),
@@ -327,6 +381,9 @@ LITTLE = [
     ('book', 1500, book),
     ('reopen', 1500, reopen),
     ('node', 500, node),
+    ('submit', 1500, submit),
+    ('put', 30, put),
+    ('run', 20, run),
 ]
 
 for word, count, fold in LITTLE:

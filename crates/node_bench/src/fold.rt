@@ -49,8 +49,8 @@ impl Fold {
                 self.add(certificate.votes.len() as u64);
             }
             Message::Coin(coin) => self.add(coin.value),
-            // None is made alone.
-            Message::BatchAck(_) | Message::Vote(_) => {}
+            Message::BatchAck(ack) => self.add_bytes(&ack.batch.0),
+            Message::Vote(vote) => self.add_bytes(&vote.signature.0),
         }
     }
 

@@ -6,6 +6,8 @@ mod ending;
 mod events;
 mod fold;
 mod messages;
+mod playing;
+mod putting;
 mod rounds;
 mod settings;
 mod sharer;
@@ -28,8 +30,8 @@ use task::{Kind, Task, WORKS, sized, task_of};
 /// What is told where the words ask for nothing.
 const USAGE: &str =
     "usage: narwhal-bench [prepare-]WORK COUNT [SIZE], where WORK is hash, decode-FORM, encode-FORM, \
-    check-FORM, recheck-FORM, frames, step-header, step-vote, step-certificate, step-batch, order, append, book, reopen or \
-    node, and FORM is header, certificate or batch";
+    check-FORM, recheck-FORM, frames, step-header, step-vote, step-certificate, step-batch, order, append, book, reopen, \
+    node, submit, put or run, and FORM is header, certificate or batch, and but for recheck also vote, ack or coin";
 
 fn main(rt: HostRuntime) -> ExitCode {
     match run(&rt) {
@@ -86,6 +88,9 @@ fn digest_of<R: Threads + Wait + Sync>(rt: &R, task: Task) -> Result<u64, Ending
         Kind::Book => storing::keep_book(task, &config, &mut fold),
         Kind::Reopen => storing::reopen_journal(task, &config, &mut fold),
         Kind::Node => sharing::share_node(rt, task, &config, &mut fold),
+        Kind::Submit => sharing::submit_alone(rt, task, &config, &mut fold),
+        Kind::Put => putting::put_batches(task, &config, &mut fold),
+        Kind::Run => playing::run_stream(rt, task, &config, &mut fold),
     }?;
     Ok(fold.value())
 }

@@ -4,8 +4,9 @@ use crate::ending::Ending;
 use crate::rounds::Rounds;
 use crate::task::{Form, Task};
 use committee::Committee;
+use sim_script::OWN;
 use std::alloc::Global;
-use wire::{Author, Batch, MAX_TRANSACTION_BYTES, Message, OpenBatch, encode};
+use wire::{Author, Batch, BatchAck, MAX_TRANSACTION_BYTES, Message, OpenBatch, encode};
 
 /// How many are made.
 pub const RING: u64 = 16;
@@ -38,8 +39,9 @@ pub fn small_batch(alloc: Global, author: Author, number: u64) -> Result<Batch, 
 pub fn batch(alloc: Global, author: Author, number: u64, size: u64) -> Result<Batch, Ending> {
     let mut transaction = [FILLING; STRIDE - LENGTH_BYTES];
     transaction[..8].copy_from_slice(&number.to_be_bytes());
-    let mut open = OpenBatch::new(alloc, author, 0)?;
     let len = size.saturating_sub(HEAD_BYTES) as usize;
+    // With all of its room at first, since a body that grows costs more beside bodies that are kept.
+    let mut open = OpenBatch::with_room(alloc, author, 0, len)?;
     for _ in 0..len / STRIDE {
         push(&mut open, &transaction)?;
     }
@@ -91,6 +93,15 @@ fn make(task: Task, form: Form, rounds: &Rounds, number: u64) -> Result<Made, En
             PEER,
             Message::Batch(batch(task.alloc, PEER, number, task.size)?),
         ),
+        Form::Vote => (author, Message::Vote(rounds.vote(author)?)),
+        Form::Ack => (
+            author,
+            Message::BatchAck(BatchAck {
+                author,
+                batch: rounds.digest(author)?,
+            }),
+        ),
+        Form::Coin => (OWN, Message::Coin(rounds.coin_of_round()?)),
     };
     let bytes = encode(task.alloc, &message)?;
     Ok(Made {

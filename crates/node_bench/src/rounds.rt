@@ -3,13 +3,13 @@
 use crate::ending::Ending;
 use committee::Committee;
 use sigface::Sign;
-use sim_script::signer;
+use sim_script::{OWN, signer};
 use std::alloc::Global;
 use std::mem;
 use wire::{
     Author, BatchReferences, Certificate, Coin, Digest, Header, HeaderBody, MAX_PARENTS, MAX_VOTES,
-    ParentReference, ParentReferences, Round, Signature, VoteEntries, VoteEntry, Wave, WireError,
-    certificate_digest, genesis_digest, header_digest,
+    ParentReference, ParentReferences, Round, Signature, Vote, VoteEntries, VoteEntry, Wave,
+    WireError, certificate_digest, genesis_digest, header_digest,
 };
 
 /// A signature that is no good: what is tested without signatures has it.
@@ -85,6 +85,34 @@ impl Rounds {
             false => UNSIGNED,
         };
         Ok(Header { body, signature })
+    }
+
+    /// The digest of an author's header.
+    pub fn digest(&self, author: Author) -> Result<Digest, Ending> {
+        Ok(header_digest(&self.body(author)?))
+    }
+
+    /// The vote of a member on the own header.
+    pub fn vote(&self, voter: Author) -> Result<Vote, Ending> {
+        let (header, round) = (self.digest(OWN)?, self.round()?);
+        let signature = match self.is_signed {
+            true => signer(voter).sign(&certificate_digest(&header, round, OWN)),
+            false => UNSIGNED,
+        };
+        Ok(Vote {
+            header,
+            round,
+            author: OWN,
+            voter,
+            signature,
+        })
+    }
+
+    /// The coin of the wave whose number is this round's. Its value is that number.
+    pub fn coin_of_round(&self) -> Result<Coin, WireError> {
+        let wave = Wave::new(self.number)?;
+        let value = wave.number();
+        Ok(Coin { wave, value })
     }
 
     // The votes of a quorum: on the certificate of this digest, or unsigned.

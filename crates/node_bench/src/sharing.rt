@@ -5,7 +5,7 @@ ghost use Rattle.std.specs.Thread.{IsSend, IsSync};
 
 use crate::ending::Ending;
 use crate::fold::{Fold, Sum};
-use crate::messages::SMALL_BYTES;
+use crate::messages::{PEER, SMALL_BYTES};
 use crate::sharer::Sharer;
 use crate::stepping::take_all;
 use crate::storing::empty_disk;
@@ -32,7 +32,7 @@ pub fn share_node<R: Threads + Wait + Sync>(
     fold: &mut Fold,
 ) -> Result<(), Ending> {
     if !task.is_work {
-        return step_as_many(task, config, fold);
+        return step_as_many(task, config, MEMBERS.len() as u64, fold);
     }
     let (node, seat, flusher) = start(task.alloc, config, empty_disk(task.alloc)?)?;
     let mut rounds = Rounds::new(&node, seat, flusher);
@@ -152,10 +152,57 @@ fn flush<S: Sign, D: Disk, R: Wait>(
     Ok(count)
 }
 
-// As many batches of one member, through a validator alone.
-fn step_as_many(task: Task, config: &Config<HashSign>, fold: &mut Fold) -> Result<(), Ending> {
+/// This thread submits so many batches to a node, flushes whenever as many more were accepted as the size says, and releases the
+/// outputs. Without that work, as many batches go through a validator alone.
+pub fn submit_alone<R: Wait>(
+    rt: &R,
+    task: Task,
+    config: &Config<HashSign>,
+    fold: &mut Fold,
+) -> Result<(), Ending> {
+    if !task.is_work {
+        return step_as_many(task, config, 1, fold);
+    }
+    let (node, seat, flusher) = start(task.alloc, config, empty_disk(task.alloc)?)?;
+    let mut rounds = Rounds::new(&node, seat, flusher);
+    let (member, node) = (PEER, rounds.caller(config)?);
+    let released = rounds.caller(config)?;
+    let sharer = Sharer { node, member };
+    submit_and_flush(rt, task, sharer, Flushing { rounds, released }, fold)
+}
+
+fn submit_and_flush<S: Sign, D: Disk + Drop, R: Wait>(
+    rt: &R,
+    task: Task,
+    mut sharer: Sharer<'_, '_, S>,
+    mut flushing: Flushing<'_, '_, S, D>,
+    fold: &mut Fold,
+) -> Result<(), Ending> {
+    let mut released = Sum::new();
+    for number in 0..task.count {
+        let ticket = sharer.submit(rt, task.alloc, number, fold)?;
+        if ticket % task.size.max(1) == 0 {
+            flush(rt, &mut flushing, &mut released)?;
+        }
+    }
+    for _ in rt.forever() {
+        if flush(rt, &mut flushing, &mut released)? == 0 {
+            break;
+        }
+    }
+    released.add_to(fold);
+    Ok(())
+}
+
+// As many batches of one member as so many submit, through a validator alone.
+fn step_as_many(
+    task: Task,
+    config: &Config<HashSign>,
+    members: u64,
+    fold: &mut Fold,
+) -> Result<(), Ending> {
     let (is_work, size) = (true, SMALL_BYTES);
-    let count = task.count.saturating_mul(MEMBERS.len() as u64);
+    let count = task.count.saturating_mul(members);
     let batches = Task {
         is_work,
         count,

@@ -8,6 +8,9 @@ pub enum Form {
     Header,
     Certificate,
     Batch,
+    Vote,
+    Ack,
+    Coin,
 }
 
 /// What is done to a message alone.
@@ -57,6 +60,12 @@ pub enum Kind {
     Reopen,
     /// Batches that threads submit to a node, and a flusher beside them.
     Node,
+    /// Batches that one thread submits to a node and flushes.
+    Submit,
+    /// Batches put into a store that holds some.
+    Put,
+    /// Batches that a running node reads, beside certificates that wait.
+    Run,
 }
 
 /// How much of a kind of work is to be done. Without the work only that is done which has to come before it.
@@ -140,8 +149,24 @@ const FLUSH: Sizes = Sizes {
     members: Some(4),
 };
 
+/// Batches that a store holds first.
+const HELD: Sizes = Sizes {
+    usual: 100,
+    least: 1,
+    most: 1_000_000,
+    members: Some(4),
+};
+
+/// Certificates that wait.
+const WAITING: Sizes = Sizes {
+    usual: 16,
+    least: 0,
+    most: 4_096,
+    members: Some(4),
+};
+
 /// The kinds of work: the word of each, how many pieces are done where no words are given, and its sizes.
-pub const WORKS: [(&str, Kind, u64, Sizes); 23] = [
+pub const WORKS: [(&str, Kind, u64, Sizes); 35] = [
     ("hash", Kind::Hash, 1_000, NO_SIZE),
     (
         "decode-header",
@@ -162,6 +187,24 @@ pub const WORKS: [(&str, Kind, u64, Sizes); 23] = [
         BODY,
     ),
     (
+        "decode-vote",
+        Kind::Message(Act::Decode, Form::Vote),
+        20,
+        MEMBERS,
+    ),
+    (
+        "decode-ack",
+        Kind::Message(Act::Decode, Form::Ack),
+        20,
+        MEMBERS,
+    ),
+    (
+        "decode-coin",
+        Kind::Message(Act::Decode, Form::Coin),
+        20,
+        MEMBERS,
+    ),
+    (
         "encode-header",
         Kind::Message(Act::Encode, Form::Header),
         20,
@@ -180,6 +223,24 @@ pub const WORKS: [(&str, Kind, u64, Sizes); 23] = [
         BODY,
     ),
     (
+        "encode-vote",
+        Kind::Message(Act::Encode, Form::Vote),
+        20,
+        MEMBERS,
+    ),
+    (
+        "encode-ack",
+        Kind::Message(Act::Encode, Form::Ack),
+        20,
+        MEMBERS,
+    ),
+    (
+        "encode-coin",
+        Kind::Message(Act::Encode, Form::Coin),
+        20,
+        MEMBERS,
+    ),
+    (
         "check-header",
         Kind::Message(Act::Check, Form::Header),
         20,
@@ -196,6 +257,24 @@ pub const WORKS: [(&str, Kind, u64, Sizes); 23] = [
         Kind::Message(Act::Check, Form::Batch),
         3,
         BODY,
+    ),
+    (
+        "check-vote",
+        Kind::Message(Act::Check, Form::Vote),
+        20,
+        MEMBERS,
+    ),
+    (
+        "check-ack",
+        Kind::Message(Act::Check, Form::Ack),
+        20,
+        MEMBERS,
+    ),
+    (
+        "check-coin",
+        Kind::Message(Act::Check, Form::Coin),
+        20,
+        MEMBERS,
     ),
     (
         "recheck-header",
@@ -230,6 +309,9 @@ pub const WORKS: [(&str, Kind, u64, Sizes); 23] = [
     ("book", Kind::Book, 1_500, FLUSH),
     ("reopen", Kind::Reopen, 1_500, MEMBERS),
     ("node", Kind::Node, 500, FLUSH),
+    ("submit", Kind::Submit, 1_500, FLUSH),
+    ("put", Kind::Put, 30, HELD),
+    ("run", Kind::Run, 20, WAITING),
 ];
 
 /// The task of these words, if it is one.

@@ -9,9 +9,10 @@ use committee::Committee;
 use header::{check, recheck};
 use sha2::{Digest as _, Sha256};
 use sigface::{HashSign, HashVerify};
+use sim_script::OWN;
 use std::alloc::{AllocError, Global};
 use validator::Config;
-use wire::{Message, encode};
+use wire::{Author, Message, encode};
 use wire_read::{FrameReader, decode};
 
 /// What one compression takes in.
@@ -139,18 +140,18 @@ fn stream_of(task: Task, ring: &[Made]) -> Result<Vec<u8>, Ending> {
         let Some(made) = ring.get((piece % RING) as usize) else {
             return Err(Ending::Refused);
         };
-        put_frame(&mut stream, &made.bytes)?;
+        put_frame(&mut stream, OWN, &made.bytes)?;
     }
     Ok(stream)
 }
 
-// Puts a frame of sender 0 and these bytes.
-fn put_frame(stream: &mut Vec<u8>, bytes: &[u8]) -> Result<(), Ending> {
+/// Puts a frame of a sender and these bytes.
+pub fn put_frame(stream: &mut Vec<u8>, sender: Author, bytes: &[u8]) -> Result<(), Ending> {
     let Ok(len) = u32::try_from(bytes.len().saturating_add(2)) else {
         return Err(Ending::Refused);
     };
     stream.extend_from_slice(&len.to_be_bytes())?;
-    stream.extend_from_slice(&[0, 0])?;
+    stream.extend_from_slice(&sender.0.to_be_bytes())?;
     stream.extend_from_slice(bytes)?;
     Ok(())
 }

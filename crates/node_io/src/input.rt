@@ -13,7 +13,7 @@ use wire::WireError;
 use wire_read::FrameReader;
 
 /// Bytes that are read at once, at most.
-const PIECE_BYTES: usize = 65_536;
+const PIECE_BYTES: usize = 1_048_576;
 
 /// Why no more frames come.
 #[derive(Clone, Copy, Debug, PartialEq, Eq)]

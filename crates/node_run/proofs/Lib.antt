@@ -4,3 +4,4 @@ mod Proposed
 mod Brought
 mod Flushed
 mod Opened
+mod Asking

@@ -1,3 +1,4 @@
+pub mod Asking
 pub mod Bringing
 pub mod Ends
 pub mod Members

@@ -1,20 +1,24 @@
 //! What is done with the frames.
 
-ghost use Rattle.std.specs.Prelude.{◌≡◌, ◌≢◌, [], true, false, None, Ok, IfOk, IfErr, IfSome, OnOk, OnErr};
+ghost use Rattle.std.specs.Prelude.{◌≡◌, ◌≢◌, [], true, false, None, Ok, IfOk, IfErr, IfSome, IfNone, OnOk, OnErr};
 ghost use Rattle.header.specs.Checks.{fault_of};
 ghost use Rattle.header.specs.Digested.{certificate_digest_in};
 ghost use Rattle.node_io.specs.Makers.{fresh_makers};
 ghost use Rattle.sigface.specs.Pair.{is_pair_signature};
 ghost use Rattle.node.specs.Callers.{StaysWith};
 ghost use Rattle.validator.specs.Setting.{node_of};
+ghost use Rattle.wire.specs.declared.message.Message.TheVariants as message;
+ghost use Rattle.node_run.specs.Asking.{IsDueBehind, nothing_due, all_due};
 ghost use Rattle.node_run.specs.Bringing.{Brings, CantWait, Enters, own_batch};
 ghost use Rattle.node_run.specs.Ends.{told_of_wait};
-ghost use Rattle.node_run.specs.Taking.{OnlyLooks};
+ghost use Rattle.node_run.specs.Taking.{IsProposed, OnlyLooks};
 
 use crate::bell::Bell;
 use crate::caller::{Caller, Taken};
+use crate::due::{Due, due_behind};
 use header::Checked;
 use node_io::{Makers, Request, Told, request_of};
+use seed::TableSeed;
 use sigface::Sign;
 use std::alloc::{AllocError, Global};
 use std::io::Write;
@@ -31,6 +35,8 @@ pub(crate) struct Intake<'n, 'a, S: Sign> {
     waiter: Waiter,
     makers: Makers,
     pending: &'n Bell,
+    // What is to be asked behind the next record.
+    due: Due,
     was_refused_memory: bool,
 }
 
@@ -43,16 +49,18 @@ impl<'n, 'a, S: Sign> Intake<'n, 'a, S> {
     ) -> Result<Intake<'n, 'a, S>, AllocError>
         ensures caller { IfOk result (λ intake. intake.caller ≡ caller.entry) }
         ensures makers { IfOk result (λ intake. intake.makers ≡ fresh_makers caller.entry.setting.own caller.entry.setting.charter.workers) }
-        ensures fresh { IfOk result (λ intake. (intake.waiter ≡ []) × (intake.was_refused_memory ≡ false)) }
+        ensures fresh { IfOk result (λ intake. (intake.waiter ≡ []) × (intake.was_refused_memory ≡ false) × (intake.due ≡ all_due)) }
     {
         let config = caller.config();
         let makers = Makers::new(alloc, config.committee(), config.own())?;
+        let seed = TableSeed::of(config.signer());
         Ok(Intake {
             alloc,
             caller,
-            waiter: Waiter::new(alloc),
+            waiter: Waiter::new(alloc, seed),
             makers,
             pending,
+            due: Due::all(),
             was_refused_memory: false,
         })
     }
@@ -73,18 +81,37 @@ impl<'n, 'a, S: Sign> Intake<'n, 'a, S> {
         }
     }
 
-    /// Takes what follows from a new record: first what the validator proposes, then the certificate that is ready, as long as there
-    /// is one.
-    pub(crate) fn follow<R: Wait, E: Write>(&mut self, rt: &R, errors: &mut E) {
+    /// Takes what follows from the records so far: first what the validator proposes, then the certificate that is ready, as long as
+    /// there is one. It asks only what can be answered otherwise than when it was asked last, or what was refused for want of memory.
+    pub(crate) fn follow<R: Wait, E: Write>(&mut self, rt: &R, errors: &mut E)
+        ensures idle { self.old.due ≡ nothing_due → self.new ≡ self.old }
+    {
+        if !self.due.is_nothing() {
+            self.ask(rt, errors);
+        }
+    }
+
+    // Asks for what is due, as long as that brings a certificate that is ready.
+    fn ask<R: Wait, E: Write>(&mut self, rt: &R, errors: &mut E) {
         for _ in 0..=MAX_WAITING {
             self.propose(rt);
             let Some(event) = self.next_ready(rt) else {
                 return;
             };
-            match self.caller.take_waiting(rt, event) {
-                Ok(_) => self.pending.ring(rt),
-                Err(told) => write_line(errors, told),
+            self.take_ready(rt, event, errors);
+        }
+    }
+
+    // Takes a certificate that has waited.
+    fn take_ready<R: Wait, E: Write>(&mut self, rt: &R, event: Checked, errors: &mut E) {
+        match self.caller.take_waiting(rt, event) {
+            Ok(taken) => {
+                if matches!(taken, Taken::New) {
+                    self.due = Due::all();
+                }
+                self.pending.ring(rt);
             }
+            Err(told) => write_line(errors, told),
         }
     }
 
@@ -113,6 +140,7 @@ impl<'n, 'a, S: Sign> Intake<'n, 'a, S> {
         ensures mark { self.new.was_refused_memory ≡ self.old.was_refused_memory }
         ensures stays { StaysWith self.old.caller self.new.caller }
         ensures none { batch ≡ None → (result ≡ Ok false) × (self.new ≡ self.old) }
+        ensures due { IfSome batch (λ given. IsDueBehind self.old.caller.setting.own (message.Batch given) self.old.due self.new.due result) }
         ensures some { IfSome batch (λ given. Brings (node_of S.own_key S.signature_of self.old.caller.node.setting) (fault_of self.old.caller.setting.charter is_pair_signature (own_batch self.old.caller.setting.own given)) (own_batch self.old.caller.setting.own given) self.old.caller self.new.caller self.old.waiter self.new.waiter result) }
     {
         match batch {
@@ -124,14 +152,18 @@ impl<'n, 'a, S: Sign> Intake<'n, 'a, S> {
         }
     }
 
+    // Submits a message, or lets it wait. Behind a new record what it left as it was stays undue.
     fn submit<R: Wait>(&mut self, rt: &R, sender: Author, message: Message) -> Result<bool, Told>
+        ensures due { IsDueBehind self.old.caller.setting.own message self.old.due self.new.due result }
         ensures makers { self.new.makers ≡ self.old.makers }
         ensures mark { self.new.was_refused_memory ≡ self.old.was_refused_memory }
         ensures stays { StaysWith self.old.caller self.new.caller }
         ensures brings { Brings (node_of S.own_key S.signature_of self.old.caller.node.setting) (fault_of self.old.caller.setting.charter is_pair_signature (record { sender = sender; message = message })) (record { sender = sender; message = message }) self.old.caller self.new.caller self.old.waiter self.new.waiter result }
     {
+        let behind = due_behind(self.caller.config().own(), &message);
         match self.caller.take(rt, sender, message) {
             Ok(Taken::New) => {
+                self.due = self.due.and(behind);
                 self.pending.ring(rt);
                 Ok(true)
             }
@@ -151,6 +183,7 @@ impl<'n, 'a, S: Sign> Intake<'n, 'a, S> {
         ensures mark { self.new.was_refused_memory ≡ self.old.was_refused_memory }
         ensures stays { StaysWith self.old.caller self.new.caller }
         ensures looks { OnlyLooks self.old.caller.seat self.new.caller.seat }
+        ensures due { self.new.due ≡ self.old.due }
         ensures never_new { result ≢ Ok true }
         ensures ok { OnOk result (Enters event self.old.waiter self.new.waiter) }
         ensures err { OnErr result (self.new.waiter ≡ self.old.waiter) }
@@ -165,21 +198,42 @@ impl<'n, 'a, S: Sign> Intake<'n, 'a, S> {
         }
     }
 
-    // Takes what the validator proposes. The mark is set only where no event of the caller's was accepted, and stays.
+    // Takes what the validator proposes, where that is due. It stays due where memory was refused, and is again behind a new own header.
+    // The mark is set only where no event of the caller's was accepted, and stays.
     fn propose<R: Wait>(&mut self, rt: &R)
         ensures memory { self.new.was_refused_memory ≢ self.old.was_refused_memory → self.new.caller.seat.view.mine ≡ self.old.caller.seat.view.mine }
         ensures stays { self.old.was_refused_memory ≡ true → self.new.was_refused_memory ≡ true }
+        ensures idle { self.old.due.proposal ≡ false → self.new ≡ self.old }
+        ensures asked { self.old.due.proposal ≡ true → self.new.due.proposal ≡ false → IsProposed (node_of S.own_key S.signature_of self.old.caller.node.setting) self.old.caller self.new.caller false }
+        ensures waiting { self.old.due.waiting ≡ true → self.new.due.waiting ≡ true }
     {
+        if !self.due.proposal {
+            return;
+        }
         match self.caller.propose(rt) {
-            Ok(true) => self.pending.ring(rt),
-            Ok(false) => (),
+            Ok(true) => {
+                self.due = Due::all();
+                self.pending.ring(rt);
+            }
+            Ok(false) => self.due.proposal = false,
             Err(AllocError) => self.was_refused_memory = true,
         }
     }
 
-    fn next_ready<R: Wait>(&mut self, rt: &R) -> Option<Checked> {
+    // The first waiting certificate that is ready, where that is due. It stays due until none is.
+    fn next_ready<R: Wait>(&mut self, rt: &R) -> Option<Checked>
+        ensures idle { self.old.due.waiting ≡ false → (result ≡ None) × (self.new ≡ self.old) }
+        ensures some { IfSome result (λ _. self.new.due ≡ self.old.due) }
+        ensures none { IfNone result (self.new.waiter ≡ self.old.waiter) }
+        ensures proposal { self.new.due.proposal ≡ self.old.due.proposal }
+    {
+        if !self.due.waiting {
+            return None;
+        }
         let caller = &mut self.caller;
-        self.waiter.next_ready(|event| caller.is_ready(rt, event))
+        let found = self.waiter.next_ready(|event| caller.is_ready(rt, event));
+        self.due.waiting = found.is_some();
+        found
     }
 }
 

@@ -4,6 +4,7 @@
 
 mod bell;
 mod caller;
+mod due;
 mod flushing;
 mod intake;
 mod member;

@@ -1,6 +1,7 @@
 //! The labels that a script has defined.
 
 use std::alloc::{AllocError, Global};
+use std::collections::BTreeMap;
 use wire::{
     Author, Batch, Digest, Header, ParentReference, batch_digest, certificate_digest,
     genesis_digest, header_digest,
@@ -9,8 +10,6 @@ use wire::{
 /// A header under its label.
 #[derive(Drop)]
 pub struct Proposed {
-    /// The label.
-    pub name: String,
     /// The header.
     pub header: Header,
     /// The header's digest.
@@ -22,18 +21,19 @@ pub struct Proposed {
 /// A batch under its label.
 #[derive(Drop)]
 pub struct Packed {
-    /// The label.
-    pub name: String,
     /// The batch with its digest; nothing where its transactions pass a limit, which reading its message answers with
     /// `TooMany`.
     pub batch: Option<(Batch, Digest)>,
 }
 
-/// The headers and the batches, each in the order of their definition.
+/// The headers and the batches by their labels, and the first label of each digest.
 pub struct Labels {
     alloc: Global,
-    headers: Vec<Proposed>,
-    batches: Vec<Packed>,
+    headers: BTreeMap<String, Proposed>,
+    batches: BTreeMap<String, Packed>,
+    header_names: BTreeMap<Digest, String>,
+    certificate_names: BTreeMap<Digest, String>,
+    batch_names: BTreeMap<Digest, String>,
 }
 
 impl Drop for Labels {
@@ -42,6 +42,9 @@ impl Drop for Labels {
             alloc: _,
             headers: _,
             batches: _,
+            header_names: _,
+            certificate_names: _,
+            batch_names: _,
         } = self;
     }
 }
@@ -51,23 +54,22 @@ impl Labels {
     pub fn new(alloc: Global) -> Labels {
         Labels {
             alloc,
-            headers: Vec::new(alloc),
-            batches: Vec::new(alloc),
+            headers: BTreeMap::new(alloc),
+            batches: BTreeMap::new(alloc),
+            header_names: BTreeMap::new(alloc),
+            certificate_names: BTreeMap::new(alloc),
+            batch_names: BTreeMap::new(alloc),
         }
     }
 
     /// The header of this label.
     pub fn header(&self, name: &str) -> Option<&Proposed> {
-        self.headers
-            .iter()
-            .find(|proposed| proposed.name.as_str() == name)
+        self.headers.get(name)
     }
 
     /// The batch of this label.
     pub fn batch(&self, name: &str) -> Option<&Packed> {
-        self.batches
-            .iter()
-            .find(|packed| packed.name.as_str() == name)
+        self.batches.get(name)
     }
 
     /// The certificate of a label: of a genesis certificate, or of a header.
@@ -87,29 +89,17 @@ impl Labels {
 
     /// The first label of the header with this digest.
     pub fn header_name(&self, digest: &Digest) -> Option<&str> {
-        let proposed = self
-            .headers
-            .iter()
-            .find(|proposed| proposed.digest == *digest)?;
-        Some(proposed.name.as_str())
+        Some(self.header_names.get(digest)?.as_str())
     }
 
     /// The first label of the header whose certificate has this digest.
     pub fn certificate_name(&self, digest: &Digest) -> Option<&str> {
-        let proposed = self
-            .headers
-            .iter()
-            .find(|proposed| proposed.certificate == *digest)?;
-        Some(proposed.name.as_str())
+        Some(self.certificate_names.get(digest)?.as_str())
     }
 
     /// The first label of the batch with this digest.
     pub fn batch_name(&self, digest: &Digest) -> Option<&str> {
-        let packed = self
-            .batches
-            .iter()
-            .find(|packed| has_digest(packed, digest))?;
-        Some(packed.name.as_str())
+        Some(self.batch_names.get(digest)?.as_str())
     }
 
     // Whether a label is taken, also by a genesis certificate.
@@ -120,13 +110,17 @@ impl Labels {
     // Defines a label that isn't taken for a header.
     pub(crate) fn define_header(&mut self, name: &str, header: Header) -> Result<(), AllocError> {
         let (digest, certificate) = digests_of(&header);
+        add_first(self.alloc, &mut self.header_names, digest, name)?;
+        add_first(self.alloc, &mut self.certificate_names, certificate, name)?;
         let name = String::from_str(self.alloc, name)?;
-        self.headers.push(Proposed {
+        self.headers.insert(
             name,
-            header,
-            digest,
-            certificate,
-        })?;
+            Proposed {
+                header,
+                digest,
+                certificate,
+            },
+        )?;
         Ok(())
     }
 
@@ -137,10 +131,27 @@ impl Labels {
         batch: Option<Batch>,
     ) -> Result<(), AllocError> {
         let batch = batch.map(with_digest);
+        if let Some((_, digest)) = &batch {
+            add_first(self.alloc, &mut self.batch_names, *digest, name)?;
+        }
         let name = String::from_str(self.alloc, name)?;
-        self.batches.push(Packed { name, batch })?;
+        self.batches.insert(name, Packed { batch })?;
         Ok(())
     }
+}
+
+// Keeps the name of a digest that has none yet.
+fn add_first(
+    alloc: Global,
+    names: &mut BTreeMap<Digest, String>,
+    digest: Digest,
+    name: &str,
+) -> Result<(), AllocError> {
+    if !names.contains_key(&digest) {
+        let name = String::from_str(alloc, name)?;
+        names.insert(digest, name)?;
+    }
+    Ok(())
 }
 
 // The digests of a header and of its certificate.
@@ -153,13 +164,6 @@ fn digests_of(header: &Header) -> (Digest, Digest) {
 fn with_digest(batch: Batch) -> (Batch, Digest) {
     let digest = batch_digest(&batch);
     (batch, digest)
-}
-
-fn has_digest(packed: &Packed, digest: &Digest) -> bool {
-    match &packed.batch {
-        Some((_, found)) => *found == *digest,
-        None => false,
-    }
 }
 
 // The author of a genesis certificate's label: g0 to g3.

@@ -1,15 +1,16 @@
 -- A stream is frames in one way, and frames behind frames are frames.
-use Rattle.std.proofs.Common.{◌≡◌, ℕ, ◌+◌, ◌-◌, ◌≤◌, List, [], ◌∷◌, ◌++◌, length, take, drop, drop-drop, refl, sym, ap, subst, ◌∙◌, append_assoc, arith}
+use Rattle.std.proofs.Common.{◌≡◌, ℕ, ◌+◌, ◌-◌, ◌≤◌, ◌<◌, List, [], ◌∷◌, ◌++◌, length, take, drop, drop-drop, refl, sym, ap, subst, ◌∙◌, append_assoc, arith}
 use Rattle.std.specs.Prelude.{All, Vec, Option, Some, None}
 use Rattle.std.specs.Option.{MatchOption}
 use Rattle.std.specs.declared.alloc.Global.{Global}
 use Rattle.std.specs.List.{flat_map, AllByRecursion}
-use Rattle.std.specs.Int.{w32, to_be_bytes}
-use Rattle.std.proofs.lemmas.List.{take_at, drop_at, take_all, take-append-drop, length-append, length-take, length-drop, map-append}
+use Rattle.std.specs.Int.{w32, to_be_bytes, from_be_bytes}
+use Rattle.std.proofs.lemmas.List.{take_at, drop_at, take_all, drop_all, take-append-drop, take-append-le, length-append, length-take, length-drop, map-append}
 use Rattle.std.proofs.lemmas.List.Concat.{flat_map-cons}
 use Rattle.std.proofs.lemmas.List.Elements.{All-append, All-push, recursion_from_All}
 use Rattle.std.proofs.lemmas.Grind.{flat_map-append}
 use Rattle.std.proofs.lemmas.Nat.{from_be_bytes-to_be_bytes_4}
+use Rattle.wire.specs.declared.limits.TheConstants.{MAX_FRAME_BYTES}
 use Rattle.wire_read.proofs.Steps.{IsBytes, IsBytes-take}
 use Rattle.wire_read.proofs.Fields.{wide32}
 use Rattle.wire_read.specs.Frames.{IsFrameBody, frame, length_field, IsPartial, IsTooLong, stream_of, bodies_bytes, Splits, Breaks}
@@ -89,6 +90,41 @@ broken stream before old piece p q = record {
   long = q.long;
 }
 
+-- what breaks is broken with more behind it
+breaks_yet : (stream more : List ℕ) → Breaks stream → Breaks (stream ++ more)
+breaks_yet stream more p = record {
+  bodies = p.bodies;
+  rest = p.rest ++ more;
+  whole = ap (λ (l : List ℕ). l ++ more) p.whole ∙ append_assoc (flat_map frame p.bodies) p.rest more;
+  each = p.each;
+  long = record {
+    field = omega (arith, length-append p.rest more, p.long.field);
+    above = subst (λ (l : List ℕ). MAX_FRAME_BYTES < from_be_bytes w32 l) (sym (take-append-le 4 p.rest more p.long.field)) p.long.above;
+  };
+}
+
+-- ---- a piece in two parts, the first of which goes behind what is held
+
+module _ (old front behind first piece : List ℕ) (held : first ≡ old ++ front) (parts : piece ≡ front ++ behind) where
+  pub together : first ++ behind ≡ old ++ piece
+  together = ap (λ (l : List ℕ). l ++ behind) held ∙ append_assoc old front behind ∙ ap (λ (l : List ℕ). old ++ l) (sym parts)
+
+  pub first_breaks : Breaks first → Breaks (old ++ piece)
+  first_breaks p = subst (λ (l : List ℕ). Breaks l) together (breaks_yet first behind p)
+
+  module _ (bodies : List (Vec ℕ Global)) (taken : ℕ) (all : length first ≤ taken) (splits : Splits first (bodies_bytes bodies) (drop taken first)) where
+    whole_first : Splits first (bodies_bytes bodies) []
+    whole_first = subst (λ (l : List ℕ). Splits first (bodies_bytes bodies) l) (drop_all taken first all) splits
+
+    pub both_split : (more every : List (Vec ℕ Global)) (rest : List ℕ) → every ≡ bodies ++ more → Splits behind (bodies_bytes more) rest → Splits (old ++ piece) (bodies_bytes every) rest
+    both_split more every rest is later =
+        let both = joined first (bodies_bytes bodies) [] behind (bodies_bytes more) rest whole_first later in
+        let bytes : bodies_bytes bodies ++ bodies_bytes more ≡ bodies_bytes every = sym (ap bodies_bytes is ∙ map-append (λ (b : Vec ℕ Global). b.items) bodies more) in
+        subst (λ (l : List ℕ). Splits l (bodies_bytes every) rest) together (subst (λ (b : List (List ℕ)). Splits (first ++ behind) b rest) bytes both)
+
+    pub second_breaks : Breaks behind → Breaks (old ++ piece)
+    second_breaks p = subst (λ (l : List ℕ). Breaks l) together (broken first (bodies_bytes bodies) [] behind whole_first p)
+
 -- a whole frame at the front, by its length field
 pub framed : (bytes body : List ℕ) → IsBytes bytes → 4 ≤ length bytes → length_field bytes ≤ length (drop 4 bytes) → body ≡ take (length_field bytes) (drop 4 bytes) → bytes ≡ frame body ++ drop (4 + length body) bytes
 framed bytes body fits long whole is =
@@ -103,7 +139,7 @@ framed bytes body fits long whole is =
 -- ---- one more frame
 
 -- what is left of a stream, whose length is known
-left : (stream : List ℕ) (taken : ℕ) → taken ≤ length stream → take (length stream - taken) (drop taken stream) ≡ drop taken stream
+pub left : (stream : List ℕ) (taken : ℕ) → taken ≤ length stream → take (length stream - taken) (drop taken stream) ≡ drop taken stream
 left stream taken within = take_all (length stream - taken) (drop taken stream) (omega (arith, length-drop taken stream))
 
 -- where a body was found there, it is one more

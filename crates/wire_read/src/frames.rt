@@ -1,10 +1,10 @@
 //! Frames on a stream that comes in pieces.
 
-ghost use Rattle.std.specs.Prelude.{◌≡◌, ◌+◌, ◌≤◌, ◌++◌, [], List, ℕ, length, drop, IsTrue, ◌↔◌, ◌⊎◌, IfOk, IfErr, OnErr};
+ghost use Rattle.std.specs.Prelude.{◌≡◌, ◌+◌, ◌≤◌, ◌++◌, [], List, ℕ, length, take, drop, IsTrue, ◌↔◌, ◌⊎◌, IfOk, IfErr, OnErr};
 ghost use Rattle.std.specs.Option.{MatchOption};
 ghost use Rattle.wire_read.specs.Frames.{IsFrameBody, IsPartial, IsTooLong, Splits, Breaks, bodies_bytes, frame};
 
-use std::alloc::Global;
+use std::alloc::{AllocError, Global};
 use std::marker::Model;
 use wire::{MAX_FRAME_BYTES, WireError};
 
@@ -61,18 +61,68 @@ impl FrameReader {
         ensures err { OnErr result (self.new ≡ self.old) }
     {
         let before = self.held.len();
-        self.held.extend_from_slice(piece)?;
-        match bodies_of(self.alloc, &self.held) {
-            Ok((bodies, taken)) => {
-                remove_front(&mut self.held, taken);
-                Ok(bodies)
-            }
+        match feed_held(self.alloc, &mut self.held, piece) {
+            Ok(bodies) => Ok(bodies),
             Err(error) => {
                 self.held.truncate(before);
                 Err(error)
             }
         }
     }
+}
+
+// Takes a piece behind what is held, and gives the bodies of the frames that are whole then. Behind the frame that is begun bodies are
+// cut out of the piece itself, and what is left of it is held. A refusal leaves what was held at the front.
+fn feed_held(alloc: Global, held: &mut Vec<u8>, piece: &[u8]) -> Result<Vec<Vec<u8>>, WireError>
+    ensures splits { IfOk result (λ bodies. Splits (held.old.items ++ piece.now) (bodies_bytes bodies.items) held.new.items) }
+    ensures breaks { IfErr result (λ e. (e ≡ WireError.Memory) ⊎ ((e ≡ WireError.TooMany) × Breaks (held.old.items ++ piece.now))) }
+    ensures kept { OnErr result (take (length held.old.items) held.new.items ≡ held.old.items) }
+{
+    let (front, behind) = piece.split_at(begun_len(held, piece));
+    held.extend_from_slice(front)?;
+    let (mut bodies, taken) = bodies_of(alloc, held)?;
+    if taken < held.len() {
+        held.extend_from_slice(behind)?;
+        return cut_held(alloc, held);
+    }
+    let (mut more, taken) = bodies_of(alloc, behind)?;
+    bodies.append(&mut more)?;
+    *held = copied(alloc, &behind[taken..])?;
+    Ok(bodies)
+}
+
+// Cuts the whole frames off what is held.
+fn cut_held(alloc: Global, held: &mut Vec<u8>) -> Result<Vec<Vec<u8>>, WireError>
+    ensures splits { IfOk result (λ bodies. Splits held.old.items (bodies_bytes bodies.items) held.new.items) }
+    ensures breaks { IfErr result (λ e. (e ≡ WireError.Memory) ⊎ ((e ≡ WireError.TooMany) × Breaks held.old.items)) }
+    ensures err { OnErr result (held.new.items ≡ held.old.items) }
+{
+    let (bodies, taken) = bodies_of(alloc, held)?;
+    remove_front(held, taken);
+    Ok(bodies)
+}
+
+// How many bytes of a piece end the frame that is begun, as far as they are there.
+fn begun_len(held: &[u8], piece: &[u8]) -> usize
+    ensures { result ≤ length piece.now }
+{
+    if held.is_empty() {
+        return 0;
+    }
+    let mut field = [0; LENGTH_BYTES];
+    for (place, byte) in field.iter_mut().zip(held.iter().chain(piece.iter())) {
+        *place = *byte;
+    }
+    let len = LENGTH_BYTES + u32::from_be_bytes(field) as usize;
+    len.saturating_sub(held.len()).min(piece.len())
+}
+
+fn copied(alloc: Global, bytes: &[u8]) -> Result<Vec<u8>, AllocError>
+    ensures { IfOk result (λ copy. copy.items ≡ bytes.now) }
+{
+    let mut copy = Vec::with_capacity(alloc, bytes.len())?;
+    copy.extend_from_slice(bytes)?;
+    Ok(copy)
 }
 
 fn remove_front(bytes: &mut Vec<u8>, count: usize)
@@ -91,9 +141,7 @@ fn bodies_of(alloc: Global, stream: &[u8]) -> Result<(Vec<Vec<u8>>, usize), Wire
     let mut bodies = Vec::new(alloc);
     let mut taken = 0;
     while let Some(body) = body_at(&stream[taken..])? {
-        let mut copy = Vec::with_capacity(alloc, body.len())?;
-        copy.extend_from_slice(body)?;
-        bodies.push(copy)?;
+        bodies.push(copied(alloc, body)?)?;
         taken += LENGTH_BYTES + body.len();
     }
     Ok((bodies, taken))
