@@ -818,11 +818,14 @@ def main():
     full_groups(cases)
     stakes(cases)
     faults(cases)
-    for version, file in [('', FIRST_VOTE), (', in the first version', OLD_VOTE)]:
-        cases.case('cut to each length' + version, file)
-        cases.lengths(0, len(file))
-        cases.case('each byte to each other value' + version, file)
-        cases.changes(0, len(file) - 1, 255)
+    cases.case('cut to each length', FIRST_VOTE)
+    cases.lengths(0, len(FIRST_VOTE))
+    cases.case('each byte to each other value', FIRST_VOTE)
+    cases.changes(0, len(FIRST_VOTE) - 1, 255)
+    cases.case('cut to each length, in the first version', OLD_VOTE)
+    cases.lengths(0, len(OLD_VOTE))
+    cases.case('each byte to fifteen other values, in the first version', OLD_VOTE)
+    cases.changes(0, len(OLD_VOTE) - 1, 15)
 
 
 if __name__ == '__main__':
