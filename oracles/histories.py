@@ -3,6 +3,7 @@
 
     oracles/histories.py START DEPTH EVENTS [STAKES] > CASES
     oracles/histories.py --play=BESIDE START DEPTH EVENTS [STAKES] > CASES
+    oracles/histories.py --lines=TITLE DEPTH STAKES < LINES > CASES
 
 START is the value that all is drawn from, DEPTH the committee's depth, EVENTS how many new events a history has.
 STAKES, as 3,1,1,1, has a stake for each member; without it there are four members with the stake 1. Member 0 is the
@@ -10,6 +11,7 @@ node. Each event stands with the answer and the outputs that the rules of docs/F
 them: it shares nothing with the code of the repository. See docs/FORMATS.md for the language. With --play the events stand
 alone, behind a line `validator`, and behind them how often each answer comes and what there is at the end: that is for
 the tests of the validator.
+With --lines nothing is drawn: the events are those of these lines, with their forms.
 There each 50 events end with a line `sum N`, a running sum over all that was answered and put out, and over what is held
 and proposed behind each event. BESIDE is how many of the events are compared with the plain program too.
 """
@@ -606,6 +608,30 @@ def history(start, depth, events, committee):
     return drawn
 
 
+def of_lines(lines, depth, committee):
+    """The history of these lines: headers that are formed, and events."""
+    drawn = Drawn(0, depth, committee)
+    headers = {'g%d' % member: drawn.node.certificates[0, member] for member in committee.members}
+    drawn.labelled = headers.__getitem__
+    for line in lines:
+        name, *words = line.split()
+        if name == 'form':
+            label, author, round_, parents, _ = words
+            header = Header(label, int(author), int(round_), [headers[parent] for parent in parents.split(',')], [])
+            headers[label] = header
+            drawn.lines.append(line)
+        elif name == 'header':
+            drawn.take(line, drawn.node.header(headers[words[0]]))
+        elif name == 'vote':
+            drawn.take(line, drawn.node.vote(headers[words[0]], int(words[1])))
+        elif name == 'cert':
+            drawn.take(line, drawn.node.certificate(headers[words[0]], [int(voter) for voter in words[1].split(',')]))
+        else:
+            drawn.take(line, drawn.node.coin(OWN, *map(int, words)))
+    drawn.lines.append('sum %d' % drawn.sum.value)
+    return drawn
+
+
 def tell_all(drawn, depth, words):
     """The case of the definitions: each event with what it is answered."""
     print('set depth %d' % depth)
@@ -634,6 +660,11 @@ def tell_play(drawn, depth, words, beside):
 
 
 def main():
+    if sys.argv[1].startswith('--lines='):
+        depth, stakes = int(sys.argv[2]), sys.argv[3]
+        drawn = of_lines(sys.stdin.read().splitlines(), depth, Committee(list(map(int, stakes.split(',')))))
+        print('== ' + sys.argv[1].removeprefix('--lines='))
+        return tell_play(drawn, depth, [stakes], drawn.given)
     plays = sys.argv[1].startswith('--play=')
     arguments = sys.argv[2:] if plays else sys.argv[1:]
     start, depth, events = map(int, arguments[:3])
