@@ -26,7 +26,7 @@ returns-in_err-more-clause-breaks c =
       | inr long ↦ inr (
         long.0,
         second_breaks c.args.held.now.items c.split_at.result.0.now c.split_at.result.1.now c.deref-2.result.now c.args.piece.now held parts
-        c.in_ok-bodies.bodies.items c.in_ok-bodies.taken (omega (arith, c.if-taken-len.false, c.len.ensures, c.deref-2.ensures.len)) c.in_ok-bodies.ensures.splits long.1,
+            c.in_ok-bodies.bodies.items c.in_ok-bodies.taken (omega (arith, c.if-taken-len.false, c.len.ensures, c.deref-2.ensures.len)) c.in_ok-bodies.ensures.splits long.1,
       )
     ])
 
