@@ -224,6 +224,13 @@ impl<'a, S: Sign> OwnBook<'a, S> {
         self.book.has_pending()
     }
 
+    /// Its validator, which stands at all that was accepted.
+    pub fn validator(&self) -> &Validator<'a, S>
+        ensures { result.now ≡ self.now.validator }
+    {
+        self.book.validator()
+    }
+
     /// The committee of its validator.
     pub fn committee(&self) -> &Committee
         ensures { result.now ≡ self.now.validator.setting.charter }
