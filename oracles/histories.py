@@ -7,8 +7,8 @@
 
 START is the value that all is drawn from, DEPTH the committee's depth, EVENTS how many new events a history has.
 STAKES, as 3,1,1,1, has a stake for each member; without it there are four members with the stake 1. Member 0 is the
-node. Each event stands with the answer and the outputs that the rules of docs/FORMATS.md give, as this program computes
-them: it shares nothing with the code of the repository. See docs/FORMATS.md for the language. With --play the events stand
+node. Each event stands with the answer and the outputs that the rules of docs/RULES.md give, as this program computes
+them: it shares nothing with the code of the repository. See docs/SIMULATOR.md for the language. With --play the events stand
 alone, behind a line `validator`, and behind them how often each answer comes and what there is at the end: that is for
 the tests of the validator.
 With --lines nothing is drawn: the events are those of these lines, with their forms.

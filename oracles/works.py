@@ -1,5 +1,5 @@
 #!/usr/bin/env python3
-"""Prints what `narwhal-bench` without words has to print, as this program computes it by the rules of docs/FORMATS.md.
+"""Prints what `narwhal-bench` without words has to print, as this program computes it by the rules of docs/FORMATS.md and docs/RULES.md.
 
     oracles/works.py | diff - crates/node_bench/stdout
 
