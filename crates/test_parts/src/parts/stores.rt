@@ -48,7 +48,7 @@ fn obey(
     let (name, rest) = parted(word, '-');
     let numbers = numbers_in(alloc, rest)?;
     match name {
-        "put" | "share" => put_of(alloc, store, digests, name, &numbers, answer),
+        "put" => put_of(alloc, store, digests, &numbers, answer),
         "many" => many(alloc, store, digests, &numbers, answer),
         "all" => all(store, digests, answer),
         "least" => least(alloc, store, digests, answer),
@@ -78,7 +78,6 @@ fn put_of(
     alloc: Global,
     store: &mut BatchStore,
     digests: &mut Vec<Digest>,
-    name: &str,
     numbers: &[u64],
     answer: &mut String,
 ) -> Told {
@@ -87,23 +86,7 @@ fn put_of(
     };
     let (worker, byte) = ((*worker).min(65_535) as u16, (*byte).min(255) as u8);
     let batch = batch_of(alloc, author_of(*author), worker, byte)?;
-    match (name, &batch) {
-        ("share", Some(sent)) => share(store, digests, sent, answer),
-        _ => put(store, digests, batch, answer),
-    }
-}
-
-// Puts a batch that has one owner more, and tells whether the body that is held is the very bytes of it.
-fn share(
-    store: &mut BatchStore,
-    digests: &mut Vec<Digest>,
-    sent: &Batch,
-    answer: &mut String,
-) -> Told {
-    put(store, digests, Some(sent.share()?), answer)?;
-    let held = store.get(&batch_digest(sent));
-    let one = held.is_some_and(|held| held.body().as_ptr() == sent.body().as_ptr());
-    writeln!(answer, "one body {one}")
+    put(store, digests, batch, answer)
 }
 
 // Puts one batch each of so many workers of a member, and tells how many are held then.

@@ -20,7 +20,7 @@ use sim_script::{
 use spec_model::{Event, Node};
 use std::alloc::{AllocError, Global};
 use validator::{Config, Refusal, Step, Validator};
-use wire::{Author, Batch, Header, Message, Output};
+use wire::{Author, Header, Message};
 
 /// A validator, with what is summed up and counted of it, and with the plain program beside it.
 #[derive(Drop)]
@@ -131,9 +131,8 @@ impl<'c> Playing<'c> {
         message: Message,
     ) -> Result<Option<&'static str>, FormError> {
         let event = self.beside_event(sender, &message)?;
-        let sent = batch_in(&message)?;
         match check(self.validator.committee(), &HashVerify, sender, message) {
-            Ok(checked) => self.step(checked, event, sent.as_ref()),
+            Ok(checked) => self.step(checked, event),
             Err(_) => Ok(Some("unchecked")),
         }
     }
@@ -151,7 +150,6 @@ impl<'c> Playing<'c> {
         &mut self,
         checked: Checked,
         event: Option<Event>,
-        sent: Option<&Batch>,
     ) -> Result<Option<&'static str>, FormError>
         requires { fault_of self.old.validator.setting.charter accepts_all checked ≡ None }
     {
@@ -161,9 +159,6 @@ impl<'c> Playing<'c> {
             return Err(FormError::Memory);
         }
         self.tally.count(&step);
-        if has_copy(&step, sent) {
-            return Ok(Some("a copy of the body"));
-        }
         Ok(self.compare(is_ready, &step, event)?)
     }
 
@@ -215,31 +210,6 @@ impl<'c> Playing<'c> {
             &[self.beside.compared()],
             answer,
         )
-    }
-}
-
-/// The batch of a message once more, if it has one.
-fn batch_in(message: &Message) -> Result<Option<Batch>, FormError> {
-    Ok(match message {
-        Message::Batch(batch) => Some(batch.share()?),
-        _ => None,
-    })
-}
-
-/// Whether a batch is given out that was accepted, and its body isn't the very bytes that were sent.
-fn has_copy(step: &Result<Step, Refusal>, sent: Option<&Batch>) -> bool {
-    match (step, sent) {
-        (Ok(Step::New(outputs)), Some(sent)) => {
-            outputs.iter().any(|output| is_copy(output, sent))
-        }
-        _ => false,
-    }
-}
-
-fn is_copy(output: &Output, sent: &Batch) -> bool {
-    match output {
-        Output::Batch(batch) => batch.body().as_ptr() != sent.body().as_ptr(),
-        _ => false,
     }
 }
 
