@@ -101,7 +101,7 @@ impl Script<'_> {
         let mut told = String::new(self.alloc);
         match self.run(self.disk()?, &mut taker)? {
             None => put(&mut told, "bad case"),
-            Some(Ok(_)) => put(&mut told, "carried out"),
+            Some(Ok(_disk)) => put(&mut told, "carried out"),
             Some(Err(failed)) => tell_error(failed.error, &mut told),
         }
         put(&mut told, filled(text.get(..room), &taker.bytes));
