@@ -7,13 +7,14 @@ use Rattle.std.proofs.lemmas.Bool.{cases_Bool, eqb-true, eq-eqb, leb-true, true�
 use Rattle.std.proofs.lemmas.List.{length-map, append-nil, take_all}
 use Rattle.std.proofs.Math.ListN.{drop_of_length-le}
 use Rattle.std.proofs.lemmas.Option.{same_Some, none-some}
+use Rattle.wire.specs.declared.round.TheConstants.Round.{MAX}
 use Rattle.committee.specs.Charter.{Charter}
 use Rattle.spec_model.specs.Holdings.{all_held}
-use Rattle.spec_model.specs.Slots.{Slots, reaches}
+use Rattle.spec_model.specs.Slots.{Slots}
 use Rattle.spec_laws.proofs.Lists.{given_or_none}
 use Rattle.dag.specs.Changes.{IsMarked}
 use Rattle.dag.specs.Graph.{Graph, slots_in, marked_in}
-use Rattle.dag.specs.Kept.{Rows, entry_at, graph_of, placed_of, IsKept, IsEntry}
+use Rattle.dag.specs.Kept.{Rows, entry_at, graph_of, placed_of, has_below, IsKept, IsEntry}
 use Rattle.dag.specs.Rows.{marked, marked_from, marked_row, marked_rows}
 use Rattle.dag.specs.declared.entry.Entry.{Entry}
 use Rattle.dag.proofs.Slots.{at_place, slot_kept, mark_kept}
@@ -202,13 +203,11 @@ carried charter floor base rows later same round author e facts = record {
   place = facts.place;
   digest = facts.digest;
   held = ap (λ (s : Slots). all_held s floor e.certificate.header) same ∙ facts.held;
-  long = facts.long;
-  reached = λ place other within.
-      facts.reached place other within ∙ sym (ap (λ (s : Slots). option_map_or (reaches (length charter.keys) s e.certificate) (s (round - suc place) other) false) same);
+  parents = λ above other. facts.parents above other ∙ sym (ap (λ (s : Slots). has_below s e.certificate other) same);
 }
 
 remarked : (graph : Graph) (round author : ℕ) (e : Entry) → IsEntry graph round author e → IsEntry graph round author (marked e)
-remarked graph round author e facts = record { place = facts.place; digest = facts.digest; held = facts.held; long = facts.long; reached = facts.reached }
+remarked graph round author e facts = record { place = facts.place; digest = facts.digest; held = facts.held; parents = facts.parents }
 
 after_is : (here : Bool) (old e : Entry) (P : Entry → Type 0) → after here (Some old) ≡ Some e → P old → P (marked old) → P e
 after_is true old e P is plain with = subst P (same_Some (marked old) e is) with
@@ -259,3 +258,17 @@ mark_seen charter floor base rows round authors above =
           ∙ ap (λ o. marked_in (graph_of charter floor base rows) r a || ((r == round) && (authors a && is_some o))) (sym (slot_kept charter floor base rows r a));
       end = omega (arith, long, was, now);
     }
+
+-- ---- another base
+
+pub rebased : (charter : Charter) (floor base later : ℕ) (rows : Rows) → IsKept charter floor base rows → base ≤ later → later ≤ MAX → IsKept charter floor later rows
+rebased charter floor base later rows kept higher within = record {
+  valid = kept.valid;
+  low = omega (arith, kept.low, higher);
+  within = within;
+  few = kept.few;
+  full = kept.full;
+  entries = λ round author e is.
+      let facts = kept.entries round author e is in
+      record { place = facts.place; digest = facts.digest; held = facts.held; parents = facts.parents };
+}

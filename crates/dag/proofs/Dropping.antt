@@ -21,7 +21,6 @@ use Rattle.dag.specs.Changes.{IsDropped}
 use Rattle.dag.specs.Graph.{Graph, IsGraph, size_in, slots_in, reaches_in}
 use Rattle.dag.specs.Kept.{Rows, entry_at, graph_of, placed_of, IsKept, IsEntry}
 use Rattle.dag.specs.declared.entry.Entry.{Entry}
-use Rattle.dag.proofs.Entries.{in_place}
 use Rattle.dag.proofs.Slots.{at_place, at_place-drop, slot_kept, mark_kept}
 
 not_less : (one other : ℕ) → nat_lt one other ≡ false → other ≤ one
@@ -75,21 +74,6 @@ was_kept floor round rows higher r a e is =
       | inr above ↦ let there = rw above at both in (not_less r round above, there)
     ]
 
-agree : (charter : Charter) (floor round base : ℕ) (rows : Rows) → IsKept charter floor base rows → floor < round
-    → AgreeFrom round (slots_in (graph_of charter floor base rows)) (slots_in (graph_of charter round base (drop (round - floor) rows)))
-agree charter floor round base rows kept higher = record {
-  placed = in_place charter floor base rows kept;
-  placed_other = λ r a c held.
-      let later = drop (round - floor) rows in
-      elim (given_or_none (entry_at round later r a)) [
-        | inr none ↦ absurd (none-some c (sym (slot_kept charter round base later r a ∙ ap (option_map (λ (e : Entry). e.certificate)) none) ∙ held))
-        | inl e ↦
-            let was = was_kept floor round rows higher r a e.0 e.1 in
-            in_place charter floor base rows kept r a c (slots_from charter floor round base rows higher r a was.0 ∙ held)
-      ];
-  same = λ r a least. slots_from charter floor round base rows higher r a least;
-}
-
 -- parents that are held stay so: those that aren't there any more lie at or below the new floor
 held_from : (charter : Charter) (floor round base : ℕ) (rows : Rows) → floor < round → (of : ℕ) (p : ParentReference)
     → is_held (slots_in (graph_of charter floor base rows)) floor of p ≡ true → is_held (slots_in (graph_of charter round base (drop (round - floor) rows))) round of p ≡ true
@@ -122,32 +106,20 @@ held_from charter floor round base rows higher of p held =
 entry_from : (charter : Charter) (floor round base : ℕ) (rows : Rows) → IsKept charter floor base rows → floor < round → round < base → (r a : ℕ) (e : Entry)
     → entry_at round (drop (round - floor) rows) r a ≡ Some e → IsEntry (graph_of charter round base (drop (round - floor) rows)) r a e
 entry_from charter floor round base rows kept higher within r a e is =
-    let n = length charter.keys in
     let before = slots_in (graph_of charter floor base rows) in
     let after = slots_in (graph_of charter round base (drop (round - floor) rows)) in
     let was = was_kept floor round rows higher r a e is in
     let facts = kept.entries r a e was.1 in
-    let from = agree charter floor round base rows kept higher in
+    let at = slot_is r a e.certificate.header facts.place in
     record {
       place = facts.place;
       digest = facts.digest;
       held = all_stay (is_held before floor e.certificate.header.round) (is_held after round e.certificate.header.round) e.certificate.header.parents
           (held_from charter floor round base rows higher e.certificate.header.round) facts.held;
-      long = facts.long;
-      reached = λ place other inside.
-          let q = r - suc place in
-          let high : round ≤ q = omega (arith, inside, facts.long, within) in
-          facts.reached place other inside
-          ∙ elim (given_or_none (before q other)) [
-            | inr none ↦
-                ap (λ o. option_map_or (reaches n before e.certificate) o false) none
-                ∙ sym (ap (λ o. option_map_or (reaches n after e.certificate) o false) (sym (from.same q other high) ∙ none))
-            | inl c ↦
-                let of = slot_is q other c.0.header (from.placed q other c.0 c.1) in
-                ap (λ o. option_map_or (reaches n before e.certificate) o false) c.1
-                ∙ reaches_from n round before after from e.certificate c.0 (omega (arith, high, of.0))
-                ∙ sym (ap (λ o. option_map_or (reaches n after e.certificate) o false) (sym (from.same q other high) ∙ c.1))
-          ];
+      parents = λ above other.
+          let least : round ≤ e.certificate.header.round - 1 = omega (arith, above, at.0) in
+          facts.parents (omega (arith, above, higher)) other
+          ∙ ap (λ o. option_map_or (λ d. is_parent d e.certificate) o false) (slots_from charter floor round base rows higher (e.certificate.header.round - 1) other least);
     }
 
 pub kept_from : (charter : Charter) (floor round base : ℕ) (rows : Rows) → IsKept charter floor base rows → floor < round → round < base → IsKept charter round base (drop (round - floor) rows)

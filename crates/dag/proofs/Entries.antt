@@ -1,28 +1,24 @@
 -- What is known of what is kept.
-use Rattle.std.proofs.Common.{◌≡◌, ℕ, zero, suc, ◌+◌, ◌-◌, ◌<◌, Bool, true, false, List, [], ◌∷◌, length, Option, Some, None, inl, inr, refl, ap, sym, ◌∙◌, subst, arith, slice_get}
+use Rattle.std.proofs.Common.{◌≡◌, ℕ, ◌+◌, ◌-◌, ◌<◌, Bool, true, false, List, [], ◌∷◌, length, Option, Some, None, inl, inr, refl, ap, sym, ◌∙◌, subst, arith, slice_get}
 use Rattle.std.proofs.Math.Path.{fun_ext}
-use Rattle.std.specs.Prelude.{nat_le, nat_lt, option_map, option_and_then, unwrap_or, All, ◌==◌, ◌&&◌, ◌||◌}
+use Rattle.std.specs.Prelude.{nat_le, nat_lt, option_map, option_and_then, All, ◌==◌, ◌&&◌, ◌||◌}
 use Rattle.std.specs.List.{list_any, list_all}
 use Rattle.std.specs.Option.{option_map_or}
 use Rattle.std.proofs.lemmas.Bool.{cases_Bool, and_parts, and_from, eqb-true, eq-eqb}
 use Rattle.std.proofs.lemmas.Option.{same_Some, none-some, slice_get_within, get_or_from_slice_get}
 use Rattle.committee.specs.Charter.{Charter}
-use Rattle.committee.specs.declared.members.TheConstants.{MAX_MEMBERS}
-use Rattle.spec_model.specs.Holdings.{is_held, all_held}
+use Rattle.spec_model.specs.Holdings.{is_held}
 use Rattle.spec_model.specs.Slots.{Slots, same_digest, certificate_digest, is_of_slot, is_named, is_parent}
 use Rattle.spec_model.specs.Words.{Certificate, Digest, ParentReference}
 use Rattle.spec_laws.proofs.Closed.{or_right}
-use Rattle.spec_laws.proofs.Growing.{AreInPlace, and_false}
+use Rattle.spec_laws.proofs.Growing.{AreInPlace}
 use Rattle.spec_laws.proofs.Lists.{given_or_none}
 use Rattle.spec_laws.proofs.Meeting.{any_to}
 use Rattle.spec_laws.proofs.Votes.{slot_is}
-use Rattle.committee.specs.Sets.{has}
 use Rattle.dag.specs.Graph.{row_at, slots_in}
-use Rattle.dag.specs.Kept.{Rows, entry_at, graph_of, IsKept}
-use Rattle.dag.specs.Rows.{names, row_of, slot_at}
-use Rattle.committee.specs.declared.sets.MemberSet.{MemberSet}
+use Rattle.dag.specs.Kept.{Rows, entry_at, graph_of, has_below, IsKept}
+use Rattle.dag.specs.Rows.{names}
 use Rattle.dag.specs.declared.entry.Entry.{Entry}
-use Rattle.dag.proofs.Sets.{IsBelow}
 use Rattle.dag.proofs.Slots.{slot_kept}
 use Rattle.dag.proofs.Tests.{same_test, any_from, same_digest_sym}
 
@@ -76,18 +72,6 @@ author_within size floor rows round author x all is =
     let has = row_has floor rows round author x is in
     let long : length has.row ≡ size = all_at (λ row. length row ≡ size) rows has.place has.row all has.there in
     omega (arith, long, has.within)
-
-row_slot_in : (found : Option (List (Option Entry))) (author : ℕ) → slot_at (unwrap_or found []) author ≡ option_and_then (λ row. option_and_then (λ held. held) (slice_get row author)) found
-row_slot_in None author = refl
-row_slot_in (Some row) author = refl
-
--- a row has what the rows have there
-pub row_slot : (floor : ℕ) (rows : Rows) (round author : ℕ) → slot_at (row_of floor rows round) author ≡ entry_at floor rows round author
-row_slot floor rows round author =
-    elim (cases_Bool (nat_le floor round)) [
-      | inr below ↦ rw below refl
-      | inl here ↦ rw here (row_slot_in (slice_get rows (round - floor)) author)
-    ]
 
 -- ---- what is kept and what contracts see
 
@@ -159,40 +143,10 @@ pub all_named : (charter : Charter) (floor base : ℕ) (rows : Rows) → IsKept 
 all_named charter floor base rows kept round high parents =
     ap (λ (test : ParentReference → Bool). list_all test parents) (fun_ext (named_held charter floor base rows kept round high))
 
--- above the base all parents are named
-pub all_named_above : (charter : Charter) (floor base : ℕ) (rows : Rows) → IsKept charter floor base rows → (x : Certificate) → base < x.header.round
-    → all_held (slots_in (graph_of charter floor base rows)) floor x.header ≡ true → list_all (λ p. names (entry_at floor rows (x.header.round - 1) p.author.0) p) x.header.parents ≡ true
-all_named_above charter floor base rows kept x above held =
-    let round = x.header.round in
-    let outside : nat_le (round - 1) floor ≡ false = grind (arith, kept.low, above) in
-    let high : (nat_lt 0 floor && nat_le (round - 1) floor) ≡ false = ap (λ b. nat_lt 0 floor && b) outside ∙ and_false (nat_lt 0 floor) in
-    all_named charter floor base rows kept round high x.header.parents ∙ held
-
--- those who are named are members
-pub named_members : (charter : Charter) (floor base : ℕ) (rows : Rows) → IsKept charter floor base rows → (below : ℕ) (parents : List ParentReference)
-    → list_all (λ p. names (entry_at floor rows below p.author.0) p) parents ≡ true → All (λ p. p.author.0 < MAX_MEMBERS) parents
-named_members charter floor base rows kept below [] all k d within = absurd (omega (arith, within))
-named_members charter floor base rows kept below (p ∷ parents) all zero d within =
-    let named = (and_parts (names (entry_at floor rows below p.author.0) p) (list_all (λ q. names (entry_at floor rows below q.author.0) q) parents) all).0 in
-    elim (given_or_none (entry_at floor rows below p.author.0)) [
-      | inl e ↦ let member = author_within (length charter.keys) floor rows below p.author.0 e.0 kept.full e.1 in omega (arith, member, kept.valid.size.1)
-      | inr none ↦ let bad = rw none at named in absurd cc
-    ]
-named_members charter floor base rows kept below (p ∷ parents) all (suc k) d within =
-    let rest = (and_parts (names (entry_at floor rows below p.author.0) p) (list_all (λ q. names (entry_at floor rows below q.author.0) q) parents) all).1 in
-    named_members charter floor base rows kept below parents rest k d (omega (arith, within))
-
--- where all are named, who is named is one of them
-pub any_named : {X : Type 0} (test other : X → Bool) (xs : List X) → list_all test xs ≡ true → list_any (λ x. test x && other x) xs ≡ list_any other xs
-any_named test other [] all = refl
-any_named test other (x ∷ xs) all =
-    let parts = and_parts (test x) (list_all test xs) all in
-    rw parts.0 (ap (λ b. other x || b) (any_named test other xs parts.1))
-
--- the set of a certificate's parents
+-- those of a certificate's parents that are kept are held
 pub parent_bit : (charter : Charter) (floor base : ℕ) (rows : Rows) → IsKept charter floor base rows → (x : Certificate) → 0 < x.header.round → (author : ℕ)
     → list_any (λ p. names (entry_at floor rows (x.header.round - 1) p.author.0) p && (author == p.author.0)) x.header.parents
-    ≡ option_map_or (λ c. is_parent c x) (slots_in (graph_of charter floor base rows) (x.header.round - 1) author) false
+    ≡ has_below (slots_in (graph_of charter floor base rows)) x author
 parent_bit charter floor base rows kept x above author =
     let below = x.header.round - 1 in
     let slots = slots_in (graph_of charter floor base rows) in
@@ -242,21 +196,3 @@ parent_bit charter floor base rows kept x above author =
           let bad = rw seen at passes in
           absurd cc
     ])
-
--- ---- the sets of a certificate that enters
-
-pub is_below : (charter : Charter) (floor base : ℕ) (rows : Rows) → IsKept charter floor base rows → (x : Certificate) → 0 < x.header.round → (parents : MemberSet)
-    → ((author : ℕ) → has parents author ≡ list_any (λ p. names (entry_at floor rows (x.header.round - 1) p.author.0) p && (author == p.author.0)) x.header.parents)
-    → IsBelow (length charter.keys) (slots_in (graph_of charter floor base rows)) x (x.header.round - 1) (row_of floor rows (x.header.round - 1)) parents ((x.header.round - 1) - base)
-is_below charter floor base rows kept x above parents bits =
-    let below = x.header.round - 1 in
-    record {
-      placed = in_place charter floor base rows kept;
-      members = of_members charter floor base rows kept;
-      next = omega (arith, above);
-      seen = λ author. ap (option_map (λ entry. entry.certificate)) (row_slot floor rows below author) ∙ sym (slot_kept charter floor base rows below author);
-      reached = λ author entry is place other within.
-          let facts = kept.entries below author entry (sym (row_slot floor rows below author) ∙ is) in
-          facts.reached place other (omega (arith, facts.long, within));
-      bits = λ author. bits author ∙ parent_bit charter floor base rows kept x above author;
-    }

@@ -88,8 +88,7 @@ first_kept charter valid =
             place = of_its_slot (genesis author).header;
             digest = refl;
             held = refl;
-            long = refl;
-            reached = λ place other within. absurd (omega (arith, within));
+            parents = λ above. absurd (omega (arith, above));
           } in
           subst (λ (e : Entry). IsEntry graph round author e) (sym of.is) (subst (λ r. IsEntry graph r author (first author)) (sym of.round_is) here);
     }

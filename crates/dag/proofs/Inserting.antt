@@ -15,12 +15,13 @@ use Rattle.spec_model.specs.Words.{Certificate, ParentReference}
 use Rattle.spec_laws.proofs.Growing.{is_in}
 use Rattle.spec_laws.proofs.Lists.{given_or_none}
 use Rattle.spec_laws.proofs.Votes.{slot_is, of_its_slot}
+use Rattle.committee.specs.Sets.{has}
 use Rattle.dag.specs.Changes.{IsWith}
 use Rattle.dag.specs.Graph.{slots_in, end_in}
-use Rattle.dag.specs.Kept.{Rows, entry_at, graph_of, placed_of, IsKept, IsEntry, AreReachedBy}
+use Rattle.dag.specs.Kept.{Rows, entry_at, graph_of, placed_of, has_below, IsKept, IsEntry}
 use Rattle.dag.specs.declared.entry.Entry.{Entry}
 use Rattle.dag.proofs.Entries.{round_below, entry_seen, nothing_seen, seen_entry, unseen_entry, in_place, of_members}
-use Rattle.dag.proofs.Reaching.{IsMore, held_after, old_reaches, new_reaches}
+use Rattle.dag.proofs.Reaching.{IsMore, held_after, old_parents, new_parents}
 use Rattle.dag.proofs.Slots.{at_place, at_place-longer, set_slot, slot_here, slot_other_row, slot_other_author, slot_kept, mark_kept}
 
 -- a round that isn't low
@@ -36,8 +37,7 @@ pub record Enters (charter : Charter) (floor base : ℕ) (rows : Rows) (entry : 
   pub free : slots_in (graph_of charter floor base rows) entry.certificate.header.round entry.certificate.header.author.0 ≡ None
   pub held : all_held (slots_in (graph_of charter floor base rows)) floor entry.certificate.header ≡ true
   pub digest : entry.digest ≡ certificate_digest entry.certificate.header
-  pub long : length entry.reached ≡ entry.certificate.header.round - base
-  pub reached : AreReachedBy (graph_of charter floor base rows) entry.certificate entry.reached
+  pub parents : (author : ℕ) → has entry.parents author ≡ has_below (slots_in (graph_of charter floor base rows)) entry.certificate author
   pub without_mark : entry.marked ≡ false
   pub near : entry.certificate.header.round ≤ max (floor + length rows) (floor + 1)
 
@@ -187,9 +187,7 @@ new_kept charter floor base rows entry enters =
       place = of_its_slot entry.certificate.header;
       digest = enters.digest;
       held = held_after n floor before after entry.certificate is entry.certificate.header enters.held;
-      long = enters.long;
-      reached = λ place author within.
-          enters.reached place author within ∙ new_reaches n floor before after entry.certificate is (entry.certificate.header.round - suc place) author (omega (arith, above));
+      parents = λ _ author. enters.parents author ∙ sym (new_parents n floor before after entry.certificate is above author);
     }
 
 -- and the others still are
@@ -206,8 +204,7 @@ old_kept charter floor base rows entry enters round author old there =
       place = facts.place;
       digest = facts.digest;
       held = held_after n floor before after entry.certificate is old.certificate.header facts.held;
-      long = facts.long;
-      reached = λ place other within. facts.reached place other within ∙ sym (old_reaches n floor before after entry.certificate is old.certificate held (round - suc place) other);
+      parents = λ above other. facts.parents above other ∙ sym (old_parents n floor before after entry.certificate is old.certificate held other);
     }
 
 -- the rows go up to its round

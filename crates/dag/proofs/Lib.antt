@@ -2,14 +2,13 @@ pub mod Tests
 pub mod Steps
 pub mod Paths
 pub mod Slots
+pub mod Walking
 pub mod Reaching
-pub mod Sets
 pub mod Entries
 pub mod Answering
 pub mod First
 pub mod Looking
 pub mod Changing
 pub mod Dropping
-pub mod Trimming
 pub mod Unmarked
 pub mod Inserting

@@ -3,25 +3,23 @@ use Rattle.std.proofs.Common.{◌≡◌, ℕ, zero, suc, ◌+◌, ◌-◌, ◌<�
 use Rattle.std.proofs.Math.Path.{fun_ext}
 use Rattle.std.specs.Prelude.{nat_le, nat_lt, option_map, is_some, All, count_by, sum_by, if◌then◌else◌, ◌==◌, ◌&&◌, ◌||◌}
 use Rattle.std.specs.Option.{option_map_or}
-use Rattle.std.proofs.lemmas.Bool.{cases_Bool, eqb-true, lt-ltb, leb-true}
+use Rattle.std.proofs.lemmas.Bool.{cases_Bool, eqb-true, lt-ltb, ltb-true, leb-true}
 use Rattle.std.proofs.lemmas.List.{length-map}
 use Rattle.std.proofs.lemmas.Option.{slice_get-map}
 use Rattle.committee.specs.Charter.{Charter}
 use Rattle.spec_model.specs.Holdings.{all_held}
-use Rattle.spec_model.specs.Slots.{Slots, is_parent, reaches}
+use Rattle.spec_model.specs.Slots.{is_parent}
 use Rattle.spec_model.specs.Words.{Certificate}
-use Rattle.spec_laws.proofs.Growing.{AreInPlace, IsIn, is_in}
 use Rattle.spec_laws.proofs.Lists.{given_or_none}
 use Rattle.spec_laws.proofs.Votes.{slot_is}
 use Rattle.spec_laws.proofs.Weighing.{sum_mapped}
 use Rattle.committee.specs.Sets.{has}
-use Rattle.dag.specs.Graph.{Graph, IsGraph, size_in, slots_in, count_in, row_at, has_parent_in, reaches_in}
+use Rattle.dag.specs.Graph.{IsGraph, slots_in, count_in, row_at, has_parent_in}
 use Rattle.dag.specs.Kept.{Rows, entry_at, graph_of, placed_of, IsKept}
-use Rattle.dag.specs.Sets.{set_at}
 use Rattle.dag.specs.declared.entry.Entry.{Entry}
 use Rattle.dag.proofs.Entries.{entry_seen, nothing_seen, seen_entry, in_place, of_members}
-use Rattle.dag.proofs.Paths.{reached_first, reached_above, reached_self, reached_level, parent_below}
-use Rattle.dag.proofs.Tests.{same_test}
+use Rattle.dag.proofs.Paths.{parent_below}
+use Rattle.dag.proofs.Walking.{parent_of}
 
 -- ---- what holds of each
 
@@ -127,58 +125,44 @@ all_in test size other b is members =
     and_false' true = refl
     and_false' false = refl
 
--- ---- sets
+-- ---- parents
 
--- what is reached in the round below is a parent
-pub level_parent : (n : ℕ) (slots : Slots) → AreInPlace slots → (child c : Certificate) → IsIn slots child → child.header.author.0 < n → IsIn slots c → c.header.round + 1 ≡ child.header.round
-    → reaches n slots child c ≡ is_parent c child
-level_parent n slots placed child c held member held' next =
-    same_test _ _
-    (λ reached. let over = reached_first n slots placed child c held held' (omega (arith, next)) reached in
-    let below = parent_below over.parent child over.names in
-    let same = reached_level n slots over.parent c over.held held' (omega (arith, below, next)) over.reached in
-    ap (λ p. is_parent p child) (sym same) ∙ over.names)
-    (λ names. reached_above n slots placed child c c held member held' held' names (reached_self n slots c))
-
--- a set says whom a certificate reaches
-pub reached_kept : (charter : Charter) (floor base : ℕ) (rows : Rows) → IsKept charter floor base rows → (round author below other : ℕ) (e : Entry) → base ≤ below → below < round
-    → entry_at floor rows round author ≡ Some e → has (set_at e.reached ((round - 1) - below)) other ≡ reaches_in (graph_of charter floor base rows) round author below other
-reached_kept charter floor base rows kept round author below other e above lower is =
+-- the set of what is kept says who its parents are
+pub parents_kept : (charter : Charter) (floor base : ℕ) (rows : Rows) → IsKept charter floor base rows → (round author parent : ℕ)
+    → (nat_lt floor round && option_map_or (λ e. has e.parents parent) (entry_at floor rows round author) false) ≡ has_parent_in (graph_of charter floor base rows) round author (round - 1) parent
+parents_kept charter floor base rows kept round author parent =
     let slots = slots_in (graph_of charter floor base rows) in
-    let n = length charter.keys in
-    let facts = kept.entries round author e is in
-    let seen = entry_seen charter floor base rows round author e is in
-    let level : round - suc ((round - 1) - below) ≡ below = omega (arith, lower) in
-    facts.reached ((round - 1) - below) other (omega (arith, facts.long, above, lower))
-    ∙ ap (λ r. option_map_or (reaches n slots e.certificate) (slots r other) false) level
-    ∙ sym (ap (λ o. option_map_or (λ start. option_map_or (reaches n slots start) (slots below other) false) o false) seen)
-
-pub nothing_reached : (charter : Charter) (floor base : ℕ) (rows : Rows) (round author below other : ℕ) → entry_at floor rows round author ≡ None → reaches_in (graph_of charter floor base rows) round author below other ≡ false
-nothing_reached charter floor base rows round author below other none =
-    ap (λ o. option_map_or (λ start. option_map_or (reaches (length charter.keys) (slots_in (graph_of charter floor base rows)) start) (slots_in (graph_of charter floor base rows) below other) false) o false)
-    (nothing_seen charter floor base rows round author none)
-
--- of the round below those are its parents
-pub reaches_parents : (graph : Graph) → IsGraph graph → (round author parent : ℕ) → 0 < round → reaches_in graph round author (round - 1) parent ≡ has_parent_in graph round author (round - 1) parent
-reaches_parents graph facts round author parent above =
-    let slots = slots_in graph in
-    let n = size_in graph in
-    let parents : Option Certificate → Option Certificate → Bool = λ child ends. option_map_or (λ d. option_map_or (λ c. is_parent c d) ends false) child false in
-    let reached : Option Certificate → Option Certificate → Bool = λ start ends. option_map_or (λ d. option_map_or (reaches n slots d) ends false) start false in
-    elim (given_or_none (slots round author)) [
-      | inr none ↦ ap (λ o. reached o (slots (round - 1) parent)) none ∙ sym (ap (λ o. parents o (slots (round - 1) parent)) none)
-      | inl child ↦ elim (given_or_none (slots (round - 1) parent)) [
-        | inr none ↦ ap (reached (slots round author)) none ∙ ap (λ o. reached o None) child.1 ∙ sym (ap (parents (slots round author)) none ∙ ap (λ o. parents o None) child.1)
-        | inl c ↦
-            let held = is_in slots round author child.0 facts.placed child.1 in
-            let held' = is_in slots (round - 1) parent c.0 facts.placed c.1 in
-            let place = slot_is round author child.0.header (facts.placed round author child.0 child.1) in
-            let place' = slot_is (round - 1) parent c.0.header (facts.placed (round - 1) parent c.0 c.1) in
-            let member = facts.of_members round author child.0 child.1 in
-            ap (reached (slots round author)) c.1 ∙ ap (λ o. reached o (Some c.0)) child.1
-            ∙ level_parent n slots facts.placed child.0 c.0 held (omega (arith, place.1, member)) held' (omega (arith, place'.0, place.0, above))
-            ∙ sym (ap (parents (slots round author)) c.1 ∙ ap (λ o. parents o (Some c.0)) child.1)
-      ]
+    let over : Option Certificate → Bool = λ o. option_map_or (λ child. option_map_or (λ c. is_parent c child) (slots (round - 1) parent) false) o false in
+    elim (cases_Bool (nat_lt floor round)) [
+      | inr low ↦ rw low (
+          elim (cases_Bool (has_parent_in (graph_of charter floor base rows) round author (round - 1) parent)) [
+            | inr none ↦ sym none
+            | inl has ↦
+                let found = parent_of (graph_of charter floor base rows) round author (round - 1) parent has in
+                let is = is_graph charter floor base rows kept in
+                let child = slot_is round author found.child.header (is.placed round author found.child found.held_child) in
+                let at = slot_is (round - 1) parent found.parent.header (is.placed (round - 1) parent found.parent found.held_parent) in
+                let above = is.above (round - 1) parent found.parent found.held_parent in
+                let below = parent_below found.parent found.child found.names in
+                let under : round ≤ floor = grind (arith, low) in
+                absurd (omega (arith, child.0, at.0, above, below, under))
+          ]
+        )
+      | inl high ↦
+          elim (given_or_none (entry_at floor rows round author)) [
+            | inl e ↦
+                let facts = kept.entries round author e.0 e.1 in
+                let place = slot_is round author e.0.certificate.header facts.place in
+                ap (λ b. b && option_map_or (λ f. has f.parents parent) (entry_at floor rows round author) false) high
+                ∙ ap (λ o. option_map_or (λ (f : Entry). has f.parents parent) o false) e.1
+                ∙ facts.parents (ltb-true floor round high) parent
+                ∙ ap (λ r. option_map_or (λ c. is_parent c e.0.certificate) (slots (r - 1) parent) false) place.0
+                ∙ sym (ap over (entry_seen charter floor base rows round author e.0 e.1))
+            | inr none ↦
+                ap (λ b. b && option_map_or (λ f. has f.parents parent) (entry_at floor rows round author) false) high
+                ∙ ap (λ o. option_map_or (λ (f : Entry). has f.parents parent) o false) none
+                ∙ sym (ap over (nothing_seen charter floor base rows round author none))
+          ]
     ]
 
 -- a certificate is lent where one is held

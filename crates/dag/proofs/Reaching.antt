@@ -1,21 +1,18 @@
 -- Who reaches whom, where a certificate more is held whose parents are held and which nothing names as a parent yet.
 use Rattle.std.proofs.Common.{◌≡◌, ℕ, ◌-◌, ◌<◌, true, false, [], ◌∷◌, Some, None, inl, inr, refl, ap, sym, ◌∙◌, arith}
-use Rattle.std.specs.Prelude.{◌&&◌}
-use Rattle.std.specs.List.{list_any}
+use Rattle.std.specs.Prelude.{◌&&◌, ◌==◌}
 use Rattle.std.specs.Option.{option_map_or, option_or}
-use Rattle.std.proofs.lemmas.Bool.{cases_Bool, and_parts, and_from, true≢false}
+use Rattle.std.proofs.lemmas.Bool.{cases_Bool, true≢false}
 use Rattle.std.proofs.lemmas.Option.{same_Some}
-use Rattle.committee.specs.Charter.{numbers}
 use Rattle.spec_model.specs.Holdings.{is_low, is_held, all_held}
-use Rattle.spec_model.specs.Slots.{Slots, is_of_slot, slots_of, round_of, is_parent, reaches}
+use Rattle.spec_model.specs.Slots.{Slots, is_of_slot, slots_of, is_parent, reaches}
 use Rattle.spec_model.specs.Words.{Certificate, HeaderBody}
 use Rattle.spec_laws.proofs.Closed.{low_parent, held_stays, all_stay}
-use Rattle.spec_laws.proofs.Growing.{AreInPlace, Extends, IsIn, is_in, and_false, reaches_same, reaches_new}
-use Rattle.spec_laws.proofs.Lists.{given_or_none, Contains-made}
-use Rattle.spec_laws.proofs.Meeting.{any_to}
-use Rattle.spec_laws.proofs.Votes.{slot_is, of_its_slot}
-use Rattle.dag.proofs.Tests.{same_test, any_from}
-use Rattle.dag.proofs.Paths.{in_round, parent_below, reached_first, reached_above}
+use Rattle.spec_laws.proofs.Growing.{AreInPlace, Extends, IsIn, reaches_same, reaches_new}
+use Rattle.spec_laws.proofs.Lists.{given_or_none}
+use Rattle.spec_laws.proofs.Votes.{of_its_slot}
+use Rattle.dag.specs.Kept.{has_below}
+use Rattle.dag.proofs.Paths.{parent_below}
 
 -- slots with one certificate more
 pub record IsMore (n floor : ℕ) (before after : Slots) (c : Certificate) : Type 0 where
@@ -110,48 +107,27 @@ old_reaches n floor before after c more start held round author =
       ]
     ]
 
--- what the new one reaches below itself is reached over its parents
-pub new_reaches : (n floor : ℕ) (before after : Slots) (c : Certificate) → IsMore n floor before after c → (round author : ℕ) → round < c.header.round
-    → list_any (λ parent. is_parent parent c && option_map_or (reaches n before parent) (before round author) false) (round_of n before (c.header.round - 1))
-    ≡ option_map_or (reaches n after c) (after round author) false
-new_reaches n floor before after c more round author lower =
+-- what was held has the parents that it had
+pub old_parents : (n floor : ℕ) (before after : Slots) (c : Certificate) → IsMore n floor before after c → (child : Certificate) → IsIn before child → (author : ℕ)
+    → has_below after child author ≡ has_below before child author
+old_parents n floor before after c more child held author =
     let ext = extends n floor before after c more in
-    let placed = placed_after n floor before after c more in
-    let there = is_there n floor before after c more in
-    let elsewhere : (r a : ℕ) → r < c.header.round → after r a ≡ before r a =
-    λ r a less. elim (cases_Bool (is_of_slot r a c.header)) [
-      | inl here ↦ let place = slot_is r a c.header here in absurd (omega (arith, less, place.0))
-      | inr other ↦ same_elsewhere n floor before after c more r a other
-    ] in
-    let same = elsewhere round author lower in
+    let round = child.header.round - 1 in
     elim (given_or_none (before round author)) [
-      | inr none ↦
-          let none' = same ∙ none in
-          rw (none, none') (
-          same_test _ _
-          (λ passes. let found = any_to (λ parent. is_parent parent c && false) (round_of n before (c.header.round - 1)) passes in
-          absurd (true≢false (sym found.2 ∙ and_false (is_parent found.0 c))))
-          (λ bad. absurd (true≢false (sym bad)))
-          )
-      | inl end ↦
-          let end' = same ∙ end.1 in
-          let held = is_in before round author end.0 more.placed end.1 in
-          let held' = is_in after round author end.0 placed end' in
-          let place = slot_is round author end.0.header (more.placed round author end.0 end.1) in
-          rw (end.1, end') (
-          same_test _ _
-          (λ passes. let found = any_to (λ parent. is_parent parent c && reaches n before parent end.0) (round_of n before (c.header.round - 1)) passes in
-          let parts = and_parts (is_parent found.0 c) (reaches n before found.0 end.0) found.2 in
-          let made = Contains-made (before (c.header.round - 1)) (numbers n) found.0 found.1 in
-          let was = is_in before (c.header.round - 1) made.0 found.0 more.placed made.2 in
-          let is = is_in after (c.header.round - 1) made.0 found.0 placed (stays n floor before after c more (c.header.round - 1) made.0 found.0 made.2) in
-          reached_above n after placed c found.0 end.0 there more.member is held' parts.0 (reaches_same n before after ext found.0 end.0 was ∙ parts.1))
-          (λ reached. let over = reached_first n after placed c end.0 there held' (omega (arith, lower, place.0)) reached in
-          let below = parent_below over.parent c over.names in
-          let was : IsIn before over.parent = sym (elsewhere over.parent.header.round over.parent.header.author.0 (omega (arith, below))) ∙ over.held in
-          let level : before (c.header.round - 1) over.parent.header.author.0 ≡ Some over.parent = ap (λ r. before r over.parent.header.author.0) (omega (arith, below)) ∙ was in
-          any_from (λ parent. is_parent parent c && reaches n before parent end.0) (round_of n before (c.header.round - 1)) over.parent
-          (in_round n before (c.header.round - 1) over.parent.header.author.0 over.parent (more.members over.parent.header.round over.parent.header.author.0 over.parent was) level)
-          (and_from _ _ over.names (sym (reaches_same n before after ext over.parent end.0 was) ∙ over.reached)))
-          )
+      | inl old ↦
+          let also = stays n floor before after c more round author old.0 old.1 in
+          rw (old.1, also) refl
+      | inr none ↦ elim (given_or_none (after round author)) [
+        | inl new ↦
+            let there = stays n floor before after c more child.header.round child.header.author.0 child held in
+            rw (none, new.1) (ext.childless round author new.0 none new.1 child.header.round child.header.author.0 child there)
+        | inr nothing ↦ rw (none, nothing) refl
+      ]
     ]
+
+-- the new one has those that were held
+pub new_parents : (n floor : ℕ) (before after : Slots) (c : Certificate) → IsMore n floor before after c → 0 < c.header.round → (author : ℕ) → has_below after c author ≡ has_below before c author
+new_parents n floor before after c more above author =
+    let lower : (c.header.round == c.header.round - 1) ≡ false = grind (arith, above) in
+    let other : is_of_slot (c.header.round - 1) author c.header ≡ false = ap (λ b. b && (c.header.author.0 == author)) lower in
+    ap (λ o. option_map_or (λ d. is_parent d c) o false) (same_elsewhere n floor before after c more (c.header.round - 1) author other)

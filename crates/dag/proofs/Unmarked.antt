@@ -1,11 +1,11 @@
 -- The set of those whose certificates have no mark, beside a row that changes.
-use Rattle.std.proofs.Common.{◌≡◌, ◌≢◌, ℕ, zero, suc, ◌+◌, ◌<◌, Bool, true, false, List, [], ◌∷◌, ◌++◌, map, length, Option, Some, None, inl, inr, refl, ap, sym, ◌∙◌, arith, slice_set}
-use Rattle.std.specs.Prelude.{option_map, not, replicate, if◌then◌else◌, ◌==◌, ◌&&◌, ◌||◌}
+use Rattle.std.proofs.Common.{◌≡◌, ◌≢◌, ℕ, zero, suc, ◌+◌, ◌<◌, Bool, true, false, List, [], ◌∷◌, ◌++◌, length, Option, Some, None, inl, inr, refl, ap, sym, ◌∙◌, arith, slice_set}
+use Rattle.std.specs.Prelude.{not, replicate, if◌then◌else◌, ◌==◌, ◌&&◌, ◌||◌}
 use Rattle.std.specs.Option.{option_map_or}
 use Rattle.std.proofs.lemmas.Bool.{cases_Bool, eqb-true, eqb-false}
 use Rattle.committee.specs.Sets.{has}
 use Rattle.committee.specs.declared.sets.MemberSet.{MemberSet}
-use Rattle.dag.specs.Rows.{slot_at, marked_from, marked_row, trimmed, IsRow}
+use Rattle.dag.specs.Rows.{slot_at, marked_from, marked_row, IsRow}
 use Rattle.dag.specs.declared.entry.Entry.{Entry}
 use Rattle.dag.proofs.Changing.{after}
 
@@ -93,13 +93,3 @@ of_marked row before later authors is changed other =
     let level : 0 + other ≡ other = omega arith in
     changed other ∙ one_less (authors other) (slot_at row other) (has before other) (is other)
     ∙ ap without_mark (ap (λ k. after (authors k) (slot_at row other)) (sym level) ∙ sym (marked_at 0 authors row other))
-
-trimmed_at : (count : ℕ) (row : List (Option Entry)) (author : ℕ) → without_mark (slot_at (map (option_map (trimmed count)) row) author) ≡ without_mark (slot_at row author)
-trimmed_at count [] author = refl
-trimmed_at count (None ∷ row) zero = refl
-trimmed_at count (Some entry ∷ row) zero = refl
-trimmed_at count (slot ∷ row) (suc author) = trimmed_at count row author
-
--- some sets are given back
-pub of_trimmed : (row : List (Option Entry)) (set : MemberSet) (count : ℕ) → IsRow row set → IsRow (map (option_map (trimmed count)) row) set
-of_trimmed row set count is author = is author ∙ sym (trimmed_at count row author)

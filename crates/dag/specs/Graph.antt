@@ -1,8 +1,9 @@
 -- What a DAG holds.
-use Rattle.std.specs.Prelude.{◌≡◌, ℕ, ◌+◌, ◌-◌, ◌<◌, ◌≤◌, nat_le, Bool, true, false, List, All, length, count_by, Option, Some, None, is_some, option_map, option_and_then, slice_get, if◌then◌else◌}
+use Rattle.std.specs.Prelude.{◌≡◌, ℕ, ◌+◌, ◌-◌, ◌<◌, ◌≤◌, ◌&&◌, cond, nat_le, Bool, true, false, List, All, length, count_by, sum_by, Option, Some, None, is_some, option_map, option_and_then, slice_get, if◌then◌else◌}
+use Rattle.std.specs.List.{list_any}
 use Rattle.std.specs.Option.{option_map_or}
 use Rattle.wire.specs.declared.round.TheConstants.Round.{MAX}
-use Rattle.committee.specs.Charter.{Charter, IsCharter, weight}
+use Rattle.committee.specs.Charter.{Charter, IsCharter, numbers, weight}
 use Rattle.spec_model.specs.Holdings.{all_held}
 use Rattle.spec_model.specs.Slots.{Slots, certificate_digest, is_of_slot, is_parent, reaches}
 use Rattle.spec_model.specs.Words.{Author, Certificate, Digest, ParentReference}
@@ -71,6 +72,19 @@ has_parent_in graph round author below parent =
 abbrev pub reaches_in : Graph → ℕ → ℕ → ℕ → ℕ → Bool
 reaches_in graph round author below other =
     option_map_or (λ start. option_map_or (reaches (size_in graph) (slots_in graph) start) (slots_in graph below other) false) (slots_in graph round author) false
+
+-- what slots of a round hold, whose authors pass, has what a slot of the round below holds as a parent
+abbrev pub is_parent_of : Graph → ℕ → ℕ → (ℕ → Bool) → ℕ → Bool
+is_parent_of graph round below passes other =
+    list_any (λ author. passes author && has_parent_in graph round author below other) (numbers (size_in graph))
+
+-- how many references to parents the certificate of a slot names
+abbrev pub references_at : Graph → ℕ → ℕ → ℕ
+references_at graph round author = option_map_or (λ c. length c.header.parents) (slots_in graph round author) 0
+
+-- how many references those of a round name whose authors pass
+abbrev pub references_of : Graph → ℕ → (ℕ → Bool) → ℕ
+references_of graph round passes = sum_by (λ author. cond (passes author) (references_at graph round author) 0) (numbers (size_in graph))
 
 -- ---- what holds of each DAG
 

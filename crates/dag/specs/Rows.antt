@@ -1,12 +1,11 @@
 -- What is kept by round and author.
-use Rattle.std.specs.Prelude.{◌≡◌, ℕ, zero, suc, ◌+◌, ◌-◌, ◌&&◌, not, nat_le, Bool, true, false, List, [], ◌∷◌, map, length, take, Option, None, unwrap_or, option_map, option_and_then, slice_get, if◌then◌else◌}
-use Rattle.std.specs.List.{list_any, range_with_len}
+use Rattle.std.specs.Prelude.{◌≡◌, ℕ, zero, suc, ◌+◌, not, Bool, true, false, List, [], ◌∷◌, Option, option_map, option_and_then, slice_get, if◌then◌else◌}
 use Rattle.std.specs.Option.{option_map_or}
 use Rattle.spec_model.specs.Holdings.{genesis}
 use Rattle.spec_model.specs.Slots.{same_digest, certificate_digest}
 use Rattle.spec_model.specs.Words.{ParentReference}
 use Rattle.committee.specs.Sets.{has}
-use Rattle.dag.specs.Sets.{set_at}
+use Rattle.dag.specs.Sets.{nobody}
 use Rattle.committee.specs.declared.sets.MemberSet.{MemberSet}
 use Rattle.dag.specs.declared.entry.Entry.{Entry}
 
@@ -42,38 +41,14 @@ marked_rows [] place authors = []
 marked_rows (row ∷ rows) zero authors = marked_row authors row ∷ rows
 marked_rows (row ∷ rows) (suc place) authors = row ∷ marked_rows rows place authors
 
--- a certificate with so many sets at most
-abbrev pub trimmed : ℕ → Entry → Entry
-trimmed count entry = record entry { reached = take count entry.reached }
-
--- rows from a floor on, without the sets of rounds below a base
-abbrev pub trimmed_rows : ℕ → ℕ → List (List (Option Entry)) → List (List (Option Entry))
-trimmed_rows floor base [] = []
-trimmed_rows floor base (row ∷ rows) = map (option_map (trimmed (floor - base))) row ∷ trimmed_rows (floor + 1) base rows
-
--- whoever is there reaches an author by its set of a place
-abbrev pub passes_on : Option Entry → ℕ → ℕ → Bool
-passes_on slot place author = option_map_or (λ entry. has (set_at entry.reached place) author) slot false
-
--- the row of a round, or an empty one
-abbrev pub row_of : ℕ → List (List (Option Entry)) → ℕ → List (Option Entry)
-row_of floor rows round = unwrap_or (if nat_le floor round then slice_get rows (round - floor) else None) []
-
 -- ---- parents
 
 -- what is kept is a parent that is named: it has the digest
 abbrev pub names : Option Entry → ParentReference → Bool
 names slot parent = option_map_or (λ entry. same_digest entry.digest parent.certificate) slot false
 
--- whom a certificate with these parents reaches, by what is kept of the round below it: at the place 0 those are its parents, and
--- at each further one, a round lower, whom a parent reaches by its set of the place before
-abbrev pub reach_over : List (Option Entry) → MemberSet → ℕ → ℕ → Bool
-reach_over row parents zero author = has parents author
-reach_over row parents (suc place) author =
-    list_any (λ member. has parents member && passes_on (slot_at row member) place author) (range_with_len 0 (length row))
-
 -- ---- the genesis
 
 -- what is kept of the certificate of the genesis by an author
 abbrev pub first : ℕ → Entry
-first author = record { certificate = genesis author; digest = certificate_digest (genesis author).header; reached = []; marked = false }
+first author = record { certificate = genesis author; digest = certificate_digest (genesis author).header; parents = nobody; marked = false }

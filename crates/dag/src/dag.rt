@@ -7,15 +7,17 @@ ghost use Rattle.committee.specs.declared.members.TheConstants.{MAX_MEMBERS};
 ghost use Rattle.spec_model.specs.Holdings.{genesis, is_low, all_held};
 ghost use Rattle.spec_model.specs.Slots.{certificate_digest, slots_of};
 ghost use Rattle.dag.specs.Rows.{first};
-ghost use Rattle.dag.specs.Kept.{AreReachedBy};
+ghost use Rattle.dag.specs.Sets.{nobody};
+ghost use Rattle.dag.specs.Kept.{has_below};
 ghost use Rattle.spec_model.specs.Admitting.{same_header};
 ghost use Rattle.dag.specs.Answer.{held_answer, answer};
 ghost use Rattle.dag.specs.Changes.{IsWith, IsMarked, IsDropped};
-ghost use Rattle.dag.specs.Graph.{IsGraph, Graph, slots_in, marked_in, end_in, count_in, stake_in, digest_in, parent_in, has_parent_in, reaches_in};
+ghost use Rattle.dag.specs.Graph.{IsGraph, Graph, slots_in, marked_in, end_in, count_in, stake_in, digest_in, parent_in, has_parent_in, reaches_in, is_parent_of, references_at, references_of};
+ghost use Rattle.wire.specs.declared.limits.TheConstants.{MAX_PARENTS};
 ghost use Rattle.wire.specs.declared.round.TheConstants.Round.{MAX};
 
 use crate::answers::Added;
-use crate::entry::{Entry, Reached};
+use crate::entry::Entry;
 use crate::reads::Reads;
 use crate::refusal::DagRefusal;
 use crate::row::Row;
@@ -29,9 +31,9 @@ use wire::{
     header_digest,
 };
 
-/// The certificates that a validator holds, by round and author, each with whom it reaches, back to the round of the last
-/// committed leader. Nothing below the floor is held. Contracts see the committee, the floor, that round, and what each
-/// slot holds, with its mark.
+/// The certificates that a validator holds, by round and author, each with who its parents are. Whom one reaches further
+/// down is found by walking down from it. Nothing below the floor is held. Contracts see the committee, the floor, the round
+/// of the last committed leader, and what each slot holds, with its mark.
 pub struct Dag<'a> {
     alloc: Global,
     committee: &'a Committee,
@@ -64,11 +66,12 @@ impl<'a> Model for Dag<'a> {
     ghost invariant = { λ d. IsKept d.committee.now d.floor d.base d.rows.items };
 }
 
-// The first round above the genesis.
-fn first_round() -> Round
-    ensures { result ≡ 1 }
+// The round of a number.
+fn round_of(number: u64) -> Round
+    requires { number ≤ MAX }
+    ensures { result ≡ number }
 {
-    match Round::new(1) {
+    match Round::new(number) {
         Ok(round) => round,
         Err(_) => unreachable!(),
     }
@@ -115,16 +118,23 @@ fn held_answer(
     }
 }
 
-// The certificate of the genesis by an author, as it is kept.
-fn first_entry(alloc: Global, author: Author) -> Result<Entry, AllocError>
-    ensures { IfOk result (λ entry. entry ≡ first author.0) }
+// The set of nobody.
+fn nobody() -> MemberSet
+    ensures { result ≡ nobody }
 {
-    Ok(Entry {
+    MemberSet::none()
+}
+
+// The certificate of the genesis by an author, as it is kept.
+fn first_entry(alloc: Global, author: Author) -> Entry
+    ensures { result ≡ first author.0 }
+{
+    Entry {
         certificate: Certificate::genesis(alloc, author),
         digest: genesis_digest(author),
-        reached: Reached::with_capacity(alloc, 0)?,
+        parents: nobody(),
         marked: false,
-    })
+    }
 }
 
 // The row of the genesis.
@@ -134,7 +144,7 @@ fn first_row(alloc: Global, size: u16) -> Result<Row, AllocError>
 {
     let mut row = Row::empty(alloc, size as usize)?;
     for author in 0..size {
-        row.set(author, first_entry(alloc, Author(author))?);
+        row.set(author, first_entry(alloc, Author(author)));
     }
     Ok(row)
 }
@@ -157,7 +167,7 @@ impl<'a> Dag<'a> {
             alloc,
             committee,
             floor: Round::genesis(),
-            base: first_round(),
+            base: round_of(1),
             rows,
         })
     }
@@ -259,15 +269,14 @@ impl<'a> Dag<'a> {
         ensures ok { OnOk result (IsWith self.old self.new certificate) }
         ensures err { OnErr result (self.new ≡ self.old) }
     {
-        // What can fail comes first.
-        let reached = self.reached_by(&certificate)?;
+        let parents = self.held_parents(&certificate);
         let (place, author) = self.slot_of(&certificate);
         let size = self.committee.size() as usize;
         rows::extend(self.alloc, &mut self.rows, size, place)?;
         let entry = Entry {
             certificate,
             digest,
-            reached,
+            parents,
             marked: false,
         };
         rows::put(&mut self.rows, place, author, entry);
@@ -286,28 +295,17 @@ impl<'a> Dag<'a> {
         (place as usize, header.author)
     }
 
-    // The sets of a certificate whose parents are held or low.
-    fn reached_by(&self, certificate: &Certificate) -> Result<Reached, AllocError>
-        requires first { 0 < certificate.now.header.round }
-        requires held { all_held (slots_in self.now) self.now.floor certificate.now.header ≡ true }
-        ensures length { IfOk result (λ reached. length reached ≡ certificate.now.header.round - self.now.base) }
-        ensures sets { IfOk result (λ reached. AreReachedBy self.now certificate.now reached) }
+    // The authors of a certificate's parents that are held.
+    fn held_parents(&self, certificate: &Certificate) -> MemberSet
+        requires { 0 < certificate.now.header.round }
+        ensures { (author : ℕ) → has result author ≡ has_below (slots_in self.now) certificate.now author }
     {
         let header = &certificate.header;
-        let round = header.round.number();
-        // Above the base the parents are held, and so they are members'.
-        let count = round.saturating_sub(self.base.number()) as usize;
-        if count == 0 {
-            return Reached::with_capacity(self.alloc, 0);
-        }
-        let parents = rows::authors_of(header.parents.as_slice());
-        rows::reached_over(
-            self.alloc,
+        rows::authors_of(
             &self.rows,
             self.floor,
-            round - 1,
-            &parents,
-            count,
+            header.round.number() - 1,
+            header.parents.as_slice(),
         )
     }
 
@@ -413,54 +411,92 @@ impl<'a> Dag<'a> {
     {
         let certificate = self.get(round, author)?;
         let parent = certificate.header.parents.as_slice().get(place)?;
-        reads.add_one();
+        reads.add(1);
         Some((parent.author, parent.certificate))
     }
 
-    // The set of what a slot holds that is that of a round.
-    fn set_of(&self, round: u64, author: Author, below: u64) -> MemberSet
-        requires above { self.now.base ≤ below }
-        requires lower { below < round }
-        ensures { (member : ℕ) → has result member ≡ reaches_in self.now round author.0 below member }
+    /// The authors whose certificates what a slot holds has as parents.
+    pub fn parents(&self, round: Round, author: Author) -> MemberSet
+        ensures { (member : ℕ) → has result member ≡ has_parent_in self.now round author.0 (round - 1) member }
     {
-        match rows::entry(&self.rows, self.floor, round, author) {
-            Some(held) => held.reached.at((round - 1 - below) as usize),
-            None => MemberSet::none(),
+        rows::parents(&self.rows, self.floor, round.number(), author)
+    }
+
+    // How many references to parents what a slot holds names.
+    fn references(&self, round: Round, author: Author) -> u64
+        ensures value { result ≡ references_at self.now round author.0 }
+        ensures few { result ≤ MAX_PARENTS }
+    {
+        match self.get(round, author) {
+            Some(certificate) => certificate.header.parents.as_slice().len() as u64,
+            None => 0,
         }
     }
 
-    /// The authors of a lower round, at or above the base, whose certificates what a slot holds reaches.
+    // The same as `parents`. All references in what the slot holds count as read.
+    fn read_parents(&self, round: Round, author: Author, reads: &mut Reads) -> MemberSet
+        requires { reads.old + MAX_PARENTS < 2 ^ 64 }
+        ensures parents { (member : ℕ) → has result member ≡ has_parent_in self.now round author.0 (round - 1) member }
+        ensures reads { reads.new ≡ reads.old + references_at self.now round author.0 }
+        ensures few { reads.new ≤ reads.old + MAX_PARENTS }
+    {
+        reads.add(self.references(round, author));
+        self.parents(round, author)
+    }
+
+    /// The authors whose certificates are parents of what slots of a round hold, of these authors. All references in those
+    /// count as read. This is one step down.
+    pub fn parents_of(&self, round: Round, authors: &MemberSet, reads: &mut Reads) -> MemberSet
+        requires { reads.old + 1000 < 2 ^ 64 }
+        ensures parents { (other : ℕ) → has result other ≡ is_parent_of self.now round (round - 1) (has authors.now) other }
+        ensures reads { reads.new ≡ reads.old + references_of self.now round (has authors.now) }
+        ensures few { reads.new ≤ reads.old + 1000 }
+    {
+        let mut parents = MemberSet::none();
+        for author in 0..self.committee.size() {
+            if authors.contains(Author(author)) {
+                parents.unite(&self.read_parents(round, Author(author), reads));
+            }
+        }
+        parents
+    }
+
+    // The author alone, where the slot holds something.
+    fn itself(&self, round: Round, author: Author) -> MemberSet
+        ensures { (member : ℕ) → has result member ≡ reaches_in self.now round author.0 round member }
+    {
+        self.limits_hold();
+        let mut authors = MemberSet::none();
+        if self.get(round, author).is_some() {
+            authors.insert(author);
+        }
+        authors
+    }
+
+    /// The authors of a round up to its own whose certificates what a slot holds reaches. It walks down to that round.
     pub fn reached(&self, round: Round, author: Author, below: Round) -> MemberSet
-        requires above { self.now.base ≤ below }
-        requires lower { below < round }
+        requires { below ≤ round }
         ensures { (member : ℕ) → has result member ≡ reaches_in self.now round author.0 below member }
     {
-        self.set_of(round.number(), author, below.number())
+        self.limits_hold();
+        let top = round.number();
+        let mut authors = self.itself(round, author);
+        for past in 0..top - below.number() {
+            let mut reads = Reads::new();
+            authors = self.parents_of(round_of(top - past), &authors, &mut reads);
+        }
+        authors
     }
 
-    // Whether what a slot of a round above the base holds has what this author's holds as a parent.
+    // Whether what a slot holds has what this author's holds as a parent.
     fn has_parent(&self, round: u64, author: Author, parent: Author) -> bool
-        requires { self.now.base < round }
         ensures { result ≡ has_parent_in self.now round author.0 (round - 1) parent.0 }
     {
-        self.limits_hold();
-        self.set_of(round, author, round - 1).contains(parent)
+        rows::parents(&self.rows, self.floor, round, author).contains(parent)
     }
 
-    /// The authors whose certificates what a slot of a round above the base holds has as parents.
-    pub fn parents(&self, round: Round, author: Author) -> MemberSet
-        requires { self.now.base < round }
-        ensures { (member : ℕ) → has result member ≡ has_parent_in self.now round author.0 (round - 1) member }
-    {
-        self.limits_hold();
-        let number = round.number();
-        self.set_of(number, author, number - 1)
-    }
-
-    /// The supporters of what a slot, at or above the base, holds: those whose certificates of the next round have it as a
-    /// parent.
+    /// The supporters of what a slot holds: those whose certificates of the next round have it as a parent.
     pub fn supporters(&self, round: Round, author: Author) -> MemberSet
-        requires { self.now.base ≤ round }
         ensures { (member : ℕ) → has result member ≡ has_parent_in self.now (round + 1) member round author.0 }
     {
         let mut supporters = MemberSet::none();
@@ -505,20 +541,13 @@ impl<'a> Dag<'a> {
         self.floor = round;
     }
 
-    /// Takes a round as that of the last committed leader, unless one above it was. The sets of rounds below it are given
-    /// back.
+    /// Takes a round as that of the last committed leader, unless one above it was.
     pub fn commit_to(&mut self, round: Round)
         ensures { self.new ≡ record self.old { base = max self.old.base round } }
     {
-        let base = self.base.number();
-        let number = round.number();
-        if number <= base {
-            return;
+        if self.base.number() < round.number() {
+            self.base = round;
         }
-        // Up to the base before there are no sets.
-        let first = (base - self.floor.number()) as usize;
-        rows::trim(&mut self.rows, first, self.floor.number(), number);
-        self.base = round;
     }
 
     /// What holds of each DAG: its committee is one, the floor is below the round of the last committed leader, nothing below

@@ -28,12 +28,12 @@ impl Reads {
         Reads { number: 0 }
     }
 
-    /// Counts one more.
-    pub(crate) fn add_one(&mut self)
-        requires { self.old + 1 < 2 ^ 64 }
-        ensures { self.new ≡ self.old + 1 }
+    /// Counts so many more.
+    pub(crate) fn add(&mut self, count: u64)
+        requires { self.old + count < 2 ^ 64 }
+        ensures { self.new ≡ self.old + count }
     {
-        self.number += 1;
+        self.number += count;
     }
 
     /// How many were read.

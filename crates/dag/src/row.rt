@@ -1,10 +1,9 @@
 //! What is kept of one round.
 
-ghost use Rattle.std.specs.Prelude.{◌≡◌, ℕ, ◌<◌, ◌&&◌, ◌^◌, map, length, None, Some, false, IfOk, is_some, count_by, option_copied, option_map, slice_set, replicate};
-ghost use Rattle.std.specs.List.{list_any, range_with_len};
+ghost use Rattle.std.specs.Prelude.{◌≡◌, ℕ, ◌<◌, ◌^◌, length, None, Some, false, IfOk, is_some, count_by, option_copied, option_map, slice_set, replicate};
 ghost use Rattle.committee.specs.Sets.{has};
 ghost use Rattle.committee.specs.declared.members.TheConstants.{MAX_MEMBERS};
-ghost use Rattle.dag.specs.Rows.{is_unmarked, marked, marked_row, trimmed, passes_on, slot_at};
+ghost use Rattle.dag.specs.Rows.{is_unmarked, marked, marked_row, slot_at};
 
 use crate::entry::Entry;
 use committee::MemberSet;
@@ -37,14 +36,6 @@ fn mark(slot: &mut Option<Entry>)
 {
     if let Some(entry) = slot {
         entry.marked = true;
-    }
-}
-
-fn trim(slot: &mut Option<Entry>, count: usize)
-    ensures { slot.new ≡ option_map (trimmed count) slot.old }
-{
-    if let Some(entry) = slot {
-        entry.reached.keep(count);
     }
 }
 
@@ -104,35 +95,10 @@ impl Row {
         self.unmarked.remove_all(authors);
     }
 
-    /// Gives back all sets of each certificate but so many.
-    pub(crate) fn trim(&mut self, count: usize)
-        ensures { self.new ≡ map (option_map (trimmed count)) self.old }
-    {
-        for i in 0..self.slots.len() {
-            trim(&mut self.slots[i], count);
-        }
-    }
-
     /// How many certificates there are.
     pub(crate) fn count(&self) -> usize
         ensures { result ≡ count_by is_some self.now }
     {
         self.slots.iter().filter(|slot| slot.is_some()).count()
-    }
-
-    /// Whom those of these authors reach by their sets of a place.
-    pub(crate) fn united(&self, authors: &MemberSet, place: usize) -> MemberSet
-        requires { length self.now < 2 ^ 16 }
-        ensures { (other : ℕ) → has result other ≡ list_any (λ member. has authors.now member && passes_on (slot_at self.now member) place other) (range_with_len 0 (length self.now)) }
-    {
-        let mut united = MemberSet::none();
-        for (i, slot) in self.slots.iter().enumerate() {
-            if let Some(entry) = slot {
-                if authors.contains(Author(i as u16)) {
-                    united.unite(&entry.reached.at(place));
-                }
-            }
-        }
-        united
     }
 }

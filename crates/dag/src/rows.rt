@@ -1,15 +1,14 @@
 //! The rows of a DAG, from its floor on.
 
-ghost use Rattle.std.specs.Prelude.{◌≡◌, ℕ, if◌then◌else◌, ◌+◌, ◌-◌, ◌<◌, ◌≤◌, ◌++◌, ◌==◌, ◌^◌, suc, nat_le, not, length, take, drop, [], None, Some, IfOk, OnOk, OnErr, All, option_copied, slice_get, slice_set, get_or, replicate, false};
+ghost use Rattle.std.specs.Prelude.{◌≡◌, ℕ, if◌then◌else◌, ◌-◌, ◌<◌, ◌≤◌, ◌++◌, ◌==◌, ◌&&◌, ◌||◌, ◌^◌, suc, nat_le, nat_lt, not, length, drop, [], None, Some, IfOk, OnOk, OnErr, All, option_copied, slice_get, slice_set, get_or, replicate, true, false};
 ghost use Rattle.std.specs.List.{list_any, list_all};
 ghost use Rattle.std.specs.Option.{option_map_or};
 ghost use Rattle.committee.specs.Sets.{has};
 ghost use Rattle.committee.specs.declared.members.TheConstants.{MAX_MEMBERS};
 ghost use Rattle.dag.specs.Graph.{row_at};
-ghost use Rattle.dag.specs.Rows.{marked_rows, names, row_of, reach_over, trimmed_rows};
-ghost use Rattle.dag.specs.Sets.{set_at};
+ghost use Rattle.dag.specs.Rows.{marked_rows, names};
 
-use crate::entry::{Entry, Reached};
+use crate::entry::Entry;
 use crate::row::Row;
 use committee::MemberSet;
 use std::alloc::{AllocError, Global};
@@ -113,14 +112,29 @@ fn is_named(held: Option<&Entry>, parent: &ParentReference) -> bool
     }
 }
 
-/// The authors whom a header names.
-pub(crate) fn authors_of(parents: &[ParentReference]) -> MemberSet
-    requires { All (λ parent. parent.author.0 < MAX_MEMBERS) parents.now }
-    ensures { (author : ℕ) → has result author ≡ list_any (λ parent. author == parent.author.0) parents.now }
+// Puts the author of a parent into a set, if it is kept.
+fn add_kept(held: Option<&Entry>, parent: &ParentReference, authors: &mut MemberSet)
+    requires { names (option_copied held) parent.now ≡ true → parent.now.author.0 < MAX_MEMBERS }
+    ensures { (author : ℕ) → has authors.new author ≡ (has authors.old author || (names (option_copied held.entry) parent.now && (author == parent.now.author.0))) }
+{
+    if is_named(held, parent) {
+        authors.insert(parent.author);
+    }
+}
+
+/// The authors of those parents of a header that are kept in the round below.
+pub(crate) fn authors_of(
+    rows: &VecDeque<Row>,
+    floor: Round,
+    below: u64,
+    parents: &[ParentReference],
+) -> MemberSet
+    requires { All (λ row. length row ≤ MAX_MEMBERS) rows.now.items }
+    ensures { (author : ℕ) → has result author ≡ list_any (λ parent. names (row_at floor rows.now.items below parent.author.0) parent && (author == parent.author.0)) parents.now }
 {
     let mut authors = MemberSet::none();
     for parent in parents {
-        authors.insert(parent.author);
+        add_kept(entry(rows, floor, below, parent.author), parent, &mut authors);
     }
     authors
 }
@@ -137,46 +151,22 @@ pub(crate) fn are_there(
     parents.iter().all(|parent| is_named(entry(rows, floor, below, parent.author), parent))
 }
 
-// Whom those of these authors reach by their sets of a place.
-fn united(
+/// The authors of the parents of what is kept of a round and author. At the floor, below which nothing is held, it has none.
+pub(crate) fn parents(
     rows: &VecDeque<Row>,
     floor: Round,
-    below: u64,
-    authors: &MemberSet,
-    place: usize,
+    round: u64,
+    author: Author,
 ) -> MemberSet
-    requires { All (λ row. length row ≤ 32) rows.now.items }
-    ensures { (other : ℕ) → has result other ≡ reach_over (row_of floor rows.now.items below) authors.now (suc place) other }
+    ensures { (parent : ℕ) → has result parent ≡ (nat_lt floor round && option_map_or (λ entry. has entry.parents parent) (row_at floor rows.now.items round author.0) false) }
 {
-    match row(rows, floor, below) {
-        Some(row) => row.united(authors, place),
+    if round <= floor.number() {
+        return MemberSet::none();
+    }
+    match entry(rows, floor, round, author) {
+        Some(held) => held.parents,
         None => MemberSet::none(),
     }
-}
-
-/// The sets of a certificate with these parents in the round below, so many.
-pub(crate) fn reached_over(
-    alloc: Global,
-    rows: &VecDeque<Row>,
-    floor: Round,
-    below: u64,
-    parents: &MemberSet,
-    count: usize,
-) -> Result<Reached, AllocError>
-    requires { All (λ row. length row ≤ 32) rows.now.items }
-    ensures length { IfOk result (λ reached. length reached ≡ count) }
-    ensures sets { IfOk result (λ reached. (place author : ℕ) → place < count → has (set_at reached place) author ≡ reach_over (row_of floor rows.now.items below) parents.now place author) }
-{
-    let mut reached = Reached::with_capacity(alloc, count)?;
-    for place in 0..count {
-        let set = if place == 0 {
-            *parents
-        } else {
-            united(rows, floor, below, parents, place - 1)
-        };
-        reached.push(set)?;
-    }
-    Ok(reached)
 }
 
 /// Takes out so many rows from the front.
@@ -185,17 +175,5 @@ pub(crate) fn drop_front(rows: &mut VecDeque<Row>, count: usize)
 {
     for _ in 0..count.min(rows.len()) {
         let _ = rows.pop_front();
-    }
-}
-
-/// Gives back the sets of rounds below a base, of the rows from a place on, of rows from a floor on.
-pub(crate) fn trim(rows: &mut VecDeque<Row>, first: usize, floor: u64, base: u64)
-    requires low { floor ≤ base }
-    requires few { floor + length rows.old.items < 2 ^ 64 }
-    ensures { rows.new.items ≡ take first rows.old.items ++ trimmed_rows (floor + first) base (drop first rows.old.items) }
-{
-    for i in first..rows.len() {
-        let count = (floor + i as u64).saturating_sub(base);
-        rows[i].trim(count as usize);
     }
 }

@@ -9,13 +9,13 @@ set-requires c =
     record {
       within = omega (arith, long, c.loop-author-test.true);
       member = omega (arith, c.requires, c.loop-author-test.true);
-      without_mark = ap (λ (e : Entry). e.marked) c.in_ok-first_entry.ensures;
+      without_mark = ap (λ (e : Entry). e.marked) c.first_entry.ensures;
     }
 
 pub loop-author-preserved : goal.loop-author-preserved
 loop-author-preserved c =
     let author = c.loop-author.author in
     c.set.ensures
-    ∙ ap (λ (row : List (Option Entry)). slice_set row author (Some c.in_ok-first_entry.field-0)) c.loop-author.invariant
-    ∙ ap (λ (e : Entry). slice_set (firsts c.args.size author) author (Some e)) c.in_ok-first_entry.ensures
+    ∙ ap (λ (row : List (Option Entry)). slice_set row author (Some c.first_entry.result)) c.loop-author.invariant
+    ∙ ap (λ (e : Entry). slice_set (firsts c.args.size author) author (Some e)) c.first_entry.ensures
     ∙ firsts_more c.args.size author c.loop-author-test.true

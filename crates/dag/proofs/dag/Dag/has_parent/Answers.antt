@@ -1,8 +1,14 @@
-use Rattle.std.proofs.Common.{◌<◌, ◌∙◌, arith}
-use Rattle.dag.proofs.Looking.{reaches_parents}
+use Rattle.std.proofs.Common.{◌-◌, ◌∙◌, ap}
+use Rattle.dag.specs.Graph.{Graph, has_parent_in}
+use Rattle.dag.proofs.Looking.{parents_kept}
 use Rattle.dag.proofs.dag.Dag.has_parent.Goals as goal
 
 pub returns : goal.returns
 returns c =
-    let above : 0 < c.args.round = omega (arith, c.requires) in
-    c.contains.ensures ∙ c.set_of.ensures c.args.parent.0 ∙ reaches_parents c.args.self.now c.limits_hold.ensures c.args.round c.args.author.0 c.args.parent.0 above
+    let inside = c.self.inside in
+    let round = c.args.round in
+    let author = c.args.author.0 in
+    let parent = c.args.parent.0 in
+    c.contains.ensures ∙ c.parents.ensures parent
+    ∙ parents_kept inside.committee.now inside.floor inside.base inside.rows.items c.self.invariant round author parent
+    ∙ ap (λ (g : Graph). has_parent_in g round author (round - 1) parent) c.self.view_is

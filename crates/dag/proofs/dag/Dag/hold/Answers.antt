@@ -6,7 +6,7 @@ use Rattle.dag.specs.Graph.{Graph, slots_in}
 use Rattle.dag.specs.Kept.{Rows, graph_of, IsKept}
 use Rattle.dag.specs.declared.entry.Entry.{Entry}
 use Rattle.dag.proofs.Answering.{is_new}
-use Rattle.dag.proofs.Inserting.{Enters, extended, entered, is_near, long_enough, full_row, kept_with, is_with}
+use Rattle.dag.proofs.Inserting.{Enters, high_above, extended, entered, is_near, long_enough, full_row, kept_with, is_with}
 use Rattle.dag.proofs.Slots.{set_slot}
 use Rattle.dag.proofs.dag.Dag.hold.Goals as goal
 
@@ -16,7 +16,7 @@ invariant_of-self-2 c =
     let charter = inside.committee.now in
     let rows = inside.rows.items in
     let x = c.args.certificate in
-    let entry : Entry = record { certificate = x; digest = c.args.digest; reached = c.in_ok-reached.reached; marked = false } in
+    let entry : Entry = record { certificate = x; digest = c.args.digest; parents = c.held_parents-parents.result; marked = false } in
     let size : c.size-size.result ≡ length charter.keys = c.size-size.ensures.value in
     let place : c.slot_of-place.result.0 ≡ x.header.round - inside.floor =
     ap (λ p. p.0) c.slot_of-place.ensures.value ∙ ap (λ (g : Graph). x.header.round - g.floor) (sym c.self.view_is) in
@@ -37,8 +37,7 @@ invariant_of-self-2 c =
       free = rw (← c.self.view_is) at fresh.free;
       held = held;
       digest = c.requires.digested;
-      long = rw (← c.self.view_is) at c.in_ok-reached.ensures.length;
-      reached = rw (← c.self.view_is) at c.in_ok-reached.ensures.sets;
+      parents = rw (← c.self.view_is) at c.held_parents-parents.ensures;
       without_mark = refl;
       near = is_near charter inside.floor inside.base rows x c.requires.named held;
     } in
@@ -50,7 +49,7 @@ returns-clause-ok c =
     let charter = inside.committee.now in
     let rows = inside.rows.items in
     let x = c.args.certificate in
-    let entry : Entry = record { certificate = x; digest = c.args.digest; reached = c.in_ok-reached.reached; marked = false } in
+    let entry : Entry = record { certificate = x; digest = c.args.digest; parents = c.held_parents-parents.result; marked = false } in
     let size : c.size-size.result ≡ length charter.keys = c.size-size.ensures.value in
     let place : c.slot_of-place.result.0 ≡ x.header.round - inside.floor =
     ap (λ p. p.0) c.slot_of-place.ensures.value ∙ ap (λ (g : Graph). x.header.round - g.floor) (sym c.self.view_is) in
@@ -71,8 +70,7 @@ returns-clause-ok c =
       free = rw (← c.self.view_is) at fresh.free;
       held = held;
       digest = c.requires.digested;
-      long = rw (← c.self.view_is) at c.in_ok-reached.ensures.length;
-      reached = rw (← c.self.view_is) at c.in_ok-reached.ensures.sets;
+      parents = rw (← c.self.view_is) at c.held_parents-parents.ensures;
       without_mark = refl;
       near = is_near charter inside.floor inside.base rows x c.requires.named held;
     } in
@@ -80,10 +78,8 @@ returns-clause-ok c =
     subst (λ l. IsWith (graph_of charter inside.floor inside.base rows) (graph_of charter inside.floor inside.base l) x) (sym all) (is_with charter inside.floor inside.base rows entry enters) in
     subst (λ (g : Graph). IsWith g (graph_of charter inside.floor inside.base c.put.new.rows.items) x) c.self.view_is with
 
-pub reached_by-requires-clause-held : goal.reached_by-requires-clause-held
-reached_by-requires-clause-held c =
-    let fresh = is_new c.args.self.now c.args.certificate c.requires.new in
-    fresh.held
+pub held_parents-parents-requires : goal.held_parents-parents-requires
+held_parents-parents-requires c = (high_above c.args.self.now.floor c.args.certificate.header.round (is_new c.args.self.now c.args.certificate c.requires.new).high).0
 
 pub put-requires-clause-row : goal.put-requires-clause-row
 put-requires-clause-row c =

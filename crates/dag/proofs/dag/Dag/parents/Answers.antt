@@ -1,13 +1,16 @@
-use Rattle.std.proofs.Common.{◌-◌, ◌<◌, ◌∙◌, ℕ, ap, arith}
-use Rattle.dag.specs.Graph.{reaches_in}
-use Rattle.dag.proofs.Looking.{reaches_parents}
+use Rattle.std.proofs.Common.{◌-◌, ◌∙◌, ℕ, ap}
+use Rattle.dag.specs.Graph.{Graph, has_parent_in}
+use Rattle.dag.specs.Kept.{graph_of}
+use Rattle.dag.proofs.Looking.{parents_kept}
 use Rattle.dag.proofs.dag.Dag.parents.Goals as goal
 
 pub returns : goal.returns
 returns c member =
-    let graph = c.args.self.now in
+    let inside = c.self.inside in
     let author = c.args.author.0 in
-    let above : 0 < c.args.round = omega (arith, c.requires) in
-    c.set_of.ensures member
-    ∙ ap (λ (r : ℕ). reaches_in graph r author (r - 1) member) c.number-number.ensures.value
-    ∙ reaches_parents graph c.limits_hold.ensures c.args.round author member above
+    let charter = inside.committee.now in
+    let rows = inside.rows.items in
+    c.parents.ensures member
+    ∙ parents_kept charter inside.floor inside.base rows c.self.invariant c.number.result author member
+    ∙ ap (λ (r : ℕ). has_parent_in (graph_of charter inside.floor inside.base rows) r author (r - 1) member) c.number.ensures.value
+    ∙ ap (λ (g : Graph). has_parent_in g c.args.round author (c.args.round - 1) member) c.self.view_is

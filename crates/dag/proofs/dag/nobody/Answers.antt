@@ -1,11 +1,10 @@
-use Rattle.std.proofs.Common.{◌≡◌, ◌<◌, ◌≤◌, length, ◌∙◌, ℕ, zero, suc, false, List, get_or, refl, ap, sym, arith}
+use Rattle.std.proofs.Common.{◌≡◌, ◌∙◌, ℕ, zero, suc, false, refl, ap, sym, ◌<◌, arith}
 use Rattle.std.specs.Prelude.{◌==◌}
 use Rattle.std.specs.Int.{bit_at}
-use Rattle.std.proofs.lemmas.List.{get_or_past}
 use Rattle.std.proofs.lemmas.Nat.Bits.{bit_at-zero, bit_at-lt, same_from_bits}
 use Rattle.committee.specs.declared.sets.MemberSet.{MemberSet}
 use Rattle.dag.specs.Sets.{nobody}
-use Rattle.dag.proofs.entry.Reached.at.Goals as goal
+use Rattle.dag.proofs.dag.nobody.Goals as goal
 
 zero_bit : (bit : ℕ) → bit < 2 → (bit == 1) ≡ false → bit ≡ 0
 zero_bit zero low not = refl
@@ -18,7 +17,5 @@ nobody_is set none =
     let bits : set.bits ≡ 0 = same_from_bits set.bits 0 (λ i. zero_bit (bit_at set.bits i) (bit_at-lt set.bits i) (none i) ∙ sym (bit_at-zero i)) in
     ap (λ (b : ℕ). record { bits = b }) bits
 
-pub returns-in-None : goal.returns-in-None
-returns-in-None c =
-    let past : length c.self.inside.sets.items ≤ c.args.place = grind (arith, c.in-None.ensures.lookup, c.deref.ensures.value) in
-    nobody_is c.none.result c.none.ensures ∙ sym (ap (λ (l : List MemberSet). get_or l c.args.place nobody) (sym c.self.view_is) ∙ get_or_past c.self.inside.sets.items c.args.place nobody past)
+pub returns : goal.returns
+returns c = nobody_is c.none.result c.none.ensures
