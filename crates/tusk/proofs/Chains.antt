@@ -1,6 +1,6 @@
 -- The greatest committed wave, and the leaders that are newer than a committed one.
-use Rattle.std.proofs.Common.{◌≡◌, ◌≢◌, ℕ, zero, suc, ◌+◌, ◌-◌, ◌*◌, ◌/◌, ◌<◌, ◌≤◌, true, false, List, [], ◌∷◌, ◌++◌, map, length, Option, Some, None, ◌⊎◌, inl, inr, refl, ap, sym, ◌∙◌, subst, arith}
-use Rattle.std.specs.Prelude.{IfSome, nat_le, slice_get, unwrap_or}
+use Rattle.std.proofs.Common.{◌≡◌, ◌≢◌, ℕ, zero, suc, ◌+◌, ◌-◌, ◌*◌, ◌/◌, ◌%◌, ◌<◌, ◌≤◌, true, false, List, [], ◌∷◌, ◌++◌, map, length, Option, Some, None, ◌⊎◌, inl, inr, refl, ap, sym, ◌∙◌, subst, arith}
+use Rattle.std.specs.Prelude.{nat_le, slice_get, unwrap_or}
 use Rattle.std.specs.Option.{option_map_or}
 use Rattle.std.proofs.lemmas.Bool.{cases_Bool, cases_lt, le-leb, true≢false}
 use Rattle.std.proofs.lemmas.Option.{slice_get_within}
@@ -10,14 +10,10 @@ use Rattle.spec_model.specs.Words.{Author, Certificate}
 use Rattle.spec_laws.proofs.Growing.{AreInPlace}
 use Rattle.spec_laws.proofs.Lists.{given_or_none}
 use Rattle.spec_laws.proofs.OrderLonger.{is_top_of, top_above, directly_committed_leader, leader_place, newer_ends}
-use Rattle.dag.specs.Graph.{Graph}
-use Rattle.tusk.specs.Chain.{ledger_in, slot_of, wave_of, base_of, raised_to, IsBased, IsChain}
+use Rattle.dag.specs.Graph.{Graph, IsGraph, slots_in, size_in as size_of}
+use Rattle.tusk.specs.Chain.{ledger_in, slot_of, wave_of, base_of, raised_to, IsBased, IsChain, IsSure}
 
 -- ---- the greatest committed wave
-
--- a wave is none, or committed by itself
-abbrev pub IsSure : Ledger → Option ℕ → Type 0
-IsSure ledger last = IfSome last (λ wave. is_directly_committed ledger wave ≡ true)
 
 -- a committed wave has a coin
 pub committed_within : (ledger : Ledger) (wave : ℕ) → is_directly_committed ledger wave ≡ true → (0 < wave) × (wave ≤ length ledger.coins)
@@ -83,22 +79,25 @@ top_or_above ledger (Some wave) sure =
       | inr lowest ↦ let least = above.2 in let same : above.0 ≡ wave = omega (arith, lowest, least) in inl (above.1 ∙ ap (λ w. Some w) same)
     ]
 
--- where no wave down to that of the base is committed, none is
-pub top_found : (ledger : Ledger) (base left : ℕ) → left ≤ base / 2 → base ≡ 2 * ((base + 1) / 2) - 1 → (1 < base → is_directly_committed ledger ((base + 1) / 2) ≡ true) → top ledger ≡ top_to ledger left → None ≡ top ledger
-top_found ledger base left low odd committed is =
-    elim (cases_lt 1 base) [
-      | inl above ↦
-          let here = committed above in
-          let within = committed_within ledger ((base + 1) / 2) here in
-          let greatest = top_above ledger (length ledger.coins) ((base + 1) / 2) within.0 within.1 here in
-          let facts = is_top_of ledger left greatest.0 (sym is ∙ greatest.1) in
-          let least = greatest.2 in
-          let most = facts.within in
-          absurd (omega (arith, least, most, low, odd, above))
-      | inr first ↦
-          let none : left ≡ 0 = omega (arith, first, low) in
-          sym (is ∙ ap (top_to ledger) none)
+-- a wave below the floor isn't: its leader isn't held
+low_wave : (graph : Graph) → IsGraph graph → (coins : List ℕ) (wave : ℕ) → 2 * wave + 1 < graph.floor → is_directly_committed (ledger_in graph coins) (suc wave) ≡ false
+low_wave graph is coins wave low =
+    elim (given_or_none (slice_get coins wave)) [
+      | inr none ↦ rw none refl
+      | inl coin ↦ elim (given_or_none (slots_in graph (2 * wave + 1) (coin.0 % size_of graph))) [
+        | inr nothing ↦ rw (coin.1, nothing) refl
+        | inl c ↦ let above = is.above (2 * wave + 1) (coin.0 % size_of graph) c.0 c.1 in absurd (omega (arith, above, low))
+      ]
     ]
+
+low_waves : (graph : Graph) → IsGraph graph → (coins : List ℕ) (left : ℕ) → left ≤ graph.floor / 2 → top_to (ledger_in graph coins) left ≡ None
+low_waves graph is coins zero low = refl
+low_waves graph is coins (suc left) low =
+    rw (low_wave graph is coins left (omega (arith, low))) (low_waves graph is coins left (omega (arith, low)))
+
+-- where no wave down to that of the floor is committed, none is
+pub top_found : (graph : Graph) → IsGraph graph → (coins : List ℕ) (left : ℕ) → left ≤ graph.floor / 2 → top (ledger_in graph coins) ≡ top_to (ledger_in graph coins) left → None ≡ top (ledger_in graph coins)
+top_found graph is coins left low so_far = sym (so_far ∙ low_waves graph is coins left low)
 
 -- ---- one wave that is committed now
 

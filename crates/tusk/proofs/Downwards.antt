@@ -1,5 +1,6 @@
 -- The leaders that are committed with one, wave by wave downwards.
-use Rattle.std.proofs.Common.{◌≡◌, ℕ, zero, suc, ◌≤◌, Bool, true, false, List, [], ◌∷◌, ◌++◌, map, Some, None, inl, inr, refl, ap, sym, ◌∙◌, arith, reverse}
+use Rattle.std.proofs.Common.{◌≡◌, ℕ, zero, suc, ◌+◌, ◌-◌, ◌<◌, ◌≤◌, Bool, true, false, List, [], ◌∷◌, ◌++◌, map, Some, None, inl, inr, refl, ap, sym, ◌∙◌, arith, reverse}
+use Rattle.std.proofs.Math.Path.{fun_ext}
 use Rattle.std.specs.Prelude.{nat_le, is_some}
 use Rattle.std.specs.Option.{option_map_or}
 use Rattle.std.proofs.lemmas.Bool.{le-leb}
@@ -11,6 +12,7 @@ use Rattle.spec_laws.proofs.Growing.{AreInPlace}
 use Rattle.spec_laws.proofs.Lists.{given_or_none}
 use Rattle.spec_laws.proofs.Votes.{slot_is}
 use Rattle.dag.specs.Graph as dag
+use Rattle.dag.proofs.Walking.{one_down}
 use Rattle.tusk.specs.Chain.{ledger_in, slot_of}
 use Rattle.tusk.proofs.Supporting.{IsLed}
 
@@ -128,3 +130,14 @@ step_last ledger base left round author taken all placed low there so_far =
           reverse-append taken (x ∷ []) ∙ ap (λ l. l ++ reverse taken) (sym alone) ∙ so_far
       | inr none ↦ let bad = rw none at there in absurd cc
     ]
+
+-- ---- one round down
+
+-- whom those reach whom a slot reaches in a round
+pub stepped : (graph : dag.Graph) → dag.IsGraph graph → (start author round : ℕ) (above : ℕ → Bool) → 0 < round → round ≤ start → ((other : ℕ) → above other ≡ dag.reaches_in graph start author round other) → (other : ℕ)
+    → dag.is_parent_of graph round (round - 1) above other ≡ dag.reaches_in graph start author (round - 1) other
+stepped graph is start author round above some within so_far other =
+    let level : round ≡ (round - 1) + 1 = omega (arith, some) in
+    ap (λ r. dag.is_parent_of graph r (round - 1) above other) level
+    ∙ ap (λ (f : ℕ → Bool). dag.is_parent_of graph ((round - 1) + 1) (round - 1) f other) (fun_ext (λ a. so_far a ∙ ap (λ r. dag.reaches_in graph start author r a) level))
+    ∙ one_down graph is start author (round - 1) other (omega (arith, some, within))

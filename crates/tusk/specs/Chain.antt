@@ -26,6 +26,10 @@ wave_of last = option_map_or (λ wave. wave) last 0
 abbrev pub base_of : Option ℕ → ℕ
 base_of last = option_map_or (λ wave. 2 * wave - 1) last 1
 
+-- a wave is none, or committed by itself
+abbrev pub IsSure : Ledger → Option ℕ → Type 0
+IsSure ledger last = IfSome last (λ wave. is_directly_committed ledger wave ≡ true)
+
 -- a DAG's base is the round of a leader that is committed by itself, or 1
 pub record IsBased (graph : Graph) (coins : List ℕ) : Type 0 where
   pub odd : graph.base ≡ 2 * ((graph.base + 1) / 2) - 1

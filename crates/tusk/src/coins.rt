@@ -1,15 +1,15 @@
 //! The coins, and the leaders that they choose.
 
 ghost use Rattle.std.specs.Prelude.{◌≡◌, ℕ, ◌+◌, ◌-◌, ◌*◌, ◌^◌, ◌<◌, ◌≤◌, ◌++◌, [], ◌∷◌, true, length, map, Ok, Some, option_map, IfSome, IfOk, OnOk, OnErr};
-ghost use Rattle.spec_model.specs.Ordering.{leader, is_directly_committed, top, newer_to, newer_at};
+ghost use Rattle.spec_model.specs.Ordering.{leader, is_directly_committed, top, newer, newer_to, newer_at};
 ghost use Rattle.spec_model.specs.Words.{Certificate};
 ghost use Rattle.dag.specs.Answer.{answer};
 ghost use Rattle.dag.specs.Changes.{IsWith};
 ghost use Rattle.dag.specs.Graph.{Graph, slots_in};
 ghost use Rattle.dag.specs.declared.answers.Added.TheVariants as added;
-ghost use Rattle.tusk.specs.Chain.{ledger_in, coin_of, slot_of, IsAt, IsBased, IsChain, IsFrom};
+ghost use Rattle.tusk.specs.Chain.{ledger_in, coin_of, slot_of, wave_of, IsAt, IsChain, IsSure};
 
-use crate::support::{chosen, committed_to, is_enough, is_supported, reaches, supporters_with};
+use crate::support::{chosen, committed_to, is_enough, is_supported, supporters_with, two_down};
 use dag::Dag;
 use std::alloc::{AllocError, Global};
 use std::marker::Model;
@@ -84,9 +84,8 @@ impl Coins {
         chosen(dag, wave, coin)
     }
 
-    // Whether a wave from that of the base on is committed by itself.
+    // Whether a wave is committed by itself.
     fn is_committed(&self, dag: &Dag, wave: u64) -> bool
-        requires { dag.now.base ≤ 2 * wave - 1 }
         ensures { result ≡ is_directly_committed (ledger_in dag.now self.now) wave }
     {
         dag.limits_hold();
@@ -96,13 +95,14 @@ impl Coins {
         }
     }
 
-    /// The greatest wave that is committed by itself, where the base is the round of such a wave's leader, or 1. The waves are
-    /// asked from that of the last coin downwards to that of the base, until one is.
+    /// The greatest wave that is committed by itself. The waves are asked from that of the last coin downwards, until one is;
+    /// of those below the floor no leader is held.
     pub fn top(&self, dag: &Dag) -> Option<u64>
-        ensures { IsBased dag.now self.now → result ≡ top (ledger_in dag.now self.now) }
+        ensures { result ≡ top (ledger_in dag.now self.now) }
     {
+        dag.limits_hold();
         let count = self.count() as u64;
-        let below = dag.base().number() / 2;
+        let below = dag.floor().number() / 2;
         for past in 0..count.saturating_sub(below) {
             if self.is_committed(dag, count - past) {
                 return Some(count - past);
@@ -111,7 +111,9 @@ impl Coins {
         None
     }
 
-    // The slots of a wave's leader, and of those of the waves above `last` that are committed with it, the oldest first.
+    // The slots of a wave's leader, and of those of the waves above `last` that are committed with it, the oldest first. It
+    // walks down once: whom the leader that was taken last reaches is known of each wave's first round from that of the round
+    // above.
     fn newer_to(
         &self,
         alloc: Global,
@@ -120,7 +122,6 @@ impl Coins {
         wave: u64,
         leader: (Round, Author),
     ) -> Result<Vec<(Round, Author)>, AllocError>
-        requires base { dag.now.base ≤ 2 * last + 1 }
         requires above { last < wave }
         requires round { leader.0 ≡ 2 * wave - 1 }
         ensures { IfOk result (λ chain. (c : Certificate) → slots_in dag.now leader.0 leader.1.0 ≡ Some c → chain.items ≡ map slot_of (newer_to (ledger_in dag.now self.now) last (wave - 1) c)) }
@@ -128,13 +129,16 @@ impl Coins {
         dag.limits_hold();
         let mut chain = Vec::new(alloc);
         let (mut round, mut author) = leader;
+        let mut reached = dag.reached(round, author, round);
         for past in 1..wave - last {
+            reached = two_down(dag, 2 * (wave - past) + 1, &reached);
             if let Some(earlier) = self.leader(dag, wave - past) {
                 let (lower, other) = earlier;
-                if reaches(dag, (round, author), (lower, other)) {
+                if reached.contains(other) {
                     chain.push((round, author))?;
                     round = lower;
                     author = other;
+                    reached = dag.reached(lower, other, lower);
                 }
             }
         }
@@ -151,7 +155,6 @@ impl Coins {
         last: u64,
         wave: u64,
     ) -> Result<Vec<(Round, Author)>, AllocError>
-        requires { dag.now.base ≤ 2 * last + 1 }
         ensures { IfOk result (λ chain. chain.items ≡ map slot_of (newer_at (ledger_in dag.now self.now) last wave)) }
     {
         dag.limits_hold();
@@ -164,19 +167,20 @@ impl Coins {
         }
     }
 
-    /// The slots of the leaders newer than a committed wave, the oldest first, where that is the wave of the base; of all
-    /// committed leaders where there is none and the base is 1.
+    /// The slots of the leaders newer than a wave that are committed, the oldest first; of all committed leaders where no wave
+    /// is given. Where that wave is committed too, they are the newer part of its chain.
     pub fn chain_from(
         &self,
         alloc: Global,
         dag: &Dag,
         last: Option<u64>,
     ) -> Result<Vec<(Round, Author)>, AllocError>
-        ensures { IfOk result (λ chain. IsFrom dag.now self.now last → IsChain (ledger_in dag.now self.now) last chain.items) }
+        ensures newer { IfOk result (λ chain. chain.items ≡ map slot_of (newer (ledger_in dag.now self.now) (wave_of last))) }
+        ensures chain { IfOk result (λ chain. IsSure (ledger_in dag.now self.now) last → IsChain (ledger_in dag.now self.now) last chain.items) }
     {
         dag.limits_hold();
         match self.top(dag) {
-            Some(wave) => self.newer_at(alloc, dag, committed_to(dag, last), wave),
+            Some(wave) => self.newer_at(alloc, dag, committed_to(last), wave),
             None => Ok(Vec::new(alloc)),
         }
     }
@@ -199,7 +203,7 @@ impl Coins {
         dag.limits_hold();
         let round = certificate.header.round.number();
         let wave = round / 2;
-        let base = committed_to(dag, last);
+        let base = committed_to(last);
         if round % 2 == 1 || wave <= base {
             return Ok(Vec::new(alloc));
         }
@@ -229,7 +233,7 @@ impl Coins {
     {
         dag.limits_hold();
         let wave = self.count() as u64 + 1;
-        let base = committed_to(dag, last);
+        let base = committed_to(last);
         if wave <= base {
             return Ok(Vec::new(alloc));
         }

@@ -8,11 +8,11 @@ ghost use Rattle.spec_model.specs.Ordering.{has_support};
 ghost use Rattle.spec_model.specs.Slots.{same_digest, is_named};
 ghost use Rattle.spec_model.specs.Words.{Certificate};
 ghost use Rattle.dag.specs.Graph.{size_in, slots_in, has_parent_in, reaches_in};
-ghost use Rattle.tusk.specs.Chain.{ledger_in, slot_of, wave_of, base_of};
+ghost use Rattle.tusk.specs.Chain.{ledger_in, slot_of, wave_of};
 ghost use Rattle.wire.specs.declared.round.TheConstants.Round.{MAX};
 
 use committee::MemberSet;
-use dag::Dag;
+use dag::{Dag, Reads};
 use wire::{Author, Certificate, Digest, ParentReference, Round};
 
 // The first round of a wave, unless that is past the greatest round.
@@ -45,21 +45,36 @@ pub(crate) fn chosen(dag: &Dag, wave: u64, coin: u64) -> Option<(Round, Author)>
     }
 }
 
-/// The last committed wave, or 0 where there is none; or the one below the base's, where that is higher.
-pub(crate) fn committed_to(dag: &Dag, last: Option<u64>) -> u64
-    ensures base { dag.now.base ≤ 2 * result + 1 }
-    ensures value { dag.now.base ≡ base_of last → result ≡ wave_of last }
+/// The last committed wave, or 0 where there is none.
+pub(crate) fn committed_to(last: Option<u64>) -> u64
+    ensures { result ≡ wave_of last }
 {
-    last.unwrap_or(0).max(dag.base().number() / 2)
+    last.unwrap_or(0)
 }
 
-/// Whether what a slot holds reaches what a slot of a lower round, at or above the base, holds.
-pub(crate) fn reaches(dag: &Dag, high: (Round, Author), low: (Round, Author)) -> bool
-    requires above { dag.now.base ≤ low.0 }
-    requires lower { low.0 < high.0 }
-    ensures { result ≡ reaches_in dag.now high.0 high.1.0 low.0 low.1.0 }
+// The round of a number.
+fn round_of(number: u64) -> Round
+    requires { number ≤ MAX }
+    ensures { result ≡ number }
 {
-    dag.reached(high.0, high.1, low.0).contains(low.1)
+    match Round::new(number) {
+        Ok(round) => round,
+        Err(_) => unreachable!(),
+    }
+}
+
+/// Two rounds down: where these are the authors of a round whose certificates a slot no lower reaches, those of the round two
+/// below it.
+pub(crate) fn two_down(dag: &Dag, round: u64, authors: &MemberSet) -> MemberSet
+    requires low { 2 ≤ round }
+    requires limit { round ≤ MAX }
+    ensures { (start author : ℕ) → round ≤ start → ((member : ℕ) → has authors.now member ≡ reaches_in dag.now start author round member)
+        → (member : ℕ) → has result member ≡ reaches_in dag.now start author (round - 2) member }
+{
+    dag.limits_hold();
+    let mut reads = Reads::new();
+    let below = dag.parents_of(round_of(round), authors, &mut reads);
+    dag.parents_of(round_of(round - 1), &below, &mut reads)
 }
 
 /// Whether members are enough for support.
@@ -70,9 +85,8 @@ pub(crate) fn is_enough(dag: &Dag, members: &MemberSet) -> bool
     committee.support() <= committee.weight(members)
 }
 
-/// Whether a leader that is held, at or above the base, has support.
+/// Whether a leader that is held has support.
 pub(crate) fn is_supported(dag: &Dag, leader: (Round, Author)) -> bool
-    requires { dag.now.base ≤ leader.0 }
     ensures { (c : Certificate) (coins : List ℕ) → slots_in dag.now leader.0 leader.1.0 ≡ Some c → result ≡ has_support (ledger_in dag.now coins) c }
 {
     dag.limits_hold();
@@ -97,15 +111,13 @@ fn names(dag: &Dag, certificate: &Certificate, leader: (Round, Author)) -> bool
     }
 }
 
-/// The supporters of a leader that is held, at or above the base, with the author of a certificate of the next round if that
-/// names it as a parent.
+/// The supporters of a leader that is held, with the author of a certificate of the next round if that names it as a parent.
 pub(crate) fn supporters_with(
     dag: &Dag,
     leader: (Round, Author),
     certificate: &Certificate,
 ) -> MemberSet
-    requires base { dag.now.base ≤ leader.0 }
-    requires member { certificate.now.header.author.0 < length dag.now.charter.keys }
+    requires { certificate.now.header.author.0 < length dag.now.charter.keys }
     ensures { (c : Certificate) (member : ℕ) → slots_in dag.now leader.0 leader.1.0 ≡ Some c
         → has result member ≡ (has_parent_in dag.now (leader.0 + 1) member leader.0 leader.1.0 || ((member == certificate.now.header.author.0) && list_any (is_named c) certificate.now.header.parents)) }
 {

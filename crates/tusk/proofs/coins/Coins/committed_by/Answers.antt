@@ -19,7 +19,7 @@ returns-then-round-eq1 c at fresh after more =
     let is = c.limits_hold.ensures in
     let new = is_new graph certificate fresh in
     let round = c.number-round.ensures.value in
-    let base : c.committed_to-base.result ≡ wave_of last = c.committed_to-base.ensures.value at.base in
+    let base : c.committed_to-base.result ≡ wave_of last = c.committed_to-base.ensures in
     elim c.then-round-eq1.branch [
       | then-round-eq1-via-then-round-eq1 w ↦
           certificate_none graph after certificate c.args.self.now last 0 c.new.result.items is new more at.top
@@ -43,7 +43,7 @@ returns-then-is_enough c =
     IfOk-weaker c.newer_to.result _ _
     (λ chain taken at fresh after more.
     let new = is_new graph certificate fresh in
-    let base : c.committed_to-base.result ≡ wave_of last = c.committed_to-base.ensures.value at.base in
+    let base : c.committed_to-base.result ≡ wave_of last = c.committed_to-base.ensures in
     let higher : wave_of last < wave = omega (arith, base, c.if-wave-base.false) in
     let next : slot.0 + 1 ≡ certificate.header.round = omega (arith, c.in-Some.ensures.round, level, higher) in
     certificate_some graph after certificate coins last wave slot.0 slot.1.0 chain.items is new more at.top level higher led

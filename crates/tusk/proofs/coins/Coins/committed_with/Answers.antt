@@ -14,7 +14,7 @@ use Rattle.tusk.specs.Chain.{ledger_in, slot_of, wave_of}
 pub returns-then-wave-base : goal.returns-then-wave-base
 returns-then-wave-base c at =
     let last = c.args.last in
-    let base : c.committed_to-base.result ≡ wave_of last = c.committed_to-base.ensures.value at.base in
+    let base : c.committed_to-base.result ≡ wave_of last = c.committed_to-base.ensures in
     let within = top_within (ledger_in c.args.dag.now c.args.self.now) last at.top in
     absurd (omega (arith, within, base, c.if-wave-base.true, c.count.ensures.value))
 
@@ -33,7 +33,7 @@ returns-then-is_supported c =
     IfOk-weaker c.newer_to.result _ _
     (λ chain is at.
     let within = top_within (ledger_in graph coins) last at.top in
-    let base : c.committed_to-base.result ≡ wave_of last = c.committed_to-base.ensures.value at.base in
+    let base : c.committed_to-base.result ≡ wave_of last = c.committed_to-base.ensures in
     grows_some (ledger_in graph coins) (slots_in graph) (value ∷ []) last wave led.certificate chain.items (same_slots (slots_in graph) placed) (size_some graph.charter c.limits_hold.ensures.charter)
     (one_coin graph coins value wave c.limits_hold.ensures behind) at.top (omega (arith, within, count)) (omega (arith, count))
     (is_in (slots_in graph) c.in-Some.leader.0 c.in-Some.leader.1.0 led.certificate placed led.held) led.leads
