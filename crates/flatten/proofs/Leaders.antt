@@ -1,6 +1,6 @@
 -- Leaders one behind the other.
-use Rattle.std.proofs.Common.{◌≡◌, ℕ, zero, suc, ◌+◌, ◌-◌, ◌<◌, ◌≤◌, true, List, [], ◌∷◌, ◌++◌, length, drop, slice_get, Option, Some, None, inl, inr, refl, ap, sym, ◌∙◌, subst, arith, append_assoc, add-one}
-use Rattle.std.specs.Prelude.{All, not, is_some, nat_le, ◌&&◌}
+use Rattle.std.proofs.Common.{◌≡◌, ℕ, zero, suc, ◌+◌, ◌-◌, ◌^◌, ◌<◌, ◌≤◌, Bool, true, List, [], ◌∷◌, ◌++◌, length, drop, slice_get, Option, Some, None, inl, inr, refl, ap, sym, ◌∙◌, subst, arith, append_assoc, add-one}
+use Rattle.std.specs.Prelude.{All, min, not, is_some, nat_le, ◌&&◌}
 use Rattle.std.specs.Option.{option_map_or}
 use Rattle.std.proofs.lemmas.Bool.{and_parts, and_from, leb-true, le-leb}
 use Rattle.std.proofs.lemmas.List.{append-nil, map-append}
@@ -20,10 +20,10 @@ use Rattle.dag.proofs.Paths.{same_held}
 use Rattle.dag.proofs.Tests.{any_from}
 use Rattle.tusk.specs.Chain.{ledger_in}
 use Rattle.flatten.specs.Lengthening.{FitsTo}
-use Rattle.flatten.specs.Segments.{leader_held, references_in, references_by, digests_of, leaders_in, AreLinked, IsMarkedFor}
-use Rattle.flatten.specs.Sets.{is_in, is_unmarked_in, lowest_in, AreUnordered, Leads, HasAllOf}
-use Rattle.flatten.proofs.Below.{reaches_of}
-use Rattle.flatten.proofs.Picking.{first_unordered}
+use Rattle.flatten.specs.Segments.{leader_held, references_by, read_references_in, read_references_by, digests_of, leaders_in, AreLinked, IsMarkedFor}
+use Rattle.flatten.specs.Sets.{is_free, is_unmarked_in, lowest_in, AreUnordered, Leads, HasAllOf}
+use Rattle.dag.proofs.Walking.{reaches_of}
+use Rattle.flatten.proofs.Picking.{first_unordered, reads_few}
 
 -- ---- what a leader reaches, who reaches it reaches too
 
@@ -91,66 +91,62 @@ all_within graph is before (leader ∷ next ∷ more) last linked at =
 
 -- ---- one leader after the other
 
--- so many leaders were taken, the last of them was `before`, and the others are left; the sets are unordered before these, from
--- where the last one orders on; it reaches what is marked; what they order is still to come, and no more is to be read than their
--- references
-pub record IsBehind (graph : Graph) (total : List Digest) (most low high : ℕ) (before : Option (ℕ × Author)) (left : List (ℕ × Author)) (sets : List MemberSet) (digests : List Digest) (reads : ℕ) : Type 0 where
+-- so many leaders were taken, the last of them was `before`, and the others are left; from where the last one orders on those are
+-- free that are unordered before these; it reaches what is marked; what they order is still to come, and so is what is read for them
+pub record IsBehind (graph : Graph) (total : List Digest) (most high : ℕ) (before : Option (ℕ × Author)) (left : List (ℕ × Author)) (free : ℕ → ℕ → Bool) (digests : List Digest) (reads : ℕ) : Type 0 where
   pub from : ℕ
-  pub least : low ≤ from
   pub next : (leader : ℕ × Author) (more : List (ℕ × Author)) → left ≡ leader ∷ more → from ≤ lowest_in graph leader.0
   pub ends : left ≡ [] → (leader : ℕ × Author) → before ≡ Some leader → (from ≤ lowest_in graph leader.0) × (is_some (slots_in graph leader.0 leader.1.0) ≡ true)
   pub linked : AreLinked graph before left
   pub within : All (λ (s : ℕ × Author). s.0 ≤ high) left
-  pub unordered : AreUnordered graph (leader_held graph before) low from high sets
-  pub marked : (round author : ℕ) (c : Certificate) → low ≤ round → slots_in graph round author ≡ Some c → marked_in graph round author ≡ true → is_past (ledger_in graph []) (leader_held graph before) c ≡ true
+  pub unordered : AreUnordered graph (leader_held graph before) from high free
+  pub marked : (round author : ℕ) (c : Certificate) → from ≤ round → slots_in graph round author ≡ Some c → marked_in graph round author ≡ true → is_past (ledger_in graph []) (leader_held graph before) c ≡ true
   pub whole : digests ++ digests_of (segments (ledger_in graph []) (leader_held graph before) (leaders_in graph left)) ≡ total
-  pub few : reads + references_by graph (leader_held graph before) (leaders_in graph left) ≤ most
+  pub counted : min (reads + read_references_by graph (leader_held graph before) (leaders_in graph left)) (2 ^ 64 - 1) ≡ min most (2 ^ 64 - 1)
 
 -- before any is taken
-pub none_taken : (graph : Graph) → IsGraph graph → (previous : Option (ℕ × Author)) (chain : List (ℕ × Author)) (first last : ℕ × Author) (low : ℕ) (sets : List MemberSet) (digests : List Digest) → AreLinked graph previous chain → IsMarkedFor graph previous chain
-    → slice_get chain 0 ≡ Some first → slice_get chain (length chain - 1) ≡ Some last → low ≡ lowest_in graph first.0 → length sets ≡ last.0 + 1 - low
-    → ((place author : ℕ) → place < length sets → is_in sets place author ≡ is_unmarked_in graph (low + place) author) → digests ≡ []
-    → IsBehind graph (digests_of (segments (ledger_in graph []) (leader_held graph previous) (leaders_in graph chain))) (references_by graph (leader_held graph previous) (leaders_in graph chain)) low last.0 previous chain sets digests 0
-none_taken graph is previous [] first last low sets digests linked marks at at' lowest long unmarked none = absurd cc
-none_taken graph is previous (leader ∷ more) first last low sets digests linked marks at at' lowest long unmarked none =
-    let same : leader ≡ first = same_Some leader first at in
-    let round : leader.0 ≡ first.0 = ap (λ (s : ℕ × Author). s.0) same in
-    let lowest' : low ≡ lowest_in graph leader.0 = lowest ∙ ap (lowest_in graph) (sym round) in
-    let unordered = first_unordered graph (leader_held graph previous) leader.0 low last.0 sets marks lowest' long unmarked in
+pub none_taken : (graph : Graph) → IsGraph graph → (previous : Option (ℕ × Author)) (chain : List (ℕ × Author)) (last : ℕ × Author) (free : ℕ → ℕ → Bool) (digests : List Digest) → 0 < length chain → AreLinked graph previous chain → IsMarkedFor graph previous chain
+    → slice_get chain (length chain - 1) ≡ Some last
+    → ((round author : ℕ) → free round author ≡ is_unmarked_in graph round author) → digests ≡ []
+    → IsBehind graph (digests_of (segments (ledger_in graph []) (leader_held graph previous) (leaders_in graph chain))) (read_references_by graph (leader_held graph previous) (leaders_in graph chain)) last.0 previous chain free digests 0
+none_taken graph is previous [] last free digests some linked marks at unmarked none = absurd (omega (arith, some))
+none_taken graph is previous (leader ∷ more) last free digests some linked marks at unmarked none =
+    let reads = read_references_by graph (leader_held graph previous) (leaders_in graph (leader ∷ more)) in
+    let all : 0 + reads ≡ reads = omega arith in
     record {
-      from = low;
-      least = omega arith;
+      from = lowest_in graph leader.0;
       next = λ l m e. let first_one : leader.0 ≡ l.0 = ap (λ (s : ℕ × Author). s.0) (head_same leader l more m e) in
-          let there : low ≡ lowest_in graph l.0 = lowest' ∙ ap (lowest_in graph) first_one in
+          let there : lowest_in graph leader.0 ≡ lowest_in graph l.0 = ap (lowest_in graph) first_one in
           omega (arith, there);
       ends = λ e. absurd cc;
       linked = linked;
-      within = all_within graph is previous (leader ∷ more) last linked at';
-      unordered = subst (λ k. AreUnordered graph (leader_held graph previous) low k last.0 sets) (sym lowest') unordered;
-      marked = λ r a c above held marked. sym (marks r a c (omega (arith, above, lowest')) held) ∙ marked;
+      within = all_within graph is previous (leader ∷ more) last linked at;
+      unordered = first_unordered graph (leader_held graph previous) leader.0 last.0 free marks unmarked;
+      marked = λ r a c above held marked. sym (marks r a c (omega (arith, above)) held) ∙ marked;
       whole = ap (λ l. l ++ digests_of (segments (ledger_in graph []) (leader_held graph previous) (leaders_in graph (leader ∷ more)))) none;
-      few = omega arith;
+      counted = ap (λ k. min k (2 ^ 64 - 1)) all;
     }
   where
     head_same : (one other : ℕ × Author) (ones others : List (ℕ × Author)) → one ∷ ones ≡ other ∷ others → one ≡ other
     head_same one other ones others e = same_Some one other (ap (λ l. slice_get l 0) e)
 
+count_on : (reads one reads' rest later all most : ℕ) → reads' ≡ min (reads + one) (2 ^ 64 - 1) → all ≡ one + rest → later ≡ rest → min (reads + all) (2 ^ 64 - 1) ≡ min most (2 ^ 64 - 1) → min (reads' + later) (2 ^ 64 - 1) ≡ min most (2 ^ 64 - 1)
+count_on reads one reads' rest later all most counted parts same was = omega (arith, counted, parts, same, was)
+
 -- one more is taken
-pub one_taken : (graph : Graph) → IsGraph graph → (total : List Digest) (most low high : ℕ) (before : Option (ℕ × Author)) (leader : ℕ × Author) (more : List (ℕ × Author)) (sets sets' : List MemberSet) (digests digests' : List Digest) (reads one reads' : ℕ)
-    → IsBehind graph total most low high before (leader ∷ more) sets digests reads → reads' ≤ reads + one
-    → ((c : Certificate) → Leads graph (leader_held graph before) leader low high sets c → digests' ≡ digests ++ digests_of (segment (ledger_in graph []) (leader_held graph before) c))
-    → ((c : Certificate) → Leads graph (leader_held graph before) leader low high sets c → HasAllOf graph (leader_held graph before) c → AreUnordered graph (Some c) low (lowest_in graph leader.0) high sets')
-    → ((c : Certificate) → Leads graph (leader_held graph before) leader low high sets c → one ≤ references_in graph (leader_held graph before) c)
-    → IsBehind graph total most low high (Some leader) more sets' digests' reads'
-one_taken graph is total most low high before leader more sets sets' digests digests' reads one reads' was counted written unordered read =
+pub one_taken : (graph : Graph) → IsGraph graph → (total : List Digest) (most high : ℕ) (before : Option (ℕ × Author)) (leader : ℕ × Author) (more : List (ℕ × Author)) (free free' : ℕ → ℕ → Bool) (digests digests' : List Digest) (reads one reads' : ℕ)
+    → IsBehind graph total most high before (leader ∷ more) free digests reads → reads' ≡ min (reads + one) (2 ^ 64 - 1)
+    → ((c : Certificate) → Leads graph (leader_held graph before) leader high free c → digests' ≡ digests ++ digests_of (segment (ledger_in graph []) (leader_held graph before) c))
+    → ((c : Certificate) → Leads graph (leader_held graph before) leader high free c → HasAllOf graph (leader_held graph before) c → AreUnordered graph (Some c) (lowest_in graph leader.0) high free')
+    → ((c : Certificate) → Leads graph (leader_held graph before) leader high free c → one ≡ read_references_in graph (leader_held graph before) c)
+    → IsBehind graph total most high (Some leader) more free' digests' reads'
+one_taken graph is total most high before leader more free free' digests digests' reads one reads' was counted written unordered read =
     elim (given_or_none (slots_in graph leader.0 leader.1.0)) [
       | inr none ↦ let bad = rw none at was.linked.0 in absurd cc
       | inl c ↦
-          let least = was.least in
           let next = was.next leader more refl in
-          let leads : Leads graph (leader_held graph before) leader low high sets c.0 = record {
+          let leads : Leads graph (leader_held graph before) leader high free c.0 = record {
             held = c.1;
-            least = omega (arith, least, next);
             within = All-head (λ (s : ℕ × Author). s.0 ≤ high) leader more was.within;
             unordered = λ r a e above below held. was.unordered r a e (omega (arith, next, above)) below held;
           } in
@@ -158,13 +154,11 @@ one_taken graph is total most low high before leader more sets sets' digests dig
           let ledger = ledger_in graph [] in
           let rest = leaders_in graph more in
           let expand : leaders_in graph (leader ∷ more) ≡ c.0 ∷ rest = let at = c.1 in rw at refl in
-          let here = read c.0 leads in
-          let few = was.few in
-          let parts : references_by graph (leader_held graph before) (leaders_in graph (leader ∷ more)) ≡ references_in graph (leader_held graph before) c.0 + references_by graph (Some c.0) rest = ap (references_by graph (leader_held graph before)) expand in
-          let later : references_by graph (leader_held graph (Some leader)) rest ≡ references_by graph (Some c.0) rest = ap (λ p. references_by graph p rest) c.1 in
+          let parts : read_references_by graph (leader_held graph before) (leaders_in graph (leader ∷ more)) ≡ one + read_references_by graph (Some c.0) rest =
+          ap (read_references_by graph (leader_held graph before)) expand ∙ ap (λ k. k + read_references_by graph (Some c.0) rest) (sym (read c.0 leads)) in
+          let later : read_references_by graph (leader_held graph (Some leader)) rest ≡ read_references_by graph (Some c.0) rest = ap (λ p. read_references_by graph p rest) c.1 in
           record {
             from = lowest_in graph leader.0;
-            least = omega (arith, least, next);
             next = λ l m e. let link = (subst (λ (x : List (ℕ × Author)). AreLinked graph (Some leader) x) e was.linked.2).1 in
                 let above = link_above graph is leader l link in
                 omega (arith, above);
@@ -176,38 +170,46 @@ one_taken graph is total most low high before leader more sets sets' digests dig
             );
             linked = was.linked.2;
             within = All-tail (λ (s : ℕ × Author). s.0 ≤ high) leader more was.within;
-            unordered = subst (λ p. AreUnordered graph p low (lowest_in graph leader.0) high sets') (sym c.1) (unordered c.0 leads all);
-            marked = λ r a e above held marked. subst (λ p. is_past ledger p e ≡ true) (sym c.1) (all r a e held (was.marked r a e above held marked));
+            unordered = subst (λ p. AreUnordered graph p (lowest_in graph leader.0) high free') (sym c.1) (unordered c.0 leads all);
+            marked = λ r a e above held marked. subst (λ p. is_past ledger p e ≡ true) (sym c.1) (all r a e held (was.marked r a e (omega (arith, next, above)) held marked));
             whole = ap (λ d. d ++ digests_of (segments ledger (leader_held graph (Some leader)) rest)) (written c.0 leads)
                 ∙ ap (λ p. (digests ++ digests_of (segment ledger (leader_held graph before) c.0)) ++ digests_of (segments ledger p rest)) c.1
                 ∙ append_assoc digests (digests_of (segment ledger (leader_held graph before) c.0)) (digests_of (segments ledger (Some c.0) rest))
                 ∙ ap (λ l. digests ++ l) (sym (map-append (λ (d : Certificate). certificate_digest d.header) (segment ledger (leader_held graph before) c.0) (segments ledger (Some c.0) rest)))
                 ∙ ap (λ l. digests ++ digests_of (segments ledger (leader_held graph before) l)) (sym expand)
                 ∙ was.whole;
-            few = omega (arith, here, few, parts, later, counted);
+            counted = count_on reads one reads' (read_references_by graph (Some c.0) rest) (read_references_by graph (leader_held graph (Some leader)) rest) (read_references_by graph (leader_held graph before) (leaders_in graph (leader ∷ more))) most counted parts later was.counted;
           }
     ]
 
 -- when all are taken, what they order is written, and the rest is that of the last
-pub all_taken : (graph : Graph) → (total : List Digest) (most low : ℕ) (before : Option (ℕ × Author)) (left : List (ℕ × Author)) (last : ℕ × Author) (sets : List MemberSet) (digests : List Digest) (reads : ℕ) → IsBehind graph total most low last.0 before left sets digests reads
-    → left ≡ [] → before ≡ Some last → (digests ≡ total) × FitsTo graph (record { digests = digests; last = last; low = low; unordered = sets; reads = reads }) × (reads ≤ most)
-all_taken graph total most low before left last sets digests reads was none same =
+pub all_taken : (graph : Graph) → (total : List Digest) (most : ℕ) (before : Option (ℕ × Author)) (left : List (ℕ × Author)) (last : ℕ × Author) (sets : List MemberSet) (digests : List Digest) (reads : ℕ)
+    → IsBehind graph total most last.0 before left (is_free graph last.0 sets) digests reads → reads < 2 ^ 64
+    → left ≡ [] → before ≡ Some last → (digests ≡ total) × FitsTo graph (record { digests = digests; last = last; ordered = sets; reads = reads }) × (reads ≡ min most (2 ^ 64 - 1))
+all_taken graph total most before left last sets digests reads was small none same =
     let ends = was.ends none last same in
-    let least = was.least in
     let within = ends.0 in
-    let few = was.few in (
+    let empty : read_references_by graph (leader_held graph before) (leaders_in graph left) ≡ 0 = ap (λ l. read_references_by graph (leader_held graph before) (leaders_in graph l)) none in
+    let counted = was.counted in (
       sym (append-nil digests)
           ∙ ap (λ l. digests ++ digests_of (segments (ledger_in graph []) (leader_held graph before) (leaders_in graph l))) (sym none)
           ∙ was.whole,
       record {
         held = ends.1;
-        low = omega (arith, least, within);
         unordered = λ r a c above below held. was.unordered r a c (omega (arith, above, within)) below held
             ∙ ap (λ p. not (is_past (ledger_in graph []) (leader_held graph p) c)) same;
-        marked = λ r a c above held marked. subst (λ p. is_past (ledger_in graph []) (leader_held graph p) c ≡ true) same (was.marked r a c (omega (arith, above, within, least)) held marked);
+        marked = λ r a c above held marked. subst (λ p. is_past (ledger_in graph []) (leader_held graph p) c ≡ true) same (was.marked r a c (omega (arith, above, within)) held marked);
       },
-      omega (arith, few),
+      omega (arith, counted, small, empty),
     )
+
+-- no more is read than the references of what is new to each
+pub reads_below : (graph : Graph) (previous : Option Certificate) (leaders : List Certificate) → read_references_by graph previous leaders ≤ references_by graph previous leaders
+reads_below graph previous [] = omega arith
+reads_below graph previous (leader ∷ leaders) =
+    let here = reads_few graph previous leader in
+    let rest = reads_below graph (Some leader) leaders in
+    omega (arith, here, rest)
 
 -- ---- by places
 

@@ -1,7 +1,5 @@
 pub mod Ranges
 pub mod Places
-pub mod References
-pub mod Steps
 pub mod Below
 pub mod Picking
 pub mod Taking

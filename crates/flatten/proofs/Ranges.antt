@@ -1,5 +1,5 @@
 -- Numbers in a row.
-use Rattle.std.proofs.Common.{◌≡◌, ℕ, zero, suc, ◌+◌, ◌-◌, ◌<◌, ◌≤◌, Option, Bool, true, false, List, [], ◌∷◌, ◌++◌, length, refl, ap, sym, ◌∙◌, add-one, arith, slice_get, ◌||◌}
+use Rattle.std.proofs.Common.{◌≡◌, ℕ, zero, suc, ◌+◌, ◌-◌, ◌<◌, ◌≤◌, Option, Bool, false, List, [], ◌∷◌, ◌++◌, refl, ap, sym, ◌∙◌, add-one, arith}
 use Rattle.std.specs.Prelude.{sum_by, filter_map, flat_map}
 use Rattle.std.specs.Option.{option_to_list}
 use Rattle.std.proofs.lemmas.Grind.{flat_map-append}
@@ -7,42 +7,11 @@ use Rattle.std.proofs.lemmas.List.{append-nil}
 use Rattle.std.proofs.lemmas.List.Concat.{flat_map-cons}
 use Rattle.spec_laws.proofs.Lists.{filter_map-push}
 use Rattle.std.specs.List.{list_any, range_with_len}
-use Rattle.std.specs.Option.{option_map_or}
-use Rattle.std.proofs.lemmas.List.Folds.{list_any-append}
-use Rattle.std.proofs.lemmas.List.Sums.{sum_by_push, sum_by-cons, sum_by-append}
-use Rattle.dag.proofs.Steps.{range_end, or_false}
+use Rattle.std.proofs.lemmas.List.Sums.{sum_by-cons, sum_by-append}
+use Rattle.dag.proofs.Steps.{range_end}
 
 pub range_more : (from count : ℕ) → range_with_len from (count + 1) ≡ range_with_len from count ++ (from + count) ∷ []
 range_more from count = ap (range_with_len from) (add-one count) ∙ range_end from count
-
--- a test of one number more
-pub any_more : (test : ℕ → Bool) (count : ℕ) → list_any test (range_with_len 0 (count + 1)) ≡ (list_any test (range_with_len 0 count) || test count)
-any_more test count =
-    let same : 0 + count ≡ count = omega arith in
-    ap (list_any test) (range_more 0 count) ∙ list_any-append test (range_with_len 0 count) ((0 + count) ∷ [])
-    ∙ ap (λ b. list_any test (range_with_len 0 count) || b) (or_false (test (0 + count)) ∙ ap test same)
-
--- a sum of one number more
-pub sum_more : (f : ℕ → ℕ) (count : ℕ) → sum_by f (range_with_len 0 (count + 1)) ≡ sum_by f (range_with_len 0 count) + f count
-sum_more f count =
-    let same : 0 + count ≡ count = omega arith in
-    ap (sum_by f) (range_more 0 count) ∙ sum_by_push f (range_with_len 0 count) (0 + count) ∙ ap (λ k. sum_by f (range_with_len 0 count) + f k) same
-
-pub or_assoc : (a b c : Bool) → ((a || b) || c) ≡ (a || (b || c))
-or_assoc true b c = refl
-or_assoc false b c = refl
-
-any_next : (test : ℕ → Bool) (from count : ℕ) → list_any test (range_with_len (from + 1) count) ≡ list_any (λ k. test (suc k)) (range_with_len from count)
-any_next test from zero = refl
-any_next test from (suc count) =
-    ap (λ k. test k || list_any test (range_with_len (from + 1 + 1) count)) (add-one from)
-    ∙ ap (λ b. test (suc from) || b) (any_next test (from + 1) count)
-
--- a test of the elements of a list by their places
-pub any_places : {X : Type 0} (test : X → Bool) (xs : List X) → list_any (λ k. option_map_or test (slice_get xs k) false) (range_with_len 0 (length xs)) ≡ list_any test xs
-any_places test [] = refl
-any_places test (x ∷ xs) =
-    ap (λ b. test x || b) (any_next (λ k. option_map_or test (slice_get (x ∷ xs) k) false) 0 (length xs) ∙ any_places test xs)
 
 pub any_none : {X : Type 0} (test : X → Bool) (xs : List X) → ((x : X) → test x ≡ false) → list_any test xs ≡ false
 any_none test [] fails = refl
@@ -105,3 +74,31 @@ sum_lists g f [] = refl
 sum_lists g f (x ∷ xs) =
     ap (sum_by g) (flat_map-cons f x xs) ∙ sum_by-append g (f x) (flat_map f xs) ∙ ap (λ k. sum_by g (f x) + k) (sum_lists g f xs)
     ∙ sym (sum_by-cons (λ y. sum_by g (f y)) x xs)
+
+-- a sum of nothing
+pub sum_zero : {X : Type 0} (f : X → ℕ) (xs : List X) → ((x : X) → f x ≡ 0) → sum_by f xs ≡ 0
+sum_zero f [] none = refl
+sum_zero f (x ∷ xs) none =
+    let here = none x in
+    let rest = sum_zero f xs none in
+    let nothing_more : 0 + sum_by f xs ≡ 0 = omega (arith, rest) in
+    sum_by-cons f x xs ∙ ap (λ k. k + sum_by f xs) here ∙ nothing_more
+
+pub sums_none : (f : ℕ → ℕ) (from count : ℕ) → ((r : ℕ) → from ≤ r → r < from + count → f r ≡ 0) → sum_by f (range_with_len from count) ≡ 0
+sums_none f from zero none = refl
+sums_none f from (suc count) none =
+    let rest = sums_none f (from + 1) count (λ r above below. none r (omega (arith, above)) (omega (arith, below))) in
+    let nothing_more : 0 + sum_by f (range_with_len (from + 1) count) ≡ 0 = omega (arith, rest) in
+    sum_by-cons f from (range_with_len (from + 1) count)
+    ∙ ap (λ k. k + sum_by f (range_with_len (from + 1) count)) (none from (omega arith) (omega arith))
+    ∙ nothing_more
+
+-- a sum of no more
+pub sum_less : {X : Type 0} (f g : X → ℕ) (xs : List X) → ((x : X) → f x ≤ g x) → sum_by f xs ≤ sum_by g xs
+sum_less f g [] less = omega arith
+sum_less f g (x ∷ xs) less =
+    let here = less x in
+    let rest = sum_less f g xs less in
+    let one = sum_by-cons f x xs in
+    let other = sum_by-cons g x xs in
+    omega (arith, here, rest, one, other)

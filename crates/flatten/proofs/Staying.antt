@@ -1,5 +1,5 @@
 -- What stays as it was where a certificate enters.
-use Rattle.std.proofs.Common.{◌≡◌, ℕ, ◌<◌, true, false, [], ◌∷◌, length, Option, Some, None, ◌⊎◌, inl, inr, refl, ap, sym, ◌∙◌, arith}
+use Rattle.std.proofs.Common.{◌≡◌, ℕ, ◌-◌, ◌<◌, true, false, [], ◌∷◌, length, Option, Some, None, ◌⊎◌, inl, inr, refl, ap, sym, ◌∙◌, arith}
 use Rattle.std.specs.Prelude.{IfSome, not, is_some, option_map, ◌==◌, ◌&&◌}
 use Rattle.std.specs.Option.{option_map_or, option_or}
 use Rattle.std.proofs.lemmas.Option.{none-some}
@@ -16,6 +16,7 @@ use Rattle.tusk.proofs.Adding.{is_new, extends}
 use Rattle.flatten.specs.Laws.{Enters}
 use Rattle.flatten.specs.Lengthening.{Made, FitsTo}
 use Rattle.flatten.specs.Segments.{leader_held}
+use Rattle.flatten.specs.Sets.{is_in}
 
 -- a slot holds a certificate
 abbrev IsHeld : Graph → ℕ × Author → Type 0
@@ -100,10 +101,12 @@ made_still before after certificate made enters above of =
     let leader = kept_slot before after certificate enters made.last of.held in
     let floor = enters.with.floor in
     let depth : after.charter.depth ≡ before.charter.depth = ap (λ (charter : Charter). charter.depth) enters.with.charter in
-    let low = of.low in
     record {
       held = ap (λ (o : Option Certificate). is_some o) leader ∙ of.held;
-      low = omega (arith, low, floor, depth);
-      unordered = λ r a c from to held. of.unordered r a c (omega (arith, from, floor, depth)) to (was_below before after certificate enters r a c (omega (arith, to, above)) held) ∙ ap not (sym (past c));
+      unordered = λ r a c from to held.
+          let was = was_below before after certificate enters r a c (omega (arith, to, above)) held in
+          ap (λ (o : Option Certificate). (is_some o && not (marked_in after r a)) && not (is_in made.ordered (made.last.0 - r) a)) (held ∙ sym was)
+          ∙ ap (λ b. (is_some (slots_in before r a) && not b) && not (is_in made.ordered (made.last.0 - r) a)) (enters.with.marked r a)
+          ∙ of.unordered r a c (omega (arith, from, floor, depth)) to was ∙ ap not (sym (past c));
       marked = λ r a c from held marked. let was = marked_was before after certificate enters r a c held marked in past c ∙ of.marked r a c (omega (arith, from, floor, depth)) was.0 was.1;
     }

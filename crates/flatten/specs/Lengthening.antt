@@ -6,21 +6,20 @@ use Rattle.spec_model.specs.Words.{Author, Certificate, Digest}
 use Rattle.dag.specs.Graph.{Graph, slots_in, marked_in}
 use Rattle.tusk.specs.Chain.{ledger_in}
 use Rattle.flatten.specs.Segments.{leader_held}
-use Rattle.flatten.specs.Sets.{lowest_in, AreUnordered}
+use Rattle.flatten.specs.Sets.{lowest_in, is_free, AreUnordered}
 
--- what is made of leaders: the digests of what they order, the slot of the last one, and of the rounds from a lower one on whose
--- certificates are unordered behind it, and how many references to parents were read
+-- what is made of leaders: the digests of what they order, the slot of the last one, of the rounds from its own downwards whose
+-- certificates they order, and how many references to parents were read
 pub record Made : Type 0 where
   pub digests : List Digest
   pub last : ℕ × Author
-  pub low : ℕ
-  pub unordered : List MemberSet
+  pub ordered : List MemberSet
   pub reads : ℕ
 
--- what was made of a DAG: its last leader, which is held, the certificates that this doesn't reach, of the rounds that it orders of, and that it reaches what is marked
+-- what was made of a DAG: its last leader, which is held; of the rounds that this orders of, exactly what it reaches is ordered or
+-- marked, and it reaches what is marked
 pub record FitsTo (graph : Graph) (made : Made) : Type 0 where
   pub held : is_some (slots_in graph made.last.0 made.last.1.0) ≡ true
-  pub low : made.low ≤ lowest_in graph made.last.0
-  pub unordered : AreUnordered graph (leader_held graph (Some made.last)) made.low (lowest_in graph made.last.0) made.last.0 made.unordered
+  pub unordered : AreUnordered graph (leader_held graph (Some made.last)) (lowest_in graph made.last.0) made.last.0 (is_free graph made.last.0 made.ordered)
   pub marked : (round author : ℕ) (c : Certificate) → lowest_in graph made.last.0 ≤ round → slots_in graph round author ≡ Some c → marked_in graph round author ≡ true
       → is_past (ledger_in graph []) (leader_held graph (Some made.last)) c ≡ true

@@ -1,12 +1,13 @@
 -- What leaders order over what a DAG holds.
 use Rattle.std.specs.Prelude.{◌≡◌, ℕ, ◌+◌, ◌-◌, ◌≤◌, ◌&&◌, nat_lt, not, cond, Bool, true, List, [], ◌∷◌, map, length, filter_map, sum_by, Option, Some, is_some, option_and_then}
 use Rattle.std.specs.Option.{option_map_or}
-use Rattle.spec_model.specs.Ordering.{is_past, rounds_to}
+use Rattle.spec_model.specs.Ordering.{is_past, is_ordered_by, rounds_to}
 use Rattle.spec_model.specs.Ordering as ordering
 use Rattle.spec_model.specs.Slots.{certificate_digest}
 use Rattle.spec_model.specs.Words.{Author, Certificate, Digest}
 use Rattle.dag.specs.Graph.{Graph, slots_in, marked_in, has_parent_in, reaches_in}
 use Rattle.tusk.specs.Chain.{ledger_in}
+use Rattle.flatten.specs.Sets.{lowest_in}
 
 -- what an optional slot holds
 abbrev pub leader_held : Graph → Option (ℕ × Author) → Option Certificate
@@ -34,6 +35,17 @@ abbrev pub references_in : Graph → Option Certificate → Certificate → ℕ
 references_in graph previous leader =
     sum_by (λ c. cond (is_new_to graph previous leader c) (length c.header.parents) 0) (rounds_to (ledger_in graph []) leader.header.round)
 
+-- a certificate's references are read for a leader: it orders the certificate, of a round above the lowest that it orders of
+abbrev pub is_read_for : Graph → Option Certificate → Certificate → Certificate → Bool
+is_read_for graph previous leader certificate =
+    is_ordered_by (ledger_in graph []) previous leader certificate && nat_lt (lowest_in graph leader.header.round) certificate.header.round
+
+-- how many references to parents are read for a leader: those of the certificates that it orders, but for the lowest round that it
+-- orders of, each once
+abbrev pub read_references_in : Graph → Option Certificate → Certificate → ℕ
+read_references_in graph previous leader =
+    sum_by (λ c. cond (is_read_for graph previous leader c) (length c.header.parents) 0) (rounds_to (ledger_in graph []) leader.header.round)
+
 -- a leader's history has a certificate above a round that isn't marked
 abbrev pub is_unmarked_past : Graph → ℕ → Option Certificate → Certificate → Bool
 is_unmarked_past graph low leader certificate =
@@ -58,6 +70,11 @@ leaders_in graph slots = filter_map (λ slot. slots_in graph slot.0 slot.1.0) sl
 abbrev pub references_by : Graph → Option Certificate → List Certificate → ℕ
 references_by graph previous [] = 0
 references_by graph previous (leader ∷ leaders) = references_in graph previous leader + references_by graph (Some leader) leaders
+
+-- how many of them are read for leaders
+abbrev pub read_references_by : Graph → Option Certificate → List Certificate → ℕ
+read_references_by graph previous [] = 0
+read_references_by graph previous (leader ∷ leaders) = read_references_in graph previous leader + read_references_by graph (Some leader) leaders
 
 -- leaders follow one on the other, the oldest first: each is held, and reaches the one before
 abbrev pub AreLinked : Graph → Option (ℕ × Author) → List (ℕ × Author) → Type 0

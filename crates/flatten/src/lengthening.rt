@@ -1,15 +1,15 @@
 //! What a commit of several leaders does.
 
-ghost use Rattle.std.specs.Prelude.{◌≡◌, ℕ, ◌-◌, ◌<◌, ◌≤◌, ◌||◌, ◌&&◌, nat_le, true, length, List, Option, Some, IfOk, slice_get};
+ghost use Rattle.std.specs.Prelude.{◌≡◌, ℕ, ◌-◌, ◌<◌, ◌≤◌, ◌^◌, ◌||◌, ◌&&◌, min, nat_le, true, length, List, Option, Some, IfOk, slice_get};
 ghost use Rattle.spec_model.specs.Ordering.{segments};
 ghost use Rattle.dag.specs.Graph.{slots_in, marked_in, reaches_in, end_in};
 ghost use Rattle.spec_model.specs.Words.{Author};
 ghost use Rattle.tusk.specs.Chain.{ledger_in};
 ghost use Rattle.flatten.specs.Lengthening.{FitsTo};
-ghost use Rattle.flatten.specs.Segments.{leader_held, references_by, digests_of, leaders_in, AreLinked, IsMarkedPast, IsMarkedFor};
+ghost use Rattle.flatten.specs.Segments.{leader_held, references_by, read_references_by, digests_of, leaders_in, AreLinked, IsMarkedPast, IsMarkedFor};
 
 use crate::segments::{lowest, order};
-use crate::sets::{round_of, set_at, unordered};
+use crate::sets::{round_of, set_at};
 use committee::MemberSet;
 use dag::Dag;
 use std::alloc::{AllocError, Global};
@@ -21,9 +21,8 @@ use wire::{Author, Digest, Round};
 pub struct Lengthening {
     digests: Vec<Digest>,
     last: (Round, Author),
-    // Of the rounds from this one on, whose certificates are unordered behind the last leader.
-    low: u64,
-    unordered: Vec<MemberSet>,
+    // Of the rounds from the last leader's downwards, whose certificates they order.
+    ordered: Vec<MemberSet>,
     // How many references to parents were read.
     reads: u64,
 }
@@ -33,8 +32,7 @@ impl Drop for Lengthening {
         let Lengthening {
             digests: _,
             last: _,
-            low: _,
-            unordered: _,
+            ordered: _,
             reads: _,
         } = self;
     }
@@ -45,7 +43,7 @@ impl Model for Lengthening {
 
     ghost Value = { Made };
 
-    ghost view = { λ m. record { digests = m.digests.items; last = m.last; low = m.low; unordered = m.unordered.items; reads = m.reads } };
+    ghost view = { λ m. record { digests = m.digests.items; last = m.last; ordered = m.ordered.items; reads = m.reads } };
 }
 
 impl Lengthening {
@@ -66,22 +64,22 @@ impl Lengthening {
         ensures of { IfOk result (λ made. (previous : Option (ℕ × Author)) → AreLinked dag.now previous chain.now → IsMarkedFor dag.now previous chain.now → FitsTo dag.now made) }
         ensures reads { IfOk result (λ made. (previous : Option (ℕ × Author)) → AreLinked dag.now previous chain.now → IsMarkedFor dag.now previous chain.now
             → made.reads ≤ references_by dag.now (leader_held dag.now previous) (leaders_in dag.now chain.now)) }
+        ensures exact { IfOk result (λ made. (previous : Option (ℕ × Author)) → AreLinked dag.now previous chain.now → IsMarkedFor dag.now previous chain.now
+            → made.reads ≡ min (read_references_by dag.now (leader_held dag.now previous) (leaders_in dag.now chain.now)) (2 ^ 64 - 1)) }
     {
         dag.limits_hold();
         let last = chain[chain.len() - 1];
-        let low = lowest(dag, chain[0].0);
-        let mut unordered = unordered(alloc, dag, low, last.0.number())?;
+        let mut ordered = Vec::new(alloc);
         let mut digests = Vec::new(alloc);
         let mut reads: u64 = 0;
         for place in 0..chain.len() {
-            let more = order(alloc, dag, chain[place], low, &mut unordered, &mut digests)?;
+            let more = order(alloc, dag, chain[place], last.0, &mut ordered, &mut digests)?;
             reads = reads.saturating_add(more);
         }
         Ok(Lengthening {
             digests,
             last,
-            low,
-            unordered,
+            ordered,
             reads,
         })
     }
@@ -100,7 +98,8 @@ impl Lengthening {
         self.last
     }
 
-    /// How many references to parents were read for it: those of certificates up to the base that a leader orders, each once.
+    /// How many references to parents were read for it: those of the certificates that a leader orders, each once, but for the
+    /// lowest round that it orders of. It is no more than a `u64` has.
     pub fn reads(&self) -> u64
         ensures { result ≡ self.now.reads }
     {
@@ -123,11 +122,9 @@ pub fn mark(dag: &mut Dag, made: &Lengthening)
 {
     dag.limits_hold();
     let (last, _) = made.last;
-    let first = lowest(dag, last).max(made.low);
-    for number in first..last.number() + 1 {
-        let round = round_of(number);
-        let mut authors = dag.unmarked_at(round);
-        authors.remove_all(&set_at(&made.unordered, (number - made.low) as usize));
-        dag.mark(round, &authors);
+    let top = last.number();
+    let rounds = (top + 1).saturating_sub(lowest(dag, last));
+    for place in 0..rounds.min(made.ordered.len() as u64) {
+        dag.mark(round_of(top - place), &set_at(&made.ordered, place as usize));
     }
 }

@@ -5,9 +5,9 @@ mod digests;
 mod facts;
 mod lengthening;
 mod orders;
-mod parents;
 mod segments;
 mod sets;
+mod walks;
 
 pub use facts::{each_follows, made_stays};
 pub use lengthening::{Lengthening, mark};

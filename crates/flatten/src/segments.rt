@@ -1,19 +1,18 @@
 //! What a leader orders.
 
-ghost use Rattle.std.specs.Prelude.{◌≡◌, ℕ, ◌+◌, ◌-◌, ◌<◌, ◌≤◌, ◌^◌, ◌++◌, ◌&&◌, List, [], length, sum_by, not, is_some, Some, None, Option, IfSome, IfOk, OnOk};
+ghost use Rattle.std.specs.Prelude.{◌≡◌, ℕ, ◌+◌, ◌-◌, ◌<◌, ◌≤◌, ◌++◌, ◌&&◌, List, [], sum_by, not, is_some, true, Some, None, Option, IfSome, IfOk, OnOk};
 ghost use Rattle.std.specs.List.{range_with_len};
-ghost use Rattle.flatten.specs.Sets.{is_in, lowest_in, parents_of, orders_in, is_past_in, AreUnordered, IsTakenFrom, Leads, HasAllOf};
+ghost use Rattle.flatten.specs.Sets.{lowest_in, is_free, orders_in, is_past_in, AreUnordered, IsTakenFrom, Leads, HasAllOf};
 ghost use Rattle.spec_model.specs.Ordering.{segment};
 ghost use Rattle.spec_model.specs.Words.{Author, Certificate};
-ghost use Rattle.dag.specs.Graph.{slots_in};
+ghost use Rattle.dag.specs.Graph.{slots_in, references_of};
 ghost use Rattle.tusk.specs.Chain.{ledger_in};
-ghost use Rattle.flatten.specs.Segments.{leader_held, references_in, unmarked_references_in, digests_of, IsMarkedPast, IsMarkedBefore};
+ghost use Rattle.flatten.specs.Segments.{leader_held, references_in, read_references_in, unmarked_references_in, digests_of, IsMarkedPast, IsMarkedBefore};
 
 use crate::digests::put_digests;
-use crate::orders::ordered;
-use crate::sets::{set_at, unordered};
+use crate::walks::walk;
 use committee::MemberSet;
-use dag::{Dag, Reads};
+use dag::Dag;
 use std::alloc::{AllocError, Global};
 use wire::{Author, Digest, Round};
 
@@ -27,68 +26,55 @@ pub(crate) fn lowest(dag: &Dag, round: Round) -> u64
         .max(round.number().saturating_sub(depth))
 }
 
-// Takes out of the sets of rounds, up to a place, what a leader orders of them, from the leader's round downwards.
-fn remove(unordered: &mut [MemberSet], top: usize, ordered: &[MemberSet])
-    requires { top < 2 ^ 63 }
-    ensures below { (place author : ℕ) → place ≤ top → is_in unordered.new place author ≡ (is_in unordered.old place author && not (is_in ordered.now (top - place) author)) }
-    ensures above { (place author : ℕ) → top < place → is_in unordered.new place author ≡ is_in unordered.old place author }
-{
-    for place in 0..(top + 1).min(unordered.len()) {
-        unordered[place].remove_all(&set_at(ordered, top - place));
-    }
-}
-
-/// Puts the digests of what a leader orders behind others, and takes it out of the unordered sets, which begin with a round
-/// no higher than the lowest that it orders of. Gives how many references to parents were read. A leader that isn't held
+/// Puts the digests of what a leader orders behind others, and the leader's sets into those of what was ordered so far, which
+/// go down from a round. Gives how many references to parents were read. A leader that isn't held, or lies above that round,
 /// orders nothing.
 pub(crate) fn order(
     alloc: Global,
     dag: &Dag,
     leader: (Round, Author),
-    low: u64,
-    unordered: &mut Vec<MemberSet>,
+    top: Round,
+    taken: &mut Vec<MemberSet>,
     digests: &mut Vec<Digest>,
 ) -> Result<u64, AllocError>
-    ensures digests { OnOk result ((previous : Option Certificate) (high : ℕ) (c : Certificate) → Leads dag.now previous leader low high unordered.old.items c
+    ensures digests { OnOk result ((previous : Option Certificate) (c : Certificate) → Leads dag.now previous leader top (is_free dag.now top taken.old.items) c
         → digests.new.items ≡ digests.old.items ++ digests_of (segment (ledger_in dag.now []) previous c)) }
-    ensures reads { IfOk result (λ reads. (previous : Option Certificate) (high : ℕ) (c : Certificate) → Leads dag.now previous leader low high unordered.old.items c → reads ≤ references_in dag.now previous c) }
-    ensures unordered { OnOk result ((previous : Option Certificate) (high : ℕ) (c : Certificate) → Leads dag.now previous leader low high unordered.old.items c → HasAllOf dag.now previous c
-        → AreUnordered dag.now (Some c) low (lowest_in dag.now leader.0) high unordered.new.items) }
+    ensures reads { IfOk result (λ reads. (previous : Option Certificate) (c : Certificate) → Leads dag.now previous leader top (is_free dag.now top taken.old.items) c
+        → reads ≡ read_references_in dag.now previous c) }
+    ensures unordered { OnOk result ((previous : Option Certificate) (c : Certificate) → Leads dag.now previous leader top (is_free dag.now top taken.old.items) c → HasAllOf dag.now previous c
+        → AreUnordered dag.now (Some c) (lowest_in dag.now leader.0) top (is_free dag.now top taken.new.items)) }
     ensures none { OnOk result (slots_in dag.now leader.0 leader.1.0 ≡ None → digests.new.items ≡ digests.old.items) }
     ensures none_read { IfOk result (λ reads. slots_in dag.now leader.0 leader.1.0 ≡ None → reads ≡ 0) }
     ensures most { IfOk result (λ reads. reads ≤ 1000000) }
 {
     dag.limits_hold();
     let (round, author) = leader;
-    let top = round.number();
-    let bottom = lowest(dag, round);
-    if bottom < low || dag.get(round, author).is_none() {
+    if top.number() < round.number() || dag.get(round, author).is_none() {
         return Ok(0);
     }
-    let count = top + 1 - bottom;
-    let mut reads = Reads::new();
-    let ordered = ordered(alloc, dag, round, author, count, low, unordered, &mut reads)?;
+    let bottom = lowest(dag, round);
+    let (ordered, reads) = walk(alloc, dag, leader, bottom, top, taken)?;
     put_digests(dag, round, &ordered, digests)?;
-    remove(unordered, (top - low) as usize, &ordered);
-    Ok(reads.number())
+    Ok(reads)
 }
 
-// Takes out of the unordered sets, which begin with a round, what the leader before reaches of them. Gives how many
-// references to parents were read. A leader that lies above the sets takes out nothing.
+// Puts into the sets of what was ordered so far, which go down from a round, what the leader before reaches of that and lower
+// rounds, down to one. Gives how many references to parents were read. A leader that lies above the sets puts in nothing.
 fn take_past(
     alloc: Global,
     dag: &Dag,
     previous: Option<(Round, Author)>,
     low: u64,
-    unordered: &mut Vec<MemberSet>,
+    top: Round,
+    taken: &mut Vec<MemberSet>,
 ) -> Result<u64, AllocError>
-    requires few { length unordered.old.items ≤ 1001 }
-    ensures sets { OnOk result ((high : ℕ) → IsTakenFrom dag.now previous low high unordered.old.items
-        → (place author : ℕ) → is_in unordered.new.items place author ≡ (is_in unordered.old.items place author && not (is_past_in dag.now previous (low + place) author))) }
-    ensures reads { IfOk result (λ reads. (high : ℕ) (before : ℕ × Author) → IsTakenFrom dag.now previous low high unordered.old.items → previous ≡ Some before
-        → reads ≤ sum_by (λ r. parents_of dag.now r (orders_in dag.now before.0 before.1.0 low unordered.old.items r)) (range_with_len (low + 1) (before.0 - low))) }
-    ensures same { OnOk result (IfSome previous (λ before. low + length unordered.old.items ≤ before.0) → unordered.new.items ≡ unordered.old.items) }
-    ensures none { IfOk result (λ reads. IfSome previous (λ before. low + length unordered.old.items ≤ before.0) → reads ≡ 0) }
+    requires { top ≤ low + 1000 }
+    ensures sets { OnOk result (IsTakenFrom dag.now previous low top (is_free dag.now top taken.old.items)
+        → (round author : ℕ) → low ≤ round → round ≤ top → is_free dag.now top taken.new.items round author ≡ (is_free dag.now top taken.old.items round author && not (is_past_in dag.now previous round author))) }
+    ensures reads { IfOk result (λ reads. (before : ℕ × Author) → IsTakenFrom dag.now previous low top (is_free dag.now top taken.old.items) → previous ≡ Some before → is_some (slots_in dag.now before.0 before.1.0) ≡ true
+        → reads ≡ sum_by (λ r. references_of dag.now r (orders_in dag.now before.0 before.1.0 (is_free dag.now top taken.old.items) r)) (range_with_len (low + 1) (before.0 - low))) }
+    ensures same { OnOk result (IfSome previous (λ before. top < before.0) → taken.new.items ≡ taken.old.items) }
+    ensures none { IfOk result (λ reads. IfSome previous (λ before. top < before.0) → reads ≡ 0) }
     ensures unheld { IfOk result (λ reads. leader_held dag.now previous ≡ None → reads ≡ 0) }
     ensures most { IfOk result (λ reads. reads ≤ 1000000) }
 {
@@ -97,23 +83,14 @@ fn take_past(
         return Ok(0);
     };
     let (round, author) = before;
-    let top = round.number();
-    if top < low || unordered.len() as u64 <= top - low || dag.get(round, author).is_none() {
+    if round.number() < low
+        || top.number() < round.number()
+        || dag.get(round, author).is_none()
+    {
         return Ok(0);
     }
-    let mut reads = Reads::new();
-    let past = ordered(
-        alloc,
-        dag,
-        round,
-        author,
-        top + 1 - low,
-        low,
-        unordered,
-        &mut reads,
-    )?;
-    remove(unordered, (top - low) as usize, &past);
-    Ok(reads.number())
+    let (_, reads) = walk(alloc, dag, before, low, top, taken)?;
+    Ok(reads)
 }
 
 /// What a leader orders, where the leader before it was that of another slot, or none: the digests of the certificates that
@@ -121,8 +98,10 @@ fn take_past(
 /// parents were read for it. A leader that isn't held orders nothing.
 ///
 /// What is marked the leader before reaches. Where it reaches more, as in a chain of leaders behind the last committed one,
-/// that is looked up too; `each_follows` says that what is asked of the marks holds for each leader of such a chain. From the
-/// base on sets say what a leader reaches; below it only unmarked certificates are looked at, which came late.
+/// that is looked up too; `each_follows` says that what is asked of the marks holds for each leader of such a chain. Each walk
+/// ends at the first round of which it reaches nobody who isn't marked. To read whom a certificate has as parents is to read
+/// all its references: that is done of each certificate that is ordered, but for those of the lowest round that a leader
+/// orders of.
 ///
 /// # Errors
 /// `AllocError` where a growth was refused.
@@ -136,11 +115,16 @@ pub fn segment_counted(
         → IsMarkedPast dag.now (leader.0 - dag.now.charter.depth) (leader_held dag.now previous) → ordered.0.items ≡ digests_of (segment (ledger_in dag.now coins) (leader_held dag.now previous) c)) }
     ensures reads { IfOk result (λ ordered. (c : Certificate) → slots_in dag.now leader.0 leader.1.0 ≡ Some c
         → IsMarkedPast dag.now (leader.0 - dag.now.charter.depth) (leader_held dag.now previous) → ordered.1 ≤ references_in dag.now (leader_held dag.now previous) c) }
+    ensures exact { IfOk result (λ ordered. (c : Certificate) → slots_in dag.now leader.0 leader.1.0 ≡ Some c
+        → IsMarkedPast dag.now (leader.0 - dag.now.charter.depth) (leader_held dag.now previous) → ordered.1 ≡ read_references_in dag.now (leader_held dag.now previous) c) }
     ensures chained { IfOk result (λ ordered. (c : Certificate) (coins : List ℕ) → slots_in dag.now leader.0 leader.1.0 ≡ Some c → HasAllOf dag.now (leader_held dag.now previous) c
         → IsMarkedBefore dag.now (leader.0 - dag.now.charter.depth) (leader_held dag.now previous) → ordered.0.items ≡ digests_of (segment (ledger_in dag.now coins) (leader_held dag.now previous) c)) }
     ensures chained_reads { IfOk result (λ ordered. (c : Certificate) → slots_in dag.now leader.0 leader.1.0 ≡ Some c → HasAllOf dag.now (leader_held dag.now previous) c
         → IsMarkedBefore dag.now (leader.0 - dag.now.charter.depth) (leader_held dag.now previous)
         → ordered.1 ≤ references_in dag.now (leader_held dag.now previous) c + unmarked_references_in dag.now (lowest_in dag.now leader.0) (leader_held dag.now previous)) }
+    ensures chained_exact { IfOk result (λ ordered. (c : Certificate) → slots_in dag.now leader.0 leader.1.0 ≡ Some c → HasAllOf dag.now (leader_held dag.now previous) c
+        → IsMarkedBefore dag.now (leader.0 - dag.now.charter.depth) (leader_held dag.now previous)
+        → ordered.1 ≡ read_references_in dag.now (leader_held dag.now previous) c + unmarked_references_in dag.now (lowest_in dag.now leader.0) (leader_held dag.now previous)) }
     ensures none { IfOk result (λ ordered. slots_in dag.now leader.0 leader.1.0 ≡ None → ordered.0.items ≡ []) }
     ensures none_read { IfOk result (λ ordered. slots_in dag.now leader.0 leader.1.0 ≡ None → ordered.1 ≡ 0) }
 {
@@ -151,10 +135,10 @@ pub fn segment_counted(
         return Ok((digests, 0));
     }
     let low = lowest(dag, round);
-    let mut unordered = unordered(alloc, dag, low, round.number())?;
-    let taken = take_past(alloc, dag, previous, low, &mut unordered)?;
-    let reads = order(alloc, dag, leader, low, &mut unordered, &mut digests)?;
-    Ok((digests, taken + reads))
+    let mut taken = Vec::new(alloc);
+    let past = take_past(alloc, dag, previous, low, round, &mut taken)?;
+    let reads = order(alloc, dag, leader, round, &mut taken, &mut digests)?;
+    Ok((digests, past + reads))
 }
 
 /// What a leader orders, as `segment_counted` has it.

@@ -1,12 +1,12 @@
 //! Sets of authors, a set a round.
 
-ghost use Rattle.std.specs.Prelude.{◌≡◌, ℕ, ◌+◌, ◌-◌, ◌<◌, ◌≤◌, length, IfOk};
+ghost use Rattle.std.specs.Prelude.{◌≡◌, ℕ, ◌+◌, ◌-◌, ◌<◌, ◌≤◌, ◌^◌, ◌&&◌, ◌||◌, nat_le, length, vec_len, OnOk};
 ghost use Rattle.committee.specs.Sets.{has};
-ghost use Rattle.flatten.specs.Sets.{is_in, is_unmarked_in};
+ghost use Rattle.flatten.specs.Sets.{is_in, is_free};
 
 use committee::MemberSet;
 use dag::Dag;
-use std::alloc::{AllocError, Global};
+use std::alloc::AllocError;
 use wire::Round;
 
 /// The round of a number.
@@ -30,20 +30,47 @@ pub(crate) fn set_at(sets: &[MemberSet], place: usize) -> MemberSet
     }
 }
 
-/// Of the rounds from one to another, whose certificates have no mark.
-pub(crate) fn unordered(
-    alloc: Global,
-    dag: &Dag,
-    low: u64,
-    high: u64,
-) -> Result<Vec<MemberSet>, AllocError>
-    requires { high ≤ Round.MAX }
-    ensures length { IfOk result (λ sets. length sets.items ≡ high + 1 - low) }
-    ensures sets { IfOk result (λ sets. (place author : ℕ) → place < length sets.items → is_in sets.items place author ≡ is_unmarked_in dag.now (low + place) author) }
+/// Of a round, whose certificates have no mark and aren't in the sets of what was ordered so far, which go down from a round.
+pub(crate) fn free_at(dag: &Dag, top: u64, taken: &[MemberSet], round: u64) -> MemberSet
+    requires { round ≤ Round.MAX }
+    ensures { (author : ℕ) → has result author ≡ is_free dag.now top taken.now round author }
 {
-    let mut sets = Vec::new(alloc);
-    for round in low..high + 1 {
-        sets.push(dag.unmarked_at(round_of(round)))?;
+    let mut free = dag.unmarked_at(round_of(round));
+    free.remove_all(&set_at(taken, top.saturating_sub(round) as usize));
+    free
+}
+
+// Makes sets of nobody, until there are so many.
+fn extend(sets: &mut Vec<MemberSet>, count: usize) -> Result<(), AllocError>
+    ensures same { OnOk result ((place author : ℕ) → is_in sets.new.items place author ≡ is_in sets.old.items place author) }
+    ensures long { OnOk result (count ≤ vec_len sets.new) }
+{
+    for _ in sets.len()..count {
+        sets.push(MemberSet::none())?;
     }
-    Ok(sets)
+    Ok(())
+}
+
+// Puts sets into those from a place on.
+fn unite(sets: &mut [MemberSet], first: usize, more: &[MemberSet])
+    requires { first + length more.now ≤ length sets.old }
+    ensures { (place author : ℕ) → is_in sets.new place author ≡ (is_in sets.old place author || (nat_le first place && is_in more.now (place - first) author)) }
+{
+    for i in 0..more.len() {
+        sets[first + i].unite(&more[i]);
+    }
+}
+
+/// Puts sets into those from a place on, of which there are as many afterwards as that takes.
+pub(crate) fn put(
+    sets: &mut Vec<MemberSet>,
+    first: usize,
+    more: &[MemberSet],
+) -> Result<(), AllocError>
+    requires { first + length more.now < 2 ^ 63 }
+    ensures { OnOk result ((place author : ℕ) → is_in sets.new.items place author ≡ (is_in sets.old.items place author || (nat_le first place && is_in more.now (place - first) author))) }
+{
+    extend(sets, first + more.len())?;
+    unite(sets, first, more);
+    Ok(())
 }

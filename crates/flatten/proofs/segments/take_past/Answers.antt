@@ -1,64 +1,53 @@
-use Rattle.std.proofs.Common.{◌≡◌, ℕ, ◌+◌, ◌-◌, ◌<◌, ◌≤◌, length, drop, true, false, ap, sym, ◌∙◌, subst, arith}
-use Rattle.std.specs.Prelude.{not, is_some, ◌&&◌}
-use Rattle.dag.specs.Graph.{slots_in, reaches_in}
-use Rattle.flatten.specs.Sets.{is_in, is_past_in, orders_in, AreClosed}
-use Rattle.flatten.proofs.Places.{whole}
-use Rattle.flatten.proofs.Taking.{some_copied, none_there, unheld_start, not_above, untaken, taken, never_reached}
-use Rattle.flatten.proofs.segments.take_past.Goals.{then-top-low-via-then-top-low, then-top-low-via-else-top-low+then-len-top, then-top-low-via-else-top-low+else-len-top+then-is_none}
+use Rattle.std.proofs.Common.{◌≡◌, ℕ, ◌+◌, ◌-◌, Bool, true, false, ap, sym, ◌∙◌, subst, arith}
+use Rattle.std.specs.Prelude.{not, is_some, ◌&&◌, sum_by}
+use Rattle.std.specs.List.{range_with_len}
+use Rattle.std.proofs.lemmas.Option.{same_Some}
+use Rattle.spec_model.specs.Words.{Author}
+use Rattle.dag.specs.Graph.{slots_in, reaches_in, references_of}
+use Rattle.dag.proofs.Walking.{none_from}
+use Rattle.flatten.specs.Sets.{is_free, is_past_in, orders_in, AreClosed, IsTakenFrom}
+use Rattle.flatten.proofs.Taking.{some_copied, none_there, not_above, untaken, never_reached}
+use Rattle.flatten.proofs.segments.take_past.Goals.{then-number-low-via-then-number-low, then-number-low-via-else-number-low+then-number, then-number-low-via-else-number-low+else-number+then-is_none}
 use Rattle.flatten.proofs.segments.take_past.Goals as goal
 
-pub returns-then-top-low-clause-sets : goal.returns-then-top-low-clause-sets
-returns-then-top-low-clause-sets c high from place author =
+pub returns-then-number-low-clause-sets : goal.returns-then-number-low-clause-sets
+returns-then-number-low-clause-sets c from round author above below =
     let graph = c.args.dag.now in
     let before = c.in-Some.before in
-    let inside = is_in c.args.unordered.now.items place author in
-    let never : reaches_in graph before.0 before.1.0 (c.args.low + place) author ≡ false =
-    elim c.then-top-low.branch [
-      | then-top-low-via-then-top-low w ↦
-          let under = w.if-top-low.true in
-          let top : c.number-top.result ≡ before.0 = c.number-top.ensures.value in
-          not_above graph c.limits_hold.ensures before.0 before.1.0 (c.args.low + place) author (omega (arith, under, top))
-      | then-top-low-via-else-top-low+then-len-top w ↦
-          let over = w.if-top-low.false in
-          let past = w.if-len-top.true in
-          let len = w.len.ensures in
-          let top : c.number-top.result ≡ before.0 = c.number-top.ensures.value in
-          let above = from.whole in
-          never_reached graph before high (from.within before c.in-Some.is) (omega (arith, over, past, len, top, above)) (c.args.low + place) author
-      | then-top-low-via-else-top-low+else-len-top+then-is_none w ↦
+    let inside = is_free graph c.args.top c.args.taken.now.items round author in
+    let never : reaches_in graph before.0 before.1.0 round author ≡ false =
+    elim c.then-number-low.branch [
+      | then-number-low-via-then-number-low w ↦
+          not_above graph c.limits_hold.ensures before.0 before.1.0 round author (omega (arith, w.if-number-low.true, c.number.ensures.value, above))
+      | then-number-low-via-else-number-low+then-number w ↦
+          never_reached graph before c.args.top (from.within before c.in-Some.is) (omega (arith, w.if-number.true, w.number-else-number-low.ensures.value, w.number-else-number-low-2.ensures.value)) round author
+      | then-number-low-via-else-number-low+else-number+then-is_none w ↦
           let none : is_some (slots_in graph before.0 before.1.0) ≡ false = ap is_some (sym w.get.ensures) ∙ some_copied w.get.result ∙ w.is_none.ensures ∙ ap not w.if-is_none.true in
-          unheld_start graph before.0 before.1.0 (c.args.low + place) author (none_there (slots_in graph before.0 before.1.0) none)
+          none_from graph before.0 before.1.0 round author (none_there (slots_in graph before.0 before.1.0) none)
     ] in
-    untaken graph before (c.args.low + place) author inside never
-    ∙ ap (λ p. inside && not (is_past_in graph p (c.args.low + place) author)) (sym c.in-Some.is)
+    untaken graph before round author inside never
+    ∙ ap (λ p. inside && not (is_past_in graph p round author)) (sym c.in-Some.is)
 
-pub returns-clause-sets : goal.returns-clause-sets
-returns-clause-sets c high from place author =
+-- who is free is closed in the rounds that are walked
+closed : (c : goal.After-drop-branch) → IsTakenFrom c.args.dag.now c.args.previous c.args.low c.args.top (is_free c.args.dag.now c.args.top c.args.taken.now.items)
+    → AreClosed c.args.dag.now c.args.low c.in-Some.before.0 (is_free c.args.dag.now c.args.top c.args.taken.now.items)
+closed c from r a other bottom less inside has =
     let graph = c.args.dag.now in
     let before = c.in-Some.before in
-    let low = c.args.low in
-    let sets = c.args.unordered.now.items in
-    let past = c.in_ok-past.past.items in
-    let new = c.remove.new.unordered in
-    let top : c.number-top.result ≡ before.0 = c.number-top.ensures.value in
-    let above_low = c.if-top-low.false in
-    let count : c.number-top.result + 1 - low ≡ before.0 + 1 - low = ap (λ t. t + 1 - low) top in
     let held : is_some (slots_in graph before.0 before.1.0) ≡ true = ap is_some (sym c.get.ensures) ∙ some_copied c.get.result ∙ c.if-is_none.ensures in
     let within = from.within before c.in-Some.is held in
-    let closed : AreClosed graph low (before.0 + 1 - (c.number-top.result + 1 - low)) before.0 c.deref.result.now =
-    subst (λ l. AreClosed graph low (before.0 + 1 - (c.number-top.result + 1 - low)) before.0 l) (sym c.deref.ensures.value)
-    (λ r a other bottom less inside has. from.closed r a other (omega (arith, bottom, count, above_low, top)) (omega (arith, less, within)) inside has) in
-    let all : (k other : ℕ) → k < length past → is_in past k other ≡ orders_in graph before.0 before.1.0 low sets (before.0 - k) other =
-    λ k other less. c.in_ok-past.ensures.sets closed k other (omega (arith, less, c.in_ok-past.ensures.length))
-    ∙ ap (λ l. orders_in graph before.0 before.1.0 low l (before.0 - k) other) c.deref.ensures.value in
-    let below : (k other : ℕ) → k ≤ before.0 - low → is_in new k other ≡ (is_in sets k other && not (is_in past ((before.0 - low) - k) other)) =
-    λ k other less. c.remove.ensures.below k other (omega (arith, less, top))
-    ∙ ap (λ l. is_in l k other && not (is_in c.deref-2.result.now ((c.number-top.result - low) - k) other)) c.deref_mut.ensures.value
-    ∙ ap (λ l. is_in sets k other && not (is_in l ((c.number-top.result - low) - k) other)) c.deref-2.ensures.value
-    ∙ ap (λ t. is_in sets k other && not (is_in past ((t - low) - k) other)) top in
-    let above : (k other : ℕ) → before.0 - low < k → is_in new k other ≡ is_in sets k other =
-    λ k other over. c.remove.ensures.above k other (omega (arith, over, top)) ∙ ap (λ l. is_in l k other) c.deref_mut.ensures.value in
-    let written = whole new (drop (length new) sets) c.args.unordered.now.len (omega (arith, c.remove.auto.unordered, c.deref_mut.ensures.len)) in
-    ap (λ l. is_in l place author) written
-    ∙ taken graph c.limits_hold.ensures before low sets past new (omega (arith, above_low, top)) (c.in_ok-past.ensures.length ∙ count) all below above place author
-    ∙ ap (λ p. is_in sets place author && not (is_past_in graph p (low + place) author)) (sym c.in-Some.is)
+    from.closed r a other bottom (omega (arith, less, within)) inside has
+
+pub returns-clause-sets : goal.returns-clause-sets
+returns-clause-sets c from round author above below =
+    let graph = c.args.dag.now in
+    let inside = is_free graph c.args.top c.args.taken.now.items round author in
+    c.in_ok-reads.ensures.taken (closed c from) round author above below
+    ∙ ap (λ p. inside && not (is_past_in graph p round author)) (sym c.in-Some.is)
+
+pub returns-clause-reads : goal.returns-clause-reads
+returns-clause-reads c before from same some =
+    let graph = c.args.dag.now in
+    let free : ℕ → ℕ → Bool = is_free graph c.args.top c.args.taken.now.items in
+    subst (λ (b : ℕ × Author). c.in_ok-reads.reads ≡ sum_by (λ r. references_of graph r (orders_in graph b.0 b.1.0 free r)) (range_with_len (c.args.low + 1) (b.0 - c.args.low)))
+    (same_Some c.in-Some.before before (sym c.in-Some.is ∙ same)) (c.in_ok-reads.ensures.reads (closed c from))
