@@ -147,7 +147,7 @@ parents_kept charter floor base rows kept round author parent =
                 let under : round ≤ floor = grind (arith, low) in
                 absurd (omega (arith, child.0, at.0, above, below, under))
           ]
-        )
+          )
       | inl high ↦
           elim (given_or_none (entry_at floor rows round author)) [
             | inl e ↦

@@ -134,7 +134,11 @@ pub(crate) fn authors_of(
 {
     let mut authors = MemberSet::none();
     for parent in parents {
-        add_kept(entry(rows, floor, below, parent.author), parent, &mut authors);
+        add_kept(
+            entry(rows, floor, below, parent.author),
+            parent,
+            &mut authors,
+        );
     }
     authors
 }
@@ -152,12 +156,7 @@ pub(crate) fn are_there(
 }
 
 /// The authors of the parents of what is kept of a round and author. At the floor, below which nothing is held, it has none.
-pub(crate) fn parents(
-    rows: &VecDeque<Row>,
-    floor: Round,
-    round: u64,
-    author: Author,
-) -> MemberSet
+pub(crate) fn parents(rows: &VecDeque<Row>, floor: Round, round: u64, author: Author) -> MemberSet
     ensures { (parent : ℕ) → has result parent ≡ (nat_lt floor round && option_map_or (λ entry. has entry.parents parent) (row_at floor rows.now.items round author.0) false) }
 {
     if round <= floor.number() {

@@ -125,6 +125,9 @@ pub fn mark(dag: &mut Dag, made: &Lengthening)
     let top = last.number();
     let rounds = (top + 1).saturating_sub(lowest(dag, last));
     for place in 0..rounds.min(made.ordered.len() as u64) {
-        dag.mark(round_of(top - place), &set_at(&made.ordered, place as usize));
+        dag.mark(
+            round_of(top - place),
+            &set_at(&made.ordered, place as usize),
+        );
     }
 }

@@ -83,10 +83,7 @@ fn take_past(
         return Ok(0);
     };
     let (round, author) = before;
-    if round.number() < low
-        || top.number() < round.number()
-        || dag.get(round, author).is_none()
-    {
+    if round.number() < low || top.number() < round.number() || dag.get(round, author).is_none() {
         return Ok(0);
     }
     let (_, reads) = walk(alloc, dag, before, low, top, taken)?;

@@ -37,12 +37,12 @@ loop-past-preserved c =
           record {
             above = omega (arith, w.round-is, w.in-Some.ensures.round, is);
             reached = λ member. (
-              let level : slot.0 ≡ 2 * next + 1 = omega (arith, w.in-Some.ensures.round, is) in
-              ap (λ s. has s member) w.reached-is ∙ w.reached-reached-then-contains.ensures member
-              ∙ ap (λ (r : ℕ). reaches_in graph slot.0 slot.1.0 r member) level
-              ∙ ap (λ (r : ℕ). reaches_in graph r slot.1.0 (2 * next + 1) member) (sym w.round-is)
-              ∙ ap (λ (a : Author). reaches_in graph c.match-leader.round a.0 (2 * next + 1) member) (sym w.author-is)
-            );
+                let level : slot.0 ≡ 2 * next + 1 = omega (arith, w.in-Some.ensures.round, is) in
+                ap (λ s. has s member) w.reached-is ∙ w.reached-reached-then-contains.ensures member
+                ∙ ap (λ (r : ℕ). reaches_in graph slot.0 slot.1.0 r member) level
+                ∙ ap (λ (r : ℕ). reaches_in graph r slot.1.0 (2 * next + 1) member) (sym w.round-is)
+                ∙ ap (λ (a : Author). reaches_in graph c.match-leader.round a.0 (2 * next + 1) member) (sym w.author-is)
+                );
             held = λ _. ap (λ (r : ℕ). is_some (slots_in graph r c.match-leader.author.0)) w.round-is ∙ ap (λ (a : Author). is_some (slots_in graph slot.0 a.0)) w.author-is ∙ ap is_some led.held;
             all = ap (λ (r : ℕ). newer_slots ledger last next r c.match-leader.author.0 ++ reverse c.match-leader.chain.items) w.round-is
                 ∙ ap (λ (a : Author). newer_slots ledger last next slot.0 a.0 ++ reverse c.match-leader.chain.items) w.author-is
