@@ -40,6 +40,12 @@ class Played:
         self.ordered = []
         self.words, self.lines = [], []
         self.commits = self.longest = self.late = 0
+        self.counts = False
+
+    def count(self):
+        """From now on it is told with each commit what is read for its leaders."""
+        self.words.append('counts')
+        self.counts = True
 
     def slot(self, certificate):
         return '%d.%d' % (certificate.round, certificate.author)
@@ -63,16 +69,23 @@ class Played:
         self.commits += 1
         self.longest = max(self.longest, len(new))
         self.lines.append(' '.join(['chain'] + [self.slot(leader) for leader in new]))
-        previous = node.past(chain_before[-1]) if chain_before else {}
+        marked = previous = node.past(chain_before[-1]) if chain_before else {}
+        reads = []
         for leader in new:
             past = node.past(leader)
             segment = [past[slot] for slot in sorted(past)
                        if slot[0] >= 1 and slot not in previous and slot[0] + node.depth >= leader.round]
             last = max([round_ for round_, _ in previous], default=0)
             self.late += sum(1 for c in segment if c.round < last)
+            low = max(0, leader.round - node.depth)
+            read = sum(len(c.parents) for c in segment if c.round > low)
+            again = sum(len(c.parents) for slot, c in previous.items() if slot not in marked and slot[0] > low)
+            reads.append('%d.%d' % (read, read + again))
             if self.segments:
                 self.lines.append(' '.join(['orders'] + [self.slot(c) for c in segment]))
             previous = past
+        if self.counts:
+            self.lines.append(' '.join(['reads'] + reads))
         self.lines.append('top %d floor %d' % (node.top(), node.floor()))
 
     def add(self, round_, author, parents):
@@ -139,12 +152,14 @@ def at_once():
     played.case('a coin commits a leader that all support')
 
 
-def reached_leader():
-    played = Played(50, EQUAL)
+def reached_leader(depth=50, counts=False):
+    played = Played(depth, EQUAL)
+    if counts:
+        played.count()
     one_supporter(played, [1, 2, 3])
     rows(played, [4, 5], [0, 1, 2], [0, 1, 2])
     played.coin(0)
-    played.case('a leader with one supporter is reached by the next, and committed with it')
+    played.case('a leader with one supporter is reached by the next, and committed with it' + (', depth %d, and what is read' % depth if counts else ''))
 
 
 def skipped_leader():
@@ -242,19 +257,22 @@ class Drawn(Played):
             self.add(round_, author, parents)
 
 
-def drawn(start, depth, stakes, events):
+def drawn(start, depth, stakes, events, counts=False):
     played = Drawn(start, depth, stakes)
+    if counts:
+        played.count()
     while len(played.words) < events:
         played.draw()
     words = 'depth %d, %d members' % (depth, len(stakes))
-    played.case('%d random certificates and coins, %s, stakes %s, start value %d' % (events, words, ' '.join(map(str, stakes)), start))
+    played.case('%d random certificates and coins, %s, stakes %s, start value %d%s' % (events, words, ' '.join(map(str, stakes)), start, ', and what is read' if counts else ''))
 
 
 print("""# crates: dag tusk flatten
 # committee: the stakes of its members, and behind a line what its file has beside them; quorum: its quorum. Each other command
 # begins with a table of its own.
 # play: certificates (the round, the author and the authors of the parents) and coins in the order in which they come to a node;
-# leaders: those of the waves from the floor on. These cases are written by oracles/orders.py --segments.""")
+# leaders: those of the waves from the floor on. counts: from here on it is told of each leader that is committed how many references
+# are read for it, and how many where it is asked alone behind the one before. These cases are written by oracles/orders.py --segments.""")
 at_once()
 late_supporter()
 reached_leader()
@@ -266,3 +284,7 @@ drawn(2, 3, EQUAL, 300)
 drawn(3, 50, EQUAL, 300)
 drawn(4, 3, [4, 1, 2, 3, 1, 2, 5], 300)
 drawn(5, 2, [3, 1, 1, 1], 300)
+reached_leader(50, True)
+reached_leader(2, True)
+drawn(2, 3, EQUAL, 300, True)
+drawn(4, 3, [4, 1, 2, 3, 1, 2, 5], 300, True)

@@ -1,6 +1,6 @@
 //! What is seen of a DAG.
 
-use crate::parts::words::{Told, author_of, list, round_of, whether, write_set};
+use crate::parts::words::{Told, author_of, list, round_of, set_of, whether, write_set};
 use dag::{Dag, Reads, answers_as_admission, reach_stays, reach_stays_above};
 use wire::{Author, Round};
 
@@ -13,6 +13,7 @@ pub fn look(
     answer: &mut String,
 ) -> Told {
     match (name, numbers) {
+        ("step", [round, authors @ ..]) => step(dag, reads, round_of(*round), authors, answer),
         (_, []) => own_look(dag, name, answer),
         (_, [round]) => round_look(dag, name, round_of(*round), answer),
         (_, [round, author]) => {
@@ -21,6 +22,10 @@ pub fn look(
         ("reached", [round, author, below]) => {
             let below = round_of(*below);
             reached(dag, round_of(*round), author_of(*author), below, answer)
+        }
+        ("walk", [round, author, below]) => {
+            let below = round_of(*below);
+            walk(dag, round_of(*round), author_of(*author), below, answer)
         }
         ("parent", [round, author, place]) => parent(dag, reads, *round, *author, *place, answer),
         _ => answer.push_str("bad word\n"),
@@ -65,6 +70,8 @@ fn slot_look(dag: &Dag, name: &str, round: Round, author: Author, answer: &mut S
         "marked" => whether(name, dag.is_marked(round, author), answer),
         "supporters" => supporters(dag, round, author, answer),
         "parents" => parents(dag, round, author, answer),
+        "backers" => write_set(answer, name, &dag.supporters(round, author)),
+        "named" => write_set(answer, name, &dag.parents(round, author)),
         _ => answer.push_str("bad word\n"),
     }
 }
@@ -91,6 +98,28 @@ fn reached(dag: &Dag, round: Round, author: Author, below: Round, answer: &mut S
         return answer.push_str("not lower\n");
     }
     write_set(answer, "reached", &dag.reached(round, author, below))
+}
+
+fn walk(dag: &Dag, round: Round, author: Author, below: Round, answer: &mut String) -> Told {
+    if round.number() < below.number() {
+        return answer.push_str("not so high\n");
+    }
+    write_set(answer, "walk", &dag.reached(round, author, below))
+}
+
+fn step(
+    dag: &Dag,
+    reads: &mut Reads,
+    round: Round,
+    authors: &[u64],
+    answer: &mut String,
+) -> Told {
+    if reads.number() >= 1000 {
+        return answer.push_str("too many\n");
+    }
+    let parents = dag.parents_of(round, &set_of(authors), reads);
+    write_set(answer, "step", &parents)?;
+    list("reads", &[reads.number()], answer)
 }
 
 fn parent(

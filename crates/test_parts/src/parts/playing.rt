@@ -7,7 +7,7 @@ use crate::parts::certificates::{certificate_of, digest_of};
 use crate::parts::words::{Told, list, numbers_in, parted, round_of, write_slot};
 use committee::Committee;
 use dag::{Added, Dag};
-use flatten::{Lengthening, mark, segment};
+use flatten::{Lengthening, mark, segment, segment_counted};
 use std::alloc::{AllocError, Global};
 use tusk::Coins;
 use wire::{Author, Certificate, Digest, Round};
@@ -21,6 +21,8 @@ struct Playing<'a> {
     coins: Coins,
     last: Option<u64>,
     previous: Option<(Round, Author)>,
+    // Whether it is told what is read for leaders.
+    counts: bool,
 }
 
 /// Plays these words from the genesis on, and tells what each answers.
@@ -32,6 +34,7 @@ pub fn play_words(alloc: Global, committee: &Committee, words: &str, answer: &mu
         coins: Coins::new(alloc),
         last: None,
         previous: None,
+        counts: false,
     };
     for word in words.split_whitespace() {
         playing.play(word, answer)?;
@@ -45,6 +48,10 @@ impl<'a> Playing<'a> {
         let numbers = numbers_in(self.alloc, rest)?;
         match name {
             "leaders" => self.tell_leaders(answer),
+            "counts" => {
+                self.counts = true;
+                Ok(())
+            }
             _ => self.change(name, &numbers, answer),
         }
     }
@@ -123,6 +130,7 @@ impl<'a> Playing<'a> {
             Some(last) => {
                 tell_chain(chain, answer)?;
                 self.tell_orders(made, answer)?;
+                self.tell_reads(chain, made, answer)?;
                 self.take(last.0, made.last());
                 self.tell_top(answer)
             }
@@ -201,6 +209,29 @@ impl<'a> Playing<'a> {
             told = digests.len();
         }
         Ok(())
+    }
+
+    // How many references are read for each leader: by what its beginning has behind that of the one before, and where it is
+    // asked alone behind that one.
+    fn tell_reads(
+        &self,
+        chain: &[(Round, Author)],
+        made: &[Lengthening],
+        answer: &mut String,
+    ) -> Told {
+        if !self.counts {
+            return Ok(());
+        }
+        answer.push_str("reads")?;
+        let mut previous = self.previous;
+        let mut told = 0;
+        for (leader, one) in chain.iter().zip(made) {
+            let (_, alone) = segment_counted(self.alloc, &self.dag, *leader, previous)?;
+            write!(answer, " {}.{alone}", one.reads().saturating_sub(told))?;
+            previous = Some(*leader);
+            told = one.reads();
+        }
+        answer.push_str("\n")
     }
 
     // The slot of a certificate of this digest.
