@@ -148,8 +148,8 @@ run_there world next group count none is began accepted settled idle =
     })
 
 module _ {S : Type 0} (node : Node) (moves : List Move) (world : World) (before later : Shown S) (sound : IsNode node) (run : IsRun node moves world) (is_of : IsOf node world before) (none : world.groups ≡ []) where
-  flushes : (old new : List ℕ) (count : ℕ) → content_in world ≡ old → Flushes node before later old new count → FlushesThere node world (length world.settled + count) new later
-  flushes old new count file flush =
+  flushes : (old new : List ℕ) (count : ℕ) → Flushes node before later old new count → FlushesThere node world (length world.settled + count) old new later
+  flushes old new count flush =
       let all : taken_in world ≡ world.settled = ap (λ (l : List History). world.settled ++ events_of l) none ∙ append-nil world.settled in
       let number : length (taken_in world) + length flush.group ≡ length world.settled + count = omega (arith, ap length all, flush.counts) in
       let records : flush.group ≡ map record_of (group_to world (length world.settled + count)) =
@@ -167,7 +167,7 @@ module _ {S : Type 0} (node : Node) (moves : List Move) (world : World) (before 
           stands = subst (λ (r : Run). Stands node r later) runs (flush.stands (run_of world) is_of.stands);
           waits = subst (λ (l : List Waiting). All (Contains l) later.queue) (sym settled.waiting) (subst (All (Contains world.waiting)) (sym queue) is_of.waits);
         };
-        content = settled.content ∙ (λ i. file_with (file i) (sym records i)) ∙ sym flush.written;
+        content = λ file. settled.content ∙ (λ i. file_with (file i) (sym records i)) ∙ sym flush.written;
       }
 
 -- where it goes down, the group stays taken
@@ -219,7 +219,7 @@ pub release_is_a_step : (S : Type 0) → ReleaseIsAStep S
 release_is_a_step S node world before later output is_of is later_is stands = releases node world before later is_of output is later_is stands
 
 pub flush_is_steps : (S : Type 0) → FlushIsSteps S
-flush_is_steps S node moves world before later old new count sound run is_of none file flush = flushes node moves world before later sound run is_of none old new count file flush
+flush_is_steps S node moves world before later old new count sound run is_of none flush = flushes node moves world before later sound run is_of none old new count flush
 
 pub fail_is_a_step : (S : Type 0) → FailIsAStep S
 fail_is_a_step S node world before later is_of down = fails node world before later is_of down

@@ -54,17 +54,18 @@ ReleaseIsAStep S = (node : Node) (world : World) (before later : Shown S) (outpu
     → later ≡ record before { queue = drop 1 before.queue } → Stands node (run_of world) later
     → (ticket : ℕ) × Moves node world (release (record { ticket = ticket; output = output })) later
 
--- a round of one owner that settled a group: it is taken, the four device calls are made, which leave these bytes, and it is settled
-pub record FlushesThere {S : Type 0} (node : Node) (world : World) (count : ℕ) (bytes : List ℕ) (later : Shown S) : Type 0 where
+-- a round of one owner that settled a group: it is taken, the four device calls are made, and it is settled. A disk that had these bytes
+-- before then has those
+pub record FlushesThere {S : Type 0} (node : Node) (world : World) (count : ℕ) (old new : List ℕ) (later : Shown S) : Type 0 where
   pub next : World
   pub leads : Leads node world (take_to count ∷ device_call ∷ device_call ∷ device_call ∷ device_call ∷ settle ∷ []) next
   pub settled : IsSettledTo node world count next
   pub is_of : IsOf node next later
-  pub content : content_in next ≡ bytes
+  pub content : content_in world ≡ old → content_in next ≡ new
 
 abbrev pub FlushIsSteps : Type 0 → Type 0
 FlushIsSteps S = (node : Node) (moves : List Move) (world : World) (before later : Shown S) (old new : List ℕ) (count : ℕ) → IsNode node → IsRun node moves world → IsOf node world before
-    → world.groups ≡ [] → content_in world ≡ old → Flushes node before later old new count → FlushesThere node world (length world.settled + count) new later
+    → world.groups ≡ [] → Flushes node before later old new count → FlushesThere node world (length world.settled + count) old new later
 
 -- a round that took the book down: the group is taken, and stays on its way; the device calls that were made before the failure come
 -- behind that

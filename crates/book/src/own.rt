@@ -135,6 +135,8 @@ impl<'a, S: Sign> OwnBook<'a, S> {
     pub fn release(&mut self) -> Option<Output>
         ensures output { result ≡ releasable self.old }
         ensures queue { self.new ≡ (if is_some result then record self.old { queue = drop 1 self.old.queue } else self.old) }
+        ensures stands { (run : Run) → Stands (node_of S.own_key S.signature_of self.old.validator.setting) run self.old
+            → Stands (node_of S.own_key S.signature_of self.old.validator.setting) run self.new }
         ensures goes_out { IfSome result (λ output. (run : Run) → Stands (node_of S.own_key S.signature_of self.old.validator.setting) run self.old
             → GoesOutSettled (node_of S.own_key S.signature_of self.old.validator.setting) run output) }
         ensures way { (groups : List (List (List ℕ))) → AreOnTheWay (node_of S.own_key S.signature_of self.old.validator.setting) self.old groups

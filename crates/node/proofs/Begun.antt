@@ -11,8 +11,8 @@ use Rattle.admission.specs.declared.tables.Tables.{Tables}
 use Rattle.validator.specs.Setting.{Setting, node_of}
 use Rattle.validator.specs.Standing.{AreAtSound}
 use Rattle.spec_world.specs.World.{Holds}
-use Rattle.recovery.specs.Laws.{HoldsAt}
-use Rattle.recovery.specs.Told.{told}
+use Rattle.opening.specs.Laws.{HoldsAt}
+use Rattle.opening.specs.Told.{told}
 
 -- what was read, or nothing
 abbrev pub read_or_none : {E : Type 0} → Result History E → History

@@ -12,7 +12,7 @@ ghost use Rattle.spec_model.specs.Giving.{kept};
 ghost use Rattle.spec_world.specs.World.{Holds};
 ghost use Rattle.validator.specs.Setting.{node_of};
 ghost use Rattle.validator.specs.Standing.{AreAtSound};
-ghost use Rattle.recovery.specs.Told.{told, Tells, IsToldAsOneOf, KeepsRecords};
+ghost use Rattle.opening.specs.Told.{told, Tells, IsToldAsOneOf, KeepsRecords};
 ghost use Rattle.node_shared.specs.Home.{IsOf};
 ghost use Rattle.flusher.specs.Rounds.{journal_of, is_down, settled_in, taken_in, IsFlusherOf};
 
@@ -22,7 +22,7 @@ pub use flusher::{FlushError, Flusher};
 use journal::{Failed, Journal, JournalError};
 use node_shared::Start;
 pub use node_shared::{Node, Receipt, Refusal, Seat};
-use recovery::reopen;
+use opening::reopen;
 pub use rounds::Rounds;
 use sigface::Sign;
 use std::alloc::Global;

@@ -7,7 +7,7 @@ use Rattle.wire.specs.declared.keys.Key.{Key}
 use Rattle.validator.specs.Setting.{Setting, node_of}
 use Rattle.validator.specs.Standing.{Standing}
 use Rattle.book.specs.OnTheWay.{StandsAtLegal}
-use Rattle.recovery.specs.Told.{StandsAt}
+use Rattle.opening.specs.Told.{StandsAt}
 
 pub legal_at : {S E : Type 0} (own_key : S → Key) (signature_of : S → Digest → Signature) (config : Setting S) (validator : Standing S) (read : Result History E) → validator.setting ≡ config
     → StandsAt (node_of own_key signature_of config) read validator.tables → StandsAtLegal (node_of own_key signature_of validator.setting) validator.tables

@@ -11,7 +11,7 @@ use crate::task::{Step, Task};
 use book::OwnBook;
 use diskmodel::{Disk, MemDisk};
 use journal::{CLOSED, Group, Journal};
-use recovery::reopen;
+use opening::reopen;
 use sigface::{HashSign, Sign};
 use std::alloc::{AllocError, Global};
 use validator::Config;

@@ -12,7 +12,7 @@ use Rattle.spec_world.specs.Text as script
 use Rattle.book.specs.Book.{Shown}
 use Rattle.committee.specs.Charter.{Charter}
 use Rattle.recovery.specs.Script.{said, script_of, Passes, IsOf, IsOpenedOf, HasRun, Breaks, IsCutShort}
-use Rattle.recovery.specs.Told.{told}
+use Rattle.opening.specs.Told.{told}
 use Rattle.recovery.specs.Writing.{AppendsPart}
 use Rattle.recovery.specs.declared.driving.Command.{Command}
 use Rattle.recovery.specs.declared.driving.DriveError.{DriveError}

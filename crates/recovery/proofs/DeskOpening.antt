@@ -1,26 +1,20 @@
 -- A book and a journal behind an opening.
-use Rattle.std.proofs.Common.{◌≡◌, ◌≢◌, ℕ, ◌≤◌, false, inl, inr, List, [], Result, Ok, refl, sym, ap, ◌∙◌, subst, append-nil}
-use Rattle.diskmodel.specs.Disk.{AtEachMoment}
-use Rattle.journal.specs.Format.{stands}
-use Rattle.journal.specs.Journal.{disk_of, IsAlive}
+use Rattle.std.proofs.Common.{◌≡◌, ℕ, inl, inr, List, Result, Ok, refl, sym, ap, ◌∙◌, subst}
 use Rattle.journal.specs.declared.error.JournalError.{JournalError}
 use Rattle.journal.specs.declared.error.JournalError.TheVariants as errors
 use Rattle.journal.specs.declared.journal.Journal.{Journal}
-use Rattle.spec_model.specs.Admitting.{IsLegal}
-use Rattle.spec_model.specs.Giving.{kept}
 use Rattle.spec_model.specs.Histories.{History}
 use Rattle.spec_model.specs.Nodes.{Node}
-use Rattle.admission.specs.declared.tables.Tables.{Tables}
-use Rattle.validator.specs.Standing.{AreAtSound}
 use Rattle.spec_world.specs.Text.{Desk, desk_on, settled_in, stop, after}
-use Rattle.book.specs.Book.{Shown, Stands, run_on}
+use Rattle.book.specs.Book.{Shown}
 use Rattle.recovery.specs.Faults.{ended_by}
-use Rattle.recovery.specs.Laws.{IsNoRefusal}
+use Rattle.opening.specs.Laws.{IsNoRefusal}
 use Rattle.recovery.specs.Script.{IsOf, IsOpenedOf, IsNotOpened, MayEnd, Breaks}
-use Rattle.recovery.specs.Told.{told, Tells, StandsAt, IsToldAsOneOf, KeepsRecords}
+use Rattle.opening.specs.Told.{told}
 use Rattle.recovery.specs.declared.driving.DriveError.{DriveError}
 use Rattle.recovery.specs.declared.driving.DriveError.TheVariants.{Device, Full}
-use Rattle.recovery.proofs.Opened.{no_refusal}
+use Rattle.desk.specs.Desk as desks
+use Rattle.opening.proofs.Opened.{no_refusal}
 
 ok_is : (one other : History) → ◌≡◌ {A = Result History JournalError} (Ok one) (Ok other) → one ≡ other
 ok_is one other same = cc
@@ -46,23 +40,22 @@ unfolding after
 after_stop node desk = refl
 
 module _ {S D : Type 0} (node : Node) (content : D → List ℕ) (outcome : D → List ℕ → Type 0) where
-  -- a new book over what an opening gives
-  pub opened_of : (bytes : List ℕ) (tables : Tables) (book : Shown S) (journal : Journal D) → StandsAt node (told node bytes) tables
-      → ((began : History) → IsLegal node began → AreAtSound node tables (kept node began) → Stands node (run_on began) book)
-      → book.queue ≡ [] → book.down ≡ false → IsAlive content outcome journal → stands (content (disk_of journal)) ≢ Ok [] → told node (content (disk_of journal)) ≡ told node bytes
-      → IsOpenedOf node content outcome bytes book journal
-  opened_of bytes tables book journal at stands queue up alive configured same = record {
-    history = at.history;
-    told_first = at.is_read;
-    is_of = record {
-      stands_at = stands at.history at.legal at.at;
-      waits = queue;
-      up = up;
-      alive = alive;
-      configured = configured;
-      told_as = same ∙ at.is_read ∙ ap Ok (sym (append-nil at.history));
-    };
-  }
+  -- a desk that was opened is one that has done nothing
+  pub opened_of : (bytes : List ℕ) (desk : desks.Shown S D) → desks.IsOpened node content outcome bytes desk → IsOpenedOf node content outcome bytes desk.book desk.journal
+  opened_of bytes desk opened =
+      let up = opened.is_of.up opened.up in
+      record {
+        history = opened.history;
+        told_first = opened.told_first;
+        is_of = record {
+          stands_at = opened.is_of.stands_at;
+          waits = opened.waits;
+          up = opened.up;
+          alive = opened.alive;
+          configured = up.configured;
+          told_as = up.told_as;
+        };
+      }
 
   module _ (desk : Desk) (bytes : List ℕ) (is : told node bytes ≡ Ok (settled_in desk)) where
     -- what is settled begins the next run
@@ -87,14 +80,13 @@ stop_breaks node desk error bytes later possible left found_now only not_opened 
 }
 
 -- an opening that failed
-pub not_opened_of : {D : Type 0} (node : Node) (clock : D → ℕ) (since : D → ℕ → List ℕ → Type 0) (may : D → List ℕ → Type 0) (old new : D) (bytes : List ℕ) (cause : JournalError) (error : DriveError) → error ≡ ended_by cause
-    → (cause ≢ errors.Device → Tells cause (told node bytes)) → cause ≢ errors.Full → AtEachMoment clock since old new (IsToldAsOneOf node (may old)) → AtEachMoment clock since old new (KeepsRecords node (may old))
-    → ((disk : D) (t : ℕ) (c : List ℕ) → t ≤ clock disk → may disk c → since disk t c) → IsNotOpened node error bytes (may old) (may new)
-not_opened_of {D} node clock since may old new bytes cause error is tells never at keeping counts = record {
+pub not_opened_of : (node : Node) (bytes : List ℕ) (possible left : List ℕ → Type 0) (cause : JournalError) (error : DriveError) → error ≡ ended_by cause
+    → desks.IsNotOpened node cause bytes possible left → IsNotOpened node error bytes possible left
+not_opened_of node bytes possible left cause error is not_opened = record {
   cause = cause;
   is = is;
-  tells = tells;
-  never_full = never;
-  left = λ found left. at.each found (counts new (clock old) found at.later left);
-  keeps = λ found left. keeping.each found (counts new (clock old) found keeping.later left);
+  tells = not_opened.tells;
+  never_full = not_opened.never_full;
+  left = not_opened.left;
+  keeps = not_opened.keeps;
 }

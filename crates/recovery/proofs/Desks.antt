@@ -2,12 +2,10 @@
 use Rattle.std.proofs.Common.{◌≡◌, ◌≢◌, ℕ, suc, ◌+◌, ◌<◌, ◌≤◌, true, false, ◌⊎◌, inl, inr, List, [], ◌∷◌, ◌++◌, length, take, drop, map, Result, Ok, Err, refl, sym, ap, ◌∙◌, subst, arith, append_assoc, append-nil}
 use Rattle.std.specs.Prelude.{IsErrOf, IfOk, IfErr, OnErr}
 use Rattle.std.proofs.lemmas.Bool.{cases_Bool, true≢false}
+use Rattle.std.proofs.Math.Nat.{lt_of_not-le}
 use Rattle.std.proofs.lemmas.List.{take-take, take_at, take-append-drop, take-map}
-use Rattle.diskmodel.specs.Disk.{AtEachMoment}
 use Rattle.journal.specs.Format.{group_bytes, stands}
-use Rattle.journal.specs.Journal.{disk_of, IsAlive, IsBeforeOrAfter, stands_with}
-use Rattle.journal.specs.declared.error.JournalError.{JournalError}
-use Rattle.journal.specs.declared.error.JournalError.TheVariants as errors
+use Rattle.journal.specs.Journal.{disk_of, IsAlive, stands_with}
 use Rattle.journal.specs.declared.journal.Journal.{Journal}
 use Rattle.journal.specs.declared.layout.TheConstants.{MAX_JOURNAL_BYTES}
 use Rattle.spec_laws.specs.Laws.{Begins}
@@ -25,17 +23,16 @@ use Rattle.spec_world.specs.Steps.{ticketed}
 use Rattle.spec_world.specs.Text.{Command, take_in, flush, Desk, settled_in, with_answer, group_of, flushed, after}
 use Rattle.book.specs.declared.book.TheConstants.{MAX_ACCEPTED}
 use Rattle.book.specs.declared.book.Receipt.{Receipt}
+use Rattle.book.specs.OnTheWay.{Flushes, FindsNoRoom, IsWithOrWithout}
 use Rattle.book.specs.Pending.{IsLongestBeginning}
-use Rattle.book.specs.Book.{Shown, Run, Stands, with_taken, with_settled, TakesNew, TakesKnown, MayRefuse, SettlesNext}
-use Rattle.recovery.specs.Faults.{ended_by}
+use Rattle.book.specs.Book.{Shown, Run, Stands, with_taken, with_settled, TakesNew, TakesKnown, MayRefuse}
 use Rattle.recovery.specs.Script.{run_of, IsOf, MayEnd, Breaks}
-use Rattle.recovery.specs.Told.{told}
+use Rattle.opening.specs.Told.{told}
 use Rattle.recovery.specs.declared.driving.DriveError.{DriveError}
 use Rattle.recovery.specs.declared.driving.DriveError.TheVariants as ends
-use Rattle.recovery.proofs.Longer.{told_more, some_more}
-use Rattle.recovery.proofs.DeskOpening.{only_full}
-use Rattle.recovery.proofs.Scripts.{group_is, group_none}
-use Rattle.recovery.proofs.Telling.{told_same}
+use Rattle.opening.proofs.Longer.{told_more, some_more}
+use Rattle.desk.proofs.Groups.{group_is, group_none}
+use Rattle.opening.proofs.Telling.{told_same}
 
 after_take_in : (node : Node) (desk : Desk) (event : Event) → after node desk (take_in event) ≡ with_answer desk event (admit node (desk.began ++ desk.accepted) event)
 unfolding after
@@ -149,12 +146,6 @@ module _ {S D : Type 0} (node : Node) (content : D → List ℕ) (outcome : D �
         (with_it ∙ ap (stands_with (content (disk_of old))) group_are) legal
         ∙ ap Ok whole
 
-    -- whatever a stop leaves while the group is written
-    pub left_flushing : (bytes : List ℕ) → IsBeforeOrAfter (content (disk_of old)) group bytes
-        → (told node bytes ≡ Ok (settled_in desk)) ⊎ (told node bytes ≡ Ok (settled_in (after node desk flush)))
-    left_flushing bytes (inl same) = inl (told_same node bytes (content (disk_of old)) same ∙ is.told_as)
-    left_flushing bytes (inr with_it) = inr (told_flushed bytes with_it ∙ ap (λ (d : Desk). Ok (settled_in d)) (sym (after_flush node desk)))
-
     -- behind the flush
     pub flushed_is : (later : Shown S) (new : Journal D) → Stands node (with_settled (with_taken (run_of desk) (length group)) (length group)) later
         → later.queue ≡ before.queue → later.down ≡ before.down → IsAlive content outcome new → stands (content (disk_of new)) ≡ stands_with (content (disk_of old)) group
@@ -172,6 +163,21 @@ module _ {S D : Type 0} (node : Node) (content : D → List ℕ) (outcome : D �
           configured = some_more node (content (disk_of old)) (content (disk_of new)) (desk.began ++ desk.settled) is.configured is.told_as group with_it;
           told_as = told_flushed (content (disk_of new)) with_it;
         })
+
+  -- whatever a stop leaves while a group is written
+  pub left_by_flush : (bytes : List ℕ) → IsWithOrWithout before.pending (content (disk_of old)) bytes
+      → (told node bytes ≡ Ok (settled_in desk)) ⊎ (told node bytes ≡ Ok (settled_in (after node desk flush)))
+  left_by_flush bytes (inl same) = inl (told_same node bytes (content (disk_of old)) same ∙ is.told_as)
+  left_by_flush bytes (inr with_it) =
+      inr (told_flushed (record before { pending = with_it.1 }) with_it.0 with_it.2 bytes with_it.3 ∙ ap (λ (d : Desk). Ok (settled_in d)) (sym (after_flush node desk)))
+
+  -- behind a round that settled a group
+  pub flushes_is : (later : Shown S) (new : Journal D) (old_bytes new_bytes : List ℕ) (count : ℕ) → content (disk_of old) ≡ old_bytes → content (disk_of new) ≡ new_bytes → Flushes node before later old_bytes new_bytes count
+      → IsAlive content outcome new → IsOf node content outcome (after node desk flush) later new
+  flushes_is later new old_bytes new_bytes count old_is new_is round alive =
+      flushed_is later round.group round.takes later new (round.stands (run_of desk) is.stands_at)
+      (ap (λ (b : Shown S). b.queue) round.is) (ap (λ (b : Shown S). b.down) round.is) alive
+      (ap stands new_is ∙ round.records ∙ ap (λ (l : List ℕ). stands_with l round.group) (sym old_is))
 
   -- a flush with nothing pending changes nothing
   pub nothing_flushed : before.pending ≡ [] → IsOf node content outcome (after node desk flush) before old
@@ -211,28 +217,7 @@ count_is {S} node before later event (Ok receipt) new known same =
     ]
 count_is {S} node before later event (Err refusal) new known same = omega (arith, ap (λ (b : Shown S). b.accepted) same)
 
--- ---- settling
-
--- what a book settles, said of an equal node
-pub settled_at : {S : Type 0} (node other : Node) (run : Run) (taken later : Shown S) (synced group : List (List ℕ)) → other ≡ node → synced ≡ group → Stands node run taken
-    → group ≡ map record_of (drop (length run.settled) run.taken)
-    → ((r : Run) → Stands other r taken → Begins synced (map record_of (drop (length r.settled) r.taken)) → Stands other (with_settled r (length synced)) later)
-    → Stands node (with_settled run (length group)) later
-settled_at {S} node other run taken later synced group same is stands records settles =
-    let there = settles run (subst (λ (n : Node). Stands n run taken) (sym same) stands) (record { rest = []; parts = sym (append-nil synced ∙ is ∙ records) }) in
-    subst (λ (n : Node). Stands n (with_settled run (length group)) later) same (subst (λ (l : List (List ℕ)). Stands other (with_settled run (length l)) later) is there)
-
-pub settles_at : {S : Type 0} (node other : Node) (run : Run) (taken : Shown S) (synced group : List (List ℕ)) → other ≡ node → synced ≡ group → Stands node run taken
-    → group ≡ map record_of (drop (length run.settled) run.taken) → SettlesNext other taken synced
-settles_at {S} node other run taken synced group same is stands records =
-    (run, subst (λ (n : Node). Stands n run taken) (sym same) stands, record { rest = []; parts = sym (append-nil synced ∙ is ∙ records) })
-
 -- ---- what a stop leaves behind an error
-
--- what may be left at the end of a call may be left at some moment of it
-pub left_by : {D : Type 0} (clock : D → ℕ) (since : D → ℕ → List ℕ → Type 0) (old new : D) (P : List ℕ → Type 0) (bytes : List ℕ) (may : D → List ℕ → Type 0)
-    → AtEachMoment clock since old new P → ((disk : D) (t : ℕ) (c : List ℕ) → t ≤ clock disk → may disk c → since disk t c) → may new bytes → P bytes
-left_by {D} clock since old new P bytes may at counts left = at.each bytes (counts new (clock old) bytes at.later left)
 
 -- an error of writing isn't that of a full journal, or of the disk
 not_full : (error : DriveError) → (error ≡ ends.Memory) ⊎ (error ≡ ends.Output) → error ≡ ends.Full → ⊥
@@ -248,11 +233,6 @@ ends_any : (command : Command) (error : DriveError) → (error ≡ ends.Memory) 
 ends_any command error (inl memory) = subst (MayEnd command) (sym memory) tt
 ends_any command error (inr output) = subst (MayEnd command) (sym output) tt
 
--- and an error of adding a group a flush
-ends_flush : (cause : JournalError) → (cause ≡ errors.Device) ⊎ (cause ≡ errors.Full) → MayEnd flush (ended_by cause)
-ends_flush cause (inl device) = subst (λ (e : JournalError). MayEnd flush (ended_by e)) (sym device) tt
-ends_flush cause (inr full) = subst (λ (e : JournalError). MayEnd flush (ended_by e)) (sym full) refl
-
 module _ {S D : Type 0} (node : Node) (content : D → List ℕ) (outcome : D → List ℕ → Type 0) (desk : Desk) (book : Shown S) (old : Journal D) (is : IsOf node content outcome desk book old) where
   -- behind want of memory, which changed nothing on the disk
   pub same_breaks : (command : Command) (error : DriveError) → error ≡ ends.Memory → Breaks node desk command error (content (disk_of old)) (outcome (disk_of old))
@@ -262,23 +242,26 @@ module _ {S D : Type 0} (node : Node) (content : D → List ℕ) (outcome : D �
     full = λ full. absurd (not_full error (inl memory) full);
   }
 
-  -- behind a group that was taken and not added
-  pub flush_breaks : (taken : Shown S) (group : List (List ℕ)) (longest : IsLongestBeginning book.pending group taken.pending) (cause : JournalError) (new : Journal D)
-      → ((bytes : List ℕ) → outcome (disk_of new) bytes → IsBeforeOrAfter (content (disk_of old)) group bytes)
-      → (cause ≡ errors.Device) ⊎ (cause ≡ errors.Full)
-      → (cause ≡ errors.Full → (MAX_JOURNAL_BYTES < length (content (disk_of old)) + length (group_bytes group)) × (new ≡ old))
-      → Breaks node desk flush (ended_by cause) (content (disk_of new)) (outcome (disk_of new))
-  flush_breaks taken group longest cause new left either full = record {
-    left = λ bytes may. left_flushing node content outcome desk book old is taken group longest bytes (left bytes may);
-    errors = ends_flush cause either;
-    full = λ same.
-        let found = full (only_full cause same) in
-        record {
-          flushes = refl;
-          too_long = subst (λ (l : List (List ℕ)). MAX_JOURNAL_BYTES < length (content (disk_of new)) + length (group_bytes l)) (group_are node content outcome desk book old is taken group longest)
-              (subst (λ (j : Journal D). MAX_JOURNAL_BYTES < length (content (disk_of j)) + length (group_bytes group)) (sym found.1) found.0);
-        };
+  -- behind a disk that failed
+  pub device_breaks : (pending : List (List ℕ)) → pending ≡ book.pending → (new : Journal D) → ((bytes : List ℕ) → outcome (disk_of new) bytes → IsWithOrWithout pending (content (disk_of old)) bytes)
+      → Breaks node desk flush ends.Device (content (disk_of new)) (outcome (disk_of new))
+  device_breaks pending same new left = record {
+    left = λ bytes may. left_by_flush node content outcome desk book old is bytes (subst (λ (l : List (List ℕ)). IsWithOrWithout l (content (disk_of old)) bytes) same (left bytes may));
+    errors = tt;
+    full = λ so. absurd (cc);
   }
+
+  -- behind a group for which the journal has no room
+  pub full_breaks : (later : Shown S) (new : Journal D) → new ≡ old → FindsNoRoom node book later (content (disk_of old)) → Breaks node desk flush ends.Full (content (disk_of new)) (outcome (disk_of new))
+  full_breaks later new same no_room = subst (λ (j : Journal D). Breaks node desk flush ends.Full (content (disk_of j)) (outcome (disk_of j))) (sym same) (record {
+    left = λ bytes left. inl (left_firm node content outcome desk book old is bytes left);
+    errors = refl;
+    full = λ _. record {
+      flushes = refl;
+      too_long = subst (λ (l : List (List ℕ)). MAX_JOURNAL_BYTES < length (content (disk_of old)) + length (group_bytes l))
+          (group_are node content outcome desk book old is later no_room.0.group no_room.0.takes) (lt_of_not-le no_room.1);
+    };
+  })
 
 -- behind an error in writing what a command made due
 pub behind_breaks : {S D : Type 0} (node : Node) (content : D → List ℕ) (outcome : D → List ℕ → Type 0) (desk : Desk) (command : Command) (book : Shown S) (new : Journal D)

@@ -1,15 +1,7 @@
-pub mod Configured
-pub mod Telling
-pub mod Empty
 pub mod Appending
 pub mod Scripts
-pub mod Longer
 pub mod Desks
+pub mod Rounds
 pub mod Dues
 pub mod DeskOpening
 pub mod Carrying
-pub mod EventRecords
-pub mod GroupTexts
-pub mod Histories
-pub mod Laws
-pub mod Opened

@@ -1,5 +1,3 @@
 pub mod Faults
 pub mod Script
-pub mod Told
 pub mod Writing
-pub mod Laws

@@ -17,7 +17,7 @@ use Rattle.spec_model.specs.Nodes.{Node}
 use Rattle.spec_records.specs.Records.{record_of}
 use Rattle.spec_world.specs.Text as script
 use Rattle.recovery.specs.Faults.{ended_by}
-use Rattle.recovery.specs.Told.{told, Tells, IsToldAsOneOf, KeepsRecords}
+use Rattle.opening.specs.Told.{told, Tells, IsToldAsOneOf, KeepsRecords}
 use Rattle.recovery.specs.Writing.{EndsAtDisk}
 use Rattle.recovery.specs.declared.driving.Command.{Command}
 use Rattle.recovery.specs.declared.driving.Command.TheVariants.{Event, Flush, Stop}

@@ -5,7 +5,7 @@ ghost use Rattle.book.specs.declared.book.TheConstants.{MAX_ACCEPTED};
 ghost use Rattle.validator.specs.Setting.{node_of};
 ghost use Rattle.recovery.specs.Script.{script_of, Passes, HasRun, IsUnopened, IsCutShort};
 
-use crate::desk::Desk;
+use crate::commands::{carry_out, open};
 use diskmodel::StopDisk;
 use header::Checked;
 use journal::{Failed, JournalError};
@@ -106,9 +106,9 @@ pub fn drive<'a, S: Sign, D: StopDisk, W: Write>(
     ensures no_fault { IfOk result (λ left. D.faults left ≡ D.faults disk) }
     ensures no_fault_err { IfErr result (λ failed. failed.error ≢ DriveError.Device → D.faults failed.disk ≡ D.faults disk) }
 {
-    let mut desk = Desk::open(alloc, config, disk)?;
+    let mut desk = open(alloc, config, disk)?;
     for command in commands {
-        desk = desk.carry_out(alloc, config, command, writer)?;
+        desk = carry_out(desk, alloc, config, command, writer)?;
     }
     Ok(desk.into_disk())
 }

@@ -1,16 +1,12 @@
-//! Opening a node on a disk: what its journal has, and the validator after the events there.
+//! Lists of runs of a node: opening it on a disk, and driving one of one owner by commands.
 #![tactic(auto)]
 
-mod configuration;
-mod desk;
+mod commands;
 mod driving;
-mod events;
-mod first_group;
 mod frames;
-mod reopening;
-mod standing;
 
-pub use configuration::can_tell;
 pub use driving::{Command, DriveError, drive};
-pub use reopening::{reopen, write_configuration};
-pub use standing::{told_stands_for, what_stands_is_told, worlds_are_told};
+pub use opening::{
+    can_tell, keys_hold, reopen, told_stands_for, what_stands_is_told, worlds_are_told,
+    write_configuration,
+};

@@ -5,7 +5,7 @@ use crate::ending::Ending;
 use committee::{Committee, CommitteeError};
 use diskmodel::MemDisk;
 use journal::Journal;
-use recovery::{can_tell, write_configuration};
+use opening::{can_tell, write_configuration};
 use sigface::HashSign;
 use sim_script::{BATCHES, DEPTH, OWN, Setting, committee_file, signer};
 use spec_records::Version;

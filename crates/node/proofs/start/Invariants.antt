@@ -1,6 +1,6 @@
 use Rattle.journal.specs.Journal.{disk_of}
 use Rattle.validator.specs.Setting.{node_of}
-use Rattle.recovery.specs.Told.{told}
+use Rattle.opening.specs.Told.{told}
 use Rattle.node.proofs.Begun.{read_or_none}
 use Rattle.node.proofs.start.Given as goal
 

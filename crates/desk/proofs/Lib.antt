@@ -1,0 +1,6 @@
+pub mod Groups
+pub mod Runs
+pub mod Standing
+pub mod Worlds
+pub mod Answered
+pub mod Openings

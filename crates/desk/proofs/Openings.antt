@@ -1,0 +1,67 @@
+-- A desk that is opened.
+use Rattle.std.proofs.Common.{◌≡◌, ◌≢◌, ℕ, ◌≤◌, false, inl, inr, List, [], ◌++◌, Result, Ok, refl, sym, ap, ◌∙◌, append-nil}
+use Rattle.admission.specs.declared.tables.Tables.{Tables}
+use Rattle.book.specs.Book as book
+use Rattle.book.specs.OnTheWay.{StandsAtLegal}
+use Rattle.diskmodel.specs.Disk.{AtEachMoment}
+use Rattle.journal.specs.Format.{stands}
+use Rattle.journal.specs.Journal.{disk_of, IsAlive}
+use Rattle.journal.specs.declared.error.JournalError.{JournalError}
+use Rattle.journal.specs.declared.error.JournalError.TheVariants as errors
+use Rattle.journal.specs.declared.journal.Journal.{Journal}
+use Rattle.opening.specs.Told.{told, Tells, StandsAt, IsToldAsOneOf, KeepsRecords}
+use Rattle.spec_model.specs.Admitting.{IsLegal}
+use Rattle.spec_model.specs.Giving.{kept}
+use Rattle.spec_model.specs.Histories.{History}
+use Rattle.spec_model.specs.Nodes.{Node}
+use Rattle.validator.specs.Standing.{AreAtSound}
+use Rattle.desk.specs.Desk.{IsOpened, IsNotOpened}
+use Rattle.desk.proofs.Standing.{left_firm}
+
+-- tables that stand at what was read
+pub legal_of : (node : Node) (read : Result History JournalError) (tables : Tables) → StandsAt node read tables → StandsAtLegal node tables
+legal_of node read tables at = record { history = at.history; legal = at.legal; at = at.at }
+
+-- a new book over what an opening gives
+pub opened_of : {S D : Type 0} (node : Node) (content : D → List ℕ) (outcome : D → List ℕ → Type 0) (bytes : List ℕ) (tables : Tables) (one : book.Shown S) (journal : Journal D) → StandsAt node (told node bytes) tables
+    → ((began : History) → IsLegal node began → AreAtSound node tables (kept node began) → book.Stands node (book.run_on began) one)
+    → one.queue ≡ [] → one.down ≡ false → IsAlive content outcome journal → stands (content (disk_of journal)) ≢ Ok [] → told node (content (disk_of journal)) ≡ told node bytes
+    → IsOpened node content outcome bytes (record { book = one; journal = journal })
+opened_of node content outcome bytes tables one journal at stands_at queue up alive configured same =
+    let told_as : told node (content (disk_of journal)) ≡ Ok (at.history ++ []) = same ∙ at.is_read ∙ ap Ok (sym (append-nil at.history)) in
+    record {
+      history = at.history;
+      told_first = at.is_read;
+      up = up;
+      alive = alive;
+      waits = queue;
+      is_of = record {
+        stands_at = stands_at at.history at.legal at.at;
+        up = λ _. record { configured = configured; told_as = told_as; settled = refl };
+        left = left_firm node content outcome (book.run_on at.history) journal told_as alive;
+      };
+    }
+
+-- an opening that failed
+pub not_opened_of : {D : Type 0} (node : Node) (clock : D → ℕ) (since : D → ℕ → List ℕ → Type 0) (may : D → List ℕ → Type 0) (old new : D) (bytes : List ℕ) (cause : JournalError)
+    → (cause ≢ errors.Device → Tells cause (told node bytes)) → cause ≢ errors.Full → AtEachMoment clock since old new (IsToldAsOneOf node (may old)) → AtEachMoment clock since old new (KeepsRecords node (may old))
+    → ((disk : D) (t : ℕ) (c : List ℕ) → t ≤ clock disk → may disk c → since disk t c) → IsNotOpened node cause bytes (may old) (may new)
+not_opened_of {D} node clock since may old new bytes cause tells never at keeping counts = record {
+  tells = tells;
+  never_full = never;
+  left = λ found left. at.each found (counts new (clock old) found at.later left);
+  keeps = λ found left. keeping.each found (counts new (clock old) found keeping.later left);
+}
+
+-- a book that stands at a run that has done nothing has taken what it settled
+pub nothing_taken : {S : Type 0} (node : Node) (history : History) (one : book.Shown S) → book.Stands node (book.run_on history) one → one.taken ≡ one.settled
+nothing_taken node history one at = at.taken ∙ sym at.settled
+
+-- an opening that failed behind a stop of the machine
+pub stopped_of : (node : Node) (error : JournalError) (found : List ℕ) (before possible left : List ℕ → Type 0) → ((bytes : List ℕ) → possible bytes → before bytes) → IsNotOpened node error found possible left → IsNotOpened node error found before left
+stopped_of node error found before possible left fewer one = record {
+  tells = one.tells;
+  never_full = one.never_full;
+  left = λ bytes may. let is = one.left bytes may in (is.0, fewer is.0 is.1, is.2);
+  keeps = λ bytes may. elim (one.keeps bytes may) [ inl is ↦ inl (fewer bytes is) | inr is ↦ inr (is.0, fewer is.0 is.1, is.2) ];
+}

@@ -1,0 +1,330 @@
+-- A desk in its world behind each call.
+use Rattle.std.proofs.Common.{◌≡◌, ◌⊎◌, ℕ, ◌+◌, ◌≤◌, true, false, inl, inr, List, [], ◌∷◌, ◌++◌, length, take, drop, Result, Ok, refl, sym, ap, ◌∙◌, subst, arith, append-nil}
+use Rattle.std.specs.Prelude.{All, Contains, Some}
+use Rattle.std.proofs.lemmas.Bool.{cases_Bool, true≢false}
+use Rattle.std.proofs.lemmas.List.{length-map}
+use Rattle.std.proofs.lemmas.List.Elements.{All-nil}
+use Rattle.book.specs.Book as book
+use Rattle.book.specs.OnTheWay.{Flushes, GoesDown}
+use Rattle.book.specs.Steps as steps
+use Rattle.journal.specs.Format.{stands}
+use Rattle.journal.specs.Journal.{disk_of, IsAlive, stands_with}
+use Rattle.journal.specs.declared.error.JournalError.{JournalError}
+use Rattle.opening.specs.Told.{told}
+use Rattle.spec_model.specs.Admitting.{admit}
+use Rattle.spec_model.specs.Histories.{History}
+use Rattle.spec_model.specs.Nodes.{Node, IsNode}
+use Rattle.spec_model.specs.Words.{Event, Output}
+use Rattle.spec_model.specs.declared.admission.Admission.{Admission}
+use Rattle.spec_model.specs.declared.admission.Admission.TheVariants.{New, Known, Refused}
+use Rattle.spec_records.specs.Records.{record_of}
+use Rattle.spec_world.specs.World.{World, Waiting, events_of, taken_in, content_in, StandsFor, as_journal, run_on}
+use Rattle.spec_world.specs.Steps.{Move, accept, take_to, device_call, settle, release, read_order, restart, group_to, IsAnswered, IsStep, Leads, IsRun}
+use Rattle.spec_world.specs.Runs.{AreKeys, first_bytes}
+use Rattle.spec_world.proofs.Beginning.{runs_begin}
+use Rattle.spec_world.proofs.GoingOn.{stops_are_possible, runs_begin_with_what_stands, groups_settle}
+use Rattle.spec_world.proofs.Groups.{taken_more}
+use Rattle.spec_world.proofs.Law.{nothing_taken_back}
+use Rattle.desk.specs.Desk.{Shown, IsUp, IsLeft, IsOf, IsOpened}
+use Rattle.desk.specs.AtWorld.{HasTaken, IsAt, LeadsTo, IsStop}
+use Rattle.desk.proofs.Runs.{leads_one, leads_join, run_more}
+use Rattle.opening.proofs.Telling.{told_records, journal_nil}
+use Rattle.journal.proofs.Walks.{stands_short}
+use Rattle.desk.proofs.Standing.{told_with, configured_with, left_firm}
+
+-- ---- what a move leaves as it was
+
+-- what a run began with, what is settled, and the groups on their way
+pub record IsKept (world next : World) : Type 0 where
+  pub began : next.began ≡ world.began
+  pub settled : next.settled ≡ world.settled
+  pub groups : next.groups ≡ world.groups
+
+kept_of : (world with_it next : World) → next ≡ with_it → IsKept world with_it → IsKept world next
+kept_of world with_it next same kept = subst (IsKept world) (sym same) kept
+
+answered_keeps : (world : World) (event : Event) (answer : Admission) (next : World) → IsAnswered world event answer next → IsKept world next
+answered_keeps world event (New outputs) next same = kept_of world _ next same (record { began = refl; settled = refl; groups = refl })
+answered_keeps world event (Known outputs) next same = kept_of world _ next same (record { began = refl; settled = refl; groups = refl })
+answered_keeps world event (Refused refusal) next is = absurd is
+
+-- a run that has taken what is settled
+none_taken : (world : World) → world.groups ≡ [] → taken_in world ≡ world.settled
+none_taken world idle = ap (λ (l : List History). world.settled ++ events_of l) idle ∙ append-nil world.settled
+
+module _ {S D : Type 0} (node : Node) (content : D → List ℕ) (outcome : D → List ℕ → Type 0) (world : World) (before : Shown S D) (is : IsAt node content outcome world before) (up : before.book.down ≡ false) where
+  abbrev run : book.Run
+  run = steps.run_of world
+
+  idle : world.groups ≡ []
+  idle = is.idle up
+
+  -- ---- events, outputs, reads
+
+  -- behind a move that leaves the disk, and what is settled, as it was
+  pub stays : (later : Shown S D) (move : Move) (next : World) → IsStep node world move next → IsKept world next → steps.IsOf node next later.book → later.book.down ≡ false → later.journal ≡ before.journal
+      → LeadsTo node content outcome world (move ∷ []) later
+  stays later move next step kept of up_later same =
+      let still = is.is_of.up up in
+      let leads = leads_one node world move next step in
+      let none : next.groups ≡ [] = kept.groups ∙ idle in
+      let settled : next.began ++ next.settled ≡ world.began ++ world.settled = (λ i. kept.began i ++ kept.settled i) in
+      let taken : next.began ++ taken_in next ≡ world.began ++ taken_in world = (λ i. kept.began i ++ (none_taken next none ∙ kept.settled ∙ sym (none_taken world idle)) i) in
+      let is_up : IsUp node content (steps.run_of next) later.journal = subst (IsUp node content (steps.run_of next)) (sym same) (record {
+        configured = still.configured;
+        told_as = still.told_as ∙ ap Ok (sym settled);
+        settled = none_taken next none;
+      }) in
+      let left : IsLeft node outcome (steps.run_of next) later.journal = subst (IsLeft node outcome (steps.run_of next)) (sym same) (λ bytes may.
+      elim (is.is_of.left bytes may) [ inl so ↦ inl (so ∙ ap Ok (sym settled)) | inr with_it ↦ inr (with_it ∙ ap Ok (sym taken)) ]) in
+      record {
+        next = next;
+        leads = leads;
+        is_at = record {
+          sound = is.sound;
+          moves = is.moves ++ move ∷ [];
+          run = run_more node is.moves (move ∷ []) world next is.run leads;
+          is_of_world = of;
+          is_of = record { stands_at = of.stands; up = λ _. is_up; left = left };
+          idle = λ _. none;
+          taken = λ down. absurd (true≢false (sym down ∙ up_later));
+        };
+      }
+
+  pub accepts : steps.AcceptIsAStep S → (later : Shown S D) (event : Event) → book.TakesNew node before.book later.book event ⊎ book.TakesKnown node before.book later.book event → later.book.down ≡ false → later.journal ≡ before.journal
+      → LeadsTo node content outcome world (accept event ∷ []) later
+  accepts law later event takes up_later same =
+      let moves = law node world before.book later.book event is.is_of_world takes in
+      stays later (accept event) moves.next moves.step (answered_keeps world event (admit node (world.began ++ world.accepted) event) moves.next moves.step.is) moves.is_of up_later same
+
+  pub releases : steps.ReleaseIsAStep S → (later : Shown S D) (output : Output) → book.releasable before.book ≡ Some output → later.book ≡ record before.book { queue = drop 1 before.book.queue }
+      → ((run : book.Run) → book.Stands node run before.book → book.Stands node run later.book) → later.journal ≡ before.journal
+      → (ticket : ℕ) × LeadsTo node content outcome world (release (record { ticket = ticket; output = output }) ∷ []) later
+  releases law later output may is_later stands same =
+      let one = law node world before.book later.book output is.is_of_world may is_later (stands run is.is_of_world.stands) in
+      let waiting : Waiting = record { ticket = one.0; output = output } in
+      let moves = one.1 in (
+        one.0,
+        stays later (release waiting) moves.next moves.step (kept_of world _ moves.next moves.step.is (record { began = refl; settled = refl; groups = refl })) moves.is_of
+            (ap (λ (b : book.Shown S). b.down) is_later ∙ up) same,
+      )
+
+  pub reads : LeadsTo node content outcome world (read_order ∷ []) before
+  reads = stays before read_order _ refl (record { began = refl; settled = refl; groups = refl }) (record { stands = is.is_of_world.stands; waits = is.is_of_world.waits }) up refl
+
+  -- ---- a round
+
+  pub flushes : steps.FlushIsSteps S → (later : Shown S D) (old new : List ℕ) (count : ℕ) → content (disk_of before.journal) ≡ old → content (disk_of later.journal) ≡ new
+      → Flushes node before.book later.book old new count → IsAlive content outcome later.journal
+      → LeadsTo node content outcome world (take_to (length world.settled + count) ∷ device_call ∷ device_call ∷ device_call ∷ device_call ∷ settle ∷ []) later
+  flushes law later old new count old_is new_is flush alive =
+      let still = is.is_of.up up in
+      let there = law node is.moves world before.book later.book old new count is.sound is.run is.is_of_world idle flush in
+      let next = there.next in
+      let settled = there.settled in
+      let at = is.is_of_world.stands in
+      let with_it = ap stands new_is ∙ flush.records ∙ ap (λ (l : List ℕ). stands_with l flush.group) (sym old_is) in
+      let number : length (taken_in world) + length flush.group ≡ length world.settled + count = omega (arith, ap length (none_taken world idle), flush.counts) in
+      let all : world.began ++ take (length (taken_in world) + length flush.group) world.accepted ≡ next.began ++ next.settled =
+      (λ i. sym settled.began i ++ take (number i) world.accepted) ∙ ap (λ (l : History). next.began ++ l) (sym settled.settled) in
+      let told_as : told node (content (disk_of later.journal)) ≡ Ok (next.began ++ next.settled) =
+      told_with node content outcome run before.book before.journal at still flush.group later.book.pending flush.takes (content (disk_of later.journal)) with_it ∙ ap Ok all in
+      record {
+        next = next;
+        leads = there.leads;
+        is_at = record {
+          sound = is.sound;
+          moves = is.moves ++ take_to (length world.settled + count) ∷ device_call ∷ device_call ∷ device_call ∷ device_call ∷ settle ∷ [];
+          run = run_more node is.moves (take_to (length world.settled + count) ∷ device_call ∷ device_call ∷ device_call ∷ device_call ∷ settle ∷ []) world next is.run there.leads;
+          is_of_world = there.is_of;
+          is_of = record {
+            stands_at = there.is_of.stands;
+            up = λ _. record {
+              configured = configured_with node content outcome run before.book before.journal at still flush.group (content (disk_of later.journal)) with_it;
+              told_as = told_as;
+              settled = none_taken next settled.groups;
+            };
+            left = left_firm node content outcome (steps.run_of next) later.journal told_as alive;
+          };
+          idle = λ _. settled.groups;
+          taken = λ down. absurd (true≢false (sym down ∙ ap (λ (b : book.Shown S). b.down) flush.is ∙ up));
+        };
+      }
+
+  pub goes_down : steps.FailIsAStep S → (later : Shown S D) (down : GoesDown node before.book later.book)
+      → ((bytes : List ℕ) → outcome (disk_of later.journal) bytes
+      → (told node bytes ≡ Ok (world.began ++ world.settled)) ⊎ (told node bytes ≡ Ok (world.began ++ take (length (taken_in world) + length down.group) world.accepted)))
+      → (count : ℕ) × LeadsTo node content outcome world (take_to count ∷ []) later
+  goes_down law later down left =
+      let takes = law node world before.book later.book is.is_of_world down in
+      let moves = takes.moves in
+      let next = moves.next in
+      let count = length (taken_in world) + length down.group in
+      let leads = leads_one node world (take_to count) next moves.step in
+      let same : next ≡ record world { groups = world.groups ++ group_to world count ∷ [] } = moves.step.is in
+      let some : 1 ≤ length (group_to world count) = omega (arith, moves.step.fits.some, length-map (group_to world count) record_of) in
+      let taken : taken_in next ≡ take count world.accepted = ap taken_in same ∙ taken_more world count is.is_of_world.stands.taken_begins some in
+      let began : next.began ≡ world.began = ap (λ (w : World). w.began) same in
+      let settled : next.settled ≡ world.settled = ap (λ (w : World). w.settled) same in
+      let is_down : later.book.down ≡ true = ap (λ (b : book.Shown S). b.down) down.is in (
+        count,
+        record {
+          next = next;
+          leads = leads;
+          is_at = record {
+            sound = is.sound;
+            moves = is.moves ++ take_to count ∷ [];
+            run = run_more node is.moves (take_to count ∷ []) world next is.run leads;
+            is_of_world = moves.is_of;
+            is_of = record {
+              stands_at = moves.is_of.stands;
+              up = λ off. absurd (true≢false (sym is_down ∙ off));
+              left = λ bytes may. elim (left bytes may) [
+                | inl so ↦ inl (so ∙ (λ i. Ok (sym began i ++ sym settled i)))
+                | inr with_it ↦ inr (with_it ∙ (λ i. Ok (sym began i ++ sym taken i)))
+              ];
+            };
+            idle = λ off. absurd (true≢false (sym is_down ∙ off));
+            taken = λ _. record { before = world; moves = is.moves; run = is.run; idle = idle; count = count; taken = moves.step };
+          };
+        },
+      )
+
+-- ---- a stop
+
+-- where no group is on its way, what is settled stands on the disk
+settled_stands : (node : Node) (moves : List Move) (world : World) → IsNode node → IsRun node moves world → world.groups ≡ [] → StandsFor node (content_in world) (world.began ++ world.settled)
+settled_stands node moves world sound run idle =
+    let law = nothing_taken_back node moves world sound run in
+    let may = stops_are_possible node moves world sound run in
+    let found = law.stands (content_in world) may in
+    let recovered = law.recovered (content_in world) found.0 may found.1 in
+    subst (StandsFor node (content_in world)) (recovered.without_group idle) found.1
+
+-- the four device calls behind a group that was taken, and what stands on the disk then
+record CallsFour (node : Node) (world : World) : Type 0 where
+  pub next : World
+  pub leads : Leads node world (device_call ∷ device_call ∷ device_call ∷ device_call ∷ []) next
+  pub given : next.given ≡ world.given
+  pub stands : StandsFor node (content_in next) (world.began ++ taken_in world)
+
+calls_four : (node : Node) (world : World) → IsNode node → HasTaken node world → CallsFour node world
+calls_four node world sound has =
+    let before = has.before in
+    let there = groups_settle node has.moves before has.count sound has.run has.idle has.taken.fits in
+    let last = there.0 in
+    let settled = there.2 in
+    let one = there.1.0 in
+    let rest = there.1.2 in
+    let same : one ≡ world = there.1.1.is ∙ sym has.taken.is in
+    let two = rest.0 in
+    let three = rest.2.0 in
+    let four = rest.2.2.0 in
+    let five = rest.2.2.2.0 in
+    let step = rest.2.2.2.2.1 in
+    let end = rest.2.2.2.2.2 in
+    let last_is = sym end ∙ step.is in
+    let bytes : content_in last ≡ content_in five = ap content_in last_is in
+    let given : last.given ≡ five.given = ap (λ (w : World). w.given) last_is in
+    let law = nothing_taken_back node has.moves before sound has.run in
+    let began : world.began ≡ before.began = ap (λ (w : World). w.began) has.taken.is in
+    let some : 1 ≤ length (group_to before has.count) = omega (arith, has.taken.fits.some, length-map (group_to before has.count) record_of) in
+    let taken : taken_in world ≡ take has.count before.accepted = ap taken_in has.taken.is ∙ taken_more before has.count law.in_order.taken some in
+    let all : last.began ++ last.settled ≡ world.began ++ taken_in world = (λ i. (settled.began ∙ sym began) i ++ (settled.settled ∙ sym taken) i) in
+    record {
+      next = five;
+      leads = (two, subst (λ (w : World). IsStep node w device_call two) same rest.1, (three, rest.2.1, (four, rest.2.2.1, (five, rest.2.2.2.1, refl))));
+      given = sym given ∙ settled.given ∙ sym (ap (λ (w : World). w.given) has.taken.is);
+      stands = subst (λ (b : List ℕ). StandsFor node b (world.began ++ taken_in world)) bytes (subst (StandsFor node (content_in last)) all (as_journal settled.holds));
+    }
+
+ok_is : (one other : History) → ◌≡◌ {A = Result History JournalError} (Ok one) (Ok other) → one ≡ other
+ok_is one other same = cc
+
+module _ {S D : Type 0} (node : Node) (content : D → List ℕ) (outcome : D → List ℕ → Type 0) where
+  -- a desk that was opened is at a world that begins with what it was opened on
+  pub opened_at : (bytes : List ℕ) (desk : Shown S D) → IsNode node → IsOpened node content outcome bytes desk → (moves : List Move) (world : World) → IsRun node moves world
+      → (history : History) → told node bytes ≡ Ok history → world ≡ run_on world.bytes_at_start history world.given → IsAt node content outcome world desk
+  opened_at bytes desk sound opened moves world run history is same =
+      let first : opened.history ≡ history = ok_is opened.history history (sym opened.told_first ∙ is) in
+      let runs : book.run_on opened.history ≡ steps.run_of world = ap book.run_on first ∙ sym (ap steps.run_of same) in
+      let of : IsOf node content outcome (steps.run_of world) desk = subst (λ (r : book.Run). IsOf node content outcome r desk) runs opened.is_of in
+      record {
+        sound = sound;
+        moves = moves;
+        run = run;
+        is_of_world = record { stands = of.stands_at; waits = subst (All (Contains world.waiting)) (sym opened.waits) (All-nil (Contains world.waiting)) };
+        is_of = of;
+        idle = λ _. ap (λ (w : World). w.groups) same;
+        taken = λ down. absurd (true≢false (sym down ∙ opened.up));
+      }
+
+  -- a run that begins on what a stop leaves in a world
+  restarts : (bytes : List ℕ) (desk : Shown S D) → IsNode node → IsOpened node content outcome bytes desk → (moves : List Move) (world : World) → IsRun node moves world
+      → (history : History) → told node bytes ≡ Ok history → StandsFor node (content_in world) history → LeadsTo node content outcome world (restart (content_in world) ∷ []) desk
+  restarts bytes desk sound opened moves world run history is stands =
+      let found = content_in world in
+      let there = runs_begin_with_what_stands node moves world found history sound run (stops_are_possible node moves world sound run) stands in
+      let next = there.0 in
+      let step = there.1 in
+      let leads = leads_one node world (restart found) next step in
+      let same : next ≡ run_on next.bytes_at_start history next.given = step.is ∙ (λ i. run_on next.bytes_at_start (there.2 i) (sym there.3 i)) in
+      record {
+        next = next;
+        leads = leads;
+        is_at = opened_at bytes desk sound opened (moves ++ restart found ∷ []) next (run_more node moves (restart found ∷ []) world next run leads) history is same;
+      }
+
+  -- the moves of a stop lead to a desk that was opened on what it left
+  pub stops : (world : World) (before : Shown S D) → IsAt node content outcome world before → (bytes : List ℕ) → outcome (disk_of before.journal) bytes
+      → (desk : Shown S D) → IsOpened node content outcome bytes desk → (moves : List Move) × IsStop world moves × LeadsTo node content outcome world moves desk
+  stops world before is bytes may desk opened = elim (cases_Bool before.book.down) [ inl so ↦ down so | inr off ↦ up off ]
+    where
+      at_once : told node bytes ≡ Ok (world.began ++ world.settled) → StandsFor node (content_in world) (world.began ++ world.settled) → (moves : List Move) × IsStop world moves × LeadsTo node content outcome world moves desk
+      at_once told_as stands =
+          (restart (content_in world) ∷ [], (content_in world, inl refl), restarts bytes desk is.sound opened is.moves world is.run (world.began ++ world.settled) told_as stands)
+
+      up : before.book.down ≡ false → (moves : List Move) × IsStop world moves × LeadsTo node content outcome world moves desk
+      up off =
+          let idle = is.idle off in
+          let stands = settled_stands node is.moves world is.sound is.run idle in
+          elim (is.is_of.left bytes may) [
+            | inl so ↦ at_once so stands
+            | inr with_it ↦ at_once (with_it ∙ ap (λ (l : History). Ok (world.began ++ l)) (none_taken world idle)) stands
+          ]
+
+      behind : HasTaken node world → told node bytes ≡ Ok (world.began ++ taken_in world) → (moves : List Move) × IsStop world moves × LeadsTo node content outcome world moves desk
+      behind has told_as =
+          let four = calls_four node world is.sound has in
+          let calls = device_call ∷ device_call ∷ device_call ∷ device_call ∷ [] in
+          let found = content_in four.next in
+          let run = run_more node is.moves calls world four.next is.run four.leads in
+          let to = restarts bytes desk is.sound opened (is.moves ++ calls) four.next run (world.began ++ taken_in world) told_as four.stands in (
+            device_call ∷ device_call ∷ device_call ∷ device_call ∷ restart found ∷ [],
+            (found, inr refl),
+            record {
+              next = to.next;
+              leads = leads_join node world calls (restart found ∷ []) four.next to.next four.leads to.leads;
+              is_at = to.is_at;
+            },
+          )
+
+      down : before.book.down ≡ true → (moves : List Move) × IsStop world moves × LeadsTo node content outcome world moves desk
+      down so =
+          let has = is.taken so in
+          let stands = settled_stands node has.moves has.before is.sound has.run has.idle in
+          let same : content_in has.before ≡ content_in world = sym (ap content_in has.taken.is) in
+          let settled : has.before.began ++ has.before.settled ≡ world.began ++ world.settled = sym (ap (λ (w : World). w.began ++ w.settled) has.taken.is) in
+          elim (is.is_of.left bytes may) [
+            | inl found ↦ at_once found (subst (λ (b : List ℕ). StandsFor node b (world.began ++ world.settled)) same (subst (StandsFor node (content_in has.before)) settled stands))
+            | inr with_it ↦ behind has with_it
+          ]
+
+told_nothing : (node : Node) → told node [] ≡ Ok []
+told_nothing node = told_records node [] [] (stands_short [] (omega arith)) ∙ journal_nil node
+
+-- a desk that was opened on an empty disk is at the world that begins there
+pub begins : {S D : Type 0} (node : Node) (content : D → List ℕ) (outcome : D → List ℕ → Type 0) (desk : Shown S D) → IsNode node → AreKeys node → IsOpened node content outcome [] desk
+    → IsAt node content outcome (run_on (first_bytes node) [] []) desk
+begins {S} {D} node content outcome desk sound keys opened =
+    opened_at node content outcome [] desk sound opened [] (run_on (first_bytes node) [] []) (runs_begin node sound keys) [] (told_nothing node) refl

@@ -1,0 +1,265 @@
+//! A desk: a book, and the journal of its one owner.
+
+use book::{FlushError, OwnBook, Receipt};
+use committee::Committee;
+use diskmodel::{Disk, StopDisk};
+use header::Checked;
+use journal::{Failed, Journal, JournalError};
+use opening::reopen;
+use sigface::Sign;
+use std::alloc::{AllocError, Global};
+use std::marker::Model;
+use validator::{Config, Refusal};
+use wire::{Digest, Header, Output};
+
+/// A node with one owner: a book, and the journal to which its records go. It answers at once, and nothing waits.
+pub struct Desk<'a, S: Sign, D: Disk> {
+    book: OwnBook<'a, S>,
+    journal: Journal<D>,
+}
+
+impl<'a, S: Sign, D: Disk + Drop> Drop for Desk<'a, S, D> {
+    fn drop(self) {
+        let Desk {
+            book: _,
+            journal: _,
+        } = self;
+    }
+}
+
+impl<'a, S: Sign, D: Disk> Model for Desk<'a, S, D> {
+    ghost use Rattle.std.specs.Coded.{codes};
+    ghost use Rattle.votebook.specs.contracts.book.VoteBook as votes;
+    ghost use Rattle.desk.specs.Desk.{Shown, IsSound};
+
+    ghost Value = { Shown S D };
+
+    ghost coded = { Prim.hlevel (codes, S.code, D.code, votes.the_row.coded) };
+
+    ghost view = { λ desk. record { book = desk.book; journal = desk.journal } };
+
+    ghost invariant = { λ desk. IsSound D.content D.outcome (record { book = desk.book; journal = desk.journal }) };
+}
+
+impl<'a, S: Sign, D: Disk> Desk<'a, S, D> {
+    ghost use Rattle.std.specs.Prelude.{◌≡◌, ◌≢◌, ◌⊎◌, ◌↔◌, ◌+◌, ◌<◌, ◌≤◌, ◌∷◌, [], ◌++◌, List, ℕ, length, drop, not, true, false, is_some, None, Ok, IfOk, IfErr, IfSome, OnOk, OnErr, IsErrOf, IsTrue, if◌then◌else◌};
+    ghost use Rattle.diskmodel.specs.Disk.{AtEachMoment};
+    ghost use Rattle.header.specs.Checks.{fault_of, accepts_all};
+    ghost use Rattle.journal.specs.Journal.{disk_of, IsAlive};
+    ghost use Rattle.book.specs.Book.{Run, Stands, TakesNew, TakesKnown, MayRefuse, GoesOutSettled, releasable, history_in, settled_in};
+    ghost use Rattle.book.specs.OnTheWay.{Flushes, FindsNoRoom, FailsWithRoom, IsWithOrWithout};
+    ghost use Rattle.book.specs.declared.book.TheConstants.{MAX_ACCEPTED};
+    ghost use Rattle.spec_model.specs.Admitting.{admit};
+    ghost use Rattle.spec_model.specs.Holdings.{order as order_of, round as round_of};
+    ghost use Rattle.spec_model.specs.Proposing.{propose as propose_of};
+    ghost use Rattle.spec_machine.specs.Machine.{is_missing_parents};
+    ghost use Rattle.spec_world.specs.Steps.{accept as accept_event, take_to, device_call, settle, read_order, release as release_output};
+    ghost use Rattle.spec_world.specs.World.{World};
+    ghost use Rattle.validator.specs.Setting.{node_of};
+    ghost use Rattle.desk.specs.Desk.{IsOf, IsOpened, IsNotOpened};
+    ghost use Rattle.desk.specs.AtWorld.{IsAt, LeadsTo};
+
+    /// Opens a node on a disk, with a book that has accepted nothing.
+    ///
+    /// # Errors
+    /// As `reopen` answers them. The disk is handed back.
+    pub fn open(
+        alloc: Global,
+        config: &'a Config<S>,
+        disk: D,
+    ) -> Result<Desk<'a, S, D>, Failed<JournalError, D>>
+        ensures setting { IfOk result (λ desk. desk.book.validator.setting ≡ config.now) }
+        ensures ok { IfOk result (λ desk. IsOpened (node_of S.own_key S.signature_of config.now) D.content D.outcome (D.content disk) desk) }
+        ensures err { IfErr result (λ failed. IsNotOpened (node_of S.own_key S.signature_of config.now) failed.error (D.content disk) (D.outcome disk) (D.outcome failed.disk)) }
+        // It answers Device exactly where the disk has failed.
+        ensures device { IfErr result (λ failed. failed.error ≡ JournalError.Device → D.faults disk < D.faults failed.disk) }
+        ensures no_fault { IfOk result (λ desk. D.faults (disk_of desk.journal) ≡ D.faults disk) }
+        ensures no_fault_err { IfErr result (λ failed. failed.error ≢ JournalError.Device → D.faults failed.disk ≡ D.faults disk) }
+    {
+        match reopen(alloc, config, disk) {
+            Ok((validator, journal)) => Ok(Desk {
+                book: OwnBook::new(alloc, validator),
+                journal,
+            }),
+            Err(failed) => Err(failed),
+        }
+    }
+
+    /// Takes an event, which passed the checks under the node's committee, as the book does.
+    ///
+    /// # Errors
+    /// The refusals of admission; `Down` exactly where the desk is down. A refusal changes nothing.
+    pub fn accept(&mut self, event: Checked) -> Result<Receipt, Refusal>
+        requires passed { fault_of self.old.book.validator.setting.charter accepts_all event ≡ None }
+        ensures down { IsErrOf result Refusal.Down ↔ IsTrue self.old.book.down }
+        ensures new { IfOk result (λ receipt. receipt.new ≡ true → TakesNew (node_of S.own_key S.signature_of self.old.book.validator.setting) self.old.book self.new.book event) }
+        ensures known { IfOk result (λ receipt. receipt.new ≡ false → TakesKnown (node_of S.own_key S.signature_of self.old.book.validator.setting) self.old.book self.new.book event) }
+        ensures ticket { IfOk result (λ receipt. receipt.ticket ≡ self.new.book.accepted) }
+        ensures limit { IfOk result (λ receipt. receipt.ticket ≤ MAX_ACCEPTED) }
+        ensures refused { IfErr result (λ refusal. (run : Run) → Stands (node_of S.own_key S.signature_of self.old.book.validator.setting) run self.old.book
+            → MayRefuse (node_of S.own_key S.signature_of self.old.book.validator.setting) run self.old.book event refusal) }
+        ensures err { OnErr result (self.new ≡ self.old) }
+        ensures same { self.new.journal ≡ self.old.journal }
+        ensures setting { self.new.book.validator.setting ≡ self.old.book.validator.setting }
+        // In the world it is accepted.
+        ensures step { OnOk result ((world : World) → IsAt (node_of S.own_key S.signature_of self.old.book.validator.setting) D.content D.outcome world self.old
+            → LeadsTo (node_of S.own_key S.signature_of self.old.book.validator.setting) D.content D.outcome world (accept_event event ∷ []) self.new) }
+    {
+        book::accept_is_a_step::<S>();
+        self.book.accept(event)
+    }
+
+    /// One round: takes the longest beginning of the pending records that fits a group, adds it to the journal and settles
+    /// it. Answers how many records it has; 0 where nothing is pending.
+    ///
+    /// # Errors
+    /// `Down` exactly where the desk is down, and `Memory`: nothing was changed. `Full` where the journal has no room, and
+    /// `Device` where the disk fails: what was taken stays on the way, and the desk is down.
+    pub fn flush(&mut self) -> Result<u64, FlushError>
+        ensures idle { OnOk result (self.old.book.pending ≡ [] → (result ≡ Ok 0) × (self.new ≡ self.old)) }
+        ensures flushed { IfOk result (λ count. self.old.book.pending ≢ [] → Flushes (node_of S.own_key S.signature_of self.old.book.validator.setting) self.old.book self.new.book (D.content (disk_of self.old.journal)) (D.content (disk_of self.new.journal)) count) }
+        ensures down { IsErrOf result FlushError.Down ↔ IsTrue self.old.book.down }
+        ensures unchanged { IfErr result (λ error. (error ≡ FlushError.Down) ⊎ (error ≡ FlushError.Memory) → self.new ≡ self.old) }
+        ensures full { IsErrOf result FlushError.Full → FindsNoRoom (node_of S.own_key S.signature_of self.old.book.validator.setting) self.old.book self.new.book (D.content (disk_of self.old.journal)) }
+        ensures full_same { IsErrOf result FlushError.Full → self.new.journal ≡ self.old.journal }
+        ensures fails { IsErrOf result FlushError.Device → FailsWithRoom (node_of S.own_key S.signature_of self.old.book.validator.setting) self.old.book self.new.book (D.content (disk_of self.old.journal)) }
+        // A stop at any moment leaves the records from before it, with all that it takes or without.
+        ensures any_moment { self.old.book.down ≡ false → AtEachMoment D.clock D.outcome_since (disk_of self.old.journal) (disk_of self.new.journal) (IsWithOrWithout self.old.book.pending (D.content (disk_of self.old.journal))) }
+        ensures alive { OnOk result (IsAlive D.content D.outcome self.new.journal) }
+        ensures accepted { self.new.book.accepted ≡ self.old.book.accepted }
+        // It answers Device exactly where the disk has failed.
+        ensures device { IsErrOf result FlushError.Device → D.faults (disk_of self.old.journal) < D.faults (disk_of self.new.journal) }
+        ensures no_fault { OnOk result (D.faults (disk_of self.new.journal) ≡ D.faults (disk_of self.old.journal)) }
+        ensures no_fault_err { IfErr result (λ error. error ≢ FlushError.Device → D.faults (disk_of self.new.journal) ≡ D.faults (disk_of self.old.journal)) }
+        ensures setting { self.new.book.validator.setting ≡ self.old.book.validator.setting }
+        // In the world so many events are taken, the four device calls are made, and they are settled.
+        ensures steps { IfOk result (λ count. self.old.book.pending ≢ [] → (world : World) → IsAt (node_of S.own_key S.signature_of self.old.book.validator.setting) D.content D.outcome world self.old
+            → LeadsTo (node_of S.own_key S.signature_of self.old.book.validator.setting) D.content D.outcome world (take_to (length world.settled + count) ∷ device_call ∷ device_call ∷ device_call ∷ device_call ∷ settle ∷ []) self.new) }
+        // Where the desk goes down they are taken.
+        ensures fails_step { IfErr result (λ error. (error ≡ FlushError.Full) ⊎ (error ≡ FlushError.Device) → (world : World) → IsAt (node_of S.own_key S.signature_of self.old.book.validator.setting) D.content D.outcome world self.old
+            → (count : ℕ) × LeadsTo (node_of S.own_key S.signature_of self.old.book.validator.setting) D.content D.outcome world (take_to count ∷ []) self.new) }
+    {
+        book::flush_is_steps::<S>();
+        book::fail_is_a_step::<S>();
+        if self.book.is_down() {
+            return Err(FlushError::Down);
+        }
+        self.book.flush(&mut self.journal)
+    }
+
+    /// The next output that may go out; None where the desk is down.
+    pub fn release(&mut self) -> Option<Output>
+        ensures output { result ≡ releasable self.old.book }
+        ensures queue { self.new.book ≡ (if is_some result then record self.old.book { queue = drop 1 self.old.book.queue } else self.old.book) }
+        ensures stands { (run : Run) → Stands (node_of S.own_key S.signature_of self.old.book.validator.setting) run self.old.book
+            → Stands (node_of S.own_key S.signature_of self.old.book.validator.setting) run self.new.book }
+        ensures goes_out { IfSome result (λ output. (run : Run) → Stands (node_of S.own_key S.signature_of self.old.book.validator.setting) run self.old.book
+            → GoesOutSettled (node_of S.own_key S.signature_of self.old.book.validator.setting) run output) }
+        ensures same { self.new.journal ≡ self.old.journal }
+        ensures setting { self.new.book.validator.setting ≡ self.old.book.validator.setting }
+        // In the world it goes out.
+        ensures step { IfSome result (λ output. (world : World) → IsAt (node_of S.own_key S.signature_of self.old.book.validator.setting) D.content D.outcome world self.old
+            → (ticket : ℕ) × LeadsTo (node_of S.own_key S.signature_of self.old.book.validator.setting) D.content D.outcome world (release_output (record { ticket = ticket; output = output }) ∷ []) self.new) }
+    {
+        book::release_is_a_step::<S>();
+        self.book.release()
+    }
+
+    /// The order behind the settled records, from this place on. It is empty past its end.
+    ///
+    /// # Errors
+    /// `Down` exactly where the desk is down, `Memory` where a growth was refused.
+    pub fn order(&self, from: u64) -> Result<Vec<Digest>, Refusal>
+        ensures order { IfOk result (λ digests. (run : Run) → Stands (node_of S.own_key S.signature_of self.now.book.validator.setting) run self.now.book
+            → digests.items ≡ drop from (order_of (node_of S.own_key S.signature_of self.now.book.validator.setting) (settled_in run))) }
+        ensures down { IsErrOf result Refusal.Down ↔ IsTrue self.now.book.down }
+        ensures errors { IfErr result (λ refusal. (refusal ≡ Refusal.Down) ⊎ (refusal ≡ Refusal.Memory)) }
+        // In the world the settled order may be read.
+        ensures step { OnOk result ((world : World) → IsAt (node_of S.own_key S.signature_of self.now.book.validator.setting) D.content D.outcome world self.now
+            → LeadsTo (node_of S.own_key S.signature_of self.now.book.validator.setting) D.content D.outcome world (read_order ∷ []) self.now) }
+    {
+        self.book.order(from)
+    }
+
+    /// The validator's round, behind all that was accepted.
+    pub fn round_now(&self) -> u64
+        ensures { (run : Run) → Stands (node_of S.own_key S.signature_of self.now.book.validator.setting) run self.now.book
+            → result ≡ round_of (node_of S.own_key S.signature_of self.now.book.validator.setting) (history_in run) }
+    {
+        self.book.round_now()
+    }
+
+    /// Whether an event that passed the checks is ready: its answer isn't that a parent is missing.
+    pub fn ready(&self, event: &Checked) -> bool
+        requires passed { fault_of self.now.book.validator.setting.charter accepts_all event.now ≡ None }
+        ensures { (run : Run) → Stands (node_of S.own_key S.signature_of self.now.book.validator.setting) run self.now.book
+            → result ≡ not (is_missing_parents (admit (node_of S.own_key S.signature_of self.now.book.validator.setting) (history_in run) event.now)) }
+    {
+        self.book.validator().ready(event)
+    }
+
+    /// The header that the node proposes, behind all that was accepted. None where its round has an own header, or is past
+    /// `Round::MAX`. `AllocError` where a growth was refused.
+    pub fn propose(&self) -> Result<Option<Header>, AllocError>
+        ensures { IfOk result (λ found. (run : Run) → Stands (node_of S.own_key S.signature_of self.now.book.validator.setting) run self.now.book
+            → found ≡ propose_of (node_of S.own_key S.signature_of self.now.book.validator.setting) (history_in run)) }
+    {
+        self.book.validator().propose()
+    }
+
+    /// Whether a round took it down.
+    pub fn is_down(&self) -> bool
+        ensures { result ≡ self.now.book.down }
+    {
+        self.book.is_down()
+    }
+
+    /// The committee of its node.
+    pub fn committee(&self) -> &Committee
+        ensures { result.now ≡ self.now.book.validator.setting.charter }
+    {
+        self.book.committee()
+    }
+
+    /// Hands the disk back. What wasn't settled is lost.
+    pub fn into_disk(self) -> D
+        ensures { result ≡ disk_of self.entry.journal }
+    {
+        let Desk { book: _, journal } = self;
+        journal.into_disk()
+    }
+}
+
+impl<'a, S: Sign, D: StopDisk> Desk<'a, S, D> {
+    ghost use Rattle.std.specs.Prelude.{◌≡◌, ◌≢◌, ◌<◌, List, ℕ, IfOk, IfErr};
+    ghost use Rattle.journal.specs.Journal.{disk_of};
+    ghost use Rattle.validator.specs.Setting.{node_of};
+    ghost use Rattle.spec_world.specs.Steps.{Move};
+    ghost use Rattle.spec_world.specs.World.{World};
+    ghost use Rattle.desk.specs.AtWorld.{IsAt, LeadsTo, IsStop};
+    ghost use Rattle.desk.specs.Desk.{IsOpened, IsNotOpened};
+
+    /// Stops the machine, and opens the node again on what the stop left.
+    ///
+    /// # Errors
+    /// As `reopen` answers them. The disk is handed back.
+    pub fn stop(
+        self,
+        alloc: Global,
+        config: &'a Config<S>,
+    ) -> Result<Desk<'a, S, D>, Failed<JournalError, D>>
+        ensures setting { IfOk result (λ next. next.book.validator.setting ≡ config.now) }
+        ensures ok { IfOk result (λ next. (found : List ℕ) × D.outcome (disk_of self.entry.journal) found × IsOpened (node_of S.own_key S.signature_of config.now) D.content D.outcome found next) }
+        ensures err { IfErr result (λ failed. (found : List ℕ) × D.outcome (disk_of self.entry.journal) found × IsNotOpened (node_of S.own_key S.signature_of config.now) failed.error found (D.outcome (disk_of self.entry.journal)) (D.outcome failed.disk)) }
+        // In the world the machine stops, and what that left is opened.
+        ensures steps { IfOk result (λ next. (world : World) → IsAt (node_of S.own_key S.signature_of config.now) D.content D.outcome world self.entry
+            → (moves : List Move) × IsStop world moves × LeadsTo (node_of S.own_key S.signature_of config.now) D.content D.outcome world moves next) }
+        ensures device { IfErr result (λ failed. failed.error ≡ JournalError.Device → D.faults (disk_of self.entry.journal) < D.faults failed.disk) }
+        ensures no_fault { IfOk result (λ next. D.faults (disk_of next.journal) ≡ D.faults (disk_of self.entry.journal)) }
+        ensures no_fault_err { IfErr result (λ failed. failed.error ≢ JournalError.Device → D.faults failed.disk ≡ D.faults (disk_of self.entry.journal)) }
+    {
+        let mut disk = self.into_disk();
+        disk.stop();
+        Desk::open(alloc, config, disk)
+    }
+}

@@ -1,0 +1,7 @@
+//! A node with one owner: its book, the journal to which its records go, and what both are in the world of its runs.
+#![tactic(auto)]
+
+mod desk;
+
+pub use crate::desk::Desk;
+pub use book::{FlushError, Receipt};

@@ -1,0 +1,187 @@
+-- That what bytes are told as is what they stand for, both ways, and so in the world of all runs.
+use Rattle.std.proofs.Common.{◌≡◌, ℕ, ◌*◌, ◌<◌, Bool, true, false, cond, ltb, List, [], ◌∷◌, length, get_or, drop, Option, Some, None, Result, Ok, Err, refl, sym, ap, ◌∙◌, subst, arith, length-append}
+use Rattle.std.specs.Prelude.{All}
+use Rattle.std.specs.Int.{w32, to_be_bytes}
+use Rattle.std.specs.List.{flat_map}
+use Rattle.std.specs.Str.{bytes_eq}
+use Rattle.std.proofs.lemmas.Bool.{and_parts, and_from, ltb-true, lt-ltb}
+use Rattle.std.proofs.lemmas.List.Elements.{All-nil, All-head, All-tail, All-drop}
+use Rattle.std.proofs.lemmas.Slice.Eq.{bytes_eq-Decides}
+use Rattle.committee.specs.Charter.{Charter}
+use Rattle.diskmodel.specs.Outcomes.{AreBytes}
+use Rattle.journal.specs.Format.{stands}
+use Rattle.journal.specs.declared.error.JournalError.{JournalError}
+use Rattle.journal.specs.declared.error.JournalError.TheVariants.{Damaged}
+use Rattle.journal.specs.declared.record.Record.{Record}
+use Rattle.spec_model.specs.Admitting.{IsTaken, IsLegal}
+use Rattle.spec_model.specs.Histories.{History}
+use Rattle.spec_model.specs.Nodes.{Node, IsNode}
+use Rattle.spec_records.specs.Records.{stakes_of, configuration_of, CanTell}
+use Rattle.spec_records.specs.declared.version.Version.{Version}
+use Rattle.spec_records.specs.declared.version.Version.TheVariants.{First, Second}
+use Rattle.wire.specs.Fields as fields
+use Rattle.wire.specs.declared.keys.Key.{Key}
+use Rattle.spec_world.specs.Promise.{NothingTakenBack}
+use Rattle.spec_world.specs.Runs.{AreKeys}
+use Rattle.spec_world.specs.World.{bytes_of, journal_of, Holds, StandsFor, as_journal, as_new}
+use Rattle.opening.specs.Laws.{ToldStandsFor, WhatStandsIsTold, WorldsAreTold}
+use Rattle.opening.specs.Told.{IsText, stakes_size, shaped_version, is_alone, can_tell, is_own, mismatch, first_fault, unless, read_events, read_journal, told}
+use Rattle.opening.proofs.Configured.{all_pass, all_passed, tells_of, told_of, shaped_is}
+use Rattle.opening.proofs.GroupTexts.{OnlyGroups, stands_texts}
+use Rattle.opening.proofs.Histories.{AreEvents, read_back, read_whole}
+use Rattle.opening.proofs.Telling.{by_version, fault_none, ok_told, journal_nil, journal_cons, told_records, told_damaged, bytes_same}
+
+-- ---- the first record
+
+-- a first record has no fault
+record HasNoFault (node : Node) (first : Record) (events : List Record) : Type 0 where
+  version : Version
+  shape : shaped_version first.bytes ≡ Some version
+  alone : is_alone events ≡ true
+  tells : can_tell version node.charter ≡ true
+  own : first.bytes ≡ configuration_of version node.charter node.own
+
+matched : (own : Bool) → mismatch own ≡ None → own ≡ true
+matched true none = refl
+matched false none = absurd (cc)
+
+tests_passed : (alone : Bool) (shaped : Option Version) (own : Version → Bool) (place : ℕ) → by_version own (cond alone shaped None) place ≡ None
+    → (version : Version) × (shaped ≡ Some version) × (alone ≡ true) × (own version ≡ true)
+tests_passed true (Some version) own place is = (version, refl, refl, matched (own version) is)
+tests_passed true None own place is = absurd (cc)
+tests_passed false shaped own place is = absurd (cc)
+
+same_bytes : (one other : List ℕ) → bytes_eq one other ≡ true → one ≡ other
+same_bytes one other so = (bytes_eq-Decides one other).0 so
+
+no_fault : (node : Node) (first : Record) (events : List Record) → first_fault node first events ≡ None → HasNoFault node first events
+no_fault node first events none =
+    let (version, shape, alone, own) = tests_passed (is_alone events) (shaped_version first.bytes) (is_own node first.bytes) first.gate none in
+    let configuration = configuration_of version node.charter node.own in
+    let parts = and_parts (can_tell version node.charter) (bytes_eq first.bytes configuration) own in
+    record { version = version; shape = shape; alone = alone; tells = parts.0; own = same_bytes first.bytes configuration parts.1 }
+
+free : (node : Node) (first : Record) (events : List Record) → HasNoFault node first events → first_fault node first events ≡ None
+free node first events is =
+    let configuration = configuration_of is.version node.charter node.own in
+    let same : bytes_eq first.bytes configuration ≡ true = ap (λ (l : List ℕ). bytes_eq first.bytes l) (sym is.own) ∙ bytes_same first.bytes in
+    let own : is_own node first.bytes is.version ≡ true = and_from (can_tell is.version node.charter) (bytes_eq first.bytes configuration) is.tells same in
+    fault_none node first events is.version (is_own node first.bytes is.version) (λ i. cond (is.alone i) (is.shape i) None) refl own
+
+-- ---- what bytes are told as
+
+ok_is : (one other : History) → ◌≡◌ {A = Result History JournalError} (Ok one) (Ok other) → one ≡ other
+ok_is one other same = cc
+
+no_ok : (error : JournalError) (history : History) → ◌≡◌ {A = Result History JournalError} (Err error) (Ok history) → ⊥
+no_ok error history same = cc
+
+-- a reading behind no fault gave a history
+unless_ok : (fault : Option JournalError) (read : Result History ℕ) (history : History) → unless fault read ≡ Ok history → (fault ≡ None) × (read ≡ Ok history)
+unless_ok (Some error) read history is = absurd (no_ok error history is)
+unless_ok None (Ok found) history is = (refl, ap Ok (ok_is found history is))
+unless_ok None (Err place) history is = absurd (no_ok (Damaged place) history is)
+
+-- the events of a journal are behind its configuration, alone in the first group
+held : (node : Node) (bytes : List ℕ) (history : History) (first : Record) (events : List Record) → stands bytes ≡ Ok (first ∷ events) → HasNoFault node first events
+    → AreEvents node [] events history → Holds node bytes history
+held node bytes history first events stands_for is are = record {
+  records = first ∷ events;
+  stands_for = stands_for;
+  version = is.version;
+  are = λ i. is.own i ∷ are.same i;
+  alone = all_passed (λ (one : Record). ltb 0 one.gate) (λ one. 0 < one.gate) (λ one so. ltb-true 0 one.gate so) events is.alone;
+  each_taken = are.taken;
+  can_tell = tells_of is.version node.charter is.tells;
+}
+
+-- what a history that was found is
+abbrev Found : Node → List ℕ → History → Type 0
+Found node bytes history = StandsFor node bytes history × IsLegal node history
+
+pub found_records : (node : Node) (bytes : List ℕ) (history : History) (records : List Record) → IsNode node → All IsText (drop 1 records) → stands bytes ≡ Ok records → read_journal node records ≡ Ok history
+    → Found node bytes history
+found_records node bytes history [] sound texts stands_for is =
+    let empty : [] ≡ history = ok_is [] history (sym (journal_nil node) ∙ is) in
+    (as_new stands_for (sym empty), subst (IsLegal node) empty (record { sound = sound; taken = All-nil (IsTaken node); new = refl }))
+found_records node bytes history (first ∷ events) sound texts stands_for is =
+    let found = unless_ok (first_fault node first events) (read_events node [] events) history (sym (journal_cons node first events) ∙ is) in
+    let more = read_back node [] history events texts found.1 in
+    let behind : AreEvents node [] events history = subst (AreEvents node [] events) (sym more.parts) more.are in
+    (as_journal (held node bytes history first events stands_for (no_fault node first events found.0) behind), record { sound = sound; taken = behind.taken; new = behind.new })
+
+found_by : OnlyGroups → (node : Node) (bytes : List ℕ) (history : History) (read : Result (List Record) ℕ) → IsNode node → AreBytes bytes → stands bytes ≡ read → told node bytes ≡ Ok history
+    → Found node bytes history
+found_by only node bytes history (Ok records) sound are stands_for is =
+    found_records node bytes history records sound (All-drop IsText 1 records (stands_texts only bytes records are stands_for)) stands_for (sym (told_records node bytes records stands_for) ∙ is)
+found_by only node bytes history (Err place) sound are stands_for is = absurd (no_ok (Damaged place) history (sym (told_damaged node bytes place stands_for) ∙ is))
+
+pub told_stands_for : OnlyGroups → ToldStandsFor
+told_stands_for only node bytes history sound are is = found_by only node bytes history (stands bytes) sound are refl is
+
+-- ---- what stands is told
+
+-- a key has 32 bytes
+abbrev IsKey : Key → Type 0
+IsKey key = fields.AreBytes 32 key.0
+
+keys_long : (keys : List Key) → All IsKey keys → length (flat_map (λ key. key.0) keys) ≡ 32 * length keys
+keys_long [] each = refl
+keys_long (key ∷ keys) each =
+    let first = (All-head IsKey key keys each).count_is in
+    let rest = keys_long keys (All-tail IsKey key keys each) in
+    omega (arith, first, rest, length-append key.0 (flat_map (λ (k : Key). k.0) keys))
+
+each_long : (stakes : List ℕ) → length (flat_map (to_be_bytes w32) stakes) ≡ length stakes * 4
+each_long [] = refl
+each_long (stake ∷ stakes) = omega (arith, each_long stakes)
+
+-- the stakes of a committee have their size
+stakes_long : (version : Version) (charter : Charter) → length charter.stakes ≡ length charter.keys → length (stakes_of version charter.stakes) ≡ stakes_size version (length charter.keys)
+stakes_long First charter staked = refl
+stakes_long Second charter staked = each_long charter.stakes ∙ ap (λ (n : ℕ). n * 4) staked
+
+configuration_shape : (version : Version) (node : Node) → IsNode node → AreKeys node → shaped_version (configuration_of version node.charter node.own) ≡ Some version
+configuration_shape version node sound keys =
+    let charter = node.charter in
+    let long = keys_long charter.keys keys in
+    let stakes = stakes_long version charter sound.charter.staked in
+    let both = length-append (flat_map (λ (key : Key). key.0) charter.keys) (stakes_of version charter.stakes) in
+    shaped_is version charter node.own (omega (arith, sound.charter.size)) (omega (arith, long, stakes, both))
+
+told_new : (node : Node) (bytes : List ℕ) (history : History) → stands bytes ≡ Ok [] → history ≡ [] → told node bytes ≡ Ok history
+told_new node bytes history none empty = told_records node bytes [] none ∙ journal_nil node ∙ ap Ok (sym empty)
+
+told_held : (version : Version) (node : Node) (bytes : List ℕ) (history : History) (records : List Record) → AreKeys node → IsLegal node history → stands bytes ≡ Ok records
+    → bytes_of records ≡ journal_of version node history → All (λ (one : Record). 0 < one.gate) (drop 1 records) → CanTell version node.charter → told node bytes ≡ Ok history
+told_held version node bytes history [] keys legal stands_for are alone can = absurd (omega (arith, ap length are))
+told_held version node bytes history (first ∷ events) keys legal stands_for are alone can =
+    let own : first.bytes ≡ configuration_of version node.charter node.own = ap (λ (l : List (List ℕ)). get_or l 0 []) are in
+    let behind : AreEvents node [] events history = record { same = ap (λ (l : List (List ℕ)). drop 1 l) are; taken = legal.taken; new = legal.new } in
+    let is : HasNoFault node first events = record {
+      version = version;
+      shape = ap shaped_version own ∙ configuration_shape version node legal.sound keys;
+      alone = all_pass (λ (one : Record). ltb 0 one.gate) (λ one. 0 < one.gate) (λ one so. lt-ltb 0 one.gate so) events alone;
+      tells = told_of version node.charter can;
+      own = own;
+    } in
+    told_records node bytes (first ∷ events) stands_for ∙ journal_cons node first events
+    ∙ ok_told (first_fault node first events) (read_events node [] events) history (free node first events is) (read_whole node [] events history legal.sound behind)
+
+pub what_stands_is_told : WhatStandsIsTold
+what_stands_is_told node bytes history keys (as_journal holds) legal = told_held holds.version node bytes history holds.records keys legal holds.stands_for holds.are holds.alone holds.can_tell
+what_stands_is_told node bytes history keys (as_new none empty) legal = told_new node bytes history none empty
+
+-- ---- the worlds
+
+pub worlds_are_told : NothingTakenBack → WorldsAreTold
+worlds_are_told kept_all node moves world bytes sound keys run may =
+    let never = kept_all node moves world sound run in
+    let found = never.stands bytes may in
+    let recovered = never.recovered bytes found.0 may found.1 in
+    record {
+      history = found.0;
+      is_told = what_stands_is_told node bytes found.0 keys found.1 recovered.legal;
+      stands_for = found.1;
+      recovered = recovered;
+    }

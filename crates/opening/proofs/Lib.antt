@@ -1,0 +1,9 @@
+pub mod Configured
+pub mod Telling
+pub mod Empty
+pub mod Longer
+pub mod EventRecords
+pub mod GroupTexts
+pub mod Histories
+pub mod Laws
+pub mod Opened

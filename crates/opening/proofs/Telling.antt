@@ -1,0 +1,352 @@
+-- What readings of records, and of a journal, come to.
+use Rattle.std.proofs.Common.{drop-cons, ◌≡◌, ◌≢◌, ℕ, suc, ◌-◌, ◌+◌, ◌<◌, inl, inr, Bool, true, false, cond, eqb, ltb, ◌≤◌, List, [], ◌∷◌, ◌++◌, length, drop, Option, Some, None, Result, Ok, Err, refl, sym, ap, ◌∙◌, subst, arith}
+use Rattle.std.specs.Prelude.{get_or, not, slice_index, IfOk, IfErr}
+use Rattle.std.specs.Option.{option_map_or}
+use Rattle.std.specs.Str.{bytes_eq}
+use Rattle.std.proofs.lemmas.Bool.{cases_Bool, and_from, cond-true, cond-false, lt-ltb, le-ltb, eq-eqb, ne_eqb}
+use Rattle.std.proofs.lemmas.Slice.Eq.{bytes_eq-Decides}
+use Rattle.std.proofs.lemmas.List.Elements.{All-nil}
+use Rattle.committee.specs.Charter.{Charter}
+use Rattle.journal.specs.Format.{kept_at, stands, FailsAs}
+use Rattle.journal.specs.Journal.{with_group, IsBeforeOrAfter, StandsAsOneOf}
+use Rattle.journal.specs.declared.error.JournalError.{JournalError}
+use Rattle.journal.specs.declared.error.JournalError.TheVariants.{Memory, Device, Damaged, ConfigMismatch, Full}
+use Rattle.journal.specs.declared.record.Record.{Record}
+use Rattle.spec_model.specs.Admitting.{admit, is_new, IsTaken, IsLegal}
+use Rattle.spec_model.specs.Giving.{kept}
+use Rattle.spec_model.specs.Histories.{History}
+use Rattle.spec_model.specs.Nodes.{Node, IsNode}
+use Rattle.spec_model.specs.Words.{Author, Event, Message}
+use Rattle.spec_model.specs.declared.admission.Admission.{Admission}
+use Rattle.spec_model.specs.declared.refusal.Refusal.{Refusal}
+use Rattle.admission.specs.Answers.{IsAnswer, is_new_step}
+use Rattle.admission.specs.declared.step.Step.{Step}
+use Rattle.admission.specs.declared.step.Step.TheVariants.{New, Known}
+use Rattle.spec_machine.specs.Machine.{fresh}
+use Rattle.spec_records.specs.Records.{configuration_of, CanTell}
+use Rattle.spec_records.specs.declared.version.Version.{Version}
+use Rattle.admission.specs.declared.tables.Tables.{Tables}
+use Rattle.validator.specs.Standing.{AreAtSound}
+use Rattle.wire.specs.Reading.{Faults, message_of}
+use Rattle.wire.specs.declared.error.WireError.{WireError}
+use Rattle.wire.specs.declared.error.WireError.TheVariants as wire
+use Rattle.opening.specs.Told.{checked_in, sender_in, event_in, with_new, read_event, go_on, read_events, or_damaged, unless, can_tell, shaped_version, first_version, is_own, mismatch, first_fault, read_journal, told_by, told, Tells, StandsAt, IsOld, IsToldAsOneOf, KeepsOrBegins, KeepsRecords}
+use Rattle.opening.proofs.Configured.{told_of}
+
+-- an error of which more is known
+pub err_weaker : {A E : Type 0} (r : Result A E) (P Q : E → Type 0) → ((e : E) → P e → Q e) → IfErr r P → IfErr r Q
+err_weaker (Ok x) P Q less is = tt
+err_weaker (Err e) P Q less is = less e is
+
+-- ---- a record's event
+
+pub ok_weaker : {A E : Type 0} (r : Result A E) (P Q : A → Type 0) → ((x : A) → P x → Q x) → IfOk r P → IfOk r Q
+ok_weaker (Ok x) P Q less is = less x is
+ok_weaker (Err e) P Q less is = tt
+
+-- bytes that are too few, or of another kind, have no event
+pub event_short : (charter : Charter) (bytes : List ℕ) → length bytes < 3 → event_in charter bytes ≡ None
+unfolding event_in
+event_short charter bytes short = cond-true (ltb (length bytes) 3) None _ (lt-ltb (length bytes) 3 short)
+
+event_long : (charter : Charter) (bytes : List ℕ) → 3 ≤ length bytes
+    → event_in charter bytes ≡ cond (not (eqb (slice_index bytes 0) 1)) None (checked_in charter (sender_in bytes) (message_of (drop 3 bytes)))
+unfolding event_in
+event_long charter bytes long = cond-false (ltb (length bytes) 3) None _ (le-ltb (length bytes) 3 long)
+
+pub event_other : (charter : Charter) (bytes : List ℕ) → 3 ≤ length bytes → slice_index bytes 0 ≢ 1 → event_in charter bytes ≡ None
+event_other charter bytes long other =
+    event_long charter bytes long ∙ ap (λ (b : Bool). cond (not b) None (checked_in charter (sender_in bytes) (message_of (drop 3 bytes)))) (ne_eqb (slice_index bytes 0) 1 other)
+
+pub event_is : (charter : Charter) (bytes : List ℕ) → 3 ≤ length bytes → slice_index bytes 0 ≡ 1 → event_in charter bytes ≡ checked_in charter (sender_in bytes) (message_of (drop 3 bytes))
+event_is charter bytes long is =
+    event_long charter bytes long ∙ ap (λ (b : Bool). cond (not b) None (checked_in charter (sender_in bytes) (message_of (drop 3 bytes)))) (eq-eqb (slice_index bytes 0) 1 is)
+
+-- what can't be read is no event
+pub unread_none : (charter : Charter) (sender : Author) (error : WireError) (read : Result Message WireError) → Faults error read → error ≢ wire.Memory → checked_in charter sender read ≡ None
+unread_none charter sender wire.Memory read faults other = absurd (other refl)
+unread_none charter sender wire.Short read faults other = ap (checked_in charter sender) faults
+unread_none charter sender wire.Trailing read faults other = ap (checked_in charter sender) faults
+unread_none charter sender wire.BadTag read faults other = ap (checked_in charter sender) faults
+unread_none charter sender wire.NotCanonical read faults other = ap (checked_in charter sender) faults
+unread_none charter sender wire.TooMany read faults other = ap (checked_in charter sender) faults
+unread_none charter sender wire.BadRound read faults other = ap (checked_in charter sender) faults
+
+-- ---- a reading of records
+
+-- a record without an event is at fault
+pub read_none : (node : Node) (history : History) (one : Record) → None ≡ event_in node.charter one.bytes → read_event node history one ≡ Err one.gate
+unfolding read_event
+read_none node history one none =
+    ap (λ (o : Option Event). option_map_or (λ event. option_map_or (λ later. Ok later) (with_new node history event) (Err one.gate)) o (Err one.gate)) (sym none)
+
+-- an event is read by what admission answers
+read_by : (node : Node) (history : History) (one : Record) (event : Event) → Some event ≡ event_in node.charter one.bytes
+    → read_event node history one ≡ option_map_or (λ (later : History). Ok later) (with_new node history event) (Err one.gate)
+unfolding read_event
+read_by node history one event some =
+    ap (λ (o : Option Event). option_map_or (λ event. option_map_or (λ later. Ok later) (with_new node history event) (Err one.gate)) o (Err one.gate)) (sym some)
+
+pub read_new : (node : Node) (history : History) (one : Record) (event : Event) → Some event ≡ event_in node.charter one.bytes
+    → is_new (admit node history event) ≡ true → read_event node history one ≡ Ok (history ++ event ∷ [])
+read_new node history one event some new =
+    read_by node history one event some
+    ∙ ap (λ (b : Bool). option_map_or (λ (later : History). Ok later) (cond b (Some (history ++ event ∷ [])) None) (Err one.gate)) new
+
+pub read_old : (node : Node) (history : History) (one : Record) (event : Event) → Some event ≡ event_in node.charter one.bytes
+    → is_new (admit node history event) ≡ false → read_event node history one ≡ Err one.gate
+read_old node history one event some old =
+    read_by node history one event some
+    ∙ ap (λ (b : Bool). option_map_or (λ (later : History). Ok later) (cond b (Some (history ++ event ∷ [])) None) (Err one.gate)) old
+
+-- what came of an event says whether it is new
+pub new_answer : (answer : Admission) (step : Result Step Refusal) → IsAnswer answer step → is_new_step step ≡ true → is_new answer ≡ true
+new_answer answer (Ok (New outputs)) is new = ap is_new is
+new_answer answer (Ok (Known outputs)) is new = absurd (cc)
+new_answer answer (Err refusal) is new = absurd (cc)
+
+pub old_answer : (answer : Admission) (step : Result Step Refusal) → IsAnswer answer step → IsOld step → is_new answer ≡ false
+old_answer answer (Ok (New outputs)) is old = absurd old
+old_answer answer (Ok (Known outputs)) is old = ap is_new is
+old_answer answer (Err refusal) (inl memory) old = absurd (old memory)
+old_answer answer (Err refusal) (inr refused) old = ap is_new refused
+
+pub fails_by : (error : JournalError) (read : Result History ℕ) (gate : ℕ) → (error ≢ Memory → (error ≡ Damaged gate) × (read ≡ Err gate)) → FailsAs error read
+fails_by Memory read gate is = tt
+fails_by (Damaged place) read gate is =
+    let found : (Damaged place ≡ Damaged gate) × (read ≡ Err gate) = is (λ same. cc) in
+    let here : gate ≡ place = cc found.0 in
+    found.1 ∙ ap Err here
+fails_by Device read gate is = let found : (Device ≡ Damaged gate) × (read ≡ Err gate) = is (λ same. cc) in absurd (cc found.0)
+fails_by ConfigMismatch read gate is = let found : (ConfigMismatch ≡ Damaged gate) × (read ≡ Err gate) = is (λ same. cc) in absurd (cc found.0)
+fails_by Full read gate is = let found : (Full ≡ Damaged gate) × (read ≡ Err gate) = is (λ same. cc) in absurd (cc found.0)
+
+-- ---- one record after the other
+
+pub read_nil : (node : Node) (history : History) → read_events node history [] ≡ Ok history
+unfolding read_events
+read_nil node history = refl
+
+pub read_ok : (node : Node) (history later : History) (one : Record) (rest : List Record) → read_event node history one ≡ Ok later
+    → read_events node history (one ∷ rest) ≡ read_events node later rest
+unfolding read_events
+read_ok node history later one rest is = ap (go_on (λ l. read_events node l rest)) is
+
+pub read_err : (node : Node) (history : History) (one : Record) (rest : List Record) (place : ℕ) → read_event node history one ≡ Err place
+    → read_events node history (one ∷ rest) ≡ Err place
+unfolding read_events
+read_err node history one rest place is = ap (go_on (λ l. read_events node l rest)) is
+
+-- a history was reached behind so many of the records, and tables stand there
+pub record IsReached (node : Node) (records : List Record) (count : ℕ) (tables : Tables) : Type 0 where
+  pub history : History
+  pub legal : IsLegal node history
+  pub at : AreAtSound node tables (kept node history)
+  pub rest : read_events node [] records ≡ read_events node history (drop count records)
+
+pub reached_first : (node : Node) (records : List Record) (tables : Tables) → IsNode node → kept node [] ≡ fresh node → AreAtSound node tables (fresh node) → IsReached node records 0 tables
+reached_first node records tables sound starts at = record {
+  history = [];
+  legal = record { sound = sound; taken = All-nil (IsTaken node); new = refl };
+  at = subst (AreAtSound node tables) (sym starts) at;
+  rest = refl;
+}
+
+pub here : (records : List Record) (count : ℕ) (one : Record) → count < length records → one ≡ get_or records count one → drop count records ≡ one ∷ drop (count + 1) records
+here records count one within is =
+    let more : suc count ≡ count + 1 = omega arith in
+    drop-cons records count one within ∙ (λ i. sym is i ∷ drop (more i) records)
+
+pub reached_next : (node : Node) (records : List Record) (count : ℕ) (one : Record) (tables later : Tables) → drop count records ≡ one ∷ drop (count + 1) records
+    → ((history : History) → IsLegal node history → AreAtSound node tables (kept node history) → StandsAt node (read_event node history one) later)
+    → IsReached node records count tables → IsReached node records (count + 1) later
+reached_next node records count one tables later is stands reached =
+    let next = stands reached.history reached.legal reached.at in
+    record {
+      history = next.history;
+      legal = next.legal;
+      at = next.at;
+      rest = reached.rest ∙ ap (read_events node reached.history) is ∙ read_ok node reached.history next.history one (drop (count + 1) records) next.is_read;
+    }
+
+pub reached_end : (node : Node) (records : List Record) (count : ℕ) (tables : Tables) → drop count records ≡ [] → IsReached node records count tables → StandsAt node (read_events node [] records) tables
+reached_end node records count tables none reached = record {
+  history = reached.history;
+  is_read = reached.rest ∙ ap (read_events node reached.history) none ∙ read_nil node reached.history;
+  legal = reached.legal;
+  at = reached.at;
+}
+
+-- an error of a record is that of them all
+pub fails_on : (node : Node) (history : History) (one : Record) (rest : List Record) (error : JournalError) → FailsAs error (read_event node history one) → FailsAs error (read_events node history (one ∷ rest))
+fails_on node history one rest Memory fails = tt
+fails_on node history one rest (Damaged gate) fails = read_err node history one rest gate fails
+fails_on node history one rest Device fails = absurd fails
+fails_on node history one rest ConfigMismatch fails = absurd fails
+fails_on node history one rest Full fails = absurd fails
+
+pub fails_there : (node : Node) (records : List Record) (count : ℕ) (one : Record) (tables : Tables) (error : JournalError) → drop count records ≡ one ∷ drop (count + 1) records
+    → ((history : History) → IsLegal node history → AreAtSound node tables (kept node history) → FailsAs error (read_event node history one))
+    → IsReached node records count tables → FailsAs error (read_events node [] records)
+fails_there node records count one tables error is fails reached =
+    subst (FailsAs error) (ap (read_events node reached.history) (sym is) ∙ sym reached.rest)
+    (fails_on node reached.history one (drop (count + 1) records) error (fails reached.history reached.legal reached.at))
+
+-- ---- a journal
+
+-- the fault of a first record, by its version
+abbrev pub by_version : (Version → Bool) → Option Version → ℕ → Option JournalError
+by_version own version place = option_map_or (λ v. mismatch (own v)) version (Some (Damaged place))
+
+pub fault_shape : (node : Node) (first : Record) (events : List Record) → first_version first events ≡ None → first_fault node first events ≡ Some (Damaged first.gate)
+fault_shape node first events none = ap (λ (version : Option Version). by_version (is_own node first.bytes) version first.gate) none
+
+fault_own : (node : Node) (first : Record) (events : List Record) (version : Version) → first_version first events ≡ Some version → first_fault node first events ≡ mismatch (is_own node first.bytes version)
+fault_own node first events version is = ap (λ (version : Option Version). by_version (is_own node first.bytes) version first.gate) is
+
+pub fault_other : (node : Node) (first : Record) (events : List Record) (version : Version) (own : Bool) → first_version first events ≡ Some version → own ≡ is_own node first.bytes version → own ≡ false
+    → first_fault node first events ≡ Some ConfigMismatch
+fault_other node first events version own is own_is off = fault_own node first events version is ∙ ap mismatch (sym own_is ∙ off)
+
+pub fault_none : (node : Node) (first : Record) (events : List Record) (version : Version) (own : Bool) → first_version first events ≡ Some version → own ≡ is_own node first.bytes version → own ≡ true
+    → first_fault node first events ≡ None
+fault_none node first events version own is own_is so = fault_own node first events version is ∙ ap mismatch (sym own_is ∙ so)
+
+-- an error of a reading of records is that of the journal behind a first record without a fault
+pub fails_told : (fault : Option JournalError) (read : Result History ℕ) (error : JournalError) → fault ≡ None → FailsAs error read → Tells error (unless fault read)
+fails_told fault read Memory none fails = tt
+fails_told fault read (Damaged gate) none fails = ap (λ (f : Option JournalError). unless f read) none ∙ ap or_damaged fails
+fails_told fault read Device none fails = absurd fails
+fails_told fault read ConfigMismatch none fails = absurd fails
+fails_told fault read Full none fails = absurd fails
+
+pub fault_told : (fault : Option JournalError) (read : Result History ℕ) (error : JournalError) → (error ≢ Memory → fault ≡ Some error) → Tells error (unless fault read)
+fault_told fault read Memory is = tt
+fault_told fault read (Damaged gate) is = ap (λ (f : Option JournalError). unless f read) (is (λ same. cc))
+fault_told fault read Device is = ap (λ (f : Option JournalError). unless f read) (is (λ same. cc))
+fault_told fault read ConfigMismatch is = ap (λ (f : Option JournalError). unless f read) (is (λ same. cc))
+fault_told fault read Full is = ap (λ (f : Option JournalError). unless f read) (is (λ same. cc))
+
+pub ok_told : (fault : Option JournalError) (read : Result History ℕ) (history : History) → fault ≡ None → read ≡ Ok history → unless fault read ≡ Ok history
+ok_told fault read history none is = ap (λ (f : Option JournalError). unless f read) none ∙ ap or_damaged is
+
+pub journal_nil : (node : Node) → read_journal node [] ≡ Ok []
+unfolding read_journal
+journal_nil node = refl
+
+pub journal_cons : (node : Node) (first : Record) (events : List Record) → read_journal node (first ∷ events) ≡ unless (first_fault node first events) (read_events node [] events)
+unfolding read_journal
+journal_cons node first events = refl
+
+pub told_same : (node : Node) (one other : List ℕ) → stands one ≡ stands other → told node one ≡ told node other
+unfolding told
+told_same node one other same = ap (told_by node) same
+
+pub told_records : (node : Node) (bytes : List ℕ) (records : List Record) → stands bytes ≡ Ok records → told node bytes ≡ read_journal node records
+unfolding told
+told_records node bytes records is = ap (told_by node) is
+
+pub told_damaged : (node : Node) (bytes : List ℕ) (place : ℕ) → stands bytes ≡ Err place → told node bytes ≡ Err (Damaged place)
+unfolding told
+told_damaged node bytes place is = ap (told_by node) is
+
+-- a reading that is another one
+pub tells_same : (error : JournalError) (one other : Result History JournalError) → one ≡ other → Tells error one → Tells error other
+tells_same error one other same tells = subst (Tells error) same tells
+
+-- a first record with a fault
+pub behind_fault : (node : Node) (first : Record) (events : List Record) (error : JournalError) → first_fault node first events ≡ Some error → read_journal node (first ∷ events) ≡ Err error
+unfolding read_journal
+behind_fault node first events error is = ap (λ (f : Option JournalError). unless f (read_events node [] events)) is
+
+-- where the first record has no fault tables stand at what the others have
+stands_unless : (node : Node) (fault : Option JournalError) (read : Result History ℕ) (told_is : Result History JournalError) (tables : Tables) → told_is ≡ unless fault read → fault ≡ None → StandsAt node read tables → StandsAt node told_is tables
+stands_unless node fault read told_is tables is none stands = record {
+  history = stands.history;
+  is_read = is ∙ ok_told fault read stands.history none stands.is_read;
+  legal = stands.legal;
+  at = stands.at;
+}
+
+pub stands_behind : (node : Node) (first : Record) (events : List Record) (tables : Tables) → first_fault node first events ≡ None → StandsAt node (read_events node [] events) tables
+    → StandsAt node (read_journal node (first ∷ events)) tables
+stands_behind node first events tables none stands = stands_unless node (first_fault node first events) (read_events node [] events) (read_journal node (first ∷ events)) tables (journal_cons node first events) none stands
+
+-- without records the others are none
+fresh_is : (node : Node) → read_journal node [] ≡ unless None (read_events node [] [])
+fresh_is node = journal_nil node ∙ ap (unless None) (sym (read_nil node []))
+
+pub stands_fresh : (node : Node) (tables : Tables) → StandsAt node (read_events node [] []) tables → StandsAt node (read_journal node []) tables
+stands_fresh node tables stands = stands_unless node None (read_events node [] []) (read_journal node []) tables (fresh_is node) refl stands
+
+-- an error of the others
+pub fails_behind : (node : Node) (first : Record) (events : List Record) (error : JournalError) → first_fault node first events ≡ None → FailsAs error (read_events node [] events)
+    → Tells error (read_journal node (first ∷ events))
+fails_behind node first events error none fails = tells_same error _ _ (sym (journal_cons node first events)) (fails_told (first_fault node first events) (read_events node [] events) error none fails)
+
+pub fails_fresh : (node : Node) (error : JournalError) → FailsAs error (read_events node [] []) → Tells error (read_journal node [])
+fails_fresh node error fails = tells_same error _ _ (sym (fresh_is node)) (fails_told None (read_events node [] []) error refl fails)
+
+pub fails_not : (error : JournalError) (read : Result History ℕ) → FailsAs error read → (error ≢ Device) × (error ≢ Full)
+fails_not Memory read fails = ((λ same. cc), (λ same. cc))
+fails_not (Damaged gate) read fails = ((λ same. cc), (λ same. cc))
+fails_not Device read fails = absurd fails
+fails_not ConfigMismatch read fails = absurd fails
+fails_not Full read fails = absurd fails
+
+same_bytes : (bytes : List ℕ) → bytes_eq bytes bytes ≡ false → ⊥
+same_bytes bytes off = grind (arith, bytes_eq-Decides bytes bytes)
+
+pub bytes_same : (bytes : List ℕ) → bytes_eq bytes bytes ≡ true
+bytes_same bytes = elim (cases_Bool (bytes_eq bytes bytes)) [ inl so ↦ so | inr off ↦ absurd (same_bytes bytes off) ]
+
+-- ---- the configuration written
+
+-- a journal told as without records stays so with the configuration alone
+told_written : (version : Version) (node : Node) (before behind : List ℕ) (place : ℕ) → can_tell version node.charter ≡ true
+    → shaped_version (configuration_of version node.charter node.own) ≡ Some version → stands before ≡ Ok []
+    → stands behind ≡ Ok (kept_at place (configuration_of version node.charter node.own) ∷ []) → told node behind ≡ told node before
+told_written version node before behind place tells shape none written =
+    let one = kept_at place (configuration_of version node.charter node.own) in
+    let own : is_own node one.bytes version ≡ true = and_from (can_tell version node.charter) (bytes_eq one.bytes one.bytes) tells (bytes_same one.bytes) in
+    let free : first_fault node one [] ≡ None = fault_none node one [] version (is_own node one.bytes version) shape refl own in
+    told_records node behind (one ∷ []) written ∙ journal_cons node one [] ∙ ap (λ (f : Option JournalError). unless f (read_events node [] [])) free
+    ∙ ap or_damaged (read_nil node [])
+    ∙ sym (told_records node before [] none ∙ journal_nil node)
+
+-- so does whatever a stop leaves while it is written
+pub told_before_or_after : (version : Version) (node : Node) (before left : List ℕ) → CanTell version node.charter
+    → shaped_version (configuration_of version node.charter node.own) ≡ Some version → stands before ≡ Ok []
+    → IsBeforeOrAfter before (configuration_of version node.charter node.own ∷ []) left → told node left ≡ told node before
+told_before_or_after version node before left can shape none (inl same) = told_same node left before same
+told_before_or_after version node before left can shape none (inr with_it) =
+    told_written version node before left (length before - 1) (told_of version node.charter can) shape none
+    (with_it ∙ ap (with_group (length before - 1) (configuration_of version node.charter node.own ∷ [])) none)
+
+-- ---- openings
+
+-- an opening of the journal fails by what is told, or by memory or the disk
+pub opening_fails : (node : Node) (bytes : List ℕ) (error : JournalError) → ((gate : ℕ) → error ≡ Damaged gate → stands bytes ≡ Err gate) → error ≢ Full → error ≢ ConfigMismatch → error ≢ Device
+    → Tells error (told node bytes)
+opening_fails node bytes Memory damaged full config device = tt
+opening_fails node bytes (Damaged gate) damaged full config device = told_damaged node bytes gate (damaged gate refl)
+opening_fails node bytes Device damaged full config device = absurd (device refl)
+opening_fails node bytes ConfigMismatch damaged full config device = absurd (config refl)
+opening_fails node bytes Full damaged full config device = absurd (full refl)
+
+pub as_one_of : (node : Node) (outcome : List ℕ → Type 0) (left : List ℕ) → StandsAsOneOf outcome left → IsToldAsOneOf node outcome left
+as_one_of node outcome left (inl possible) = (left, possible, refl)
+as_one_of node outcome left (inr (first, possible, (records, before, after))) = (first, possible, told_same node left first (after ∙ sym before))
+
+-- an opening of the journal leaves one outcome, or the records of one
+pub keeps_one : (node : Node) (outcome : List ℕ → Type 0) (left : List ℕ) → StandsAsOneOf outcome left → KeepsRecords node outcome left
+keeps_one node outcome left (inl possible) = inl possible
+keeps_one node outcome left (inr (first, possible, same)) = inr (first, possible, inl same)
+
+-- and what is kept of bytes that stand for the same is kept of these
+pub keeps_same : (version : Version) (node : Node) (file mid left : List ℕ) → stands mid ≡ stands file → KeepsOrBegins version node mid left → KeepsOrBegins version node file left
+keeps_same version node file mid left same (inl (records, before, after)) = inl (records, sym same ∙ before, after)
+keeps_same version node file mid left same (inr (none, begun)) = inr (sym same ∙ none, begun)
+
+pub stands_same : (node : Node) (one other : Result History JournalError) (tables : Tables) → one ≡ other → StandsAt node one tables → StandsAt node other tables
+stands_same node one other tables same stands = subst (λ r. StandsAt node r tables) same stands

@@ -1,0 +1,42 @@
+use Rattle.std.proofs.Common.{◌≡◌, ◌++◌, ◌∷◌, [], Some, sym, ◌∙◌}
+use Rattle.std.proofs.lemmas.Result.{on_ok_weaker}
+use Rattle.spec_model.specs.Admitting.{admit}
+use Rattle.validator.specs.Setting.{node_of}
+use Rattle.opening.specs.Told.{event_in, read_event}
+use Rattle.opening.proofs.Telling.{read_none, read_new, read_old, new_answer, old_answer, fails_by, err_weaker}
+use Rattle.opening.proofs.events.take_event.Goals as goal
+
+pub returns-in_default-clause-err : goal.returns-in_default-clause-err
+returns-in_default-clause-err g c = λ history legal at.
+    let node = node_of g.S.Sign.own_key g.S.Sign.signature_of c.args.validator.now.setting in
+    let one = c.args.one.now in
+    read_none node history one (sym c.in_default.is ∙ c.in_ok-found.ensures.found ∙ (λ i. event_in (c.committee.ensures i) (c.as_slice.ensures i)))
+
+pub returns-clause-ok : goal.returns-clause-ok
+returns-clause-ok g c =
+    on_ok_weaker c.only_new.result
+    (λ new history legal at.
+    let node = node_of g.S.Sign.own_key g.S.Sign.signature_of c.args.validator.now.setting in
+    let one = c.args.one.now in
+    let event = c.in-Some.event in
+    let some : Some event ≡ event_in node.charter one.bytes = sym c.in-Some.is ∙ c.in_ok-found.ensures.found ∙ (λ i. event_in (c.committee.ensures i) (c.as_slice.ensures i)) in
+    let goes = c.step-step.ensures.longer new history legal at in
+    record {
+      history = history ++ event ∷ [];
+      is_read = read_new node history one event some (new_answer (admit node history event) c.step-step.result (c.step-step.ensures.admits history legal at) new);
+      legal = goes.legal;
+      at = goes.at;
+    })
+    c.only_new.ensures.ok
+
+pub returns-clause-err : goal.returns-clause-err
+returns-clause-err g c =
+    err_weaker c.only_new.result _ _
+    (λ error is history legal at.
+    let node = node_of g.S.Sign.own_key g.S.Sign.signature_of c.args.validator.now.setting in
+    let one = c.args.one.now in
+    let event = c.in-Some.event in
+    let some : Some event ≡ event_in node.charter one.bytes = sym c.in-Some.is ∙ c.in_ok-found.ensures.found ∙ (λ i. event_in (c.committee.ensures i) (c.as_slice.ensures i)) in
+    fails_by error (read_event node history one) one.gate
+    (λ other. ((is other).0, read_old node history one event some (old_answer (admit node history event) c.step-step.result (c.step-step.ensures.admits history legal at) (is other).1))))
+    c.only_new.ensures.err

@@ -1,0 +1,196 @@
+-- What the bytes of a node's journal are told as: the events that they have, or why they are none of this node's.
+use Rattle.std.specs.Prelude.{◌≡◌, ◌≢◌, ◌⊎◌, All, ℕ, ◌+◌, ◌*◌, ◌==◌, ◌&&◌, not, nat_lt, Bool, true, List, [], ◌∷◌, ◌++◌, length, drop, Option, Some, None, is_none, Result, Ok, Err, slice_index, if◌then◌else◌}
+use Rattle.std.specs.Int.{w16, from_be_bytes}
+use Rattle.std.specs.List.{list_all}
+use Rattle.std.specs.Option.{option_map_or}
+use Rattle.std.specs.Str.{bytes_eq}
+use Rattle.admission.specs.declared.step.Step.{Step}
+use Rattle.admission.specs.declared.step.Step.TheVariants.{New, Known}
+use Rattle.committee.specs.Charter.{Charter}
+use Rattle.diskmodel.specs.Outcomes.{AreBytes}
+use Rattle.header.specs.Checks.{fault_of, accepts_all}
+use Rattle.journal.specs.Format.{kept_at, stands}
+use Rattle.journal.specs.Journal.{HaveSameRecords}
+use Rattle.journal.specs.declared.error.JournalError.{JournalError}
+use Rattle.journal.specs.declared.error.JournalError.TheVariants.{Memory, Damaged, ConfigMismatch}
+use Rattle.journal.specs.declared.record.Record.{Record}
+use Rattle.spec_model.specs.Admitting.{admit, is_new, IsLegal}
+use Rattle.spec_model.specs.Giving.{kept}
+use Rattle.spec_model.specs.Histories.{History}
+use Rattle.spec_model.specs.Nodes.{Node}
+use Rattle.spec_model.specs.Words.{Author, Event, Message}
+use Rattle.spec_model.specs.declared.refusal.Refusal.{Refusal}
+use Rattle.spec_model.specs.declared.refusal.Refusal.TheVariants as refusals
+use Rattle.spec_records.specs.Records.{number_of, configuration_of}
+use Rattle.spec_records.specs.declared.version.Version.{Version}
+use Rattle.spec_records.specs.declared.version.Version.TheVariants.{First, Second}
+use Rattle.opening.specs.declared.configuration.TheConstants.{SETTINGS_BYTES, KEY_BYTES, STAKE_BYTES}
+use Rattle.opening.specs.declared.events.TheConstants.{EVENT, FRONT_BYTES}
+use Rattle.admission.specs.declared.tables.Tables.{Tables}
+use Rattle.validator.specs.Standing.{AreAtSound}
+use Rattle.wire.specs.Reading.{message_of}
+use Rattle.wire.specs.declared.error.WireError.{WireError}
+
+-- ---- events
+
+-- a record has bytes
+abbrev pub IsText : Record → Type 0
+IsText one = AreBytes one.bytes
+
+-- a message with its sender, if it passes the checks of a committee, whatever its signatures
+abbrev pub if_passed : Charter → Event → Option Event
+if_passed charter event = if is_none (fault_of charter accepts_all event) then Some event else None
+
+-- what was read as a message from a sender, if it was one and passes the checks
+abbrev pub checked_in : Charter → Author → Result Message WireError → Option Event
+checked_in charter sender (Ok message) = if_passed charter (record { sender = sender; message = message })
+checked_in charter sender (Err fault) = None
+
+-- the sender that a record names
+abbrev pub sender_in : List ℕ → Author
+sender_in bytes = record { 0 = from_be_bytes w16 (slice_index bytes 1 ∷ slice_index bytes 2 ∷ []) }
+
+-- the event of a record: its kind is an event's, the message behind the sender is read, and passes the checks
+unfoldable pub event_in : Charter → List ℕ → Option Event
+event_in charter bytes =
+    if nat_lt (length bytes) FRONT_BYTES then None
+    else if not (slice_index bytes 0 == EVENT) then None
+    else checked_in charter (sender_in bytes) (message_of (drop FRONT_BYTES bytes))
+
+-- a history with an event more, which has to be new
+abbrev pub with_new : Node → History → Event → Option History
+with_new node history event = if is_new (admit node history event) then Some (history ++ event ∷ []) else None
+
+-- a history with a record's event more, or the place of the record's group
+unfoldable pub read_event : Node → History → Record → Result History ℕ
+read_event node history kept =
+    option_map_or (λ event. option_map_or (λ later. Ok later) (with_new node history event) (Err kept.gate)) (event_in node.charter kept.bytes) (Err kept.gate)
+
+-- a reading behind another one, whose place stands if it has none
+abbrev pub go_on : (History → Result History ℕ) → Result History ℕ → Result History ℕ
+go_on read (Ok history) = read history
+go_on read (Err place) = Err place
+
+-- a history with the events of records in turn, or the place of the first record at fault
+unfoldable pub read_events : Node → History → List Record → Result History ℕ
+read_events node history [] = Ok history
+read_events node history (kept ∷ rest) = go_on (λ later. read_events node later rest) (read_event node history kept)
+
+-- ---- the configuration
+
+-- how many members the bytes of a configuration count
+abbrev pub members_in : List ℕ → ℕ
+members_in bytes = from_be_bytes w16 (slice_index bytes 12 ∷ slice_index bytes 13 ∷ [])
+
+-- how many bytes the stakes of so many members have in a version
+abbrev pub stakes_size : Version → ℕ → ℕ
+stakes_size First members = 0
+stakes_size Second members = members * STAKE_BYTES
+
+-- how many bytes a configuration of so many members has in a version
+abbrev pub size_in : Version → ℕ → ℕ
+size_in version members = SETTINGS_BYTES + members * KEY_BYTES + stakes_size version members
+
+-- bytes begin as a configuration of a version: its kind, the version's number
+abbrev pub has_front : Version → List ℕ → Bool
+has_front version bytes = (slice_index bytes 0 == 0) && (slice_index bytes 1 == number_of version)
+
+-- bytes have the shape of a configuration of a version: they begin as one, and have the length that its members give
+unfoldable pub is_configuration : Version → List ℕ → Bool
+is_configuration version bytes = has_front version bytes && (length bytes == size_in version (members_in bytes))
+
+-- the version in whose shape bytes are
+abbrev pub shaped_version : List ℕ → Option Version
+shaped_version bytes = if is_configuration First bytes then Some First else if is_configuration Second bytes then Some Second else None
+
+-- none of these records stands in the first group, whose gate is at place 0
+abbrev pub is_alone : List Record → Bool
+is_alone events = list_all (λ kept. nat_lt 0 kept.gate) events
+
+-- each stake is 1
+abbrev pub has_ones : Charter → Bool
+has_ones charter = list_all (λ stake. stake == 1) charter.stakes
+
+-- a version can tell a committee: the first one, which has no stakes, only where each is 1
+abbrev pub can_tell : Version → Charter → Bool
+can_tell First charter = has_ones charter
+can_tell Second charter = true
+
+-- ---- a journal
+
+-- the version of a first record with these behind it: its shape says it, where it is alone in the first group
+abbrev pub first_version : Record → List Record → Option Version
+first_version first events = if is_alone events then shaped_version first.bytes else None
+
+-- bytes are the node's own configuration in a version that can tell its committee
+abbrev pub is_own : Node → List ℕ → Version → Bool
+is_own node bytes version = can_tell version node.charter && bytes_eq bytes (configuration_of version node.charter node.own)
+
+-- what is wrong with a configuration that is another one than the node's own
+abbrev pub mismatch : Bool → Option JournalError
+mismatch own = if own then None else Some ConfigMismatch
+
+-- why a first record with these behind it isn't the node's own configuration, alone in the first group
+abbrev pub first_fault : Node → Record → List Record → Option JournalError
+first_fault node first events = option_map_or (λ version. mismatch (is_own node first.bytes version)) (first_version first events) (Some (Damaged first.gate))
+
+-- what was read, or damage at its place
+abbrev pub or_damaged : Result History ℕ → Result History JournalError
+or_damaged (Ok history) = Ok history
+or_damaged (Err place) = Err (Damaged place)
+
+-- the same, unless there is a fault before it
+abbrev pub unless : Option JournalError → Result History ℕ → Result History JournalError
+unless (Some error) read = Err error
+unless None read = or_damaged read
+
+-- the events of a journal's records, or why they are none. Without a record there is no event
+unfoldable pub read_journal : Node → List Record → Result History JournalError
+read_journal node [] = Ok []
+read_journal node (first ∷ events) = unless (first_fault node first events) (read_events node [] events)
+
+-- what reading the groups gave
+abbrev pub told_by : Node → Result (List Record) ℕ → Result History JournalError
+told_by node (Ok records) = read_journal node records
+told_by node (Err place) = Err (Damaged place)
+
+-- the events of a journal's bytes, or why they are none
+unfoldable pub told : Node → List ℕ → Result History JournalError
+told node bytes = told_by node (stands bytes)
+
+-- ---- what the calls answer
+
+-- the error is that of a reading, unless memory was refused
+abbrev pub Tells : {X : Type 0} → JournalError → Result X JournalError → Type 0
+Tells Memory read = Unit {0}
+Tells error read = read ≡ Err error
+
+-- a reading gave a legal history, and tables stand at what is kept of it
+pub record StandsAt {E : Type 0} (node : Node) (read : Result History E) (tables : Tables) : Type 0 where
+  pub history : History
+  pub is_read : read ≡ Ok history
+  pub legal : IsLegal node history
+  pub at : AreAtSound node tables (kept node history)
+
+-- what came of an event says that it isn't new
+abbrev pub IsOld : Result Step Refusal → Type 0
+IsOld (Ok (New outputs)) = ⊥
+IsOld (Ok (Known outputs)) = Unit {0}
+IsOld (Err refusal) = refusal ≢ refusals.Memory
+
+-- the records for which bytes stand have bytes, whatever the first one is
+abbrev pub HasTexts : List ℕ → Type 0
+HasTexts file = (records : List Record) → stands file ≡ Ok records → All IsText (drop 1 records)
+
+-- these bytes stand for records, and what is left of them for the same, whoever's they are, or where they are none for the
+-- node's configuration in a version alone
+abbrev pub KeepsOrBegins : Version → Node → List ℕ → List ℕ → Type 0
+KeepsOrBegins version node file left = HaveSameRecords file left ⊎ ((stands file ≡ Ok []) × (stands left ≡ Ok (kept_at 0 (configuration_of version node.charter node.own) ∷ [])))
+
+-- what is left is one of these outcomes byte for byte, or so of one of them: what stands for no records is one of them
+abbrev pub KeepsRecords : Node → (List ℕ → Type 0) → List ℕ → Type 0
+KeepsRecords node outcome left = outcome left ⊎ ((first : List ℕ) × outcome first × KeepsOrBegins Second node first left)
+
+-- what a stop leaves is told as one of these outcomes is
+abbrev pub IsToldAsOneOf : Node → (List ℕ → Type 0) → List ℕ → Type 0
+IsToldAsOneOf node outcome left = (first : List ℕ) × outcome first × (told node left ≡ told node first)

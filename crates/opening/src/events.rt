@@ -1,0 +1,131 @@
+//! The events of a journal's records.
+
+ghost use Rattle.std.specs.Prelude.{◌≡◌, ◌≢◌, [], true, None, All, IfOk, IfErr, IfSome, OnOk};
+ghost use Rattle.header.specs.Checks.{fault_of, accepts_all};
+ghost use Rattle.journal.specs.Format.{FailsAs};
+ghost use Rattle.spec_model.specs.Admitting.{IsLegal};
+ghost use Rattle.spec_model.specs.Giving.{kept};
+ghost use Rattle.spec_model.specs.Histories.{History};
+ghost use Rattle.admission.specs.Answers.{is_new_step};
+ghost use Rattle.validator.specs.Setting.{node_of};
+ghost use Rattle.validator.specs.Standing.{AreAtSound};
+ghost use Rattle.opening.specs.Told.{IsText, event_in, if_passed, read_event, read_events, StandsAt, IsOld};
+
+use crate::configuration::are_bytes;
+use committee::Committee;
+use header::{Checked, recheck};
+use journal::{JournalError, Record};
+use sigface::Sign;
+use std::alloc::{AllocError, Global};
+use validator::{Config, Refusal, Step, Validator};
+use wire::{Author, Message, WireError};
+use wire_read::decode;
+
+/// The kind of a record that has an event.
+pub const EVENT: u8 = 1;
+
+/// The bytes of an event's record before the message: its kind, and the sender's number.
+pub const FRONT_BYTES: usize = 3;
+
+/// The event of a record, if it is one that passes the committee's checks. Signatures were tested before it was written.
+pub fn event_of(
+    alloc: Global,
+    committee: &Committee,
+    bytes: &[u8],
+) -> Result<Option<Checked>, AllocError>
+    ensures found { IfOk result (λ found. found ≡ event_in committee.now bytes.now) }
+    ensures passed { IfOk result (λ found. IfSome found (λ event. fault_of committee.now accepts_all event ≡ None)) }
+{
+    if bytes.len() < FRONT_BYTES || bytes[0] != EVENT {
+        return Ok(None);
+    }
+    let sender = Author(u16::from_be_bytes([bytes[1], bytes[2]]));
+    match decode(alloc, &bytes[FRONT_BYTES..]) {
+        Ok(message) => Ok(passed(committee, sender, message)),
+        Err(error) => unread(error),
+    }
+}
+
+// The event of a message with its sender, if it passes the checks, whatever its signatures.
+fn passed(committee: &Committee, sender: Author, message: Message) -> Option<Checked>
+    ensures found { result ≡ if_passed committee.now (record { sender = sender; message = message }) }
+    ensures passed { IfSome result (λ event. fault_of committee.now accepts_all event ≡ None) }
+{
+    match recheck(committee, sender, message) {
+        Ok(event) => Some(event),
+        Err(_) => None,
+    }
+}
+
+// Bytes that can't be read are no event, but where memory was refused.
+fn unread(error: WireError) -> Result<Option<Checked>, AllocError>
+    ensures { IfOk result (λ found. (found ≡ None) × (error ≢ WireError.Memory)) }
+{
+    match error {
+        WireError::Memory => Err(AllocError),
+        _ => Ok(None),
+    }
+}
+
+// Takes the event of a record, which has to be new.
+fn take_event<S: Sign>(
+    alloc: Global,
+    validator: &mut Validator<'_, S>,
+    one: &Record,
+) -> Result<(), JournalError>
+    ensures setting { validator.new.setting ≡ validator.old.setting }
+    ensures ok { OnOk result ((history : History) → IsLegal (node_of S.own_key S.signature_of validator.old.setting) history
+        → AreAtSound (node_of S.own_key S.signature_of validator.old.setting) validator.old.tables (kept (node_of S.own_key S.signature_of validator.old.setting) history)
+        → StandsAt (node_of S.own_key S.signature_of validator.old.setting) (read_event (node_of S.own_key S.signature_of validator.old.setting) history one.now) validator.new.tables) }
+    ensures err { IfErr result (λ error. (history : History) → IsLegal (node_of S.own_key S.signature_of validator.old.setting) history
+        → AreAtSound (node_of S.own_key S.signature_of validator.old.setting) validator.old.tables (kept (node_of S.own_key S.signature_of validator.old.setting) history)
+        → FailsAs error (read_event (node_of S.own_key S.signature_of validator.old.setting) history one.now)) }
+{
+    let found = event_of(alloc, validator.committee(), one.bytes.as_slice())?;
+    let Some(event) = found else {
+        return Err(JournalError::Damaged(one.gate));
+    };
+    let step = validator.step(event);
+    only_new(step, one.gate)
+}
+
+// What came of an event has to be new; else its group, at this place, is damaged, but where memory was refused.
+fn only_new(step: Result<Step, Refusal>, gate: u64) -> Result<(), JournalError>
+    ensures ok { OnOk result (is_new_step step ≡ true) }
+    ensures err { IfErr result (λ error. error ≢ JournalError.Memory → (error ≡ JournalError.Damaged gate) × IsOld step) }
+{
+    match step {
+        Ok(Step::New(_)) => Ok(()),
+        Ok(Step::Known(_)) => Err(JournalError::Damaged(gate)),
+        Err(Refusal::Memory) => Err(JournalError::Memory),
+        Err(_) => Err(JournalError::Damaged(gate)),
+    }
+}
+
+// What holds of a record: it has bytes. The call does nothing.
+fn is_text(kept: &Record)
+    ensures { IsText kept.now }
+{
+    are_bytes(kept.bytes.as_slice());
+}
+
+/// The validator after the events of these records, of which each has to be new.
+pub fn replay<'a, S: Sign>(
+    alloc: Global,
+    config: &'a Config<S>,
+    records: &[Record],
+) -> Result<Validator<'a, S>, JournalError>
+    ensures setting { IfOk result (λ validator. validator.setting ≡ config.now) }
+    ensures ok { IfOk result (λ validator. StandsAt (node_of S.own_key S.signature_of config.now) (read_events (node_of S.own_key S.signature_of config.now) [] records.now) validator.tables) }
+    ensures err { IfErr result (λ error. FailsAs error (read_events (node_of S.own_key S.signature_of config.now) [] records.now)) }
+    ensures texts { OnOk result (All IsText records.now) }
+{
+    spec_machine::starts_fresh();
+    config.limits_hold();
+    let mut validator = Validator::new(alloc, config)?;
+    for one in records {
+        is_text(one);
+        take_event(alloc, &mut validator, one)?;
+    }
+    Ok(validator)
+}

@@ -1,0 +1,12 @@
+//! Opening a node on a disk: what its journal has, and the validator after the events there.
+#![tactic(auto)]
+
+mod configuration;
+mod events;
+mod first_group;
+mod reopening;
+mod standing;
+
+pub use configuration::{can_tell, keys_hold};
+pub use reopening::{reopen, write_configuration};
+pub use standing::{told_stands_for, what_stands_is_told, worlds_are_told};
