@@ -57,10 +57,10 @@ impl Cases {
     }
 
     /// `parts`, `validator` and `accords` begin a case of these, and any other command one of the definitions.
-    fn obey(&mut self, command: &str, answer: &mut String) -> Told {
+    fn obey(&mut self, rt: &HostRuntime, command: &str, answer: &mut String) -> Told {
         match self.about {
             About::Parts => self.parts.obey(command, answer),
-            About::Validator => self.validator.obey(command, answer),
+            About::Validator => self.validator.obey(rt, command, answer),
             About::Accords => self.accords.obey(command, answer),
             About::Definitions => match command {
                 "parts" => Ok(self.about = About::Parts),
@@ -94,22 +94,22 @@ fn tested(rt: &HostRuntime) -> Result<bool, Ending> {
 fn is_right(rt: &HostRuntime, name: &str) -> Result<bool, Ending> {
     let text = fs::read(rt, name)?;
     let mut player = Player::new(rt.alloc(), name, text.as_slice(), io::writer(rt));
-    play_all(rt.alloc(), &mut player)?;
+    play_all(rt, &mut player)?;
     player.end()
 }
 
-fn play_all<I, W>(alloc: Global, player: &mut Player<I, W>) -> Result<(), Ending>
+fn play_all<I, W>(rt: &HostRuntime, player: &mut Player<I, W>) -> Result<(), Ending>
 where
     I: BufRead + Drop,
     W: Write + Drop,
 {
-    let mut cases = Cases::new(alloc)?;
-    play_each(alloc, player, &mut cases)
+    let mut cases = Cases::new(rt.alloc())?;
+    play_each(rt, player, &mut cases)
 }
 
 /// Plays each title and command. The loop owns nothing, since what a loop owns costs the proof at each way out of it.
 fn play_each<I, W>(
-    alloc: Global,
+    rt: &HostRuntime,
     player: &mut Player<I, W>,
     cases: &mut Cases,
 ) -> Result<(), Ending>
@@ -121,13 +121,13 @@ where
         if !player.advance()? {
             break;
         }
-        play(alloc, player, cases)?;
+        play(rt, player, cases)?;
     }
     Ok(())
 }
 
 /// Plays a title or a command.
-fn play<I, W>(alloc: Global, player: &mut Player<I, W>, cases: &mut Cases) -> Result<(), Ending>
+fn play<I, W>(rt: &HostRuntime, player: &mut Player<I, W>, cases: &mut Cases) -> Result<(), Ending>
 where
     I: BufRead + Drop,
     W: Write + Drop,
@@ -136,7 +136,7 @@ where
         cases.begin()?;
         return Ok(());
     }
-    let mut answer = String::new(alloc);
-    cases.obey(player.command(), &mut answer)?;
+    let mut answer = String::new(rt.alloc());
+    cases.obey(rt, player.command(), &mut answer)?;
     player.answered(answer.as_str())
 }

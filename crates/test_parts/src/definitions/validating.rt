@@ -1,6 +1,7 @@
 //! The lines of a case, which are played once all are there.
 
 mod beside;
+mod bodies;
 mod playing;
 mod same;
 mod seen;
@@ -10,6 +11,7 @@ mod tally;
 use crate::definitions::looking::number;
 use crate::definitions::weighing::committee_of;
 use crate::parts::parted;
+use bodies::tell_bodies;
 use playing::play_lines;
 use sim_script::{BATCHES, DEPTH, FormError, OWN, signer};
 use spec_model::Node;
@@ -56,9 +58,14 @@ impl Gathered {
         self.stakes.push_str("1,1,1,1")
     }
 
-    /// `depth`, `batches` and `stakes` set up the committee, `play` plays the lines; any
+    /// `depth`, `batches` and `stakes` set up the committee, `play` plays the lines, `bodies` tells of memory; any
     /// other line is one of them.
-    pub fn obey(&mut self, command: &str, answer: &mut String) -> Result<(), AllocError> {
+    pub fn obey(
+        &mut self,
+        rt: &HostRuntime,
+        command: &str,
+        answer: &mut String,
+    ) -> Result<(), AllocError> {
         let (name, rest) = parted(command, ' ');
         match name {
             "depth" => {
@@ -70,7 +77,8 @@ impl Gathered {
                 Ok(())
             }
             "stakes" => self.set_stakes(rest),
-            "play" => self.answer_play(number(rest), answer),
+            "play" => told(self.play(number(rest), answer), answer),
+            "bodies" => told(self.tell_bodies(rt, rest, answer), answer),
             _ => self.add_line(command),
         }
     }
@@ -85,11 +93,24 @@ impl Gathered {
         self.lines.push_str("\n")
     }
 
-    fn answer_play(&self, most: u64, answer: &mut String) -> Result<(), AllocError> {
-        match self.play(most, answer) {
-            Ok(()) => Ok(()),
-            Err(FormError::Memory) => Err(AllocError),
-            Err(_) => answer.push_str("bad case\n"),
-        }
+    /// Tells of so many batches of so many transactions what they take of the process's memory.
+    fn tell_bodies(
+        &self,
+        rt: &HostRuntime,
+        words: &str,
+        answer: &mut String,
+    ) -> Result<(), FormError> {
+        let (count, transactions) = parted(words, ' ');
+        let stakes = self.stakes.as_str();
+        let committee = committee_of(self.alloc, stakes, self.depth, self.batches)?;
+        tell_bodies(rt, committee, number(count), number(transactions), answer)
+    }
+}
+
+fn told(ended: Result<(), FormError>, answer: &mut String) -> Result<(), AllocError> {
+    match ended {
+        Ok(()) => Ok(()),
+        Err(FormError::Memory) => Err(AllocError),
+        Err(_) => answer.push_str("bad case\n"),
     }
 }
