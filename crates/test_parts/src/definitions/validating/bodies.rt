@@ -14,8 +14,8 @@ use std::fs;
 use validator::{Config, Step, Validator};
 use wire::{Batch, MAX_TRANSACTION_BYTES, Message, OpenBatch, Output};
 
-/// Where the system tells of the process's memory: numbers of pages.
-const MEMORY: &str = "/proc/self/statm";
+/// Where the system tells of its processes, of this one in `self`.
+const PROCESSES: &str = "/proc";
 
 /// The place of the number that counts what the process may write to.
 const WRITABLE: usize = 5;
@@ -26,9 +26,12 @@ const PAGE_BYTES: u64 = 4096;
 /// How often the bodies are copied, at most, until no room is left that the process had already.
 const ROUNDS: u64 = 16;
 
-/// Bytes of memory that the process may write to, none where the system doesn't tell.
+/// Bytes of memory that the process may write to, none where the system doesn't tell: it does in numbers of pages.
 fn memory(rt: &HostRuntime) -> u64 {
-    let Ok(text) = fs::read_to_string(rt, MEMORY) else {
+    let Ok(file) = format!(in rt.alloc(); "{PROCESSES}/self/statm") else {
+        return 0;
+    };
+    let Ok(text) = fs::read_to_string(rt, &file) else {
         return 0;
     };
     let pages = text.split_whitespace().nth(WRITABLE).unwrap_or("");
