@@ -107,13 +107,7 @@ fn walk(dag: &Dag, round: Round, author: Author, below: Round, answer: &mut Stri
     write_set(answer, "walk", &dag.reached(round, author, below))
 }
 
-fn step(
-    dag: &Dag,
-    reads: &mut Reads,
-    round: Round,
-    authors: &[u64],
-    answer: &mut String,
-) -> Told {
+fn step(dag: &Dag, reads: &mut Reads, round: Round, authors: &[u64], answer: &mut String) -> Told {
     if reads.number() >= 1000 {
         return answer.push_str("too many\n");
     }
