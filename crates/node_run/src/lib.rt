@@ -8,9 +8,9 @@ mod due;
 mod flushing;
 mod intake;
 mod member;
-mod opening;
 mod reading;
 mod running;
+mod starting;
 mod threads;
 mod writing;
 

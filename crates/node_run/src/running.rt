@@ -1,7 +1,7 @@
 //! A run of a node.
 
 use crate::member::run_member;
-use crate::opening::{config_of, open_all};
+use crate::starting::{config_of, open_all};
 use diskmodel::Disk;
 use node_io::Ending;
 use std::alloc::Global;

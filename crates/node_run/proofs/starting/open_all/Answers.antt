@@ -3,7 +3,7 @@ use Rattle.journal.specs.declared.error.JournalError.TheVariants.{Device}
 use Rattle.node_io.specs.declared.ending.Ending.TheVariants.{Journal}
 use Rattle.node_run.specs.Members.{IsConfigOf, RefusesOpening}
 use Rattle.node_run.proofs.Opened.{of_second}
-use Rattle.node_run.proofs.opening.open_all.Goals as goal
+use Rattle.node_run.proofs.starting.open_all.Goals as goal
 
 pub returns-in-Ok-open-clause-member : goal.returns-in-Ok-open-clause-member
 returns-in-Ok-open-clause-member g c =

@@ -1,0 +1,173 @@
+-- What a desk does at a move.
+use Rattle.std.proofs.Common.{◌≡◌, ◌≢◌, ◌⊎◌, ℕ, ◌+◌, Bool, true, false, inl, inr, List, [], ◌∷◌, ◌++◌, length, Result, Ok, Err, refl, sym, ap, ◌∙◌, subst}
+use Rattle.std.specs.Prelude.{◌↔◌, Some, None, ⊤}
+use Rattle.book.specs.Book.{Run, Stands, TakesNew, TakesKnown, MayRefuse}
+use Rattle.book.specs.OnTheWay.{Flushes, FindsNoRoom, FailsWithRoom}
+use Rattle.book.specs.declared.own.error.FlushError.{FlushError}
+use Rattle.book.specs.declared.own.error.FlushError.TheVariants as errors
+use Rattle.desk.specs.AtWorld.{IsAt, LeadsTo, IsStop}
+use Rattle.desk.specs.Desk.{Shown, IsOpened}
+use Rattle.header.specs.Checks.{Accepts, fault_of}
+use Rattle.header.specs.declared.error.CheckError.{CheckError}
+use Rattle.journal.specs.Journal.{disk_of}
+use Rattle.opening.specs.Told.{told}
+use Rattle.spec_model.specs.Nodes.{Node}
+use Rattle.spec_model.specs.Words.{Event}
+use Rattle.spec_model.specs.declared.refusal.Refusal.{Refusal}
+use Rattle.spec_model.specs.declared.refusal.Refusal.TheVariants as refusal
+use Rattle.spec_model.specs.Admitting.{admit}
+use Rattle.spec_model.specs.declared.admission.Admission.{Admission}
+use Rattle.spec_model.specs.declared.admission.Admission.TheVariants.{New, Known}
+use Rattle.spec_model.specs.declared.admission.Admission.TheVariants as admission
+use Rattle.spec_world.specs.Steps.{Move, accept, take_to, device_call, settle, release, read_order, restart, IsAnswered, IsStep, Leads}
+use Rattle.spec_world.specs.World.{World}
+use Rattle.cluster.specs.Answers.{TakesIn, MakesRound, HasMoved}
+use Rattle.cluster.specs.declared.moves.Applied.TheVariants.{Took, Refused, Unchecked, Settled, Fault}
+
+-- moves by which nothing goes out
+abbrev pub IsQuiet : Move → Type 0
+IsQuiet (release waiting) = ⊥
+IsQuiet read_order = ⊥
+IsQuiet other = ⊤
+
+abbrev pub AllQuiet : List Move → Type 0
+AllQuiet [] = ⊤
+AllQuiet (move ∷ moves) = IsQuiet move × AllQuiet moves
+
+answered_given : (world : World) (event : Event) (answer : Admission) (next : World) → IsAnswered world event answer next → next.given ≡ world.given
+answered_given world event (New outputs) next same = ap (λ (w : World). w.given) same
+answered_given world event (Known outputs) next same = ap (λ (w : World). w.given) same
+answered_given world event (admission.Refused why) next is = absurd is
+
+step_given : (node : Node) (move : Move) (world next : World) → IsQuiet move → IsStep node world move next → next.given ≡ world.given
+step_given node (accept event) world next quiet step = answered_given world event (admit node (world.began ++ world.accepted) event) next step.is
+step_given node (take_to count) world next quiet step = ap (λ (w : World). w.given) step.is
+step_given node device_call world next quiet step = ap (λ (w : World). w.given) step.is
+step_given node settle world next quiet step = ap (λ (w : World). w.given) step.is
+step_given node (restart found) world next quiet step = ap (λ (w : World). w.given) step.is
+step_given node (release waiting) world next quiet step = absurd quiet
+step_given node read_order world next quiet step = absurd quiet
+
+leads_given : (node : Node) (moves : List Move) (world last : World) → AllQuiet moves → Leads node world moves last → last.given ≡ world.given
+leads_given node [] world last quiet same = sym (ap (λ (w : World). w.given) same)
+leads_given node (move ∷ moves) world last quiet leads = leads_given node moves leads.0 last quiet.1 leads.2 ∙ step_given node move world leads.0 quiet.0 leads.1
+
+-- the moves of a stop are such
+pub stop_quiet : (world : World) (moves : List Move) → IsStop world moves → AllQuiet moves
+stop_quiet world moves (found, inl same) = subst AllQuiet (sym same) (tt, tt)
+stop_quiet world moves (found, inr same) = subst AllQuiet (sym same) (tt, (tt, (tt, (tt, (tt, tt)))))
+
+module _ {S D : Type 0} (node : Node) (content : D → List ℕ) (outcome : D → List ℕ → Type 0) where
+  -- nothing moved
+  pub stays : (Does : List Move → Shown S D → Shown S D → Type 0) (world : World) (before later : Shown S D) → IsAt node content outcome world before → later ≡ before → Does [] before later
+      → HasMoved node content outcome Does world before later
+  stays Does world before later at same does = record {
+    moves = [];
+    does = does;
+    to = world;
+    leads = refl;
+    at = subst (IsAt node content outcome world) (sym same) at;
+    quiet = refl;
+  }
+
+  -- a desk moved
+  pub moved : (Does : List Move → Shown S D → Shown S D → Type 0) (world : World) (moves : List Move) (before later : Shown S D) → AllQuiet moves → LeadsTo node content outcome world moves later → Does moves before later
+      → HasMoved node content outcome Does world before later
+  moved Does world moves before later quiet to does = record { moves = moves; does = does; to = to.next; leads = to.leads; at = to.is_at; quiet = leads_given node moves world to.next quiet to.leads }
+
+  module _ (accepts : Accepts) (event : Event) (world : World) (before later : Shown S D) (passed : fault_of node.charter accepts event ≡ None) (at : IsAt node content outcome world before) where
+    pub took : (ticket : ℕ) (new : Bool) → (new ≡ true → TakesNew node before.book later.book event) → (new ≡ false → TakesKnown node before.book later.book event) → ticket ≡ later.book.accepted
+        → ((w : World) → IsAt node content outcome w before → LeadsTo node content outcome w (accept event ∷ []) later)
+        → HasMoved node content outcome (TakesIn node accepts event (Took ticket new)) world before later
+    took ticket new takes_new takes_known counted step =
+        moved (TakesIn node accepts event (Took ticket new)) world (accept event ∷ []) before later (tt, tt) (step world at)
+        (record { passed = passed; takes_new = takes_new; takes_known = takes_known; counted = counted; by = refl })
+
+    pub refused : (why : Refusal) → why ≢ refusal.Memory → ((why ≡ refusal.Down) ↔ (before.book.down ≡ true)) → ((run : Run) → Stands node run before.book → MayRefuse node run before.book event why) → later ≡ before
+        → HasMoved node content outcome (TakesIn node accepts event (Refused why)) world before later
+    refused why not_memory down may same =
+        stays (TakesIn node accepts event (Refused why)) world before later at same
+        (record { passed = passed; not_memory = not_memory; down = down; may = may; same = same; by = refl })
+
+  pub unchecked : (accepts : Accepts) (event : Event) (world : World) (desk : Shown S D) (error : CheckError) → IsAt node content outcome world desk → fault_of node.charter accepts event ≡ Some error
+      → HasMoved node content outcome (TakesIn node accepts event (Unchecked error)) world desk desk
+  unchecked accepts event world desk error at fault =
+      stays (TakesIn node accepts event (Unchecked error)) world desk desk at refl (record { fault = fault; same = refl; by = refl })
+
+  -- ---- a round
+
+  module _ (world : World) (before later : Shown S D) (at : IsAt node content outcome world before) where
+    some_pending : (first : List ℕ) (rest : List (List ℕ)) → before.book.pending ≡ first ∷ rest → before.book.pending ≢ []
+    some_pending first rest is none = some_none (sym is ∙ none)
+      where
+        some_none : first ∷ rest ≡ [] → ⊥
+        some_none same = cc
+
+    pub settled : (count : ℕ) → (before.book.pending ≡ [] → (◌≡◌ {A = Result ℕ FlushError} (Ok count) (Ok 0)) × (later ≡ before))
+        → (before.book.pending ≢ [] → Flushes node before.book later.book (content (disk_of before.journal)) (content (disk_of later.journal)) count)
+        → (before.book.pending ≢ [] → (w : World) → IsAt node content outcome w before
+        → LeadsTo node content outcome w (take_to (length w.settled + count) ∷ device_call ∷ device_call ∷ device_call ∷ device_call ∷ settle ∷ []) later)
+        → HasMoved node content outcome (MakesRound node content world (Settled count)) world before later
+    settled count idle flushes steps = by_pending before.book.pending refl
+      where
+        by_pending : (pending : List (List ℕ)) → before.book.pending ≡ pending → HasMoved node content outcome (MakesRound node content world (Settled count)) world before later
+        by_pending [] none =
+            let same = idle none in
+            stays (MakesRound node content world (Settled count)) world before later at same.1
+            (record { idle = λ _. (ok_is count 0 same.0, same.1, refl); flushes = flushes; by = λ some. absurd (some none) })
+          where
+            ok_is : (one other : ℕ) → ◌≡◌ {A = Result ℕ FlushError} (Ok one) (Ok other) → one ≡ other
+            ok_is one other so = cc
+        by_pending (first ∷ rest) is =
+            let some = some_pending first rest is in
+            moved (MakesRound node content world (Settled count)) world (take_to (length world.settled + count) ∷ device_call ∷ device_call ∷ device_call ∷ device_call ∷ settle ∷ []) before later (tt, (tt, (tt, (tt, (tt, (tt, tt)))))) (steps some world at)
+            (record { idle = λ none. absurd (some none); flushes = flushes; by = λ _. refl })
+
+    pub fault : (error : FlushError) → ((error ≡ errors.Down) ↔ (before.book.down ≡ true)) → ((error ≡ errors.Down) ⊎ (error ≡ errors.Memory) → later ≡ before)
+        → (error ≡ errors.Full → FindsNoRoom node before.book later.book (content (disk_of before.journal))) → (error ≡ errors.Device → FailsWithRoom node before.book later.book (content (disk_of before.journal)))
+        → ((error ≡ errors.Full) ⊎ (error ≡ errors.Device) → (w : World) → IsAt node content outcome w before → (count : ℕ) × LeadsTo node content outcome w (take_to count ∷ []) later)
+        → HasMoved node content outcome (MakesRound node content world (Fault error)) world before later
+    fault errors.Memory down unchanged full fails steps =
+        let same = unchanged (inr refl) in
+        stays (MakesRound node content world (Fault errors.Memory)) world before later at same
+        (record { was_down = down; unchanged = λ _. (same, refl); taken_down = λ either. absurd (elim either [ inl so ↦ (cc) | inr so ↦ (cc) ]) })
+    fault errors.Down down unchanged full fails steps =
+        let same = unchanged (inl refl) in
+        stays (MakesRound node content world (Fault errors.Down)) world before later at same
+        (record { was_down = down; unchanged = λ _. (same, refl); taken_down = λ either. absurd (elim either [ inl so ↦ (cc) | inr so ↦ (cc) ]) })
+    fault errors.Full down unchanged full fails steps =
+        let to = steps (inl refl) world at in
+        let found = full refl in
+        moved (MakesRound node content world (Fault errors.Full)) world (take_to to.0 ∷ []) before later (tt, tt) to.1
+        (record {
+          was_down = down;
+          unchanged = λ either. absurd (elim either [ inl so ↦ (cc) | inr so ↦ (cc) ]);
+          taken_down = λ _. record { down = found.0; full = λ _. found.1; room = λ so. absurd (cc); count = to.0; by = refl };
+        })
+    fault errors.Device down unchanged full fails steps =
+        let to = steps (inr refl) world at in
+        let found = fails refl in
+        moved (MakesRound node content world (Fault errors.Device)) world (take_to to.0 ∷ []) before later (tt, tt) to.1
+        (record {
+          was_down = down;
+          unchanged = λ either. absurd (elim either [ inl so ↦ (cc) | inr so ↦ (cc) ]);
+          taken_down = λ _. record { down = found.0; full = λ so. absurd (cc); room = λ _. found.1; count = to.0; by = refl };
+        })
+
+  -- a desk that was opened on bytes that are told as these are
+  pub opened_same : (one other : List ℕ) (desk : Shown S D) → told node other ≡ told node one → IsOpened node content outcome other desk → IsOpened node content outcome one desk
+  opened_same one other desk same opened = record {
+    history = opened.history;
+    told_first = sym same ∙ opened.told_first;
+    up = opened.up;
+    alive = opened.alive;
+    waits = opened.waits;
+    is_of = opened.is_of;
+  }
+
+-- what an error is, said of the call that answered it
+pub err_same : {T : Type 0} (one other : Refusal) → ((◌≡◌ {A = Result T Refusal} (Err one) (Err other)) → one ≡ other)
+err_same one other same = cc
+
+pub flush_err_same : (one other : FlushError) → ((◌≡◌ {A = Result ℕ FlushError} (Err one) (Err other)) → one ≡ other)
+flush_err_same one other same = cc

@@ -1,0 +1,19 @@
+use Rattle.std.proofs.Common.{List, ℕ, Some, refl, subst}
+use Rattle.desk.specs.Desk.{IsOpened}
+use Rattle.desk.proofs.Worlds.{begins}
+use Rattle.validator.specs.Setting.{node_of}
+use Rattle.committee.specs.Charter.{Charter}
+use Rattle.std.specs.Prelude.{All}
+use Rattle.wire.specs.Fields.{AreBytes}
+use Rattle.cluster.specs.Member.{Kept}
+use Rattle.cluster.proofs.Members.{begins_at}
+use Rattle.cluster.proofs.member.Member.open.Goals as goal
+
+pub returns-in-Ok-clause-begins : goal.returns-in-Ok-clause-begins
+returns-in-Ok-clause-begins g c = λ empty.
+    let node = node_of g.S.Sign.own_key g.S.Sign.signature_of c.args.config.now in
+    let keys = subst (λ (k : Charter). All (λ key. AreBytes 32 key.0) k.keys) c.committee.ensures c.keys_hold.ensures in
+    let opened = subst (λ (bytes : List ℕ). IsOpened node g.D.Disk.content g.D.Disk.outcome bytes c.in-Ok.desk) empty c.in-Ok.ensures.ok in
+    let member : Kept g.row.S.Denot g.row.D.Denot = record { setting = c.args.config.now; desk = Some c.in-Ok.desk; out = c.new.result } in
+    begins_at node g.D.Disk.content g.D.Disk.outcome member c.in-Ok.desk refl c.new.ensures.outputs c.new.ensures.order
+    (begins node g.D.Disk.content g.D.Disk.outcome c.in-Ok.desk c.limits_hold.ensures keys opened)

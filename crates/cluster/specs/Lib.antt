@@ -1,0 +1,5 @@
+pub mod Outputs
+pub mod Member
+pub mod Collecting
+pub mod Answers
+pub mod Cluster

@@ -1,0 +1,23 @@
+-- What leaves a node as a message.
+use Rattle.std.specs.Prelude.{List, [], ◌∷◌, flat_map, Option, Some, None}
+use Rattle.spec_model.specs.Words.{Message, Output}
+use Rattle.spec_world.specs.World.{Outgoing, put_out, read, Given}
+use Rattle.wire.specs.declared.message.Message.TheVariants as message
+use Rattle.wire.specs.declared.output.Output.TheVariants as output
+
+-- the message that an output is, if it is one: a piece of the order is none
+abbrev pub message_of : Output → Option Message
+message_of (output.Batch batch) = Some (message.Batch batch)
+message_of (output.Ack to ack) = Some (message.BatchAck ack)
+message_of (output.Header header) = Some (message.Header header)
+message_of (output.Vote vote) = Some (message.Vote vote)
+message_of (output.Certificate certificate) = Some (message.Certificate certificate)
+message_of (output.Order start digests) = None
+
+-- the outputs among what was given out, in order
+abbrev pub output_in : Outgoing → List Output
+output_in (put_out out) = out ∷ []
+output_in (read digests) = []
+
+abbrev pub outputs_in : List Given → List Output
+outputs_in given = flat_map (λ one. output_in one.outgoing) given

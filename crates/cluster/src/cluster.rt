@@ -1,0 +1,270 @@
+//! A cluster.
+
+use crate::delivering::message_in;
+use crate::error::ClusterError;
+use crate::member::Member;
+use crate::moves::{Applied, Move};
+use diskmodel::StopDisk;
+use sigface::{Sign, Verify};
+use std::alloc::Global;
+use std::marker::Model;
+use validator::Config;
+use wire::{Author, Digest, Header, Message};
+
+/// Several nodes of one committee, each with its own disk and of its own number there, by which moves name it. It is for tests
+/// of a committee: what its nodes put out is kept, so that it grows with its moves.
+pub struct Cluster<'a, S: Sign, D: StopDisk, V: Verify> {
+    alloc: Global,
+    verifier: V,
+    members: Vec<Member<'a, S, D>>,
+}
+
+impl<'a, S: Sign, D: StopDisk + Drop, V: Verify + Drop> Drop for Cluster<'a, S, D, V> {
+    fn drop(self) {
+        let Cluster {
+            alloc: _,
+            verifier: _,
+            members: _,
+        } = self;
+    }
+}
+
+impl<'a, S: Sign, D: StopDisk, V: Verify> Model for Cluster<'a, S, D, V> {
+    ghost use Rattle.std.specs.Coded.{codes};
+    ghost use Rattle.votebook.specs.contracts.book.VoteBook as votes;
+    ghost use Rattle.cluster.specs.Cluster.{Shown};
+
+    ghost Value = { Shown S D V };
+
+    ghost coded = { Prim.hlevel (codes, S.code, D.code, V.code, votes.the_row.coded) };
+
+    ghost view = { λ c. record { verifier = c.verifier; members = c.members.items } };
+}
+
+impl<'a, S: Sign, D: StopDisk + Drop, V: Verify + Drop> Cluster<'a, S, D, V> {
+    ghost use Rattle.std.specs.Prelude.{◌≡◌, ◌≢◌, ◌⊎◌, ◌↔◌, ℕ, [], length, map, position, Some, None, vec_len, All, IfOk, IfErr, IfSome, OnOk, IsNone, IsErrOf, option_copied};
+    ghost use Rattle.std.specs.Option.{option_map};
+    ghost use Rattle.spec_world.specs.Runs.{first_bytes};
+    ghost use Rattle.spec_world.specs.World.{World, run_on};
+    ghost use Rattle.validator.specs.Setting.{node_of};
+    ghost use Rattle.cluster.specs.Answers.{TakesIn, MakesRound, Stops, Makes, MakesSome, IsGone};
+    ghost use Rattle.cluster.specs.Member.{Kept, StandsAt, Proposes};
+    ghost use Rattle.cluster.specs.Cluster.{named, at, has_member, message_at, IsThere, Does, Moved, MovedSome, MovesOne, LacksNode, LacksOutput, IsJournal, IsStopOf, AreOfOne, AreDistinct, actor};
+    ghost use Rattle.cluster.specs.declared.moves.Applied.{Applied};
+    ghost use Rattle.cluster.specs.declared.moves.Move.TheVariants.{Deliver};
+
+    /// Opens a node for each of these settings, each on the disk at its place.
+    ///
+    /// # Errors
+    /// `Journal` where an opening fails, `Memory` where a growth was refused.
+    pub fn new(
+        alloc: Global,
+        configs: &'a [Config<S>],
+        disks: Vec<D>,
+        verifier: V,
+    ) -> Result<Cluster<'a, S, D, V>, ClusterError>
+        requires many { vec_len disks ≡ length configs.now }
+        requires empty { All (λ disk. D.content disk ≡ []) disks.items }
+        requires one_committee { AreOfOne configs.now }
+        requires distinct { AreDistinct configs.now }
+        ensures settings { IfOk result (λ cluster. map (λ member. member.setting) cluster.members ≡ configs.now) }
+        ensures verifier { IfOk result (λ cluster. cluster.verifier ≡ verifier) }
+        // Each of them stands where its runs begin.
+        ensures begins { IfOk result (λ cluster. All (λ member. StandsAt (node_of S.own_key S.signature_of member.setting) D.content D.outcome (run_on (first_bytes (node_of S.own_key S.signature_of member.setting)) [] []) member) cluster.members) }
+        ensures up { IfOk result (λ cluster. All (λ member. member.desk ≢ None) cluster.members) }
+        ensures errors { IfErr result (λ error. (error ≢ ClusterError.NoSuchNode) × (error ≢ ClusterError.NoSuchOutput)) }
+    {
+        let mut disks = disks;
+        let mut members = Vec::new(alloc);
+        for config in configs {
+            members.reserve(1)?;
+            members.push_reserved(Member::open(alloc, config, disks.remove(0))?);
+        }
+        Ok(Cluster {
+            alloc,
+            verifier,
+            members,
+        })
+    }
+
+    /// Makes a move. What the node that moves may put out then is put out and numbered, from 0 over all its runs.
+    ///
+    /// # Errors
+    /// `NoSuchNode` and `NoSuchOutput`, which change nothing. `Journal` where a stopped node could not be opened: it is gone
+    /// from then on, and what it put out can still be delivered. `Memory` where a growth was refused, also behind the move:
+    /// what could not be put out then waits in the node.
+    pub fn apply(&mut self, step: Move) -> Result<Applied, ClusterError>
+        // The node that moves makes just this move in its world, and what may go out behind it goes out.
+        ensures moves { IfOk result (λ applied. Moved (node_of S.own_key S.signature_of) D.content D.outcome (λ node world. Does node D.content D.outcome (V.accepts self.old.verifier) self.old.members step applied world) (actor step) self.old.members self.new.members) }
+        // All others are as they were.
+        ensures others { (other : Author) → other ≢ actor step → at self.new.members other ≡ at self.old.members other }
+        ensures verifier { self.new.verifier ≡ self.old.verifier }
+        // A node that no move names, or that is gone, and an output that there isn't, are refused so exactly.
+        ensures no_node { IsErrOf result ClusterError.NoSuchNode ↔ LacksNode self.old.members step }
+        ensures no_output { IsErrOf result ClusterError.NoSuchOutput ↔ LacksOutput self.old.members step }
+        ensures unchanged { IfErr result (λ error. (error ≡ ClusterError.NoSuchNode) ⊎ (error ≡ ClusterError.NoSuchOutput) → self.new ≡ self.old) }
+        // Where memory was refused nothing had happened, or the move was made, and some of what goes out behind it waits.
+        ensures memory { IsErrOf result ClusterError.Memory → MovedSome (node_of S.own_key S.signature_of) D.content D.outcome (λ applied node world. Does node D.content D.outcome (V.accepts self.old.verifier) self.old.members step applied world) (actor step) self.old.members self.new.members }
+        // A node that could not be opened behind a stop is gone, and what it gave out stays.
+        ensures gone { IfErr result (λ error. IsJournal error → IsStopOf step × MovesOne IsGone (actor step) self.old.members self.new.members) }
+    {
+        match step {
+            Move::Deliver { node, output, to } => self.deliver(node, output, to),
+            Move::Give {
+                to,
+                sender,
+                message,
+            } => self.give(to, sender, message),
+            Move::Coin { node, coin } => self.give(node, node, Message::Coin(coin)),
+            Move::Flush(node) => self.flush(node),
+            Move::Stop(node) => self.stop(node),
+        }
+    }
+
+    /// The header that a node proposes behind all that it accepted. None where it proposes none.
+    ///
+    /// # Errors
+    /// `NoSuchNode` where there is no such node, or it is gone; `Memory` where a growth was refused.
+    pub fn propose(&self, node: Author) -> Result<Option<Header>, ClusterError>
+        ensures ok { IfOk result (λ found. (member : Kept S D) × (at self.now.members node ≡ Some member) × Proposes (node_of S.own_key S.signature_of member.setting) member found) }
+        ensures no_node { IsErrOf result ClusterError.NoSuchNode ↔ (IsThere self.now.members node → ⊥) }
+        ensures errors { IfErr result (λ error. (error ≡ ClusterError.NoSuchNode) ⊎ (error ≡ ClusterError.Memory)) }
+    {
+        match self.member(node) {
+            Some(member) => member.propose(),
+            None => Err(ClusterError::NoSuchNode),
+        }
+    }
+
+    /// The longest order that a node gave out over all its runs, also where it is gone by now; None where there is no such
+    /// node. It takes no memory.
+    pub fn given_order(&self, node: Author) -> Option<&[Digest]>
+        ensures some { IfSome result (λ digests. (member : Kept S D) × (at self.now.members node ≡ Some member) × (digests.now ≡ member.out.order)) }
+        ensures none { IsNone result ↔ (at self.now.members node ≡ None) }
+    {
+        match self.member(node) {
+            Some(member) => Some(member.order()),
+            None => None,
+        }
+    }
+
+    /// How many outputs a node put out over all its runs; None where there is no such node.
+    pub fn outputs(&self, node: Author) -> Option<u64>
+        ensures { result ≡ option_map (λ member. length member.out.outputs) (at self.now.members node) }
+    {
+        match self.member(node) {
+            Some(member) => Some(member.outputs()),
+            None => None,
+        }
+    }
+
+    // The member of this number.
+    fn member(&self, node: Author) -> Option<&Member<'a, S, D>>
+        ensures { option_copied result ≡ at self.now.members node }
+    {
+        self.members.iter().find(|member| member.own() == node)
+    }
+
+    // The place of the member of this number.
+    fn place_of(&self, node: Author) -> Option<usize>
+        ensures { result ≡ position (λ member. named node member) self.now.members }
+    {
+        self.members.iter().position(|member| member.own() == node)
+    }
+
+    // Whether there is a member of this number that isn't gone.
+    fn is_there(&self, node: Author) -> bool
+        ensures { result ≡ has_member self.now.members node }
+    {
+        match self.member(node) {
+            Some(member) => member.is_there(),
+            None => false,
+        }
+    }
+
+    fn deliver(&mut self, node: Author, output: u64, to: Author) -> Result<Applied, ClusterError>
+        ensures moves { IfOk result (λ applied. Moved (node_of S.own_key S.signature_of) D.content D.outcome (λ own world. Does own D.content D.outcome (V.accepts self.old.verifier) self.old.members (Deliver node output to) applied world) to self.old.members self.new.members) }
+        ensures others { (other : Author) → other ≢ to → at self.new.members other ≡ at self.old.members other }
+        ensures verifier { self.new.verifier ≡ self.old.verifier }
+        ensures no_node { IsErrOf result ClusterError.NoSuchNode ↔ LacksNode self.old.members (Deliver node output to) }
+        ensures no_output { IsErrOf result ClusterError.NoSuchOutput ↔ LacksOutput self.old.members (Deliver node output to) }
+        ensures unchanged { IfErr result (λ error. (error ≡ ClusterError.NoSuchNode) ⊎ (error ≡ ClusterError.NoSuchOutput) → self.new ≡ self.old) }
+        ensures memory { IsErrOf result ClusterError.Memory → MovedSome (node_of S.own_key S.signature_of) D.content D.outcome (λ applied own world. Does own D.content D.outcome (V.accepts self.old.verifier) self.old.members (Deliver node output to) applied world) to self.old.members self.new.members }
+        ensures never { IfErr result (λ error. IsJournal error → ⊥) }
+    {
+        if !self.is_there(to) {
+            return Err(ClusterError::NoSuchNode);
+        }
+        let message = self.message_from(node, output)?;
+        self.give(to, node, message)
+    }
+
+    // The message in this output of a member.
+    fn message_from(&self, node: Author, output: u64) -> Result<Message, ClusterError>
+        ensures ok { IfOk result (λ message. message_at self.now.members node output ≡ Some message) }
+        ensures no_node { IsErrOf result ClusterError.NoSuchNode ↔ (at self.now.members node ≡ None) }
+        ensures no_output { IsErrOf result ClusterError.NoSuchOutput ↔ ((at self.now.members node ≢ None) × (message_at self.now.members node output ≡ None)) }
+        ensures errors { IfErr result (λ error. (error ≡ ClusterError.NoSuchNode) ⊎ ((error ≡ ClusterError.NoSuchOutput) ⊎ (error ≡ ClusterError.Memory))) }
+    {
+        let Some(member) = self.member(node) else {
+            return Err(ClusterError::NoSuchNode);
+        };
+        let Some(output) = member.output(output) else {
+            return Err(ClusterError::NoSuchOutput);
+        };
+        match message_in(output)? {
+            Some(message) => Ok(message),
+            None => Err(ClusterError::NoSuchOutput),
+        }
+    }
+
+    fn give(
+        &mut self,
+        to: Author,
+        sender: Author,
+        message: Message,
+    ) -> Result<Applied, ClusterError>
+        ensures moves { IfOk result (λ applied. Moved (node_of S.own_key S.signature_of) D.content D.outcome (λ node world. TakesIn node (V.accepts self.old.verifier) (record { sender = sender; message = message }) applied) to self.old.members self.new.members) }
+        ensures others { (other : Author) → other ≢ to → at self.new.members other ≡ at self.old.members other }
+        ensures verifier { self.new.verifier ≡ self.old.verifier }
+        ensures no_node { IsErrOf result ClusterError.NoSuchNode ↔ (IsThere self.old.members to → ⊥) }
+        ensures unchanged { IsErrOf result ClusterError.NoSuchNode → self.new ≡ self.old }
+        ensures memory { IsErrOf result ClusterError.Memory → MovedSome (node_of S.own_key S.signature_of) D.content D.outcome (λ applied node world. TakesIn node (V.accepts self.old.verifier) (record { sender = sender; message = message }) applied) to self.old.members self.new.members }
+        ensures errors { IfErr result (λ error. (error ≡ ClusterError.NoSuchNode) ⊎ (error ≡ ClusterError.Memory)) }
+    {
+        match self.place_of(to) {
+            Some(place) => self.members[place].take_in(&self.verifier, sender, message),
+            None => Err(ClusterError::NoSuchNode),
+        }
+    }
+
+    fn flush(&mut self, node: Author) -> Result<Applied, ClusterError>
+        ensures moves { IfOk result (λ applied. Moved (node_of S.own_key S.signature_of) D.content D.outcome (λ own world. MakesRound own D.content world applied) node self.old.members self.new.members) }
+        ensures others { (other : Author) → other ≢ node → at self.new.members other ≡ at self.old.members other }
+        ensures verifier { self.new.verifier ≡ self.old.verifier }
+        ensures no_node { IsErrOf result ClusterError.NoSuchNode ↔ (IsThere self.old.members node → ⊥) }
+        ensures unchanged { IsErrOf result ClusterError.NoSuchNode → self.new ≡ self.old }
+        ensures memory { IsErrOf result ClusterError.Memory → MovedSome (node_of S.own_key S.signature_of) D.content D.outcome (λ applied own world. MakesRound own D.content world applied) node self.old.members self.new.members }
+        ensures errors { IfErr result (λ error. (error ≡ ClusterError.NoSuchNode) ⊎ (error ≡ ClusterError.Memory)) }
+    {
+        match self.place_of(node) {
+            Some(place) => self.members[place].flush(),
+            None => Err(ClusterError::NoSuchNode),
+        }
+    }
+
+    fn stop(&mut self, node: Author) -> Result<Applied, ClusterError>
+        ensures moves { IfOk result (λ applied. Moved (node_of S.own_key S.signature_of) D.content D.outcome (λ own world. Stops own D.content D.outcome world applied) node self.old.members self.new.members) }
+        ensures others { (other : Author) → other ≢ node → at self.new.members other ≡ at self.old.members other }
+        ensures verifier { self.new.verifier ≡ self.old.verifier }
+        ensures no_node { IsErrOf result ClusterError.NoSuchNode ↔ (IsThere self.old.members node → ⊥) }
+        ensures unchanged { IsErrOf result ClusterError.NoSuchNode → self.new ≡ self.old }
+        ensures memory { IsErrOf result ClusterError.Memory → MovedSome (node_of S.own_key S.signature_of) D.content D.outcome (λ applied own world. Stops own D.content D.outcome world applied) node self.old.members self.new.members }
+        ensures errors { IfErr result (λ error. (error ≡ ClusterError.NoSuchNode) ⊎ ((error ≡ ClusterError.Memory) ⊎ (IsJournal error × MovesOne IsGone node self.old.members self.new.members))) }
+    {
+        match self.place_of(node) {
+            Some(place) => self.members[place].stop(self.alloc),
+            None => Err(ClusterError::NoSuchNode),
+        }
+    }
+}

@@ -1,0 +1,155 @@
+//! What a member gave out, and what goes out behind a move.
+
+ghost use Rattle.std.specs.Prelude.{◌≡◌, ◌++◌, ◌∷◌, [], map, drop, false, true, List, OnOk, OnErr, IfOk};
+ghost use Rattle.book.specs.Book.{releasable};
+ghost use Rattle.spec_model.specs.Holdings.{order as order_of};
+ghost use Rattle.spec_world.specs.Lasting.{settled_in};
+ghost use Rattle.spec_world.specs.World.{World, Waiting};
+ghost use Rattle.validator.specs.Setting.{node_of};
+ghost use Rattle.desk.specs.AtWorld.{IsAt};
+ghost use Rattle.cluster.specs.Member.{HasPutOut, HasKept, HasCollected, HasCollectedSome};
+ghost use Rattle.cluster.specs.Collecting.{HasRead, IsWhole, HasReleased, IsReleasedNext};
+
+use desk::Desk;
+use diskmodel::StopDisk;
+use sigface::Sign;
+use std::alloc::{AllocError, Global};
+use std::marker::Model;
+use wire::{Digest, Output};
+
+/// What a member gave out over all its runs: its outputs by number, and the longest order.
+pub(crate) struct GivenOut {
+    outputs: Vec<Output>,
+    order: Vec<Digest>,
+}
+
+impl Drop for GivenOut {
+    fn drop(self) {
+        let GivenOut {
+            outputs: _,
+            order: _,
+        } = self;
+    }
+}
+
+impl Model for GivenOut {
+    ghost use Rattle.cluster.specs.Member.{Out};
+
+    ghost Value = { Out };
+
+    ghost view = { λ given. record { outputs = given.outputs.items; order = given.order.items } };
+}
+
+impl GivenOut {
+    ghost use Rattle.std.specs.Prelude.{◌≡◌, length, slice_get, [], Some, None, IfSome, IsNone};
+
+    /// Nothing was given out.
+    pub(crate) fn new(alloc: Global) -> GivenOut
+        ensures outputs { result.outputs ≡ [] }
+        ensures order { result.order ≡ [] }
+    {
+        GivenOut {
+            outputs: Vec::new(alloc),
+            order: Vec::new(alloc),
+        }
+    }
+
+    /// The output of this number; None where there are no more so many.
+    pub(crate) fn output(&self, number: u64) -> Option<&Output>
+        ensures some { IfSome result (λ output. slice_get self.now.outputs number ≡ Some output.now) }
+        ensures none { IsNone result → slice_get self.now.outputs number ≡ None }
+    {
+        self.outputs.get(number as usize)
+    }
+
+    /// How many outputs.
+    pub(crate) fn outputs(&self) -> u64
+        ensures { result ≡ length self.now.outputs }
+    {
+        self.outputs.len() as u64
+    }
+
+    /// The longest order.
+    pub(crate) fn order(&self) -> &[Digest]
+        ensures { result.now ≡ self.now.order }
+    {
+        self.order.as_slice()
+    }
+}
+
+/// Reads the settled order, and then takes all outputs that may go out. Where the desk is down nothing goes out.
+/// `AllocError` where a growth was refused: what goes out after that waits in the desk.
+pub(crate) fn collect<S: Sign, D: StopDisk>(
+    desk: &mut Desk<'_, S, D>,
+    given: &mut GivenOut,
+) -> Result<(), AllocError>
+    ensures setting { desk.new.book.validator.setting ≡ desk.old.book.validator.setting }
+    ensures ok { OnOk result ((world : World) → IsAt (node_of S.own_key S.signature_of desk.old.book.validator.setting) D.content D.outcome world desk.old
+        → HasPutOut (node_of S.own_key S.signature_of desk.old.book.validator.setting) world given.old
+        → HasCollected (node_of S.own_key S.signature_of desk.old.book.validator.setting) D.content D.outcome world desk.old desk.new given.old given.new) }
+    ensures err { OnErr result ((world : World) → IsAt (node_of S.own_key S.signature_of desk.old.book.validator.setting) D.content D.outcome world desk.old
+        → HasPutOut (node_of S.own_key S.signature_of desk.old.book.validator.setting) world given.old
+        → HasCollectedSome (node_of S.own_key S.signature_of desk.old.book.validator.setting) D.content D.outcome world desk.old desk.new given.old given.new) }
+{
+    if desk.is_down() {
+        return Ok(());
+    }
+    read_order(desk, given)?;
+    release_all(desk, given)
+}
+
+// Reads the settled order behind what was given out of it.
+fn read_order<S: Sign, D: StopDisk>(
+    desk: &Desk<'_, S, D>,
+    given: &mut GivenOut,
+) -> Result<(), AllocError>
+    requires up { desk.now.book.down ≡ false }
+    ensures ok { OnOk result ((world : World) → IsAt (node_of S.own_key S.signature_of desk.now.book.validator.setting) D.content D.outcome world desk.now
+        → HasPutOut (node_of S.own_key S.signature_of desk.now.book.validator.setting) world given.old
+        → HasRead (node_of S.own_key S.signature_of desk.now.book.validator.setting) D.content D.outcome world desk.now given.new) }
+    ensures outputs { given.new.outputs ≡ given.old.outputs }
+    ensures err { OnErr result (given.new ≡ given.old) }
+{
+    match desk.order(given.order.len() as u64) {
+        Ok(more) => given.order.extend_from_slice(more.as_slice()),
+        Err(_) => Err(AllocError),
+    }
+}
+
+// Takes all outputs that may go out, behind the settled order.
+fn release_all<S: Sign, D: StopDisk>(
+    desk: &mut Desk<'_, S, D>,
+    given: &mut GivenOut,
+) -> Result<(), AllocError>
+    ensures setting { desk.new.book.validator.setting ≡ desk.old.book.validator.setting }
+    ensures ok { OnOk result ((world : World) → IsAt (node_of S.own_key S.signature_of desk.old.book.validator.setting) D.content D.outcome world desk.old
+        → IsWhole (node_of S.own_key S.signature_of desk.old.book.validator.setting) world given.old
+        → HasReleased (node_of S.own_key S.signature_of desk.old.book.validator.setting) D.content D.outcome world desk.old desk.new given.old given.new) }
+    ensures none_left { OnOk result (releasable desk.new.book ≡ None) }
+    ensures err { OnErr result ((world : World) → IsAt (node_of S.own_key S.signature_of desk.old.book.validator.setting) D.content D.outcome world desk.old
+        → IsWhole (node_of S.own_key S.signature_of desk.old.book.validator.setting) world given.old
+        → HasReleased (node_of S.own_key S.signature_of desk.old.book.validator.setting) D.content D.outcome world desk.old desk.new given.old given.new) }
+{
+    'releasing: while release_next(desk, given)? {}
+    Ok(())
+}
+
+// Takes the next output, if it may go out. Says whether there was one.
+fn release_next<S: Sign, D: StopDisk>(
+    desk: &mut Desk<'_, S, D>,
+    given: &mut GivenOut,
+) -> Result<bool, AllocError>
+    ensures setting { desk.new.book.validator.setting ≡ desk.old.book.validator.setting }
+    ensures some { IfOk result (λ more. more ≡ true → IsReleasedNext (node_of S.own_key S.signature_of desk.old.book.validator.setting) D.content D.outcome desk.old desk.new given.old given.new) }
+    ensures none { IfOk result (λ more. more ≡ false → (releasable desk.old.book ≡ None) × (desk.new ≡ desk.old) × (given.new ≡ given.old)) }
+    ensures err { OnErr result ((desk.new ≡ desk.old) × (given.new ≡ given.old)) }
+{
+    given.outputs.reserve(1)?;
+    match desk.release() {
+        Some(output) => {
+            given.outputs.push_reserved(output);
+            Ok(true)
+        }
+        None => Ok(false),
+    }
+}

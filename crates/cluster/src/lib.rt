@@ -1,0 +1,15 @@
+//! Several nodes of one committee in one process, each over its own disk, moved by a list of moves.
+#![tactic(auto)]
+
+mod cluster;
+mod collecting;
+mod delivering;
+mod error;
+mod member;
+mod moves;
+mod turns;
+
+pub use crate::cluster::Cluster;
+pub use error::ClusterError;
+pub use moves::{Applied, Move};
+pub use spec_cluster::agreement;

@@ -1,0 +1,219 @@
+//! A member of a cluster.
+
+use crate::collecting::{GivenOut, collect};
+use crate::error::ClusterError;
+use crate::moves::Applied;
+use crate::turns::{offer, restart, round};
+use desk::Desk;
+use diskmodel::StopDisk;
+use opening::keys_hold;
+use sigface::{Sign, Verify};
+use std::alloc::Global;
+use std::marker::Model;
+use validator::Config;
+use wire::{Author, Digest, Header, Message, Output};
+
+/// A node, its settings, and what it gave out. Its desk is gone once a reopening failed.
+pub(crate) struct Member<'a, S: Sign, D: StopDisk> {
+    config: &'a Config<S>,
+    desk: Option<Desk<'a, S, D>>,
+    given: GivenOut,
+}
+
+impl<'a, S: Sign, D: StopDisk + Drop> Drop for Member<'a, S, D> {
+    fn drop(self) {
+        let Member {
+            config: _,
+            desk: _,
+            given: _,
+        } = self;
+    }
+}
+
+impl<'a, S: Sign, D: StopDisk> Model for Member<'a, S, D> {
+    ghost use Rattle.std.specs.Prelude.{◌≡◌, Some};
+    ghost use Rattle.std.specs.Coded.{codes};
+    ghost use Rattle.votebook.specs.contracts.book.VoteBook as votes;
+    ghost use Rattle.desk.specs.Desk.{Shown};
+    ghost use Rattle.cluster.specs.Member.{Kept};
+
+    ghost Value = { Kept S D };
+
+    ghost coded = { Prim.hlevel (codes, S.code, D.code, votes.the_row.coded) };
+
+    ghost view = { λ m. record { setting = m.config.now; desk = m.desk; out = m.given } };
+
+    ghost invariant = { λ m. (desk : Shown S D) → m.desk ≡ Some desk → desk.book.validator.setting ≡ m.config.now };
+}
+
+impl<'a, S: Sign, D: StopDisk> Member<'a, S, D> {
+    ghost use Rattle.std.specs.Prelude.{◌≡◌, ◌≢◌, ◌⊎◌, ◌↔◌, [], length, is_some, slice_get, Some, None, IfOk, IfErr, IfSome, OnOk, OnErr, IsNone, IsErrOf};
+    ghost use Rattle.spec_world.specs.Runs.{first_bytes};
+    ghost use Rattle.spec_world.specs.World.{World, run_on};
+    ghost use Rattle.validator.specs.Setting.{node_of};
+    ghost use Rattle.desk.specs.Desk.{Shown};
+    ghost use Rattle.cluster.specs.Answers.{TakesIn, MakesRound, Stops, Makes, MakesSome, IsGone};
+    ghost use Rattle.cluster.specs.Cluster.{IsJournal};
+    ghost use Rattle.cluster.specs.Member.{StandsAt, Proposes};
+    ghost use Rattle.cluster.specs.declared.moves.Applied.{Applied};
+
+    /// Opens a node on a disk. It gave nothing out.
+    ///
+    /// # Errors
+    /// Those of the opening.
+    pub(crate) fn open(
+        alloc: Global,
+        config: &'a Config<S>,
+        disk: D,
+    ) -> Result<Member<'a, S, D>, ClusterError>
+    where
+        D: Drop,
+        ensures setting { IfOk result (λ member. member.setting ≡ config.now) }
+        // On an empty disk it stands where its runs begin.
+        ensures begins { IfOk result (λ member. D.content disk ≡ [] → StandsAt (node_of S.own_key S.signature_of config.now) D.content D.outcome (run_on (first_bytes (node_of S.own_key S.signature_of config.now)) [] []) member) }
+        ensures up { IfOk result (λ member. member.desk ≢ None) }
+        ensures errors { IfErr result IsJournal }
+    {
+        config.limits_hold();
+        keys_hold(config.committee());
+        match Desk::open(alloc, config, disk) {
+            Ok(desk) => Ok(Member {
+                config,
+                desk: Some(desk),
+                given: GivenOut::new(alloc),
+            }),
+            Err(failed) => Err(ClusterError::Journal(failed.error)),
+        }
+    }
+
+    /// Its number in the committee.
+    pub(crate) fn own(&self) -> Author
+        ensures { result ≡ self.now.setting.own }
+    {
+        self.config.own()
+    }
+
+    /// The output of this number that it put out; None where there is none.
+    pub(crate) fn output(&self, number: u64) -> Option<&Output>
+        ensures some { IfSome result (λ output. slice_get self.now.out.outputs number ≡ Some output.now) }
+        ensures none { IsNone result → slice_get self.now.out.outputs number ≡ None }
+    {
+        self.given.output(number)
+    }
+
+    /// How many it put out.
+    pub(crate) fn outputs(&self) -> u64
+        ensures { result ≡ length self.now.out.outputs }
+    {
+        self.given.outputs()
+    }
+
+    /// Whether it isn't gone.
+    pub(crate) fn is_there(&self) -> bool
+        ensures { result ≡ is_some self.now.desk }
+    {
+        self.desk.is_some()
+    }
+
+    /// The longest order that it gave out.
+    pub(crate) fn order(&self) -> &[Digest]
+        ensures { result.now ≡ self.now.out.order }
+    {
+        self.given.order()
+    }
+
+    /// The header that it proposes behind all that it accepted. None where it proposes none.
+    ///
+    /// # Errors
+    /// `NoSuchNode` where it is gone; `Memory` where a growth was refused.
+    pub(crate) fn propose(&self) -> Result<Option<Header>, ClusterError>
+        ensures ok { IfOk result (λ found. Proposes (node_of S.own_key S.signature_of self.now.setting) self.now found) }
+        ensures gone { IsErrOf result ClusterError.NoSuchNode ↔ (self.now.desk ≡ None) }
+        ensures errors { IfErr result (λ error. (error ≡ ClusterError.NoSuchNode) ⊎ (error ≡ ClusterError.Memory)) }
+    {
+        match &self.desk {
+            Some(desk) => Ok(desk.propose()?),
+            None => Err(ClusterError::NoSuchNode),
+        }
+    }
+
+    /// Gives it a message, and then takes what it puts out.
+    ///
+    /// # Errors
+    /// `NoSuchNode` where it is gone; `Memory` where a growth was refused.
+    pub(crate) fn take_in<V: Verify>(
+        &mut self,
+        verifier: &V,
+        sender: Author,
+        message: Message,
+    ) -> Result<Applied, ClusterError>
+        ensures ok { IfOk result (λ applied. (world : World) → StandsAt (node_of S.own_key S.signature_of self.old.setting) D.content D.outcome world self.old
+            → Makes (node_of S.own_key S.signature_of self.old.setting) D.content D.outcome (TakesIn (node_of S.own_key S.signature_of self.old.setting) (V.accepts verifier.now) (record { sender = sender; message = message }) applied) world self.old self.new) }
+        ensures memory { IsErrOf result ClusterError.Memory → (world : World) → StandsAt (node_of S.own_key S.signature_of self.old.setting) D.content D.outcome world self.old
+            → (applied : Applied) × MakesSome (node_of S.own_key S.signature_of self.old.setting) D.content D.outcome (TakesIn (node_of S.own_key S.signature_of self.old.setting) (V.accepts verifier.now) (record { sender = sender; message = message }) applied) world self.old self.new }
+        ensures gone { IsErrOf result ClusterError.NoSuchNode ↔ (self.old.desk ≡ None) }
+        ensures same { IsErrOf result ClusterError.NoSuchNode → self.new ≡ self.old }
+        ensures errors { IfErr result (λ error. (error ≡ ClusterError.NoSuchNode) ⊎ (error ≡ ClusterError.Memory)) }
+        ensures setting { self.new.setting ≡ self.old.setting }
+    {
+        let Some(desk) = &mut self.desk else {
+            return Err(ClusterError::NoSuchNode);
+        };
+        let applied = offer(desk, verifier, sender, message)?;
+        collect(desk, &mut self.given)?;
+        Ok(applied)
+    }
+
+    /// Lets it make one round, and then takes what it puts out.
+    ///
+    /// # Errors
+    /// `NoSuchNode` where it is gone; `Memory` where a growth was refused behind the round.
+    pub(crate) fn flush(&mut self) -> Result<Applied, ClusterError>
+        ensures ok { IfOk result (λ applied. (world : World) → StandsAt (node_of S.own_key S.signature_of self.old.setting) D.content D.outcome world self.old
+            → Makes (node_of S.own_key S.signature_of self.old.setting) D.content D.outcome (MakesRound (node_of S.own_key S.signature_of self.old.setting) D.content world applied) world self.old self.new) }
+        ensures memory { IsErrOf result ClusterError.Memory → (world : World) → StandsAt (node_of S.own_key S.signature_of self.old.setting) D.content D.outcome world self.old
+            → (applied : Applied) × MakesSome (node_of S.own_key S.signature_of self.old.setting) D.content D.outcome (MakesRound (node_of S.own_key S.signature_of self.old.setting) D.content world applied) world self.old self.new }
+        ensures gone { IsErrOf result ClusterError.NoSuchNode ↔ (self.old.desk ≡ None) }
+        ensures same { IsErrOf result ClusterError.NoSuchNode → self.new ≡ self.old }
+        ensures errors { IfErr result (λ error. (error ≡ ClusterError.NoSuchNode) ⊎ (error ≡ ClusterError.Memory)) }
+        ensures setting { self.new.setting ≡ self.old.setting }
+    {
+        let Some(desk) = &mut self.desk else {
+            return Err(ClusterError::NoSuchNode);
+        };
+        let applied = round(desk);
+        collect(desk, &mut self.given)?;
+        Ok(applied)
+    }
+
+    /// Stops its machine, opens it again, and then takes what it puts out.
+    ///
+    /// # Errors
+    /// `NoSuchNode` where it is gone; `Journal` where it can't be opened: it is gone then. `Memory` where a growth was refused
+    /// behind the opening.
+    pub(crate) fn stop(&mut self, alloc: Global) -> Result<Applied, ClusterError>
+    where
+        D: Drop,
+        ensures ok { IfOk result (λ applied. (world : World) → StandsAt (node_of S.own_key S.signature_of self.old.setting) D.content D.outcome world self.old
+            → Makes (node_of S.own_key S.signature_of self.old.setting) D.content D.outcome (Stops (node_of S.own_key S.signature_of self.old.setting) D.content D.outcome world applied) world self.old self.new) }
+        ensures memory { IsErrOf result ClusterError.Memory → (world : World) → StandsAt (node_of S.own_key S.signature_of self.old.setting) D.content D.outcome world self.old
+            → (applied : Applied) × MakesSome (node_of S.own_key S.signature_of self.old.setting) D.content D.outcome (Stops (node_of S.own_key S.signature_of self.old.setting) D.content D.outcome world applied) world self.old self.new }
+        ensures gone { IsErrOf result ClusterError.NoSuchNode ↔ (self.old.desk ≡ None) }
+        ensures same { IsErrOf result ClusterError.NoSuchNode → self.new ≡ self.old }
+        ensures journal { IfErr result (λ error. (error ≡ ClusterError.NoSuchNode) ⊎ ((error ≡ ClusterError.Memory) ⊎ (IsJournal error × IsGone self.old self.new))) }
+        ensures never { ¬ IsErrOf result ClusterError.NoSuchOutput }
+        ensures setting { self.new.setting ≡ self.old.setting }
+    {
+        let Some(desk) = self.desk.take() else {
+            return Err(ClusterError::NoSuchNode);
+        };
+        let (mut desk, events) = match restart(alloc, self.config, desk) {
+            Ok(opened) => opened,
+            Err(error) => return Err(ClusterError::Journal(error)),
+        };
+        let collected = collect(&mut desk, &mut self.given);
+        self.desk = Some(desk);
+        collected?;
+        Ok(Applied::Reopened(events))
+    }
+}

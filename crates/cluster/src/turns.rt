@@ -1,0 +1,112 @@
+//! What a desk does at a move, before anything goes out.
+
+ghost use Rattle.std.specs.Prelude.{◌≡◌, List, ℕ, length, None, Ok, IfOk, OnErr, IfErr};
+ghost use Rattle.header.specs.Checks.{Accepts, fault_of, accepts_all};
+ghost use Rattle.journal.specs.Format.{stands};
+ghost use Rattle.journal.specs.Journal.{disk_of};
+ghost use Rattle.opening.specs.Told.{told};
+ghost use Rattle.spec_model.specs.Histories.{History};
+ghost use Rattle.spec_model.specs.Nodes.{Node};
+ghost use Rattle.spec_world.specs.World.{World};
+ghost use Rattle.validator.specs.Setting.{node_of};
+ghost use Rattle.desk.specs.AtWorld.{IsAt};
+ghost use Rattle.desk.specs.Desk.{IsOpened};
+ghost use Rattle.cluster.specs.Answers.{TakesIn, MakesRound, HasMoved};
+
+use crate::error::ClusterError;
+use crate::moves::Applied;
+use desk::Desk;
+use diskmodel::StopDisk;
+use header::{Checked, check};
+use journal::{Journal, JournalError};
+use sigface::{Sign, Verify};
+use std::alloc::Global;
+use validator::{Config, Refusal};
+use wire::{Author, Message};
+
+/// Checks a message and gives it to a desk. Only want of memory is an error, which changes nothing.
+pub(crate) fn offer<S: Sign, D: StopDisk, V: Verify>(
+    desk: &mut Desk<'_, S, D>,
+    verifier: &V,
+    sender: Author,
+    message: Message,
+) -> Result<Applied, ClusterError>
+    ensures ok { IfOk result (λ applied. (world : World) → IsAt (node_of S.own_key S.signature_of desk.old.book.validator.setting) D.content D.outcome world desk.old
+        → HasMoved (node_of S.own_key S.signature_of desk.old.book.validator.setting) D.content D.outcome (TakesIn (node_of S.own_key S.signature_of desk.old.book.validator.setting) (V.accepts verifier.now) (record { sender = sender; message = message }) applied) world desk.old desk.new) }
+    ensures err { OnErr result (desk.new ≡ desk.old) }
+    ensures errors { IfErr result (λ error. error ≡ ClusterError.Memory) }
+    ensures setting { desk.new.book.validator.setting ≡ desk.old.book.validator.setting }
+{
+    match check(desk.committee(), verifier, sender, message) {
+        Ok(event) => hand_in(desk, event),
+        Err(error) => Ok(Applied::Unchecked(error)),
+    }
+}
+
+// Gives an event that passed the checks to a desk.
+fn hand_in<S: Sign, D: StopDisk>(
+    desk: &mut Desk<'_, S, D>,
+    event: Checked,
+) -> Result<Applied, ClusterError>
+    requires passed { fault_of desk.old.book.validator.setting.charter accepts_all event ≡ None }
+    ensures ok { IfOk result (λ applied. (accepts : Accepts) (world : World) → fault_of desk.old.book.validator.setting.charter accepts event ≡ None
+        → IsAt (node_of S.own_key S.signature_of desk.old.book.validator.setting) D.content D.outcome world desk.old
+        → HasMoved (node_of S.own_key S.signature_of desk.old.book.validator.setting) D.content D.outcome (TakesIn (node_of S.own_key S.signature_of desk.old.book.validator.setting) accepts event applied) world desk.old desk.new) }
+    ensures err { OnErr result (desk.new ≡ desk.old) }
+    ensures errors { IfErr result (λ error. error ≡ ClusterError.Memory) }
+    ensures setting { desk.new.book.validator.setting ≡ desk.old.book.validator.setting }
+{
+    match desk.accept(event) {
+        Ok(receipt) => Ok(Applied::Took {
+            ticket: receipt.ticket,
+            new: receipt.new,
+        }),
+        Err(Refusal::Memory) => Err(ClusterError::Memory),
+        Err(refusal) => Ok(Applied::Refused(refusal)),
+    }
+}
+
+/// Lets a desk make one round.
+pub(crate) fn round<S: Sign, D: StopDisk>(desk: &mut Desk<'_, S, D>) -> Applied
+    ensures moved { (world : World) → IsAt (node_of S.own_key S.signature_of desk.old.book.validator.setting) D.content D.outcome world desk.old
+        → HasMoved (node_of S.own_key S.signature_of desk.old.book.validator.setting) D.content D.outcome (MakesRound (node_of S.own_key S.signature_of desk.old.book.validator.setting) D.content world result) world desk.old desk.new }
+    ensures setting { desk.new.book.validator.setting ≡ desk.old.book.validator.setting }
+{
+    match desk.flush() {
+        Ok(count) => Applied::Settled(count),
+        Err(error) => Applied::Fault(error),
+    }
+}
+
+/// Stops the machine, counts the events of what that left, and opens the node on it.
+///
+/// # Errors
+/// Those of an opening.
+pub(crate) fn restart<'a, S: Sign, D: StopDisk + Drop>(
+    alloc: Global,
+    config: &'a Config<S>,
+    desk: Desk<'a, S, D>,
+) -> Result<(Desk<'a, S, D>, u64), JournalError>
+    ensures setting { IfOk result (λ opened. opened.0.book.validator.setting ≡ config.now) }
+    ensures opened { IfOk result (λ opened. (found : List ℕ) × D.outcome (disk_of desk.entry.journal) found
+        × (is : IsOpened (node_of S.own_key S.signature_of config.now) D.content D.outcome found opened.0) × (opened.1 ≡ length is.history)) }
+{
+    let mut disk = desk.into_disk();
+    disk.stop();
+    let (events, disk) = count_events(alloc, disk)?;
+    match Desk::open(alloc, config, disk) {
+        Ok(desk) => Ok((desk, events)),
+        Err(failed) => Err(failed.error),
+    }
+}
+
+// How many events a disk's journal has, behind the record of the configuration.
+fn count_events<D: StopDisk + Drop>(alloc: Global, disk: D) -> Result<(u64, D), JournalError>
+    ensures same { IfOk result (λ counted. stands (D.content counted.1) ≡ stands (D.content disk)) }
+    ensures count { IfOk result (λ counted. (node : Node) (history : History) → told node (D.content disk) ≡ Ok history → counted.0 ≡ length history) }
+{
+    match Journal::open(alloc, disk) {
+        Ok((journal, records)) => Ok((records.len().saturating_sub(1) as u64, journal.into_disk())),
+        Err(failed) => Err(failed.error),
+    }
+}

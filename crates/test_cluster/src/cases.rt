@@ -1,0 +1,185 @@
+//! What the commands of a case are put to.
+
+ghost use Rattle.std.specs.Prelude.{◌≡◌, [], All, IfOk};
+
+use crate::disks::{Grip, GrippedDisk};
+use crate::moves::{call_of, coin, delivery, gift, leaving, member, parted};
+use crate::settings::{MEMBERS, Settings};
+use crate::telling::{tell_error, tell_move, tell_order, tell_outputs, tell_proposal};
+use cluster::{Cluster, Move};
+use diskmodel::Disk;
+use sigface::{HashSign, HashVerify};
+use sim_script::{Command, FormError, Labels, define_batch, define_header, parse};
+use std::alloc::{AllocError, Global};
+use test_cases::{Told, bad};
+use wire::Author;
+
+/// A cluster, what the case has defined by labels, and a grip of each node's disk.
+#[derive(Drop)]
+pub struct ClusterCases<'a> {
+    alloc: Global,
+    settings: &'a Settings,
+    labels: Labels,
+    grips: Vec<Grip>,
+    /// None before the case opens one.
+    cluster: Option<Cluster<'a, HashSign, GrippedDisk, HashVerify>>,
+}
+
+impl<'a> ClusterCases<'a> {
+    /// As before the first case.
+    pub fn new(alloc: Global, settings: &'a Settings) -> Result<ClusterCases<'a>, AllocError> {
+        Ok(ClusterCases {
+            alloc,
+            settings,
+            labels: Labels::new(alloc),
+            grips: grips(alloc)?,
+            cluster: None,
+        })
+    }
+
+    /// Begins a case.
+    pub fn begin(&mut self) -> Told {
+        self.labels = Labels::new(self.alloc);
+        self.grips = grips(self.alloc)?;
+        self.cluster = None;
+        Ok(())
+    }
+
+    /// Carries out a command, and adds the lines that it answers.
+    pub fn obey(&mut self, command: &str, answer: &mut String) -> Told {
+        let (name, words) = parted(command);
+        match name {
+            "form" | "pack" => return self.define(command, answer),
+            "cluster" => return self.open(words, answer),
+            "give" => return self.give(words, answer),
+            "stop" => return self.stop(words, answer),
+            "deliver" => self.apply(delivery(words), answer),
+            "coin" => self.apply(coin(words), answer),
+            "flush" => self.apply(flush(words), answer),
+            "fail" => self.fail(words, answer),
+            _ => self.look(name, words, answer),
+        }
+        Ok(())
+    }
+
+    /// `form` and `pack` define a header and a batch, as in a script.
+    fn define(&mut self, command: &str, answer: &mut String) -> Told {
+        let defined = match parse(command.as_bytes()) {
+            Some(Command::Form(form)) => define_header(self.alloc, &mut self.labels, &form),
+            Some(Command::Pack(pack)) => define_batch(self.alloc, &mut self.labels, &pack),
+            _ => Err(FormError::BadCommand),
+        };
+        match defined {
+            Ok(()) => Ok(()),
+            Err(FormError::Memory) => Err(AllocError),
+            Err(_) => told_bad(answer),
+        }
+    }
+
+    /// `cluster COUNT` opens a node for each of the first so many members.
+    fn open(&mut self, words: &str, answer: &mut String) -> Told {
+        let count = words.parse().unwrap_or(0);
+        let Some(configs) = self.settings.first(count) else {
+            return told_bad(answer);
+        };
+        let disks = self.disks(count)?;
+        if disks.len() != configs.len() {
+            return told_bad(answer);
+        }
+        match Cluster::new(self.alloc, configs, disks, HashVerify) {
+            Ok(cluster) => self.cluster = Some(cluster),
+            Err(error) => tell_error(answer, error),
+        }
+        Ok(())
+    }
+
+    /// An empty disk for each of the first so many members.
+    fn disks(&self, count: usize) -> Result<Vec<GrippedDisk>, AllocError>
+        ensures { IfOk result (λ disks. All (λ disk. ⟦<GrippedDisk as Disk>⟧.content disk ≡ []) disks.items) }
+    {
+        let mut disks = Vec::new(self.alloc);
+        for grip in self.grips.iter().take(count) {
+            disks.push(grip.disk()?)?;
+        }
+        Ok(disks)
+    }
+
+    /// Makes a move, if there is one.
+    fn apply(&mut self, step: Option<Move>, answer: &mut String) {
+        match (&mut self.cluster, step) {
+            (Some(cluster), Some(step)) => tell_move(answer, cluster.apply(step)),
+            _ => bad(answer),
+        }
+    }
+
+    /// `give NODE from SENDER MESSAGE`.
+    fn give(&mut self, words: &str, answer: &mut String) -> Told {
+        let step = gift(self.alloc, &self.labels, words)?;
+        self.apply(step, answer);
+        Ok(())
+    }
+
+    /// `stop NODE LEAVING`.
+    fn stop(&mut self, words: &str, answer: &mut String) -> Told {
+        let (node, how) = parted(words);
+        let (Some(node), Some(how)) = (member(node), leaving(self.alloc, how)?) else {
+            return told_bad(answer);
+        };
+        if let Some(grip) = self.grip(node) {
+            grip.leave(how);
+        }
+        self.apply(Some(Move::Stop(node)), answer);
+        Ok(())
+    }
+
+    /// `fail NODE CALL COUNT` tells the count-th call of this kind of a node's disk to fail.
+    fn fail(&self, words: &str, answer: &mut String) {
+        let (node, words) = parted(words);
+        let (call, count) = parted(words);
+        let grip = match member(node) {
+            Some(node) => self.grip(node),
+            None => None,
+        };
+        match (grip, call_of(call), count.parse().ok()) {
+            (Some(grip), Some(call), Some(count)) if grip.fail(call, count) => {}
+            _ => bad(answer),
+        }
+    }
+
+    fn grip(&self, node: Author) -> Option<&Grip> {
+        self.grips.get(node.0 as usize)
+    }
+
+    /// `propose NODE`, `order NODE` and `outputs NODE`, which change nothing.
+    fn look(&self, name: &str, words: &str, answer: &mut String) {
+        let (Some(cluster), Some(node)) = (&self.cluster, member(words)) else {
+            return bad(answer);
+        };
+        match name {
+            "propose" => tell_proposal(answer, &self.labels, cluster.propose(node)),
+            "order" => tell_order(answer, &self.labels, cluster.given_order(node)),
+            "outputs" => tell_outputs(answer, cluster.outputs(node)),
+            _ => bad(answer),
+        }
+    }
+}
+
+// A grip for each member's disk.
+fn grips(alloc: Global) -> Result<Vec<Grip>, AllocError> {
+    let mut grips = Vec::new(alloc);
+    for _ in 0..MEMBERS {
+        grips.push(Grip::new(alloc)?)?;
+    }
+    Ok(grips)
+}
+
+// The words of `flush NODE`.
+fn flush(words: &str) -> Option<Move> {
+    Some(Move::Flush(member(words)?))
+}
+
+// Answers a command that is none.
+fn told_bad(answer: &mut String) -> Told {
+    bad(answer);
+    Ok(())
+}

@@ -1,0 +1,170 @@
+//! Disks in memory that nodes have, and by which a test still lets calls fail and says what a stop leaves.
+
+ghost use Rattle.std.specs.Prelude.{◌≡◌, [], IfOk};
+
+use diskmodel::{CallKind, Disk, DiskFault, MemDisk, StopDisk, Switch};
+use std::alloc::{AllocError, Global};
+use std::cell::Cell;
+use std::rc::Rc;
+
+/// What a stop leaves of a disk.
+#[derive(Clone, Copy)]
+pub enum Leaving {
+    /// What a read gives.
+    Read,
+    /// The bytes of the last sync.
+    Synced,
+    /// What a read gives, with this byte wherever one was written since the last sync.
+    Torn(u8),
+}
+
+/// What a test keeps of a disk.
+pub struct Grip {
+    alloc: Global,
+    switch: Switch,
+    leaving: Rc<Cell<Leaving>>,
+}
+
+impl Drop for Grip {
+    fn drop(self) {
+        let Grip {
+            alloc: _,
+            switch: _,
+            leaving: _,
+        } = self;
+    }
+}
+
+impl Grip {
+    /// No call fails, and a stop leaves what a read gives.
+    pub fn new(alloc: Global) -> Result<Grip, AllocError> {
+        Ok(Grip {
+            alloc,
+            switch: Switch::new(alloc)?,
+            leaving: Rc::new(alloc, Cell::new(Leaving::Read))?,
+        })
+    }
+
+    /// An empty disk.
+    pub fn disk(&self) -> Result<GrippedDisk, AllocError>
+        ensures { IfOk result (λ gripped. ⟦<MemDisk as Disk>⟧.content gripped.disk ≡ []) }
+    {
+        let empty = Vec::new(self.alloc);
+        Ok(GrippedDisk {
+            alloc: self.alloc,
+            disk: MemDisk::with_switch(self.alloc, empty, &self.switch)?,
+            leaving: self.leaving.clone()?,
+        })
+    }
+
+    /// Tells a call to fail: the count-th of its kind from now on. Says whether one more can be told.
+    pub fn fail(&self, call: CallKind, count: u64) -> bool {
+        self.switch.fail(call, count).is_ok()
+    }
+
+    /// Says what stops leave from now on.
+    pub fn leave(&self, leaving: Leaving) {
+        self.leaving.set(leaving);
+    }
+}
+
+/// A disk of which a grip is kept.
+pub struct GrippedDisk {
+    alloc: Global,
+    disk: MemDisk,
+    leaving: Rc<Cell<Leaving>>,
+}
+
+impl Drop for GrippedDisk {
+    fn drop(self) {
+        let GrippedDisk {
+            alloc: _,
+            disk: _,
+            leaving: _,
+        } = self;
+    }
+}
+
+impl GrippedDisk {
+    // Chooses what the next stop leaves. Where memory is refused that is what a read gives.
+    fn choose(&mut self)
+        ensures history { self.new.disk.history ≡ self.old.disk.history }
+        ensures faults { self.new.disk.faults ≡ self.old.disk.faults }
+    {
+        if let Ok(Some(bytes)) = self.chosen() {
+            self.disk.choose(bytes);
+        }
+    }
+
+    // What the next stop is to leave, if not what a read gives.
+    fn chosen(&self) -> Result<Option<Vec<u8>>, AllocError> {
+        match self.leaving.get() {
+            Leaving::Read => Ok(None),
+            Leaving::Synced => Ok(Some(self.disk.firm().to_vec(self.alloc)?)),
+            Leaving::Torn(byte) => Ok(Some(self.torn(byte)?)),
+        }
+    }
+
+    // What a read gives, with this byte wherever one was written since the last sync.
+    fn torn(&self, byte: u8) -> Result<Vec<u8>, AllocError> {
+        let mut torn = Vec::new(self.alloc);
+        for (place, read) in self.disk.bytes().iter().enumerate() {
+            let found = if self.disk.is_written(place as u64) {
+                byte
+            } else {
+                *read
+            };
+            torn.push(found)?;
+        }
+        Ok(torn)
+    }
+}
+
+impl Disk for GrippedDisk {
+    ghost use Rattle.diskmodel.specs.Outcomes.{counts_last, only_last};
+
+    ghost content = { λ gripped. ⟦<MemDisk as Disk>⟧.content gripped.disk };
+
+    ghost outcome = { λ gripped. ⟦<MemDisk as Disk>⟧.outcome gripped.disk };
+
+    ghost clock = { λ gripped. ⟦<MemDisk as Disk>⟧.clock gripped.disk };
+
+    ghost outcome_since = { λ gripped. ⟦<MemDisk as Disk>⟧.outcome_since gripped.disk };
+
+    ghost faults = { λ gripped. ⟦<MemDisk as Disk>⟧.faults gripped.disk };
+
+    ghost calls = { λ gripped. ⟦<MemDisk as Disk>⟧.calls gripped.disk };
+
+    ghost content_is_outcome = { λ gripped. gripped.disk.history.kept.possible };
+
+    ghost counts_now = { λ gripped t c. counts_last gripped.disk.history.first.items gripped.disk.history.calls.items t c };
+
+    ghost only_now = { λ gripped c. only_last gripped.disk.history.first.items gripped.disk.history.calls.items c };
+
+    fn len(&mut self) -> Result<u64, DiskFault> {
+        self.disk.len()
+    }
+
+    fn read_at(&mut self, at: u64, buffer: &mut [u8]) -> Result<(), DiskFault> {
+        self.disk.read_at(at, buffer)
+    }
+
+    fn write_at(&mut self, at: u64, bytes: &[u8]) -> Result<(), DiskFault> {
+        self.disk.write_at(at, bytes)
+    }
+
+    fn cut(&mut self, len: u64) -> Result<(), DiskFault> {
+        self.disk.cut(len)
+    }
+
+    fn sync(&mut self) -> Result<(), DiskFault> {
+        self.disk.sync()
+    }
+}
+
+impl StopDisk for GrippedDisk {
+    fn stop(&mut self) {
+        self.choose();
+        self.disk.stop();
+    }
+}

@@ -1,0 +1,100 @@
+//! The tests of several nodes of one committee in one process, which lists of moves move. Case files, whose cases each have a
+//! cluster of their own.
+#![tactic(auto)]
+
+mod cases;
+mod disks;
+mod moves;
+mod settings;
+mod telling;
+
+use cases::ClusterCases;
+use settings::Settings;
+use std::fs::{self, File};
+use std::io::{self, BufRead, Print, Write};
+use std::process::ExitCode;
+use std::rt::Files;
+use test_cases::{Ending, Player, names_of};
+
+fn main(rt: HostRuntime) -> ExitCode {
+    let (Ok(settings), Ok(names)) = (Settings::new(rt.alloc()), names_of(&rt, rt.alloc())) else {
+        return ExitCode::FAILURE;
+    };
+    match tested(&rt, &settings, &names) {
+        Ok(true) => ExitCode::SUCCESS,
+        _ => ExitCode::FAILURE,
+    }
+}
+
+/// Plays the files of these names; says whether there is one, and each has commands that were answered as expected.
+fn tested<R>(rt: &R, settings: &Settings, names: &[String]) -> Result<bool, Ending>
+where
+    R: Files<File = File> + Print + AllocGlobal,
+{
+    let mut right = !names.is_empty();
+    for name in names {
+        right = is_right(rt, settings, name.as_str())? && right;
+    }
+    Ok(right)
+}
+
+/// Plays the file of this name.
+fn is_right<R>(rt: &R, settings: &Settings, name: &str) -> Result<bool, Ending>
+where
+    R: Files<File = File> + Print + AllocGlobal,
+{
+    let text = fs::read(rt, name)?;
+    let player = Player::new(rt.alloc(), name, text.as_slice(), io::writer(rt));
+    let mut cases = ClusterCases::new(rt.alloc(), settings)?;
+    play_all(rt, player, &mut cases)
+}
+
+fn play_all<R, I, W>(
+    rt: &R,
+    mut player: Player<I, W>,
+    cases: &mut ClusterCases,
+) -> Result<bool, Ending>
+where
+    R: AllocGlobal,
+    I: BufRead + Drop,
+    W: Write + Drop,
+{
+    play_each(rt, &mut player, cases)?;
+    player.end()
+}
+
+/// Plays each title and command. The loop owns nothing, since what a loop owns costs the proof at each way out of it.
+fn play_each<R, I, W>(
+    rt: &R,
+    player: &mut Player<I, W>,
+    cases: &mut ClusterCases,
+) -> Result<(), Ending>
+where
+    R: AllocGlobal,
+    I: BufRead + Drop,
+    W: Write + Drop,
+{
+    for _ in 0..u64::MAX {
+        if !player.advance()? {
+            break;
+        }
+        play(rt, player, cases)?;
+    }
+    Ok(())
+}
+
+/// Plays a title or a command.
+fn play<R, I, W>(rt: &R, player: &mut Player<I, W>, cases: &mut ClusterCases) -> Result<(), Ending>
+where
+    R: AllocGlobal,
+    I: BufRead + Drop,
+    W: Write + Drop,
+{
+    if player.is_title() {
+        cases.begin()?;
+        return Ok(());
+    }
+    let mut answer = String::new(rt.alloc());
+    cases.obey(player.command(), &mut answer)?;
+    player.answered(answer.as_str())
+}

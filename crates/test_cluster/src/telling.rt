@@ -1,0 +1,105 @@
+//! What is told of answers. Where memory is refused it is cut short, and then isn't as expected.
+
+use cluster::{Applied, ClusterError};
+use sim_script::Labels;
+use std::fmt::Display;
+use test_cases::put;
+use wire::{Digest, Header, ParentReference, genesis_digest};
+
+/// Tells what a move is answered.
+pub fn tell_move(answer: &mut String, outcome: Result<Applied, ClusterError>) {
+    match outcome {
+        Ok(applied) => tell_applied(answer, applied),
+        Err(error) => tell_error(answer, error),
+    }
+}
+
+fn tell_applied(answer: &mut String, applied: Applied) {
+    match applied {
+        Applied::Took { ticket, new } => {
+            put_shown(answer, "took ", &ticket, "");
+            put(answer, if new { " new\n" } else { " known\n" });
+        }
+        Applied::Refused(refusal) => put_shown(answer, "refused ", &refusal, "\n"),
+        Applied::Unchecked(error) => put_shown(answer, "unchecked ", &error, "\n"),
+        Applied::Settled(count) => put_shown(answer, "settled ", &count, "\n"),
+        Applied::Fault(error) => put_shown(answer, "fault ", &error, "\n"),
+        Applied::Reopened(events) => put_shown(answer, "reopened ", &events, "\n"),
+    }
+}
+
+/// Tells an error, and why a journal can't be opened.
+pub fn tell_error(answer: &mut String, error: ClusterError) {
+    put_shown(answer, "error ", &error, "");
+    if let ClusterError::Journal(cause) = error {
+        put_shown(answer, " ", &cause, "");
+    }
+    put(answer, "\n");
+}
+
+/// Tells the round, the parents and the batches of a proposal.
+pub fn tell_proposal(
+    answer: &mut String,
+    labels: &Labels,
+    proposal: Result<Option<Header>, ClusterError>,
+) {
+    match proposal {
+        Ok(Some(header)) => tell_header(answer, labels, &header),
+        Ok(None) => put(answer, "no header\n"),
+        Err(error) => tell_error(answer, error),
+    }
+}
+
+fn tell_header(answer: &mut String, labels: &Labels, header: &Header) {
+    put_shown(answer, "header ", &header.body.round.number(), "");
+    for parent in header.body.parents.as_slice() {
+        tell_parent(answer, labels, parent);
+    }
+    for batch in header.body.batches.as_slice() {
+        tell_label(answer, labels.batch_name(&batch.digest));
+    }
+    put(answer, "\n");
+}
+
+fn tell_parent(answer: &mut String, labels: &Labels, parent: &ParentReference) {
+    if parent.certificate == genesis_digest(parent.author) {
+        put_shown(answer, " g", &parent.author.0, "");
+    } else {
+        tell_label(answer, labels.certificate_name(&parent.certificate));
+    }
+}
+
+fn tell_label(answer: &mut String, label: Option<&str>) {
+    put(answer, " ");
+    put(answer, label.unwrap_or("unlabelled"));
+}
+
+/// Tells the order that a node gave out.
+pub fn tell_order(answer: &mut String, labels: &Labels, order: Option<&[Digest]>) {
+    put(answer, "order");
+    match order {
+        Some([]) => put(answer, " none"),
+        Some(digests) => tell_certificates(answer, labels, digests),
+        None => put(answer, " of no member"),
+    }
+    put(answer, "\n");
+}
+
+fn tell_certificates(answer: &mut String, labels: &Labels, digests: &[Digest]) {
+    for digest in digests {
+        tell_label(answer, labels.certificate_name(digest));
+    }
+}
+
+/// Tells how many outputs a node put out.
+pub fn tell_outputs(answer: &mut String, outputs: Option<u64>) {
+    match outputs {
+        Some(count) => put_shown(answer, "outputs ", &count, "\n"),
+        None => put(answer, "outputs of no member\n"),
+    }
+}
+
+// Adds what this is shown as, between two parts.
+fn put_shown<T: Display>(answer: &mut String, before: &str, shown: &T, behind: &str) {
+    let _ = write!(answer, "{before}{shown}{behind}");
+}
