@@ -76,12 +76,12 @@ module _ {S D : Type 0} (node : Node) (content : D → List ℕ) (outcome : D �
   moved Does world moves before later quiet to does = record { moves = moves; does = does; to = to.next; leads = to.leads; at = to.is_at; quiet = leads_given node moves world to.next quiet to.leads }
 
   module _ (accepts : Accepts) (event : Event) (world : World) (before later : Shown S D) (passed : fault_of node.charter accepts event ≡ None) (at : IsAt node content outcome world before) where
-    pub took : (ticket : ℕ) (new : Bool) → (new ≡ true → TakesNew node before.book later.book event) → (new ≡ false → TakesKnown node before.book later.book event) → ticket ≡ later.book.accepted
+    pub took : before.book.down ≡ false → (ticket : ℕ) (new : Bool) → (new ≡ true → TakesNew node before.book later.book event) → (new ≡ false → TakesKnown node before.book later.book event) → ticket ≡ later.book.accepted
         → ((w : World) → IsAt node content outcome w before → LeadsTo node content outcome w (accept event ∷ []) later)
         → HasMoved node content outcome (TakesIn node accepts event (Took ticket new)) world before later
-    took ticket new takes_new takes_known counted step =
+    took up ticket new takes_new takes_known counted step =
         moved (TakesIn node accepts event (Took ticket new)) world (accept event ∷ []) before later (tt, tt) (step world at)
-        (record { passed = passed; takes_new = takes_new; takes_known = takes_known; counted = counted; by = refl })
+        (record { passed = passed; up = up; takes_new = takes_new; takes_known = takes_known; counted = counted; by = refl })
 
     pub refused : (why : Refusal) → why ≢ refusal.Memory → ((why ≡ refusal.Down) ↔ (before.book.down ≡ true)) → ((run : Run) → Stands node run before.book → MayRefuse node run before.book event why) → later ≡ before
         → HasMoved node content outcome (TakesIn node accepts event (Refused why)) world before later
@@ -103,25 +103,25 @@ module _ {S D : Type 0} (node : Node) (content : D → List ℕ) (outcome : D �
         some_none : first ∷ rest ≡ [] → ⊥
         some_none same = cc
 
-    pub settled : (count : ℕ) → (before.book.pending ≡ [] → (◌≡◌ {A = Result ℕ FlushError} (Ok count) (Ok 0)) × (later ≡ before))
+    pub settled : before.book.down ≡ false → (count : ℕ) → (before.book.pending ≡ [] → (◌≡◌ {A = Result ℕ FlushError} (Ok count) (Ok 0)) × (later ≡ before))
         → (before.book.pending ≢ [] → Flushes node before.book later.book (content (disk_of before.journal)) (content (disk_of later.journal)) count)
         → (before.book.pending ≢ [] → (w : World) → IsAt node content outcome w before
         → LeadsTo node content outcome w (take_to (length w.settled + count) ∷ device_call ∷ device_call ∷ device_call ∷ device_call ∷ settle ∷ []) later)
         → HasMoved node content outcome (MakesRound node content world (Settled count)) world before later
-    settled count idle flushes steps = by_pending before.book.pending refl
+    settled up count idle flushes steps = by_pending before.book.pending refl
       where
         by_pending : (pending : List (List ℕ)) → before.book.pending ≡ pending → HasMoved node content outcome (MakesRound node content world (Settled count)) world before later
         by_pending [] none =
             let same = idle none in
             stays (MakesRound node content world (Settled count)) world before later at same.1
-            (record { idle = λ _. (ok_is count 0 same.0, same.1, refl); flushes = flushes; by = λ some. absurd (some none) })
+            (record { up = up; idle = λ _. (ok_is count 0 same.0, same.1, refl); flushes = flushes; by = λ some. absurd (some none) })
           where
             ok_is : (one other : ℕ) → ◌≡◌ {A = Result ℕ FlushError} (Ok one) (Ok other) → one ≡ other
             ok_is one other so = cc
         by_pending (first ∷ rest) is =
             let some = some_pending first rest is in
             moved (MakesRound node content world (Settled count)) world (take_to (length world.settled + count) ∷ device_call ∷ device_call ∷ device_call ∷ device_call ∷ settle ∷ []) before later (tt, (tt, (tt, (tt, (tt, (tt, tt)))))) (steps some world at)
-            (record { idle = λ none. absurd (some none); flushes = flushes; by = λ _. refl })
+            (record { up = up; idle = λ none. absurd (some none); flushes = flushes; by = λ _. refl })
 
     pub fault : (error : FlushError) → ((error ≡ errors.Down) ↔ (before.book.down ≡ true)) → ((error ≡ errors.Down) ⊎ (error ≡ errors.Memory) → later ≡ before)
         → (error ≡ errors.Full → FindsNoRoom node before.book later.book (content (disk_of before.journal))) → (error ≡ errors.Device → FailsWithRoom node before.book later.book (content (disk_of before.journal)))
@@ -164,6 +164,14 @@ module _ {S D : Type 0} (node : Node) (content : D → List ℕ) (outcome : D �
     waits = opened.waits;
     is_of = opened.is_of;
   }
+
+-- a desk whose call was answered with Ok is up
+pub up_of : {T E : Type 0} (one : T) (error : E) (down : Bool) → (down ≡ true → ◌≡◌ {A = Result T E} (Ok one) (Err error)) → down ≡ false
+up_of one error false is_down = refl
+up_of {T} {E} one error true is_down = absurd (never (is_down refl))
+  where
+    never : ◌≡◌ {A = Result T E} (Ok one) (Err error) → ⊥
+    never same = cc
 
 -- what an error is, said of the call that answered it
 pub err_same : {T : Type 0} (one other : Refusal) → ((◌≡◌ {A = Result T Refusal} (Err one) (Err other)) → one ≡ other)

@@ -21,9 +21,10 @@ use Rattle.cluster.specs.declared.moves.Applied.TheVariants.{Took, Refused, Unch
 
 -- ---- an event is given
 
--- a desk took it, as new or as known
+-- a desk that is up took it, as new or as known
 pub record IsTaken {S D : Type 0} (node : Node) (accepts : Accepts) (event : Event) (ticket : ℕ) (new : Bool) (moves : List Move) (before later : Shown S D) : Type 0 where
   pub passed : fault_of node.charter accepts event ≡ None
+  pub up : before.book.down ≡ false
   pub takes_new : new ≡ true → TakesNew node before.book later.book event
   pub takes_known : new ≡ false → TakesKnown node before.book later.book event
   pub counted : ticket ≡ later.book.accepted
@@ -52,8 +53,9 @@ TakesIn node accepts event other moves before later = ⊥
 
 -- ---- a round
 
--- so many records were written and settled, all that fit a group; none where nothing was pending
+-- a desk that is up wrote and settled so many records, all that fit a group; none where nothing was pending
 pub record IsSettled {S D : Type 0} (node : Node) (content : D → List ℕ) (world : World) (count : ℕ) (moves : List Move) (before later : Shown S D) : Type 0 where
+  pub up : before.book.down ≡ false
   pub idle : before.book.pending ≡ [] → (count ≡ 0) × (later ≡ before) × (moves ≡ [])
   pub flushes : before.book.pending ≢ [] → Flushes node before.book later.book (content (disk_of before.journal)) (content (disk_of later.journal)) count
   pub by : before.book.pending ≢ [] → moves ≡ take_to (length world.settled + count) ∷ device_call ∷ device_call ∷ device_call ∷ device_call ∷ settle ∷ []
