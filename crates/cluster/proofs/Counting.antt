@@ -3,6 +3,7 @@ use Rattle.std.proofs.Common.{◌≡◌, ℕ, ◌+◌, ◌-◌, List, [], ◌∷
 use Rattle.std.specs.Option.{option_map_or}
 use Rattle.std.specs.Prelude.{if◌then◌else◌, Bool, true, false}
 use Rattle.journal.specs.Format.{stands}
+use Rattle.journal.proofs.Walks.{stands_short}
 use Rattle.journal.specs.declared.error.JournalError.{JournalError}
 use Rattle.journal.specs.declared.record.Record.{Record}
 use Rattle.opening.specs.Told.{told, with_new, event_in, read_event, read_events, read_journal, unless, first_fault}
@@ -58,3 +59,7 @@ journal_read node (first ∷ events) history is =
 -- what bytes are told as has an event for each record behind the first
 pub told_length : (node : Node) (bytes : List ℕ) (records : List Record) (history : History) → stands bytes ≡ Ok records → told node bytes ≡ Ok history → length records - 1 ≡ length history
 told_length node bytes records history is told_as = journal_read node records history (sym (told_records node bytes records is) ∙ told_as)
+
+-- bytes that aren't there are told as no events
+pub told_nothing : (node : Node) → told node [] ≡ Ok []
+told_nothing node = told_records node [] [] (stands_short [] (omega arith)) ∙ journal_nil node

@@ -1,5 +1,5 @@
 -- A member behind a move.
-use Rattle.std.proofs.Common.{◌≡◌, ◌≢◌, ◌⊎◌, ℕ, inl, inr, List, [], length, refl, sym, ap, ◌∙◌, subst, arith}
+use Rattle.std.proofs.Common.{◌≡◌, ◌⊎◌, ℕ, inl, inr, List, [], length, refl, sym, ap, ◌∙◌, subst, arith}
 use Rattle.std.specs.Prelude.{Option, Some, Contains}
 use Rattle.desk.specs.AtWorld.{IsAt, LeadsTo, IsStop}
 use Rattle.desk.specs.Desk.{Shown, IsOpened}
@@ -10,10 +10,7 @@ use Rattle.spec_world.specs.Runs.{first_bytes}
 use Rattle.spec_world.specs.World.{World, Given, run_on}
 use Rattle.cluster.specs.Answers.{HasMoved, Makes, MakesSome, Stops}
 use Rattle.cluster.specs.Member.{Out, Kept, HasPutOut, StandsAt, HasCollected, HasCollectedSome}
-use Rattle.cluster.specs.Cluster.{IsJournal}
 use Rattle.cluster.specs.Outputs.{outputs_in}
-use Rattle.cluster.specs.declared.error.ClusterError.{ClusterError}
-use Rattle.cluster.specs.declared.error.ClusterError.TheVariants as errors
 use Rattle.cluster.specs.declared.moves.Applied.TheVariants.{Reopened}
 use Rattle.cluster.proofs.Releasing.{none_collected}
 use Rattle.cluster.proofs.Turning.{stays, moved, stop_quiet}
@@ -146,7 +143,3 @@ begins_at {S} {D} node content outcome member desk has outputs order at = record
     order = record { given = inl order; begins = λ one other there told. absurd (omega (arith, there.1)) };
   };
 }
-
--- an error of an opening is none of a move's
-pub journal_alone : (error : ClusterError) → IsJournal error → (error ≢ errors.NoSuchNode) × (error ≢ errors.NoSuchOutput)
-journal_alone error is = (λ same. subst IsJournal same is, λ same. subst IsJournal same is)

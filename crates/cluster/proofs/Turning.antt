@@ -11,6 +11,7 @@ use Rattle.header.specs.Checks.{Accepts, fault_of}
 use Rattle.header.specs.declared.error.CheckError.{CheckError}
 use Rattle.journal.specs.Journal.{disk_of}
 use Rattle.opening.specs.Told.{told}
+use Rattle.spec_model.specs.Histories.{History}
 use Rattle.spec_model.specs.Nodes.{Node}
 use Rattle.spec_model.specs.Words.{Event}
 use Rattle.spec_model.specs.declared.refusal.Refusal.{Refusal}
@@ -153,6 +154,10 @@ module _ {S D : Type 0} (node : Node) (content : D → List ℕ) (outcome : D �
           unchanged = λ either. absurd (elim either [ inl so ↦ (cc) | inr so ↦ (cc) ]);
           taken_down = λ _. record { down = found.0; full = λ so. absurd (cc); room = λ _. found.1; count = to.0; by = refl };
         })
+
+  -- what a stop leaves of a desk in its world is told as a history
+  pub left_told : (world : World) (desk : Shown S D) → IsAt node content outcome world desk → (found : List ℕ) → outcome (disk_of desk.journal) found → (history : History) × (told node found ≡ Ok history)
+  left_told world desk at found may = elim (at.is_of.left found may) [ inl settled ↦ (_, settled) | inr all ↦ (_, all) ]
 
   -- a desk that was opened on bytes that are told as these are
   pub opened_same : (one other : List ℕ) (desk : Shown S D) → told node other ≡ told node one → IsOpened node content outcome other desk → IsOpened node content outcome one desk

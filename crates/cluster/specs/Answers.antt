@@ -1,5 +1,5 @@
 -- What a move makes of a member, and what it is answered.
-use Rattle.std.specs.Prelude.{◌≡◌, ◌≢◌, ◌⊎◌, ◌↔◌, ℕ, ◌+◌, Bool, true, false, List, [], ◌∷◌, length, Some, None}
+use Rattle.std.specs.Prelude.{◌≡◌, ◌≢◌, ◌⊎◌, ◌↔◌, ⊤, ℕ, ◌+◌, Bool, true, false, List, [], ◌∷◌, length, Some, None}
 use Rattle.book.specs.Book.{Run, Stands, TakesNew, TakesKnown, MayRefuse}
 use Rattle.book.specs.OnTheWay.{Flushes, GoesDown, HasRoomFor}
 use Rattle.book.specs.declared.own.error.FlushError.{FlushError}
@@ -9,6 +9,7 @@ use Rattle.desk.specs.Desk.{Shown, IsOpened}
 use Rattle.header.specs.Checks.{Accepts, fault_of}
 use Rattle.header.specs.declared.error.CheckError.{CheckError}
 use Rattle.journal.specs.Journal.{disk_of}
+use Rattle.opening.specs.Laws.{IsNoRefusal}
 use Rattle.spec_model.specs.Nodes.{Node}
 use Rattle.spec_model.specs.Words.{Event}
 use Rattle.spec_model.specs.declared.refusal.Refusal.{Refusal}
@@ -16,6 +17,8 @@ use Rattle.spec_model.specs.declared.refusal.Refusal.TheVariants as refusal
 use Rattle.spec_world.specs.Steps.{Move, accept, take_to, device_call, settle, Leads}
 use Rattle.spec_world.specs.World.{World}
 use Rattle.cluster.specs.Member.{Kept, StandsAt, HasCollected, HasCollectedSome}
+use Rattle.cluster.specs.declared.error.ClusterError.{ClusterError}
+use Rattle.cluster.specs.declared.error.ClusterError.TheVariants as errors
 use Rattle.cluster.specs.declared.moves.Applied.{Applied}
 use Rattle.cluster.specs.declared.moves.Applied.TheVariants.{Took, Refused, Unchecked, Settled, Fault, Reopened}
 
@@ -128,8 +131,23 @@ pub record MakesSome {S D : Type 0} (node : Node) (content : D → List ℕ) (ou
   pub behind : HasCollectedSome node content outcome moved.to middle next before.out later.out
   pub stands : StandsAt node content outcome behind.to later
 
+-- a node could not be opened
+abbrev pub IsJournal : ClusterError → Type 0
+IsJournal (errors.Journal cause) = ⊤
+IsJournal other = ⊥
+
+-- for want of memory or a fault of the disk
+abbrev pub IsJournalFault : ClusterError → Type 0
+IsJournalFault (errors.Journal cause) = IsNoRefusal cause
+IsJournalFault other = ⊥
+
 -- a node is gone: what it gave out stays
 pub record IsGone {S D : Type 0} (before later : Kept S D) : Type 0 where
   pub gone : later.desk ≡ None
   pub setting : later.setting ≡ before.setting
   pub out : later.out ≡ before.out
+
+-- A node whose machine stopped is gone. One that stood at a world was refused for want of memory or a fault of the disk alone.
+pub record IsLost {S D : Type 0} (node : Node) (content : D → List ℕ) (outcome : D → List ℕ → Type 0) (error : ClusterError) (before later : Kept S D) : Type 0 where
+  pub gone : IsGone before later
+  pub fault : (world : World) → StandsAt node content outcome world before → IsJournalFault error

@@ -13,8 +13,6 @@ use Rattle.wire.specs.declared.message.Message.TheVariants as message
 use Rattle.cluster.specs.Answers.{TakesIn, MakesRound, Stops, Makes, MakesSome}
 use Rattle.cluster.specs.Member.{Kept, StandsAt}
 use Rattle.cluster.specs.Outputs.{message_of}
-use Rattle.cluster.specs.declared.error.ClusterError.{ClusterError}
-use Rattle.cluster.specs.declared.error.ClusterError.TheVariants as error
 use Rattle.cluster.specs.declared.moves.Applied.{Applied}
 use Rattle.cluster.specs.declared.moves.Move.{Move}
 use Rattle.cluster.specs.declared.moves.Move.TheVariants.{Deliver, Give, Coin, Flush, Stop}
@@ -91,11 +89,6 @@ LacksNode members move = IsThere members (actor move) → ⊥
 abbrev pub LacksOutput : {S D : Type 0} → List (Kept S D) → Move → Type 0
 LacksOutput members (Deliver node output to) = IsThere members to × (at members node ≢ None) × (message_at members node output ≡ None)
 LacksOutput members move = ⊥
-
--- a node could not be opened
-abbrev pub IsJournal : ClusterError → Type 0
-IsJournal (error.Journal cause) = ⊤
-IsJournal other = ⊥
 
 abbrev pub IsStopOf : Move → Type 0
 IsStopOf (Stop node) = ⊤

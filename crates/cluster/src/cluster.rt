@@ -47,9 +47,9 @@ impl<'a, S: Sign, D: StopDisk + Drop, V: Verify + Drop> Cluster<'a, S, D, V> {
     ghost use Rattle.spec_world.specs.Runs.{first_bytes};
     ghost use Rattle.spec_world.specs.World.{World, run_on};
     ghost use Rattle.validator.specs.Setting.{node_of};
-    ghost use Rattle.cluster.specs.Answers.{TakesIn, MakesRound, Stops, Makes, MakesSome, IsGone};
+    ghost use Rattle.cluster.specs.Answers.{TakesIn, MakesRound, Stops, Makes, MakesSome, IsJournal, IsJournalFault, IsLost};
     ghost use Rattle.cluster.specs.Member.{Kept, StandsAt, Proposes};
-    ghost use Rattle.cluster.specs.Cluster.{named, at, has_member, message_at, IsThere, Does, Moved, MovedSome, MovesOne, LacksNode, LacksOutput, IsJournal, IsStopOf, AreOfOne, AreDistinct, actor};
+    ghost use Rattle.cluster.specs.Cluster.{named, at, has_member, message_at, IsThere, Does, Moved, MovedSome, MovesOne, LacksNode, LacksOutput, IsStopOf, AreOfOne, AreDistinct, actor};
     ghost use Rattle.cluster.specs.declared.moves.Applied.{Applied};
     ghost use Rattle.cluster.specs.declared.moves.Move.TheVariants.{Deliver};
 
@@ -72,7 +72,8 @@ impl<'a, S: Sign, D: StopDisk + Drop, V: Verify + Drop> Cluster<'a, S, D, V> {
         // Each of them stands where its runs begin.
         ensures begins { IfOk result (λ cluster. All (λ member. StandsAt (node_of S.own_key S.signature_of member.setting) D.content D.outcome (run_on (first_bytes (node_of S.own_key S.signature_of member.setting)) [] []) member) cluster.members) }
         ensures up { IfOk result (λ cluster. All (λ member. member.desk ≢ None) cluster.members) }
-        ensures errors { IfErr result (λ error. (error ≢ ClusterError.NoSuchNode) × (error ≢ ClusterError.NoSuchOutput)) }
+        // An empty disk is refused for want of memory or a fault alone.
+        ensures errors { IfErr result (λ error. (error ≡ ClusterError.Memory) ⊎ IsJournalFault error) }
     {
         let mut disks = disks;
         let mut members = Vec::new(alloc);
@@ -105,8 +106,9 @@ impl<'a, S: Sign, D: StopDisk + Drop, V: Verify + Drop> Cluster<'a, S, D, V> {
         ensures unchanged { IfErr result (λ error. (error ≡ ClusterError.NoSuchNode) ⊎ (error ≡ ClusterError.NoSuchOutput) → self.new ≡ self.old) }
         // Where memory was refused nothing had happened, or the move was made, and some of what goes out behind it waits.
         ensures memory { IsErrOf result ClusterError.Memory → MovedSome (node_of S.own_key S.signature_of) D.content D.outcome (λ applied node world. Does node D.content D.outcome (V.accepts self.old.verifier) self.old.members step applied world) (actor step) self.old.members self.new.members }
-        // A node that could not be opened behind a stop is gone, and what it gave out stays.
-        ensures gone { IfErr result (λ error. IsJournal error → IsStopOf step × MovesOne IsGone (actor step) self.old.members self.new.members) }
+        // A node that could not be opened behind a stop is gone, for want of memory or a fault of its disk, and what it gave out
+        // stays.
+        ensures gone { IfErr result (λ error. IsJournal error → IsStopOf step × MovesOne (λ member. IsLost (node_of S.own_key S.signature_of member.setting) D.content D.outcome error member) (actor step) self.old.members self.new.members) }
     {
         match step {
             Move::Deliver { node, output, to } => self.deliver(node, output, to),
@@ -260,7 +262,7 @@ impl<'a, S: Sign, D: StopDisk + Drop, V: Verify + Drop> Cluster<'a, S, D, V> {
         ensures no_node { IsErrOf result ClusterError.NoSuchNode ↔ (IsThere self.old.members node → ⊥) }
         ensures unchanged { IsErrOf result ClusterError.NoSuchNode → self.new ≡ self.old }
         ensures memory { IsErrOf result ClusterError.Memory → MovedSome (node_of S.own_key S.signature_of) D.content D.outcome (λ applied own world. Stops own D.content D.outcome world applied) node self.old.members self.new.members }
-        ensures errors { IfErr result (λ error. (error ≡ ClusterError.NoSuchNode) ⊎ ((error ≡ ClusterError.Memory) ⊎ (IsJournal error × MovesOne IsGone node self.old.members self.new.members))) }
+        ensures errors { IfErr result (λ error. (error ≡ ClusterError.NoSuchNode) ⊎ ((error ≡ ClusterError.Memory) ⊎ (IsJournal error × MovesOne (λ member. IsLost (node_of S.own_key S.signature_of member.setting) D.content D.outcome error member) node self.old.members self.new.members))) }
     {
         match self.place_of(node) {
             Some(place) => self.members[place].stop(self.alloc),

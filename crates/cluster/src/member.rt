@@ -52,8 +52,7 @@ impl<'a, S: Sign, D: StopDisk> Member<'a, S, D> {
     ghost use Rattle.spec_world.specs.World.{World, run_on};
     ghost use Rattle.validator.specs.Setting.{node_of};
     ghost use Rattle.desk.specs.Desk.{Shown};
-    ghost use Rattle.cluster.specs.Answers.{TakesIn, MakesRound, Stops, Makes, MakesSome, IsGone};
-    ghost use Rattle.cluster.specs.Cluster.{IsJournal};
+    ghost use Rattle.cluster.specs.Answers.{TakesIn, MakesRound, Stops, Makes, MakesSome, IsJournal, IsJournalFault, IsLost};
     ghost use Rattle.cluster.specs.Member.{StandsAt, Proposes};
     ghost use Rattle.cluster.specs.declared.moves.Applied.{Applied};
 
@@ -72,7 +71,8 @@ impl<'a, S: Sign, D: StopDisk> Member<'a, S, D> {
         // On an empty disk it stands where its runs begin.
         ensures begins { IfOk result (λ member. D.content disk ≡ [] → StandsAt (node_of S.own_key S.signature_of config.now) D.content D.outcome (run_on (first_bytes (node_of S.own_key S.signature_of config.now)) [] []) member) }
         ensures up { IfOk result (λ member. member.desk ≢ None) }
-        ensures errors { IfErr result IsJournal }
+        ensures errors { IfErr result (λ error. D.content disk ≡ [] → IsJournalFault error) }
+        ensures journal { IfErr result IsJournal }
     {
         config.limits_hold();
         keys_hold(config.committee());
@@ -200,7 +200,7 @@ impl<'a, S: Sign, D: StopDisk> Member<'a, S, D> {
             → (applied : Applied) × MakesSome (node_of S.own_key S.signature_of self.old.setting) D.content D.outcome (Stops (node_of S.own_key S.signature_of self.old.setting) D.content D.outcome world applied) world self.old self.new }
         ensures gone { IsErrOf result ClusterError.NoSuchNode ↔ (self.old.desk ≡ None) }
         ensures same { IsErrOf result ClusterError.NoSuchNode → self.new ≡ self.old }
-        ensures journal { IfErr result (λ error. (error ≡ ClusterError.NoSuchNode) ⊎ ((error ≡ ClusterError.Memory) ⊎ (IsJournal error × IsGone self.old self.new))) }
+        ensures journal { IfErr result (λ error. (error ≡ ClusterError.NoSuchNode) ⊎ ((error ≡ ClusterError.Memory) ⊎ (IsJournal error × IsLost (node_of S.own_key S.signature_of self.old.setting) D.content D.outcome error self.old self.new))) }
         ensures never { ¬ IsErrOf result ClusterError.NoSuchOutput }
         ensures setting { self.new.setting ≡ self.old.setting }
     {

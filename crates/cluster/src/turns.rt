@@ -4,6 +4,7 @@ ghost use Rattle.std.specs.Prelude.{◌≡◌, List, ℕ, length, None, Ok, IfOk
 ghost use Rattle.header.specs.Checks.{Accepts, fault_of, accepts_all};
 ghost use Rattle.journal.specs.Format.{stands};
 ghost use Rattle.journal.specs.Journal.{disk_of};
+ghost use Rattle.opening.specs.Laws.{IsNoRefusal};
 ghost use Rattle.opening.specs.Told.{told};
 ghost use Rattle.spec_model.specs.Histories.{History};
 ghost use Rattle.spec_model.specs.Nodes.{Node};
@@ -90,6 +91,8 @@ pub(crate) fn restart<'a, S: Sign, D: StopDisk + Drop>(
     ensures setting { IfOk result (λ opened. opened.0.book.validator.setting ≡ config.now) }
     ensures opened { IfOk result (λ opened. (found : List ℕ) × D.outcome (disk_of desk.entry.journal) found
         × (is : IsOpened (node_of S.own_key S.signature_of config.now) D.content D.outcome found opened.0) × (opened.1 ≡ length is.history)) }
+    // What a stop leaves of a node in its world is refused for want of memory or a fault of the disk alone.
+    ensures refused { IfErr result (λ error. (world : World) → IsAt (node_of S.own_key S.signature_of config.now) D.content D.outcome world desk.entry → IsNoRefusal error) }
 {
     let mut disk = desk.into_disk();
     disk.stop();
@@ -104,6 +107,7 @@ pub(crate) fn restart<'a, S: Sign, D: StopDisk + Drop>(
 fn count_events<D: StopDisk + Drop>(alloc: Global, disk: D) -> Result<(u64, D), JournalError>
     ensures same { IfOk result (λ counted. stands (D.content counted.1) ≡ stands (D.content disk)) }
     ensures count { IfOk result (λ counted. (node : Node) (history : History) → told node (D.content disk) ≡ Ok history → counted.0 ≡ length history) }
+    ensures refused { IfErr result (λ error. (node : Node) (history : History) → told node (D.content disk) ≡ Ok history → IsNoRefusal error) }
 {
     match Journal::open(alloc, disk) {
         Ok((journal, records)) => Ok((records.len().saturating_sub(1) as u64, journal.into_disk())),

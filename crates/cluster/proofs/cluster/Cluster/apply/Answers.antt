@@ -1,7 +1,10 @@
-use Rattle.std.proofs.Common.{sym, subst}
-use Rattle.std.specs.Prelude.{IfOk, IsErrOf}
+use Rattle.std.proofs.Common.{inl, inr, sym, subst}
+use Rattle.std.specs.Prelude.{IfOk, IfErr, IsErrOf}
+use Rattle.opening.proofs.Telling.{err_weaker}
 use Rattle.validator.specs.Setting.{node_of}
-use Rattle.cluster.specs.Cluster.{Does, Moved, MovedSome, actor}
+use Rattle.cluster.specs.Answers.{IsJournal, IsLost}
+use Rattle.cluster.specs.Cluster.{Does, Moved, MovedSome, MovesOne, IsStopOf, actor}
+use Rattle.cluster.specs.Member.{Kept}
 use Rattle.cluster.specs.declared.error.ClusterError.TheVariants.{Memory}
 use Rattle.cluster.specs.declared.moves.Move.{Move}
 use Rattle.cluster.proofs.cluster.Cluster.apply.Goals as goal
@@ -55,3 +58,8 @@ pub returns-in-Stop-clause-memory : goal.returns-in-Stop-clause-memory
 returns-in-Stop-clause-memory g c =
     subst (λ (step : Move). IsErrOf c.stop.result Memory → MovedSome (node_of g.S.Sign.own_key g.S.Sign.signature_of) g.D.Disk.content g.D.Disk.outcome (λ applied node world. Does node g.D.Disk.content g.D.Disk.outcome (g.V.Verify.accepts c.args.self.now.verifier) c.args.self.now.members step applied world) (actor step) c.args.self.now.members c.stop.new.self.members) (sym c.in-Stop.is)
     c.stop.ensures.memory
+
+pub returns-in-Stop-clause-gone : goal.returns-in-Stop-clause-gone
+returns-in-Stop-clause-gone g c =
+    subst (λ (step : Move). IfErr c.stop.result (λ error. IsJournal error → IsStopOf step × MovesOne (λ (member : Kept g.row.S.Denot g.row.D.Denot). IsLost (node_of g.S.Sign.own_key g.S.Sign.signature_of member.setting) g.D.Disk.content g.D.Disk.outcome error member) (actor step) c.args.self.now.members c.stop.new.self.members)) (sym c.in-Stop.is)
+    (err_weaker c.stop.result _ _ (λ error either is. elim either [ inl none ↦ absurd (subst IsJournal none is) | inr (inl memory) ↦ absurd (subst IsJournal memory is) | inr (inr gone) ↦ (tt, gone.1) ]) c.stop.ensures.errors)

@@ -1,4 +1,4 @@
-use Rattle.std.proofs.Common.{◌≡◌, ◌≢◌, ◌+◌, ◌<◌, suc, None, List, [], ◌∷◌, ◌++◌, length, map, take, sym, ap, ◌∙◌, subst, arith}
+use Rattle.std.proofs.Common.{◌≡◌, ◌≢◌, ◌+◌, ◌<◌, suc, inr, None, List, [], ◌∷◌, ◌++◌, length, map, take, sym, ap, ◌∙◌, subst, arith}
 use Rattle.std.specs.Prelude.{All}
 use Rattle.std.proofs.Math.Seq.{take-suc}
 use Rattle.std.proofs.lemmas.List.{map-append}
@@ -8,14 +8,16 @@ use Rattle.spec_world.specs.Runs.{first_bytes}
 use Rattle.spec_world.specs.World.{run_on}
 use Rattle.validator.specs.Setting.{Setting, node_of}
 use Rattle.cluster.specs.Member.{Kept, StandsAt}
-use Rattle.cluster.proofs.Members.{journal_alone}
 use Rattle.cluster.proofs.cluster.Cluster.new.Goals as goal
 
 pub returns-in_err-open-clause-errors : goal.returns-in_err-open-clause-errors
 returns-in_err-open-clause-errors g c =
     let p = err_from_is_err_and c.from_residual-in_err-open.result c.from_residual-in_err-open.ensures.1 in
+    let so_far = c.loop-config.invariant in
+    let some : 0 < length c.loop-config.disks.items = omega (arith, so_far.rest, c.loop-config.disks.ok.0) in
+    let empty = ap g.D.Disk.content c.remove.ensures.value ∙ so_far.empty 0 c.remove.result some in
     rw (p.1, p.2)
-    (journal_alone c.in_err-open.field-0.0 c.in_err-open.ensures.errors)
+    (inr (c.in_err-open.ensures.errors empty))
 
 pub loop-config-preserved : goal.loop-config-preserved
 loop-config-preserved g c =

@@ -4,8 +4,9 @@ use Rattle.std.specs.List.{position}
 use Rattle.opening.proofs.Telling.{ok_weaker, err_weaker}
 use Rattle.spec_model.specs.Words.{Author}
 use Rattle.validator.specs.Setting.{node_of}
-use Rattle.cluster.specs.Answers.{Stops, IsGone}
-use Rattle.cluster.specs.Cluster.{Shown, named, at, IsThere, Moved, MovedSome, MovesOne, IsJournal}
+use Rattle.cluster.specs.Answers.{Stops, IsJournal, IsLost}
+use Rattle.cluster.specs.Cluster.{Shown, named, at, IsThere, Moved, MovedSome, MovesOne}
+use Rattle.cluster.specs.Member.{Kept}
 use Rattle.cluster.specs.declared.error.ClusterError.TheVariants.{NoSuchNode, Memory}
 use Rattle.cluster.proofs.Places.{there_of, moves_one, others_stay, gone_where, none_there}
 use Rattle.cluster.proofs.cluster.Cluster.stop.Goals as goal
@@ -61,5 +62,5 @@ returns-in-Some-clause-errors g c =
     let later = c.stop.new.self in
     let first = ap (λ (s : Shown g.row.S.Denot g.row.D.Denot g.row.V.Denot). position (λ member. named c.args.node member) s.members) c.self.view_is ∙ sym c.place_of.ensures ∙ c.in-Some.is in
     let there = there_of (λ member. named c.args.node member) members c.in-Some.place one first c.index_mut.ensures.value in
-    subst (λ (s : Shown g.row.S.Denot g.row.D.Denot g.row.V.Denot). IfErr c.stop.result (λ error. (error ≡ NoSuchNode) ⊎ ((error ≡ Memory) ⊎ (IsJournal error × MovesOne IsGone c.args.node s.members (set members c.in-Some.place later))))) c.self.view_is
-    (err_weaker c.stop.result _ _ (λ error either. elim either [ inl none ↦ inl none | inr (inl memory) ↦ inr (inl memory) | inr (inr gone) ↦ inr (inr (gone.0, moves_one members c.args.node c.in-Some.place one later first there c.stop.ensures.setting IsGone gone.1)) ]) c.stop.ensures.journal)
+    subst (λ (s : Shown g.row.S.Denot g.row.D.Denot g.row.V.Denot). IfErr c.stop.result (λ error. (error ≡ NoSuchNode) ⊎ ((error ≡ Memory) ⊎ (IsJournal error × MovesOne (λ (member : Kept g.row.S.Denot g.row.D.Denot). IsLost (node_of g.S.Sign.own_key g.S.Sign.signature_of member.setting) g.D.Disk.content g.D.Disk.outcome error member) c.args.node s.members (set members c.in-Some.place later))))) c.self.view_is
+    (err_weaker c.stop.result _ _ (λ error either. elim either [ inl none ↦ inl none | inr (inl memory) ↦ inr (inl memory) | inr (inr gone) ↦ inr (inr (gone.0, moves_one members c.args.node c.in-Some.place one later first there c.stop.ensures.setting (λ (member : Kept g.row.S.Denot g.row.D.Denot). IsLost (node_of g.S.Sign.own_key g.S.Sign.signature_of member.setting) g.D.Disk.content g.D.Disk.outcome error member) gone.1)) ]) c.stop.ensures.journal)

@@ -1,11 +1,14 @@
-use Rattle.std.proofs.Common.{List, ℕ, Some, refl, subst}
+use Rattle.std.proofs.Common.{List, [], ℕ, Some, refl, ap, ◌∙◌, subst}
 use Rattle.desk.specs.Desk.{IsOpened}
 use Rattle.desk.proofs.Worlds.{begins}
+use Rattle.opening.specs.Told.{told}
+use Rattle.opening.proofs.Opened.{no_refusal}
 use Rattle.validator.specs.Setting.{node_of}
 use Rattle.committee.specs.Charter.{Charter}
 use Rattle.std.specs.Prelude.{All}
 use Rattle.wire.specs.Fields.{AreBytes}
 use Rattle.cluster.specs.Member.{Kept}
+use Rattle.cluster.proofs.Counting.{told_nothing}
 use Rattle.cluster.proofs.Members.{begins_at}
 use Rattle.cluster.proofs.member.Member.open.Goals as goal
 
@@ -17,3 +20,8 @@ returns-in-Ok-clause-begins g c = λ empty.
     let member : Kept g.row.S.Denot g.row.D.Denot = record { setting = c.args.config.now; desk = Some c.in-Ok.desk; out = c.new.result } in
     begins_at node g.D.Disk.content g.D.Disk.outcome member c.in-Ok.desk refl c.new.ensures.outputs c.new.ensures.order
     (begins node g.D.Disk.content g.D.Disk.outcome c.in-Ok.desk c.limits_hold.ensures keys opened)
+
+pub returns-in-Err-clause-errors : goal.returns-in-Err-clause-errors
+returns-in-Err-clause-errors g c = λ empty.
+    let node = node_of g.S.Sign.own_key g.S.Sign.signature_of c.args.config.now in
+    no_refusal c.in-Err.failed.error [] (told node (g.D.Disk.content c.args.disk)) (ap (told node) empty ∙ told_nothing node) c.in-Err.ensures.err.tells

@@ -1,9 +1,10 @@
-use Rattle.std.proofs.Common.{Some, refl, sym, ◌∙◌, subst}
+use Rattle.std.proofs.Common.{◌≡◌, ◌⊎◌, inr, Some, refl, sym, ◌∙◌, subst}
 use Rattle.desk.specs.AtWorld.{IsAt}
 use Rattle.spec_world.specs.World.{World}
 use Rattle.validator.specs.Setting.{Setting, node_of}
-use Rattle.cluster.specs.Answers.{Stops, Makes, MakesSome}
+use Rattle.cluster.specs.Answers.{Stops, Makes, MakesSome, IsJournal, IsLost}
 use Rattle.cluster.specs.Member.{Kept, HasPutOut, StandsAt, HasCollected, HasCollectedSome}
+use Rattle.cluster.specs.declared.error.ClusterError.TheVariants.{NoSuchNode, Memory, Journal}
 use Rattle.cluster.specs.declared.moves.Applied.{Applied}
 use Rattle.cluster.specs.declared.moves.Applied.TheVariants.{Reopened}
 use Rattle.cluster.proofs.Members.{makes, makes_some, moved_or_not, stopped}
@@ -34,3 +35,14 @@ returns-clause-ok g c =
     ((let at = stands.at c.in-Some.desk (sym c.take.ensures.value ∙ c.in-Some.is) in let opened = c.in-Ok.ensures.opened in let to = stops (node_of g.S.Sign.own_key g.S.Sign.signature_of c.self.inside.config.now) g.D.Disk.content g.D.Disk.outcome world c.in-Some.desk at opened.0 opened.1 c.in-Ok.opened.0 opened.2 in stopped (node_of g.S.Sign.own_key g.S.Sign.signature_of c.self.inside.config.now) g.D.Disk.content g.D.Disk.outcome world c.in-Some.desk c.in-Ok.opened.0 opened.0 c.in-Ok.opened.1 opened.1 opened.2 opened.3 to.0 to.1 to.2))
     (subst (λ (s : Setting g.row.S.Denot). (w : World) → IsAt (node_of g.S.Sign.own_key g.S.Sign.signature_of s) g.D.Disk.content g.D.Disk.outcome w c.in-Ok.opened.0 → HasPutOut (node_of g.S.Sign.own_key g.S.Sign.signature_of s) w c.self.inside.given
     → HasCollected (node_of g.S.Sign.own_key g.S.Sign.signature_of s) g.D.Disk.content g.D.Disk.outcome w c.in-Ok.opened.0 c.collect-collected.new.desk c.self.inside.given c.collect-collected.new.given) same c.in_ok-collected.ensures.ok))
+
+pub returns-in-Err-clause-journal : goal.returns-in-Err-clause-journal
+returns-in-Err-clause-journal g c =
+    let before : Kept g.row.S.Denot g.row.D.Denot = record { setting = c.self.inside.config.now; desk = c.self.inside.desk; out = c.self.inside.given } in
+    let later : Kept g.row.S.Denot g.row.D.Denot = record { setting = c.self.inside.config.now; desk = c.take.new.self; out = c.self.inside.given } in
+    let at_desk = sym c.take.ensures.value ∙ c.in-Some.is in
+    subst (λ (m : Kept g.row.S.Denot g.row.D.Denot). (Journal c.in-Err.error ≡ NoSuchNode) ⊎ ((Journal c.in-Err.error ≡ Memory) ⊎ (IsJournal (Journal c.in-Err.error) × IsLost (node_of g.S.Sign.own_key g.S.Sign.signature_of m.setting) g.D.Disk.content g.D.Disk.outcome (Journal c.in-Err.error) m later))) c.self.view_is
+    (inr (inr (tt, record {
+      gone = record { gone = c.take.ensures.after; setting = refl; out = refl };
+      fault = λ world stands. c.in-Err.ensures.refused world (stands.at c.in-Some.desk at_desk);
+    })))
