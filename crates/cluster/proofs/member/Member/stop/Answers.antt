@@ -42,7 +42,10 @@ returns-in-Err-clause-journal g c =
     let later : Kept g.row.S.Denot g.row.D.Denot = record { setting = c.self.inside.config.now; desk = c.take.new.self; out = c.self.inside.given } in
     let at_desk = sym c.take.ensures.value ∙ c.in-Some.is in
     subst (λ (m : Kept g.row.S.Denot g.row.D.Denot). (Journal c.in-Err.error ≡ NoSuchNode) ⊎ ((Journal c.in-Err.error ≡ Memory) ⊎ (IsJournal (Journal c.in-Err.error) × IsLost (node_of g.S.Sign.own_key g.S.Sign.signature_of m.setting) g.D.Disk.content g.D.Disk.outcome (Journal c.in-Err.error) m later))) c.self.view_is
-    (inr (inr (tt, record {
-      gone = record { gone = c.take.ensures.after; setting = refl; out = refl };
-      fault = λ world stands. c.in-Err.ensures.refused world (stands.at c.in-Some.desk at_desk);
-    })))
+    (inr (inr (
+      tt,
+      record {
+        gone = record { gone = c.take.ensures.after; setting = refl; out = refl };
+        fault = λ world stands. c.in-Err.ensures.refused world (stands.at c.in-Some.desk at_desk);
+      },
+    )))
