@@ -1,9 +1,10 @@
 -- The member of a number, and where it stands.
-use Rattle.std.proofs.Common.{◌≡◌, ◌≢◌, ℕ, ◌<◌, Bool, true, false, cond, inl, inr, List, [], ◌∷◌, length, set, refl, sym, ap, ◌∙◌, subst}
+use Rattle.std.proofs.Common.{◌≡◌, ◌≢◌, ℕ, ◌<◌, Bool, true, false, cond, inl, inr, List, [], ◌∷◌, length, map, set, refl, sym, ap, ◌∙◌, subst}
 use Rattle.std.specs.Prelude.{Option, Some, None, is_some, slice_get, get_or, nat_lt, ◌==◌, ◌↔◌}
 use Rattle.std.specs.List.{find, position, position_or_len}
 use Rattle.std.specs.Option.{option_map_or}
 use Rattle.std.proofs.lemmas.Bool.{cases_Bool, true≢false, ltb-true, lt-ltb, cases_lt, eqb-true}
+use Rattle.std.proofs.lemmas.List.{map-set, set-get_or}
 use Rattle.std.proofs.lemmas.List.Folds.{find_at, find-set, find_past}
 use Rattle.std.proofs.lemmas.Option.{slice_get_past, slice_get-get_or, get_or_from_slice_get}
 use Rattle.desk.specs.Desk as desk
@@ -98,6 +99,14 @@ module _ {S D : Type 0} (members : List (Kept S D)) (number : Author) (place : �
     where
       same_number : one.setting.own.0 ≡ other.0 → one.setting.own.0 ≡ number.0 → other ≡ number
       same_number a b = let same : other.0 ≡ number.0 = sym a ∙ b in (λ i. record { 0 = same i })
+
+  -- all settings stay
+  pub settings_stay : map (λ member. member.setting) (set members place later) ≡ map (λ member. member.setting) members
+  settings_stay =
+      map-set (λ (m : Kept S D). m.setting) members place later
+      ∙ ap (set (map (λ (m : Kept S D). m.setting) members) place) (setting ∙ ap (λ (m : Kept S D). m.setting) (sym (get_or_from_slice_get members place one one there)))
+      ∙ sym (map-set (λ (m : Kept S D). m.setting) members place (get_or members place one))
+      ∙ ap (map (λ (m : Kept S D). m.setting)) (set-get_or members place one)
 
   -- it is there unless it is gone
   pub gone_where : (one.desk ≡ None) ↔ (IsThere members number → ⊥)

@@ -151,12 +151,12 @@ module _ {S D : Type 0} (node : Node) (content : D → List ℕ) (outcome : D �
     }
 
     -- or some of it
-    pub some_collected : HasCollectedSome node content outcome world one next before later
-    some_collected = record {
+    pub some_collected : one.book.down ≡ false → HasCollectedSome node content outcome world one next before later
+    some_collected up = record {
       went = released.went;
       kept = kept;
       moves = read_order ∷ map release released.went;
-      are = inr refl;
+      are = inr (sym (ap (λ (b : Bool). going_out b released.went) up));
       to = released.to;
       leads = joined;
       at = released.at;

@@ -78,7 +78,7 @@ pub record HasCollectedSome {S D : Type 0} (node : Node) (content : D → List �
   pub went : List Waiting
   pub kept : HasKept desk next before later went
   pub moves : List Move
-  pub are : (moves ≡ []) ⊎ (moves ≡ read_order ∷ map release went)
+  pub are : (moves ≡ []) ⊎ (moves ≡ going_out desk.book.down went)
   pub to : World
   pub leads : Leads node world moves to
   pub at : IsAt node content outcome to next

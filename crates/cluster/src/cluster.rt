@@ -45,6 +45,7 @@ impl<'a, S: Sign, D: StopDisk + Drop, V: Verify + Drop> Cluster<'a, S, D, V> {
     ghost use Rattle.std.specs.Prelude.{◌≡◌, ◌≢◌, ◌⊎◌, ◌↔◌, ℕ, [], length, map, position, Some, None, vec_len, All, IfOk, IfErr, IfSome, OnOk, IsNone, IsErrOf, option_copied};
     ghost use Rattle.std.specs.Option.{option_map};
     ghost use Rattle.spec_world.specs.Runs.{first_bytes};
+    ghost use Rattle.spec_world.specs.Steps.{IsRun};
     ghost use Rattle.spec_world.specs.World.{World, run_on};
     ghost use Rattle.validator.specs.Setting.{node_of};
     ghost use Rattle.cluster.specs.Answers.{TakesIn, MakesRound, Stops, Makes, MakesSome, IsJournal, IsJournalFault, IsLost};
@@ -69,7 +70,8 @@ impl<'a, S: Sign, D: StopDisk + Drop, V: Verify + Drop> Cluster<'a, S, D, V> {
         requires distinct { AreDistinct configs.now }
         ensures settings { IfOk result (λ cluster. map (λ member. member.setting) cluster.members ≡ configs.now) }
         ensures verifier { IfOk result (λ cluster. cluster.verifier ≡ verifier) }
-        // Each of them stands where its runs begin.
+        // Each of them stands where its runs begin, before any move.
+        ensures runs { IfOk result (λ cluster. All (λ member. IsRun (node_of S.own_key S.signature_of member.setting) [] (run_on (first_bytes (node_of S.own_key S.signature_of member.setting)) [] [])) cluster.members) }
         ensures begins { IfOk result (λ cluster. All (λ member. StandsAt (node_of S.own_key S.signature_of member.setting) D.content D.outcome (run_on (first_bytes (node_of S.own_key S.signature_of member.setting)) [] []) member) cluster.members) }
         ensures up { IfOk result (λ cluster. All (λ member. member.desk ≢ None) cluster.members) }
         // An empty disk is refused for want of memory or a fault alone.
@@ -97,9 +99,10 @@ impl<'a, S: Sign, D: StopDisk + Drop, V: Verify + Drop> Cluster<'a, S, D, V> {
     pub fn apply(&mut self, step: Move) -> Result<Applied, ClusterError>
         // The node that moves makes just this move in its world, and what may go out behind it goes out.
         ensures moves { IfOk result (λ applied. Moved (node_of S.own_key S.signature_of) D.content D.outcome (λ node world. Does node D.content D.outcome (V.accepts self.old.verifier) self.old.members step applied world) (actor step) self.old.members self.new.members) }
-        // All others are as they were.
+        // All others are as they were, and what each is set up with stays.
         ensures others { (other : Author) → other ≢ actor step → at self.new.members other ≡ at self.old.members other }
         ensures verifier { self.new.verifier ≡ self.old.verifier }
+        ensures settings { map (λ member. member.setting) self.new.members ≡ map (λ member. member.setting) self.old.members }
         // A node that no move names, or that is gone, and an output that there isn't, are refused so exactly.
         ensures no_node { IsErrOf result ClusterError.NoSuchNode ↔ LacksNode self.old.members step }
         ensures no_output { IsErrOf result ClusterError.NoSuchOutput ↔ LacksOutput self.old.members step }
@@ -188,6 +191,7 @@ impl<'a, S: Sign, D: StopDisk + Drop, V: Verify + Drop> Cluster<'a, S, D, V> {
         ensures moves { IfOk result (λ applied. Moved (node_of S.own_key S.signature_of) D.content D.outcome (λ own world. Does own D.content D.outcome (V.accepts self.old.verifier) self.old.members (Deliver node output to) applied world) to self.old.members self.new.members) }
         ensures others { (other : Author) → other ≢ to → at self.new.members other ≡ at self.old.members other }
         ensures verifier { self.new.verifier ≡ self.old.verifier }
+        ensures settings { map (λ member. member.setting) self.new.members ≡ map (λ member. member.setting) self.old.members }
         ensures no_node { IsErrOf result ClusterError.NoSuchNode ↔ LacksNode self.old.members (Deliver node output to) }
         ensures no_output { IsErrOf result ClusterError.NoSuchOutput ↔ LacksOutput self.old.members (Deliver node output to) }
         ensures unchanged { IfErr result (λ error. (error ≡ ClusterError.NoSuchNode) ⊎ (error ≡ ClusterError.NoSuchOutput) → self.new ≡ self.old) }
@@ -229,6 +233,7 @@ impl<'a, S: Sign, D: StopDisk + Drop, V: Verify + Drop> Cluster<'a, S, D, V> {
         ensures moves { IfOk result (λ applied. Moved (node_of S.own_key S.signature_of) D.content D.outcome (λ node world. TakesIn node (V.accepts self.old.verifier) (record { sender = sender; message = message }) applied) to self.old.members self.new.members) }
         ensures others { (other : Author) → other ≢ to → at self.new.members other ≡ at self.old.members other }
         ensures verifier { self.new.verifier ≡ self.old.verifier }
+        ensures settings { map (λ member. member.setting) self.new.members ≡ map (λ member. member.setting) self.old.members }
         ensures no_node { IsErrOf result ClusterError.NoSuchNode ↔ (IsThere self.old.members to → ⊥) }
         ensures unchanged { IsErrOf result ClusterError.NoSuchNode → self.new ≡ self.old }
         ensures memory { IsErrOf result ClusterError.Memory → MovedSome (node_of S.own_key S.signature_of) D.content D.outcome (λ applied node world. TakesIn node (V.accepts self.old.verifier) (record { sender = sender; message = message }) applied) to self.old.members self.new.members }
@@ -244,6 +249,7 @@ impl<'a, S: Sign, D: StopDisk + Drop, V: Verify + Drop> Cluster<'a, S, D, V> {
         ensures moves { IfOk result (λ applied. Moved (node_of S.own_key S.signature_of) D.content D.outcome (λ own world. MakesRound own D.content world applied) node self.old.members self.new.members) }
         ensures others { (other : Author) → other ≢ node → at self.new.members other ≡ at self.old.members other }
         ensures verifier { self.new.verifier ≡ self.old.verifier }
+        ensures settings { map (λ member. member.setting) self.new.members ≡ map (λ member. member.setting) self.old.members }
         ensures no_node { IsErrOf result ClusterError.NoSuchNode ↔ (IsThere self.old.members node → ⊥) }
         ensures unchanged { IsErrOf result ClusterError.NoSuchNode → self.new ≡ self.old }
         ensures memory { IsErrOf result ClusterError.Memory → MovedSome (node_of S.own_key S.signature_of) D.content D.outcome (λ applied own world. MakesRound own D.content world applied) node self.old.members self.new.members }
@@ -259,6 +265,7 @@ impl<'a, S: Sign, D: StopDisk + Drop, V: Verify + Drop> Cluster<'a, S, D, V> {
         ensures moves { IfOk result (λ applied. Moved (node_of S.own_key S.signature_of) D.content D.outcome (λ own world. Stops own D.content D.outcome world applied) node self.old.members self.new.members) }
         ensures others { (other : Author) → other ≢ node → at self.new.members other ≡ at self.old.members other }
         ensures verifier { self.new.verifier ≡ self.old.verifier }
+        ensures settings { map (λ member. member.setting) self.new.members ≡ map (λ member. member.setting) self.old.members }
         ensures no_node { IsErrOf result ClusterError.NoSuchNode ↔ (IsThere self.old.members node → ⊥) }
         ensures unchanged { IsErrOf result ClusterError.NoSuchNode → self.new ≡ self.old }
         ensures memory { IsErrOf result ClusterError.Memory → MovedSome (node_of S.own_key S.signature_of) D.content D.outcome (λ applied own world. Stops own D.content D.outcome world applied) node self.old.members self.new.members }

@@ -49,6 +49,7 @@ impl<'a, S: Sign, D: StopDisk> Model for Member<'a, S, D> {
 impl<'a, S: Sign, D: StopDisk> Member<'a, S, D> {
     ghost use Rattle.std.specs.Prelude.{◌≡◌, ◌≢◌, ◌⊎◌, ◌↔◌, [], length, is_some, slice_get, Some, None, IfOk, IfErr, IfSome, OnOk, OnErr, IsNone, IsErrOf};
     ghost use Rattle.spec_world.specs.Runs.{first_bytes};
+    ghost use Rattle.spec_world.specs.Steps.{IsRun};
     ghost use Rattle.spec_world.specs.World.{World, run_on};
     ghost use Rattle.validator.specs.Setting.{node_of};
     ghost use Rattle.desk.specs.Desk.{Shown};
@@ -70,6 +71,7 @@ impl<'a, S: Sign, D: StopDisk> Member<'a, S, D> {
         ensures setting { IfOk result (λ member. member.setting ≡ config.now) }
         // On an empty disk it stands where its runs begin.
         ensures begins { IfOk result (λ member. D.content disk ≡ [] → StandsAt (node_of S.own_key S.signature_of config.now) D.content D.outcome (run_on (first_bytes (node_of S.own_key S.signature_of config.now)) [] []) member) }
+        ensures runs { IfOk result (λ member. IsRun (node_of S.own_key S.signature_of member.setting) [] (run_on (first_bytes (node_of S.own_key S.signature_of member.setting)) [] [])) }
         ensures up { IfOk result (λ member. member.desk ≢ None) }
         ensures errors { IfErr result (λ error. D.content disk ≡ [] → IsJournalFault error) }
         ensures journal { IfErr result IsJournal }

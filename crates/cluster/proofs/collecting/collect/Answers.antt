@@ -28,4 +28,4 @@ returns-clause-err g c =
     let node = node_of g.S.Sign.own_key g.S.Sign.signature_of c.args.desk.now.book.validator.setting in
     err_more c.release_all.result _ _ (λ released world at was.
     let read = c.in_ok-read_order.ensures.ok world at was in
-    some_collected node g.D.Disk.content g.D.Disk.outcome world c.args.desk.now c.release_all.new.desk c.args.given.now c.read_order.new.given c.release_all.new.given read c.read_order.ensures.outputs (released read.to read.at read.whole)) c.release_all.ensures.err
+    some_collected node g.D.Disk.content g.D.Disk.outcome world c.args.desk.now c.release_all.new.desk c.args.given.now c.read_order.new.given c.release_all.new.given read c.read_order.ensures.outputs (released read.to read.at read.whole) (sym c.is_down.ensures ∙ c.if-is_down.false)) c.release_all.ensures.err

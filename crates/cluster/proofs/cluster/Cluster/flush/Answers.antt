@@ -1,4 +1,4 @@
-use Rattle.std.proofs.Common.{◌≡◌, ◌≢◌, refl, sym, ap, ◌∙◌, subst, set}
+use Rattle.std.proofs.Common.{◌≡◌, ◌≢◌, refl, sym, ap, ◌∙◌, subst, set, map}
 use Rattle.std.specs.Prelude.{IfOk, IsErrOf, ◌↔◌}
 use Rattle.std.specs.List.{position}
 use Rattle.opening.proofs.Telling.{ok_weaker}
@@ -7,7 +7,7 @@ use Rattle.validator.specs.Setting.{node_of}
 use Rattle.cluster.specs.Answers.{MakesRound}
 use Rattle.cluster.specs.Cluster.{Shown, named, at, IsThere, Moved, MovedSome}
 use Rattle.cluster.specs.declared.error.ClusterError.TheVariants.{NoSuchNode, Memory}
-use Rattle.cluster.proofs.Places.{there_of, moves_one, others_stay, gone_where, none_there}
+use Rattle.cluster.proofs.Places.{there_of, moves_one, others_stay, settings_stay, gone_where, none_there}
 use Rattle.cluster.proofs.cluster.Cluster.flush.Goals as goal
 
 pub returns-in-Some-clause-moves : goal.returns-in-Some-clause-moves
@@ -53,3 +53,13 @@ returns-in-Some-clause-no_node g c =
 
 pub returns-in-None-clause-no_node : goal.returns-in-None-clause-no_node
 returns-in-None-clause-no_node g c = (λ _. none_there c.args.self.now.members c.args.node (sym c.place_of.ensures ∙ c.in-None.is), λ _. refl)
+
+pub returns-in-Some-clause-settings : goal.returns-in-Some-clause-settings
+returns-in-Some-clause-settings g c =
+    let members = c.self.inside.members.items in
+    let one = c.index_mut.result.now in
+    let later = c.flush.new.self in
+    let first = ap (λ (s : Shown g.row.S.Denot g.row.D.Denot g.row.V.Denot). position (λ member. named c.args.node member) s.members) c.self.view_is ∙ sym c.place_of.ensures ∙ c.in-Some.is in
+    let there = there_of (λ member. named c.args.node member) members c.in-Some.place one first c.index_mut.ensures.value in
+    subst (λ (s : Shown g.row.S.Denot g.row.D.Denot g.row.V.Denot). map (λ member. member.setting) (set members c.in-Some.place later) ≡ map (λ member. member.setting) s.members) c.self.view_is
+    (settings_stay members c.args.node c.in-Some.place one later first there c.flush.ensures.setting)

@@ -5,6 +5,7 @@ use Rattle.std.proofs.lemmas.List.{map-append}
 use Rattle.std.proofs.lemmas.List.Elements.{All-push, All-drop}
 use Rattle.std.proofs.lemmas.Result.{err_from_is_err_and}
 use Rattle.spec_world.specs.Runs.{first_bytes}
+use Rattle.spec_world.specs.Steps.{IsRun}
 use Rattle.spec_world.specs.World.{run_on}
 use Rattle.validator.specs.Setting.{Setting, node_of}
 use Rattle.cluster.specs.Member.{Kept, StandsAt}
@@ -34,6 +35,7 @@ loop-config-preserved g c =
     record {
       settings = ap (map (λ (m : Kept g.row.S.Denot g.row.D.Denot). m.setting)) items ∙ map-append (λ (m : Kept g.row.S.Denot g.row.D.Denot). m.setting) c.loop-config.members.items (member ∷ [])
           ∙ (λ i. so_far.settings i ++ own i ∷ []) ∙ sym more ∙ ap (λ n. take n c.args.configs.now) number;
+      runs = subst (All (λ (m : Kept g.row.S.Denot g.row.D.Denot). IsRun (node_of g.S.Sign.own_key g.S.Sign.signature_of m.setting) [] (run_on (first_bytes (node_of g.S.Sign.own_key g.S.Sign.signature_of m.setting)) [] []))) (sym items) (All-push (λ (m : Kept g.row.S.Denot g.row.D.Denot). IsRun (node_of g.S.Sign.own_key g.S.Sign.signature_of m.setting) [] (run_on (first_bytes (node_of g.S.Sign.own_key g.S.Sign.signature_of m.setting)) [] [])) c.loop-config.members.items member so_far.runs c.in_ok-open.ensures.runs);
       begins = subst (All (λ (m : Kept g.row.S.Denot g.row.D.Denot). StandsAt (node_of g.S.Sign.own_key g.S.Sign.signature_of m.setting) g.D.Disk.content g.D.Disk.outcome (run_on (first_bytes (node_of g.S.Sign.own_key g.S.Sign.signature_of m.setting)) [] []) m)) (sym items) (All-push (λ (m : Kept g.row.S.Denot g.row.D.Denot). StandsAt (node_of g.S.Sign.own_key g.S.Sign.signature_of m.setting) g.D.Disk.content g.D.Disk.outcome (run_on (first_bytes (node_of g.S.Sign.own_key g.S.Sign.signature_of m.setting)) [] []) m) c.loop-config.members.items member so_far.begins begins);
       up = subst (All (λ (m : Kept g.row.S.Denot g.row.D.Denot). m.desk ≢ None)) (sym items) (All-push (λ (m : Kept g.row.S.Denot g.row.D.Denot). m.desk ≢ None) c.loop-config.members.items member so_far.up c.in_ok-open.ensures.up);
       rest = omega (arith, so_far.rest, c.remove.ensures.len);

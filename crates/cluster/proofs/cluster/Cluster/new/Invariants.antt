@@ -1,6 +1,7 @@
 use Rattle.std.proofs.Common.{◌≡◌, ◌≢◌, ◌+◌, None, [], length, map, take}
 use Rattle.std.specs.Prelude.{All, vec_len}
 use Rattle.spec_world.specs.Runs.{first_bytes}
+use Rattle.spec_world.specs.Steps.{IsRun}
 use Rattle.spec_world.specs.World.{run_on}
 use Rattle.validator.specs.Setting.{node_of}
 use Rattle.cluster.specs.Member.{Kept, StandsAt}
@@ -10,6 +11,7 @@ use Rattle.cluster.proofs.cluster.Cluster.new.Given as goal
 abbrev pub invariant-loop-config : goal.invariant-loop-config
 invariant-loop-config g l = record {
   settings : map (λ (m : Kept g.row.S.Denot g.row.D.Denot). m.setting) l.members.items ≡ take l.config-index l.configs;
+  runs : All (λ (m : Kept g.row.S.Denot g.row.D.Denot). IsRun (node_of g.S.Sign.own_key g.S.Sign.signature_of m.setting) [] (run_on (first_bytes (node_of g.S.Sign.own_key g.S.Sign.signature_of m.setting)) [] [])) l.members.items;
   begins : All (λ (m : Kept g.row.S.Denot g.row.D.Denot). StandsAt (node_of g.S.Sign.own_key g.S.Sign.signature_of m.setting) g.D.Disk.content g.D.Disk.outcome (run_on (first_bytes (node_of g.S.Sign.own_key g.S.Sign.signature_of m.setting)) [] []) m) l.members.items;
   up : All (λ (m : Kept g.row.S.Denot g.row.D.Denot). m.desk ≢ None) l.members.items;
   rest : l.config-index + vec_len l.disks ≡ length l.configs;

@@ -1,4 +1,4 @@
-use Rattle.std.proofs.Common.{◌≡◌, ◌≢◌, ◌⊎◌, inl, inr, refl, sym, ap, ◌∙◌, subst, set}
+use Rattle.std.proofs.Common.{◌≡◌, ◌≢◌, ◌⊎◌, inl, inr, refl, sym, ap, ◌∙◌, subst, set, map}
 use Rattle.std.specs.Prelude.{IfOk, IfErr, IsErrOf, ◌↔◌}
 use Rattle.std.specs.List.{position}
 use Rattle.opening.proofs.Telling.{ok_weaker, err_weaker}
@@ -8,7 +8,7 @@ use Rattle.cluster.specs.Answers.{Stops, IsJournal, IsLost}
 use Rattle.cluster.specs.Cluster.{Shown, named, at, IsThere, Moved, MovedSome, MovesOne}
 use Rattle.cluster.specs.Member.{Kept}
 use Rattle.cluster.specs.declared.error.ClusterError.TheVariants.{NoSuchNode, Memory}
-use Rattle.cluster.proofs.Places.{there_of, moves_one, others_stay, gone_where, none_there}
+use Rattle.cluster.proofs.Places.{there_of, moves_one, others_stay, settings_stay, gone_where, none_there}
 use Rattle.cluster.proofs.cluster.Cluster.stop.Goals as goal
 
 pub returns-in-Some-clause-moves : goal.returns-in-Some-clause-moves
@@ -64,3 +64,13 @@ returns-in-Some-clause-errors g c =
     let there = there_of (λ member. named c.args.node member) members c.in-Some.place one first c.index_mut.ensures.value in
     subst (λ (s : Shown g.row.S.Denot g.row.D.Denot g.row.V.Denot). IfErr c.stop.result (λ error. (error ≡ NoSuchNode) ⊎ ((error ≡ Memory) ⊎ (IsJournal error × MovesOne (λ (member : Kept g.row.S.Denot g.row.D.Denot). IsLost (node_of g.S.Sign.own_key g.S.Sign.signature_of member.setting) g.D.Disk.content g.D.Disk.outcome error member) c.args.node s.members (set members c.in-Some.place later))))) c.self.view_is
     (err_weaker c.stop.result _ _ (λ error either. elim either [ inl none ↦ inl none | inr (inl memory) ↦ inr (inl memory) | inr (inr gone) ↦ inr (inr (gone.0, moves_one members c.args.node c.in-Some.place one later first there c.stop.ensures.setting (λ (member : Kept g.row.S.Denot g.row.D.Denot). IsLost (node_of g.S.Sign.own_key g.S.Sign.signature_of member.setting) g.D.Disk.content g.D.Disk.outcome error member) gone.1)) ]) c.stop.ensures.journal)
+
+pub returns-in-Some-clause-settings : goal.returns-in-Some-clause-settings
+returns-in-Some-clause-settings g c =
+    let members = c.self.inside.members.items in
+    let one = c.index_mut.result.now in
+    let later = c.stop.new.self in
+    let first = ap (λ (s : Shown g.row.S.Denot g.row.D.Denot g.row.V.Denot). position (λ member. named c.args.node member) s.members) c.self.view_is ∙ sym c.place_of.ensures ∙ c.in-Some.is in
+    let there = there_of (λ member. named c.args.node member) members c.in-Some.place one first c.index_mut.ensures.value in
+    subst (λ (s : Shown g.row.S.Denot g.row.D.Denot g.row.V.Denot). map (λ member. member.setting) (set members c.in-Some.place later) ≡ map (λ member. member.setting) s.members) c.self.view_is
+    (settings_stay members c.args.node c.in-Some.place one later first there c.stop.ensures.setting)

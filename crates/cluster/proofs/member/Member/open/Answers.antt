@@ -3,6 +3,7 @@ use Rattle.desk.specs.Desk.{IsOpened}
 use Rattle.desk.proofs.Worlds.{begins}
 use Rattle.opening.specs.Told.{told}
 use Rattle.opening.proofs.Opened.{no_refusal}
+use Rattle.spec_world.proofs.Beginning.{runs_begin}
 use Rattle.validator.specs.Setting.{node_of}
 use Rattle.committee.specs.Charter.{Charter}
 use Rattle.std.specs.Prelude.{All}
@@ -25,3 +26,8 @@ pub returns-in-Err-clause-errors : goal.returns-in-Err-clause-errors
 returns-in-Err-clause-errors g c = λ empty.
     let node = node_of g.S.Sign.own_key g.S.Sign.signature_of c.args.config.now in
     no_refusal c.in-Err.failed.error [] (told node (g.D.Disk.content c.args.disk)) (ap (told node) empty ∙ told_nothing node) c.in-Err.ensures.err.tells
+
+pub returns-in-Ok-clause-runs : goal.returns-in-Ok-clause-runs
+returns-in-Ok-clause-runs g c =
+    let keys = subst (λ (k : Charter). All (λ key. AreBytes 32 key.0) k.keys) c.committee.ensures c.keys_hold.ensures in
+    runs_begin (node_of g.S.Sign.own_key g.S.Sign.signature_of c.args.config.now) c.limits_hold.ensures keys
