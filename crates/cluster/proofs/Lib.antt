@@ -5,3 +5,4 @@ pub mod Counting
 pub mod Members
 pub mod Places
 pub mod Sending
+pub mod Running

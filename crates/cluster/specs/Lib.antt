@@ -3,3 +3,4 @@ pub mod Member
 pub mod Collecting
 pub mod Answers
 pub mod Cluster
+pub mod Threads

@@ -4,10 +4,13 @@ use crate::delivering::message_in;
 use crate::error::ClusterError;
 use crate::member::Member;
 use crate::moves::{Applied, Move};
-use diskmodel::StopDisk;
+use crate::office::run_members;
+use diskmodel::{Gate, StopDisk};
 use sigface::{Sign, Verify};
 use std::alloc::Global;
 use std::marker::Model;
+use std::sync::Wait;
+use std::thread::Threads;
 use validator::Config;
 use wire::{Author, Digest, Header, Message};
 
@@ -43,6 +46,7 @@ impl<'a, S: Sign, D: StopDisk, V: Verify> Model for Cluster<'a, S, D, V> {
 
 impl<'a, S: Sign, D: StopDisk + Drop, V: Verify + Drop> Cluster<'a, S, D, V> {
     ghost use Rattle.std.specs.Prelude.{◌≡◌, ◌≢◌, ◌⊎◌, ◌↔◌, ℕ, [], length, map, position, Some, None, vec_len, All, IfOk, IfErr, IfSome, OnOk, IsNone, IsErrOf, option_copied};
+    ghost use Rattle.std.specs.List.{AllZip};
     ghost use Rattle.std.specs.Option.{option_map};
     ghost use Rattle.spec_world.specs.Runs.{first_bytes};
     ghost use Rattle.spec_world.specs.Steps.{IsRun};
@@ -51,6 +55,7 @@ impl<'a, S: Sign, D: StopDisk + Drop, V: Verify + Drop> Cluster<'a, S, D, V> {
     ghost use Rattle.cluster.specs.Answers.{TakesIn, MakesRound, Stops, Makes, MakesSome, IsJournal, IsJournalFault, IsLost};
     ghost use Rattle.cluster.specs.Member.{Kept, StandsAt, Proposes};
     ghost use Rattle.cluster.specs.Cluster.{named, at, has_member, message_at, IsThere, Does, Moved, MovedSome, MovesOne, LacksNode, LacksOutput, IsStopOf, AreOfOne, AreDistinct, actor};
+    ghost use Rattle.cluster.specs.Threads.{HasRun};
     ghost use Rattle.cluster.specs.declared.moves.Applied.{Applied};
     ghost use Rattle.cluster.specs.declared.moves.Move.TheVariants.{Deliver};
 
@@ -161,6 +166,43 @@ impl<'a, S: Sign, D: StopDisk + Drop, V: Verify + Drop> Cluster<'a, S, D, V> {
             Some(member) => Some(member.outputs()),
             None => None,
         }
+    }
+
+    /// Runs all nodes, each in a thread of its own, with the gate at its place. So many times a thread passes its gate, gives its
+    /// node what came for it, lets it make one round, and sends what it then puts out to its receivers. What it had put out before
+    /// is not sent. It returns once all threads have ended.
+    ///
+    /// # Errors
+    /// `Memory` where a growth was refused, or a thread; the cluster is gone then.
+    pub fn run_threads<R, G>(
+        self,
+        rt: &R,
+        gates: Vec<G>,
+        turns: u64,
+    ) -> Result<Cluster<'a, S, D, V>, ClusterError>
+    where
+        R: Threads + Wait + Sync,
+        G: Gate + Drop + Send,
+        S: Send + Sync + Drop,
+        D: Send,
+        V: Sync,
+        requires gates { vec_len gates ≡ length self.members }
+        // Each node took messages and made rounds, and did not stop. That anything comes to it no clause says.
+        ensures ran { IfOk result (λ later. AllZip (HasRun (node_of S.own_key S.signature_of) D.content D.outcome (V.accepts self.entry.verifier)) self.entry.members later.members) }
+        ensures verifier { IfOk result (λ later. later.verifier ≡ self.entry.verifier) }
+        ensures errors { IfErr result (λ error. error ≡ ClusterError.Memory) }
+    {
+        let Cluster {
+            alloc,
+            verifier,
+            members,
+        } = self;
+        let members = run_members(rt, alloc, &verifier, members, gates, turns)?;
+        Ok(Cluster {
+            alloc,
+            verifier,
+            members,
+        })
     }
 
     // The member of this number.

@@ -1,10 +1,10 @@
-//! The message that an output is.
+//! The message that an output is, and whose it is.
 
 ghost use Rattle.std.specs.Prelude.{◌≡◌, ◌≢◌, None, IfOk, OnErr};
 ghost use Rattle.cluster.specs.Outputs.{message_of};
 
 use std::alloc::AllocError;
-use wire::{Message, Output};
+use wire::{Author, Message, Output};
 
 /// The message in an output, once more; None of a piece of the order, which is for the host alone. A batch's body isn't
 /// copied. `AllocError` where a growth was refused.
@@ -24,4 +24,27 @@ pub(crate) fn message_in(output: &Output) -> Result<Option<Message>, AllocError>
         } => return Ok(None),
     };
     Ok(Some(message))
+}
+
+/// A message once more. A batch's body isn't copied. `AllocError` where a growth was refused.
+pub(crate) fn message_again(message: &Message) -> Result<Message, AllocError>
+    ensures { IfOk result (λ again. again ≡ message.now) }
+{
+    Ok(match message {
+        Message::Batch(batch) => Message::Batch(batch.share()?),
+        Message::BatchAck(ack) => Message::BatchAck(*ack),
+        Message::Header(header) => Message::Header(header.try_clone()?),
+        Message::Vote(vote) => Message::Vote(*vote),
+        Message::Certificate(certificate) => Message::Certificate(certificate.try_clone()?),
+        Message::Coin(coin) => Message::Coin(*coin),
+    })
+}
+
+/// Whom an output is for, if it is for one member; None where it is for all others.
+pub(crate) fn receiver_of(output: &Output) -> Option<Author> {
+    match output {
+        Output::Ack { to, ack: _ } => Some(*to),
+        Output::Vote(vote) => Some(vote.author),
+        _ => None,
+    }
 }

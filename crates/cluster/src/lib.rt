@@ -5,9 +5,13 @@ mod cluster;
 mod collecting;
 mod delivering;
 mod error;
+mod letters;
 mod member;
 mod moves;
+mod office;
+mod threads;
 mod turns;
+mod worker;
 
 pub use crate::cluster::Cluster;
 pub use error::ClusterError;

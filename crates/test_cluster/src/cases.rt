@@ -6,11 +6,14 @@ use crate::disks::{Grip, GrippedDisk};
 use crate::moves::{call_of, coin, delivery, gift, leaving, member, parted};
 use crate::settings::{MEMBERS, Settings};
 use crate::telling::{tell_error, tell_move, tell_order, tell_outputs, tell_proposal};
+use crate::threads::{circulate, meet};
 use cluster::{Cluster, Move};
 use diskmodel::Disk;
 use sigface::{HashSign, HashVerify};
 use sim_script::{Command, FormError, Labels, define_batch, define_header, parse};
 use std::alloc::{AllocError, Global};
+use std::sync::Wait;
+use std::thread::Threads;
 use test_cases::{Told, bad};
 use wire::Author;
 
@@ -46,7 +49,10 @@ impl<'a> ClusterCases<'a> {
     }
 
     /// Carries out a command, and adds the lines that it answers.
-    pub fn obey(&mut self, command: &str, answer: &mut String) -> Told {
+    pub fn obey<R>(&mut self, rt: &R, command: &str, answer: &mut String) -> Told
+    where
+        R: Threads + Wait + Sync,
+    {
         let (name, words) = parted(command);
         match name {
             "form" | "pack" => return self.define(command, answer),
@@ -57,6 +63,8 @@ impl<'a> ClusterCases<'a> {
             "coin" => self.apply(coin(words), answer),
             "flush" => self.apply(flush(words), answer),
             "fail" => self.fail(words, answer),
+            "meet" => meet(rt, self.alloc, self.settings, answer),
+            "circulate" => circulate(rt, self.alloc, self.settings, words, answer),
             _ => self.look(name, words, answer),
         }
         Ok(())

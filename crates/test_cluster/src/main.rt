@@ -7,6 +7,7 @@ mod disks;
 mod moves;
 mod settings;
 mod telling;
+mod threads;
 
 use cases::ClusterCases;
 use settings::Settings;
@@ -14,6 +15,8 @@ use std::fs::{self, File};
 use std::io::{self, BufRead, Print, Write};
 use std::process::ExitCode;
 use std::rt::Files;
+use std::sync::Wait;
+use std::thread::Threads;
 use test_cases::{Ending, Player, names_of};
 
 fn main(rt: HostRuntime) -> ExitCode {
@@ -29,7 +32,7 @@ fn main(rt: HostRuntime) -> ExitCode {
 /// Plays the files of these names; says whether there is one, and each has commands that were answered as expected.
 fn tested<R>(rt: &R, settings: &Settings, names: &[String]) -> Result<bool, Ending>
 where
-    R: Files<File = File> + Print + AllocGlobal,
+    R: Files<File = File> + Print + AllocGlobal + Threads + Wait + Sync,
 {
     let mut right = !names.is_empty();
     for name in names {
@@ -41,7 +44,7 @@ where
 /// Plays the file of this name.
 fn is_right<R>(rt: &R, settings: &Settings, name: &str) -> Result<bool, Ending>
 where
-    R: Files<File = File> + Print + AllocGlobal,
+    R: Files<File = File> + Print + AllocGlobal + Threads + Wait + Sync,
 {
     let text = fs::read(rt, name)?;
     let player = Player::new(rt.alloc(), name, text.as_slice(), io::writer(rt));
@@ -55,7 +58,7 @@ fn play_all<R, I, W>(
     cases: &mut ClusterCases,
 ) -> Result<bool, Ending>
 where
-    R: AllocGlobal,
+    R: AllocGlobal + Threads + Wait + Sync,
     I: BufRead + Drop,
     W: Write + Drop,
 {
@@ -70,7 +73,7 @@ fn play_each<R, I, W>(
     cases: &mut ClusterCases,
 ) -> Result<(), Ending>
 where
-    R: AllocGlobal,
+    R: AllocGlobal + Threads + Wait + Sync,
     I: BufRead + Drop,
     W: Write + Drop,
 {
@@ -86,7 +89,7 @@ where
 /// Plays a title or a command.
 fn play<R, I, W>(rt: &R, player: &mut Player<I, W>, cases: &mut ClusterCases) -> Result<(), Ending>
 where
-    R: AllocGlobal,
+    R: AllocGlobal + Threads + Wait + Sync,
     I: BufRead + Drop,
     W: Write + Drop,
 {
@@ -95,6 +98,6 @@ where
         return Ok(());
     }
     let mut answer = String::new(rt.alloc());
-    cases.obey(player.command(), &mut answer)?;
+    cases.obey(rt, player.command(), &mut answer)?;
     player.answered(answer.as_str())
 }

@@ -1,6 +1,6 @@
 //! How the nodes are set up.
 
-ghost use Rattle.std.specs.Prelude.{◌≡◌, ◌+◌, Ok, OnOk, IfOk, IfSome};
+ghost use Rattle.std.specs.Prelude.{◌≡◌, ◌+◌, length, Ok, OnOk, IfOk, IfSome};
 ghost use Rattle.cluster.specs.Cluster.{AreOfOne, AreDistinct};
 ghost use Rattle.committee.specs.Answer.{answer_to};
 ghost use Rattle.toml.specs.Parse.{parse_document};
@@ -37,7 +37,8 @@ impl Settings {
 
     /// Those of the first so many members, if there are so many.
     pub fn first(&self, count: usize) -> Option<&[Config<HashSign>]>
-        ensures { IfSome result (λ configs. AreSettings configs.now) }
+        ensures sound { IfSome result (λ configs. AreSettings configs.now) }
+        ensures many { IfSome result (λ configs. length configs.now ≡ count) }
     {
         self.configs.as_slice().get(..count)
     }

@@ -1,0 +1,6 @@
+use Rattle.validator.specs.Setting.{node_of}
+use Rattle.cluster.proofs.Running.{run_on}
+use Rattle.cluster.proofs.worker.Worker.run.Goals as goal
+
+pub turns-preserved : goal.turns-preserved
+turns-preserved g c = run_on (node_of g.S.Sign.own_key g.S.Sign.signature_of) g.D.Disk.content g.D.Disk.outcome (g.V.Verify.accepts c.args.verifier.now) c.args.self.member c.turns.self.member c.turn.new.self.member c.turns.invariant c.in_ok-turn.ensures

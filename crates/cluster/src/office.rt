@@ -1,0 +1,132 @@
+//! Members that run in threads, and the router between them.
+
+ghost use Rattle.std.specs.Prelude.{◌≡◌, vec_len, map, Ok, IfOk};
+ghost use Rattle.std.specs.List.{AllZip};
+ghost use Rattle.validator.specs.Setting.{node_of};
+ghost use Rattle.cluster.specs.Threads.{HasRun};
+
+use crate::letters::{Letter, Letterbox, route};
+use crate::member::Member;
+use crate::threads::{Runner, run_in_threads};
+use crate::worker::Worker;
+use crossbeam_channel::{Sender, unbounded};
+use diskmodel::{Gate, StopDisk};
+use sigface::{Sign, Verify};
+use std::alloc::{AllocError, Global};
+use std::sync::Wait;
+use std::thread::Threads;
+
+// What all threads share: the boxes in the order of the members, and how many turns each makes.
+#[derive(Drop)]
+struct Office<'o, R, V> {
+    rt: &'o R,
+    verifier: &'o V,
+    boxes: &'o [Letterbox],
+    turns: u64,
+}
+
+impl<'o, 'a, R, S, D, V, G> Runner<R, Worker<'a, S, D, G>, Result<Member<'a, S, D>, AllocError>>
+    for Office<'o, R, V>
+where
+    R: Wait,
+    S: Sign,
+    D: StopDisk + Drop,
+    V: Verify,
+    G: Gate + Drop,
+{
+    ghost use Rattle.std.specs.Prelude.{IfOk};
+    ghost use Rattle.validator.specs.Setting.{node_of};
+    ghost use Rattle.cluster.specs.Threads.{HasRun};
+
+    ghost ran = { λ office worker ended. IfOk ended (λ later. HasRun (node_of S.own_key S.signature_of) D.content D.outcome (V.accepts office.verifier.now) worker.member later) };
+
+    fn run(&self, worker: Worker<'a, S, D, G>) -> Result<Member<'a, S, D>, AllocError> {
+        let Some(letterbox) = self.boxes.get(worker.place()) else {
+            return Err(AllocError);
+        };
+        match worker.run(self.rt, self.verifier, letterbox, self.turns) {
+            Ok(member) => Ok(member),
+            Err(_) => Err(AllocError),
+        }
+    }
+}
+
+/// Runs each member in a thread of its own for so many turns, and carries their messages in this one. `AllocError` where a growth was
+/// refused, or a thread.
+pub(crate) fn run_members<'a, R, S, D, V, G>(
+    rt: &R,
+    alloc: Global,
+    verifier: &V,
+    members: Vec<Member<'a, S, D>>,
+    gates: Vec<G>,
+    turns: u64,
+) -> Result<Vec<Member<'a, S, D>>, AllocError>
+where
+    R: Threads + Wait + Sync,
+    S: Sign + Send + Sync + Drop,
+    D: StopDisk + Drop + Send,
+    V: Verify + Sync,
+    G: Gate + Drop + Send,
+    requires gates { vec_len gates ≡ vec_len members }
+    ensures { IfOk result (λ later. AllZip (HasRun (node_of S.own_key S.signature_of) D.content D.outcome (V.accepts verifier.now)) members.entry.items later.items) }
+{
+    let boxes = boxes_of(alloc, &members)?;
+    let (router, letters) = unbounded(alloc)?;
+    let workers = workers_of(alloc, members, gates, router)?;
+    let office = Office {
+        rt,
+        verifier,
+        boxes: &boxes,
+        turns,
+    };
+    let ended = run_in_threads(rt, alloc, &office, workers, || route(rt, letters, &boxes))?;
+    all_members(alloc, ended)
+}
+
+// A box for each member.
+fn boxes_of<S: Sign, D: StopDisk>(
+    alloc: Global,
+    members: &[Member<'_, S, D>],
+) -> Result<Vec<Letterbox>, AllocError> {
+    let mut boxes = Vec::new(alloc);
+    for member in members {
+        boxes.push(Letterbox::new(alloc, member.own()))?;
+    }
+    Ok(boxes)
+}
+
+// The members, each with its place, its gate and a way to the router.
+fn workers_of<'a, S: Sign, D: StopDisk + Drop, G: Gate + Drop>(
+    alloc: Global,
+    members: Vec<Member<'a, S, D>>,
+    gates: Vec<G>,
+    router: Sender<Letter>,
+) -> Result<Vec<Worker<'a, S, D, G>>, AllocError>
+    requires gates { vec_len gates ≡ vec_len members }
+    ensures { IfOk result (λ workers. map (λ worker. worker.member) workers.items ≡ members.entry.items) }
+{
+    let (mut members, mut gates) = (members, gates);
+    let mut workers = Vec::new(alloc);
+    'places: for place in 0..members.len() {
+        workers.reserve(1)?;
+        let router = router.clone()?;
+        let worker = Worker::new(place, members.remove(0), gates.remove(0), router);
+        workers.push_reserved(worker);
+    }
+    Ok(workers)
+}
+
+// The members that the threads gave back.
+fn all_members<'a, S: Sign, D: StopDisk + Drop>(
+    alloc: Global,
+    ended: Vec<Result<Member<'a, S, D>, AllocError>>,
+) -> Result<Vec<Member<'a, S, D>>, AllocError>
+    ensures { IfOk result (λ members. AllZip (λ one member. one ≡ Ok member) ended.entry.items members.items) }
+{
+    let mut members = Vec::new(alloc);
+    'ended: for member in ended {
+        members.reserve(1)?;
+        members.push_reserved(member?);
+    }
+    Ok(members)
+}

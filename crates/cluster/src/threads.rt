@@ -1,0 +1,107 @@
+//! Jobs that are done in threads, one for each.
+
+ghost use Rattle.std.specs.Prelude.{◌≡◌, IfOk};
+ghost use Rattle.std.specs.List.{AllZip};
+ghost use Rattle.std.specs.Thread.{IsSend, IsSync};
+
+use std::alloc::{AllocError, Global};
+use std::marker::PhantomData;
+use std::snapshot::Snapshot;
+use std::sync::Wait;
+use std::thread::{self, Promise, Scope, Threads};
+
+/// What does a job.
+pub(crate) trait Runner<R: Wait, J, X> {
+    /// What is so of a job and what came of it.
+    ghost ran: { Self → J → X → Type 0 };
+
+    /// Does the job.
+    fn run(&self, job: J) -> X
+        ensures { ran self.now job result };
+}
+
+// That a job was done.
+struct Ran<R, O, J> {
+    runtime: PhantomData<R>,
+    runner: Snapshot<O>,
+    job: Snapshot<J>,
+}
+
+impl<R, O, J> Drop for Ran<R, O, J> {
+    fn drop(self) {
+        let Ran {
+            runtime: _,
+            runner: _,
+            job: _,
+        } = self;
+    }
+}
+
+impl<R: Wait, O: Runner<R, J, X>, J, X> Promise<X> for Ran<R, O, J> {
+    ghost kept_by = { λ ran result. O.ran ran.runner.value ran.job.value result };
+}
+
+/// Does each job in a thread of its own, and something else in this one. Gives what came of them in their order, once all threads have
+/// ended. `AllocError` where a growth was refused, or a thread, or what is done in this one answers it.
+pub(crate) fn run_in_threads<R, O, J, X, B>(
+    rt: &R,
+    alloc: Global,
+    runner: &O,
+    jobs: Vec<J>,
+    beside: B,
+) -> Result<Vec<X>, AllocError>
+where
+    R: Threads + Wait + Sync,
+    O: Runner<R, J, X> + Sync,
+    J: Send + Drop,
+    X: Send + Drop,
+    B: FnOnce() -> Result<(), AllocError>,
+    requires { B.pre beside }
+    ensures { IfOk result (λ results. AllZip (O.ran runner.now) jobs.items results.items) }
+{
+    thread::scope(
+        thread::scope_env(),
+        rt,
+        move |scope| -> Result<Vec<X>, AllocError>
+            requires { IsSync R.row × IsSync O.row × IsSend J.row × IsSend X.row × B.pre beside }
+            ensures { IfOk result (λ results. AllZip (O.ran runner.entry.now) jobs.items results.items) }
+        { run_each(scope, rt, alloc, runner, jobs, beside) },
+    )
+}
+
+// Starts a thread for the last of the jobs, and in the same way for those before it. Behind that comes what is done in this thread.
+fn run_each<'s, E, R, O, J, X, B>(
+    scope: &Scope<'s, E>,
+    rt: &'s R,
+    alloc: Global,
+    runner: &'s O,
+    jobs: Vec<J>,
+    beside: B,
+) -> Result<Vec<X>, AllocError>
+where
+    R: Threads + Wait + Sync + 's,
+    O: Runner<R, J, X> + Sync + 's,
+    J: Send + Drop + 's,
+    X: Send + Drop + 's,
+    B: FnOnce() -> Result<(), AllocError>,
+    requires { B.pre beside }
+    ensures { IfOk result (λ results. AllZip (O.ran runner.now) jobs.items results.items) }
+{
+    let mut jobs = jobs;
+    let Some(job) = jobs.pop() else {
+        beside()?;
+        return Ok(Vec::new(alloc));
+    };
+    let ran = Ran {
+        runtime: PhantomData,
+        runner: Snapshot::of(runner),
+        job: Snapshot::of(&job),
+    };
+    let Ok(thread) = scope.spawn_with(ran, move || runner.run(job)) else {
+        return Err(AllocError);
+    };
+    let mut results = run_each(scope, rt, alloc, runner, jobs, beside)?;
+    results.reserve(1)?;
+    results.push_reserved(thread.join(rt));
+    Ok(results)
+}

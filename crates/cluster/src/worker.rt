@@ -1,0 +1,172 @@
+//! What a node's thread does.
+
+ghost use Rattle.std.specs.Prelude.{◌≡◌, IfOk, OnOk};
+ghost use Rattle.header.specs.Checks.{Accepts};
+ghost use Rattle.validator.specs.Setting.{node_of};
+ghost use Rattle.cluster.specs.Threads.{HasRun};
+
+use crate::delivering::message_in;
+use crate::error::ClusterError;
+use crate::letters::{Letter, Letterbox};
+use crate::member::Member;
+use crossbeam_channel::Sender;
+use diskmodel::{Gate, StopDisk};
+use sigface::{Sign, Verify};
+use std::sync::Wait;
+
+/// A member with what its thread needs: its place among the others, its gate, the way to the router, and how many of its outputs are
+/// not to be sent any more.
+pub(crate) struct Worker<'a, S: Sign, D: StopDisk, G> {
+    place: usize,
+    pub(crate) member: Member<'a, S, D>,
+    gate: G,
+    router: Sender<Letter>,
+    sent: u64,
+}
+
+impl<'a, S: Sign, D: StopDisk + Drop, G: Drop> Drop for Worker<'a, S, D, G> {
+    fn drop(self) {
+        let Worker {
+            place: _,
+            member: _,
+            gate: _,
+            router: _,
+            sent: _,
+        } = self;
+    }
+}
+
+impl<'a, S: Sign, D: StopDisk + Drop, G: Gate + Drop> Worker<'a, S, D, G> {
+    /// What the member put out before is not sent.
+    pub(crate) fn new(
+        place: usize,
+        member: Member<'a, S, D>,
+        gate: G,
+        router: Sender<Letter>,
+    ) -> Worker<'a, S, D, G>
+        ensures { result.member ≡ member.entry }
+    {
+        let sent = member.outputs();
+        Worker {
+            place,
+            member,
+            gate,
+            router,
+            sent,
+        }
+    }
+
+    /// Its place.
+    pub(crate) fn place(&self) -> usize {
+        self.place
+    }
+
+    /// Makes so many turns.
+    ///
+    /// # Errors
+    /// `Memory` where a growth was refused, here or to the router.
+    pub(crate) fn run<R: Wait, V: Verify>(
+        mut self,
+        rt: &R,
+        verifier: &V,
+        letterbox: &Letterbox,
+        turns: u64,
+    ) -> Result<Member<'a, S, D>, ClusterError>
+        ensures { IfOk result (λ later. HasRun (node_of S.own_key S.signature_of) D.content D.outcome (V.accepts verifier.now) self.entry.member later) }
+    {
+        'turns: for _ in 0..turns {
+            self.turn(rt, verifier, letterbox)?;
+        }
+        let Worker {
+            place: _,
+            member,
+            gate: _,
+            router: _,
+            sent: _,
+        } = self;
+        Ok(member)
+    }
+
+    // Passes its gate, takes what stands in its box, makes a round, and sends what went out.
+    fn turn<R: Wait, V: Verify>(
+        &mut self,
+        rt: &R,
+        verifier: &V,
+        letterbox: &Letterbox,
+    ) -> Result<(), ClusterError>
+        ensures { OnOk result (HasRun (node_of S.own_key S.signature_of) D.content D.outcome (V.accepts verifier.now) self.old.member self.new.member) }
+    {
+        self.gate.pass();
+        take_all(&mut self.member, verifier, letterbox.take(rt))?;
+        make_round(&mut self.member)?;
+        self.send_new(rt)
+    }
+
+    // Sends the outputs that were not sent.
+    fn send_new<R: Wait>(&mut self, rt: &R) -> Result<(), ClusterError>
+        ensures { self.new.member ≡ self.old.member }
+    {
+        let outputs = self.member.outputs();
+        for number in self.sent..outputs {
+            self.send(rt, number)?;
+        }
+        self.sent = outputs;
+        Ok(())
+    }
+
+    // Sends the message in an output, if it has one.
+    fn send<R: Wait>(&self, rt: &R, number: u64) -> Result<(), ClusterError> {
+        let Some(output) = self.member.output(number) else {
+            return Ok(());
+        };
+        let Some(message) = message_in(output)? else {
+            return Ok(());
+        };
+        match self
+            .router
+            .send(rt, Letter::new(self.member.own(), output, message))
+        {
+            Ok(()) => Ok(()),
+            Err(_) => Err(ClusterError::Memory),
+        }
+    }
+}
+
+// Gives a member all that came for it. One that is gone takes nothing.
+fn take_all<S: Sign, D: StopDisk, V: Verify>(
+    member: &mut Member<'_, S, D>,
+    verifier: &V,
+    letters: Vec<Letter>,
+) -> Result<(), ClusterError>
+    ensures { OnOk result (HasRun (node_of S.own_key S.signature_of) D.content D.outcome (V.accepts verifier.now) member.old member.new) }
+{
+    'letters: for letter in letters {
+        take_one(member, verifier, letter)?;
+    }
+    Ok(())
+}
+
+fn take_one<S: Sign, D: StopDisk, V: Verify>(
+    member: &mut Member<'_, S, D>,
+    verifier: &V,
+    letter: Letter,
+) -> Result<(), ClusterError>
+    ensures { OnOk result (HasRun (node_of S.own_key S.signature_of) D.content D.outcome (V.accepts verifier.now) member.old member.new) }
+{
+    if !member.is_there() {
+        return Ok(());
+    }
+    member.take_in(verifier, letter.sender, letter.message)?;
+    Ok(())
+}
+
+// Lets a member make a round. One that is gone makes none.
+fn make_round<S: Sign, D: StopDisk>(member: &mut Member<'_, S, D>) -> Result<(), ClusterError>
+    ensures { OnOk result ((accepts : Accepts) → HasRun (node_of S.own_key S.signature_of) D.content D.outcome accepts member.old member.new) }
+{
+    if !member.is_there() {
+        return Ok(());
+    }
+    member.flush()?;
+    Ok(())
+}
