@@ -15,6 +15,8 @@ STAND_IN = b'\7' * 32
 RECORDS = 1024
 # Rounds that a validator is given without coins.
 FEW = 8
+# Rounds that are ordered below a leader.
+DEPTH = 50
 
 
 def sha(text):
@@ -348,6 +350,37 @@ def run(count):
     return fold
 
 
+def behind(count, size=70):
+    """Certificates behind rounds without a coin."""
+    fold, left = Fold(), MEMBERS * size + count
+    for _, made in rounds():
+        for one in made[:left]:
+            fold.add_bytes(one.certificate)
+        left -= len(made[:left])
+        if not left:
+            return fold
+
+
+def late(count, size=70):
+    """Coins, each the first that commits: before it the leaders were absent."""
+    fold = Fold()
+    for _ in range(count):
+        held, coin = {}, None
+        for (_, made), round_ in zip(rounds(1), range(1, size + 1)):
+            for one in made[1:]:
+                fold.add_bytes(one.certificate)
+                held[one.round, one.author] = one.certificate
+            if round_ >= 3 and round_ % 2 == 1:
+                if coin:
+                    fold.add_bytes(STAND_IN)
+                coin = (round_ - 1) // 2
+        leader = 2 * coin - 1, 1
+        slots = [slot for slot in sorted(held) if leader[0] - DEPTH <= slot[0] < leader[0]] + [leader]
+        fold.add_bytes(STAND_IN)
+        add_order(fold, 0, [held[slot] for slot in slots])
+    return fold
+
+
 LITTLE = [
     ('hash', 1000, lambda n: over([sha(BLOCK * n)], tested)),
     ('decode-header', 20, lambda n: over(pieces(n), lambda fold, one: one.add_header(fold))),
@@ -384,6 +417,10 @@ LITTLE = [
     ('submit', 1500, submit),
     ('put', 30, put),
     ('run', 20, run),
+    # The order of full rounds is the same at each depth.
+    ('deep', 70, order),
+    ('behind', 80, behind),
+    ('late', 2, late),
 ]
 
 for word, count, fold in LITTLE:

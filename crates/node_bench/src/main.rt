@@ -5,6 +5,7 @@
 mod ending;
 mod events;
 mod fold;
+mod lacking;
 mod messages;
 mod playing;
 mod putting;
@@ -25,13 +26,13 @@ use std::process::ExitCode;
 use std::rt::Env;
 use std::sync::Wait;
 use std::thread::Threads;
-use task::{Kind, Task, WORKS, sized, task_of};
+use task::{Kind, Step, Task, WORKS, sized, task_of};
 
 /// What is told where the words ask for nothing.
 const USAGE: &str =
     "usage: narwhal-bench [prepare-]WORK COUNT [SIZE], where WORK is hash, decode-FORM, encode-FORM, \
     check-FORM, recheck-FORM, frames, step-header, step-vote, step-certificate, step-batch, order, append, book, reopen, \
-    node, submit, put or run, and FORM is header, certificate or batch, and but for recheck also vote, ack or coin";
+    node, submit, put, run, deep, behind or late, and FORM is header, certificate or batch, and but for recheck also vote, ack or coin";
 
 fn main(rt: HostRuntime) -> ExitCode {
     match run(&rt) {
@@ -91,6 +92,9 @@ fn digest_of<R: Threads + Wait + Sync>(rt: &R, task: Task) -> Result<u64, Ending
         Kind::Submit => sharing::submit_alone(rt, task, &config, &mut fold),
         Kind::Put => putting::put_batches(task, &config, &mut fold),
         Kind::Run => playing::run_stream(rt, task, &config, &mut fold),
+        Kind::Deep => stepping::take_all(task, &config, Step::Round, &mut fold),
+        Kind::Behind => lacking::take_behind(task, &config, &mut fold),
+        Kind::Late => lacking::commit_late(task, &config, &mut fold),
     }?;
     Ok(fold.value())
 }

@@ -1,21 +1,33 @@
 //! The node that works: member 0 of a committee whose members sign with the test pair.
 
 use crate::ending::Ending;
-use crate::task::Task;
+use crate::task::{Kind, Task};
 use committee::Committee;
 use sigface::HashSign;
-use sim_script::{OWN, member_list, signer};
+use sim_script::{OWN, committee_file, member_list, signer};
+use std::alloc::AllocError;
 use validator::Config;
+
+/// Batches that a node holds at most where the depth is told.
+const BATCHES: u64 = 1_048_576;
 
 /// The configuration of the node in the committee of a task.
 ///
 /// # Errors
 /// `Usage` where there is no committee of so many members.
 pub fn config_of(task: Task) -> Result<Config<HashSign>, Ending> {
-    let file = member_list(task.alloc, task.members)?;
+    let file = file_of(task)?;
     let committee = Committee::read(task.alloc, file.as_str())?;
     match Config::new(committee, OWN, signer(OWN)) {
         Some(config) => Ok(config),
         None => Err(Ending::Refused),
+    }
+}
+
+// The committee's file. The depth is the usual one where the size isn't that.
+fn file_of(task: Task) -> Result<String, AllocError> {
+    match task.kind {
+        Kind::Deep => committee_file(task.alloc, task.size, BATCHES),
+        _ => member_list(task.alloc, task.members),
     }
 }

@@ -66,6 +66,12 @@ pub enum Kind {
     Put,
     /// Batches that a running node reads, beside certificates that wait.
     Run,
+    /// Rounds of all members' certificates, with a coin a wave, in a committee of some depth.
+    Deep,
+    /// Certificates behind rounds without a coin.
+    Behind,
+    /// Coins that commit, each behind rounds of which nothing was committed.
+    Late,
 }
 
 /// How much of a kind of work is to be done. Without the work only that is done which has to come before it.
@@ -165,8 +171,24 @@ const WAITING: Sizes = Sizes {
     members: Some(4),
 };
 
+/// Rounds that are ordered below a leader.
+const DEPTH: Sizes = Sizes {
+    usual: 1_000,
+    least: 50,
+    most: 1_000,
+    members: Some(4),
+};
+
+/// Rounds that come first.
+const ROUNDS: Sizes = Sizes {
+    usual: 70,
+    least: 3,
+    most: 1_000_000,
+    members: Some(4),
+};
+
 /// The kinds of work: the word of each, how many pieces are done where no words are given, and its sizes.
-pub const WORKS: [(&str, Kind, u64, Sizes); 35] = [
+pub const WORKS: [(&str, Kind, u64, Sizes); 38] = [
     ("hash", Kind::Hash, 1_000, NO_SIZE),
     (
         "decode-header",
@@ -312,6 +334,9 @@ pub const WORKS: [(&str, Kind, u64, Sizes); 35] = [
     ("submit", Kind::Submit, 1_500, FLUSH),
     ("put", Kind::Put, 30, HELD),
     ("run", Kind::Run, 20, WAITING),
+    ("deep", Kind::Deep, 70, DEPTH),
+    ("behind", Kind::Behind, 80, ROUNDS),
+    ("late", Kind::Late, 2, ROUNDS),
 ];
 
 /// The task of these words, if it is one.
