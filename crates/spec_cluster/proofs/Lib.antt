@@ -1,3 +1,4 @@
 mod Running
 mod Signing
 mod Together
+pub mod Unforged
