@@ -6,3 +6,7 @@ pub mod Members
 pub mod Places
 pub mod Sending
 pub mod Running
+pub mod InTurn
+pub mod Fairness
+pub mod Following
+pub mod Applications

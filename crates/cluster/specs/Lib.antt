@@ -4,3 +4,4 @@ pub mod Collecting
 pub mod Answers
 pub mod Cluster
 pub mod Threads
+pub mod Applying

@@ -53,6 +53,7 @@ impl<'a, S: Sign, D: StopDisk + Drop, V: Verify + Drop> Cluster<'a, S, D, V> {
     ghost use Rattle.spec_world.specs.World.{World, run_on};
     ghost use Rattle.validator.specs.Setting.{node_of};
     ghost use Rattle.cluster.specs.Answers.{TakesIn, MakesRound, Stops, Makes, MakesSome, IsJournal, IsJournalFault, IsLost};
+    ghost use Rattle.cluster.specs.Applying.{IsApplied};
     ghost use Rattle.cluster.specs.Member.{Kept, StandsAt, Proposes};
     ghost use Rattle.cluster.specs.Cluster.{named, at, has_member, message_at, IsThere, Does, Moved, MovedSome, MovesOne, LacksNode, LacksOutput, IsStopOf, AreOfOne, AreDistinct, actor};
     ghost use Rattle.cluster.specs.Threads.{HasRun};
@@ -104,6 +105,8 @@ impl<'a, S: Sign, D: StopDisk + Drop, V: Verify + Drop> Cluster<'a, S, D, V> {
     pub fn apply(&mut self, step: Move) -> Result<Applied, ClusterError>
         // The node that moves makes just this move in its world, and what may go out behind it goes out.
         ensures moves { IfOk result (λ applied. Moved (node_of S.own_key S.signature_of) D.content D.outcome (λ node world. Does node D.content D.outcome (V.accepts self.old.verifier) self.old.members step applied world) (actor step) self.old.members self.new.members) }
+        // Whatever it is answered, it is one of the moves over which `orders_agree` speaks.
+        ensures applied { IsApplied (node_of S.own_key S.signature_of) D.content D.outcome (V.accepts self.old.verifier) self.old.members step self.new.members }
         // All others are as they were, and what each is set up with stays.
         ensures others { (other : Author) → other ≢ actor step → at self.new.members other ≡ at self.old.members other }
         ensures verifier { self.new.verifier ≡ self.old.verifier }

@@ -1,6 +1,7 @@
 //! Several nodes of one committee in one process, each over its own disk, moved by a list of moves.
 #![tactic(auto)]
 
+mod agreeing;
 mod cluster;
 mod collecting;
 mod delivering;

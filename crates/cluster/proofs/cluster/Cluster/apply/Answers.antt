@@ -1,12 +1,15 @@
-use Rattle.std.proofs.Common.{inl, inr, sym, subst}
+use Rattle.std.proofs.Common.{inl, inr, sym, ap, subst}
 use Rattle.std.specs.Prelude.{IfOk, IfErr, IsErrOf}
 use Rattle.opening.proofs.Telling.{err_weaker}
 use Rattle.validator.specs.Setting.{node_of}
 use Rattle.cluster.specs.Answers.{IsJournal, IsLost}
-use Rattle.cluster.specs.Cluster.{Does, Moved, MovedSome, MovesOne, IsStopOf, actor}
+use Rattle.cluster.specs.Applying.{IsApplied}
+use Rattle.cluster.specs.Cluster.{Shown, Does, Moved, MovedSome, MovesOne, IsStopOf, actor}
 use Rattle.cluster.specs.Member.{Kept}
 use Rattle.cluster.specs.declared.error.ClusterError.TheVariants.{Memory}
 use Rattle.cluster.specs.declared.moves.Move.{Move}
+use Rattle.cluster.specs.declared.moves.Move.TheVariants.{Deliver, Give, Coin, Flush, Stop}
+use Rattle.cluster.proofs.Applications.{is_applied, is_delivered, is_stopped}
 use Rattle.cluster.proofs.cluster.Cluster.apply.Goals as goal
 
 pub returns-in-Deliver-clause-moves : goal.returns-in-Deliver-clause-moves
@@ -63,3 +66,28 @@ pub returns-in-Stop-clause-gone : goal.returns-in-Stop-clause-gone
 returns-in-Stop-clause-gone g c =
     subst (λ (step : Move). IfErr c.stop.result (λ error. IsJournal error → IsStopOf step × MovesOne (λ (member : Kept g.row.S.Denot g.row.D.Denot). IsLost (node_of g.S.Sign.own_key g.S.Sign.signature_of member.setting) g.D.Disk.content g.D.Disk.outcome error member) (actor step) c.args.self.now.members c.stop.new.self.members)) (sym c.in-Stop.is)
     (err_weaker c.stop.result _ _ (λ error either is. elim either [ inl none ↦ absurd (subst IsJournal none is) | inr (inl memory) ↦ absurd (subst IsJournal memory is) | inr (inr gone) ↦ (tt, gone.1) ]) c.stop.ensures.errors)
+
+pub returns-in-Deliver-clause-applied : goal.returns-in-Deliver-clause-applied
+returns-in-Deliver-clause-applied g c =
+    subst (λ (step : Move). IsApplied (node_of g.S.Sign.own_key g.S.Sign.signature_of) g.D.Disk.content g.D.Disk.outcome (g.V.Verify.accepts c.args.self.now.verifier) c.args.self.now.members step c.deliver.new.self.members) (sym c.in-Deliver.is)
+    (is_delivered (node_of g.S.Sign.own_key g.S.Sign.signature_of) g.D.Disk.content g.D.Disk.outcome (g.V.Verify.accepts c.args.self.now.verifier) c.args.self.now.members (Deliver c.in-Deliver.node c.in-Deliver.output c.in-Deliver.to) c.deliver.new.self.members c.deliver.result c.deliver.ensures.moves c.deliver.ensures.memory c.deliver.ensures.others c.deliver.ensures.settings (err_weaker c.deliver.result _ _ (λ error unchanged none. ap (λ (s : Shown g.row.S.Denot g.row.D.Denot g.row.V.Denot). s.members) (unchanged none)) c.deliver.ensures.unchanged) c.deliver.ensures.never)
+
+pub returns-in-Give-clause-applied : goal.returns-in-Give-clause-applied
+returns-in-Give-clause-applied g c =
+    subst (λ (step : Move). IsApplied (node_of g.S.Sign.own_key g.S.Sign.signature_of) g.D.Disk.content g.D.Disk.outcome (g.V.Verify.accepts c.args.self.now.verifier) c.args.self.now.members step c.give.new.self.members) (sym c.in-Give.is)
+    (is_applied (node_of g.S.Sign.own_key g.S.Sign.signature_of) g.D.Disk.content g.D.Disk.outcome (g.V.Verify.accepts c.args.self.now.verifier) c.args.self.now.members (Give c.in-Give.to c.in-Give.sender c.in-Give.message) c.give.new.self.members c.give.result c.give.ensures.moves c.give.ensures.memory c.give.ensures.others c.give.ensures.settings (λ none. ap (λ (s : Shown g.row.S.Denot g.row.D.Denot g.row.V.Denot). s.members) (c.give.ensures.unchanged none)) c.give.ensures.errors)
+
+pub returns-in-Coin-clause-applied : goal.returns-in-Coin-clause-applied
+returns-in-Coin-clause-applied g c =
+    subst (λ (step : Move). IsApplied (node_of g.S.Sign.own_key g.S.Sign.signature_of) g.D.Disk.content g.D.Disk.outcome (g.V.Verify.accepts c.args.self.now.verifier) c.args.self.now.members step c.give-in-Coin.new.self.members) (sym c.in-Coin.is)
+    (is_applied (node_of g.S.Sign.own_key g.S.Sign.signature_of) g.D.Disk.content g.D.Disk.outcome (g.V.Verify.accepts c.args.self.now.verifier) c.args.self.now.members (Coin c.in-Coin.node c.in-Coin.coin) c.give-in-Coin.new.self.members c.give-in-Coin.result c.give-in-Coin.ensures.moves c.give-in-Coin.ensures.memory c.give-in-Coin.ensures.others c.give-in-Coin.ensures.settings (λ none. ap (λ (s : Shown g.row.S.Denot g.row.D.Denot g.row.V.Denot). s.members) (c.give-in-Coin.ensures.unchanged none)) c.give-in-Coin.ensures.errors)
+
+pub returns-in-Flush-clause-applied : goal.returns-in-Flush-clause-applied
+returns-in-Flush-clause-applied g c =
+    subst (λ (step : Move). IsApplied (node_of g.S.Sign.own_key g.S.Sign.signature_of) g.D.Disk.content g.D.Disk.outcome (g.V.Verify.accepts c.args.self.now.verifier) c.args.self.now.members step c.flush.new.self.members) (sym c.in-Flush.is)
+    (is_applied (node_of g.S.Sign.own_key g.S.Sign.signature_of) g.D.Disk.content g.D.Disk.outcome (g.V.Verify.accepts c.args.self.now.verifier) c.args.self.now.members (Flush c.in-Flush.node) c.flush.new.self.members c.flush.result c.flush.ensures.moves c.flush.ensures.memory c.flush.ensures.others c.flush.ensures.settings (λ none. ap (λ (s : Shown g.row.S.Denot g.row.D.Denot g.row.V.Denot). s.members) (c.flush.ensures.unchanged none)) c.flush.ensures.errors)
+
+pub returns-in-Stop-clause-applied : goal.returns-in-Stop-clause-applied
+returns-in-Stop-clause-applied g c =
+    subst (λ (step : Move). IsApplied (node_of g.S.Sign.own_key g.S.Sign.signature_of) g.D.Disk.content g.D.Disk.outcome (g.V.Verify.accepts c.args.self.now.verifier) c.args.self.now.members step c.stop.new.self.members) (sym c.in-Stop.is)
+    (is_stopped (node_of g.S.Sign.own_key g.S.Sign.signature_of) g.D.Disk.content g.D.Disk.outcome (g.V.Verify.accepts c.args.self.now.verifier) c.args.self.now.members (Stop c.in-Stop.node) c.stop.new.self.members c.stop.result c.stop.ensures.moves c.stop.ensures.memory c.stop.ensures.others c.stop.ensures.settings tt (λ none. ap (λ (s : Shown g.row.S.Denot g.row.D.Denot g.row.V.Denot). s.members) (c.stop.ensures.unchanged none)) c.stop.ensures.errors)

@@ -1,0 +1,181 @@
+-- What a move hands in, seen in the worlds of its cluster.
+use Rattle.std.proofs.Common.{◌≡◌, ℕ, Bool, true, false, cond, inl, inr, List, [], ◌∷◌, ◌++◌, map, Option, Some, None, refl, sym, ap, ◌∙◌, subst}
+use Rattle.std.specs.Prelude.{◌||◌, Contains, slice_get, option_map, option_and_then}
+use Rattle.std.proofs.lemmas.List.Elements.{Contains-get_or}
+use Rattle.std.proofs.lemmas.Option.{slice_get_within, get_or_from_slice_get, same_Some, none-some}
+use Rattle.std.specs.List.{list_any}
+use Rattle.std.specs.Option.{option_map_or}
+use Rattle.book.specs.declared.own.error.FlushError.TheVariants as errors
+use Rattle.desk.specs.AtWorld.{IsStop}
+use Rattle.desk.specs.Desk.{Shown}
+use Rattle.header.specs.Checks.{fault_of}
+use Rattle.spec_cluster.proofs.Unforged.{vote_unforged, certificate_unforged}
+use Rattle.spec_cluster.specs.Cluster.{Cluster, Worlds, Turn, AreMembers, IsReached}
+use Rattle.spec_cluster.specs.Premises.{signed_by_giver, has_signed, NoForgery, HasCoin, IsFair, Fair}
+use Rattle.spec_laws.proofs.Lists.{Contains-nothing, Contains-cases}
+use Rattle.spec_model.specs.Nodes.{Node}
+use Rattle.spec_model.specs.Slots.{same_digest}
+use Rattle.spec_model.specs.Words.{Author, Digest, Event, Message, Output}
+use Rattle.spec_world.proofs.Ballots.{joined_of}
+use Rattle.spec_world.specs.Steps.{Move, accept, release}
+use Rattle.spec_world.specs.World.{World, Waiting, Outgoing, put_out, read, Given}
+use Rattle.validator.specs.Setting.{Setting}
+use Rattle.wire.specs.declared.message.Message.TheVariants as message
+use Rattle.wire.specs.declared.output.Output.TheVariants as output
+use Rattle.cluster.specs.Answers.{TakesIn, MakesRound, Stops}
+use Rattle.cluster.specs.Applying.{handed_in, signed_by, NoneForged, StandsAmong}
+use Rattle.cluster.specs.Cluster.{message_at, Does}
+use Rattle.cluster.specs.Member.{Kept, going_out}
+use Rattle.cluster.specs.Outputs.{message_of, output_in, outputs_in}
+use Rattle.cluster.specs.declared.moves.Applied.{Applied}
+use Rattle.cluster.specs.declared.moves.Applied.TheVariants.{Took, Refused, Unchecked, Settled, Fault, Reopened}
+use Rattle.cluster.specs.declared.moves.Move as moves
+use Rattle.cluster.specs.declared.moves.Move.TheVariants.{Deliver, Give, Coin, Flush, Stop}
+use Rattle.cluster.proofs.InTurn.{ArePlain, MayLead, plain_may}
+
+-- ---- signatures
+
+abbrev signs : Digest → Outgoing → Bool
+signs digest outgoing = option_map_or (same_digest digest) (signed_by_giver outgoing) false
+
+signs_first : (digest : Digest) (outgoing : Outgoing) (outputs : List Output) (rest : Bool) → list_any (λ output. signs digest (put_out output)) outputs ≡ rest
+    → list_any (λ output. signs digest (put_out output)) (output_in outgoing ++ outputs) ≡ signs digest outgoing || rest
+signs_first digest (put_out output) outputs rest same = ap (λ (b : Bool). signs digest (put_out output) || b) same
+signs_first digest (read digests) outputs rest same = same
+
+-- what is signed in the outputs is signed in what was given out
+any_outputs : (digest : Digest) (given : List Given) → list_any (λ output. signs digest (put_out output)) (outputs_in given) ≡ list_any (λ one. signs digest one.outgoing) given
+any_outputs digest [] = refl
+any_outputs digest (one ∷ given) = signs_first digest one.outgoing (outputs_in given) (list_any (λ one. signs digest one.outgoing) given) (any_outputs digest given)
+
+-- an output went out
+is_put_out : (outgoing : Outgoing) (out : Output) → Contains (output_in outgoing) out → outgoing ≡ put_out out
+is_put_out (put_out one) out inside = elim (Contains-cases one [] out inside) [ inl same ↦ ap put_out same | inr none ↦ absurd (Contains-nothing out none) ]
+is_put_out (read digests) out inside = absurd (Contains-nothing out inside)
+
+-- ---- the moves of a member's world
+
+-- what goes out behind a move lets no event in
+pub going_plain : (down : Bool) (went : List Waiting) → ArePlain (going_out down went)
+going_plain true went = tt
+going_plain false went = (tt, releases went)
+  where
+    releases : (went : List Waiting) → ArePlain (map release went)
+    releases [] = tt
+    releases (one ∷ went) = (tt, releases went)
+
+stop_plain : (world : World) (moves : List Move) → IsStop world moves → ArePlain moves
+stop_plain world moves (found, inl same) = subst ArePlain (sym same) (tt, tt)
+stop_plain world moves (found, inr same) = subst ArePlain (sym same) (tt, (tt, (tt, (tt, (tt, tt)))))
+
+module _ {S D : Type 0} (content : D → List ℕ) (outcome : D → List ℕ → Type 0) where
+  round_plain : (own : Node) (world : World) (applied : Applied) (moves : List Move) (before later : Shown S D) → MakesRound own content world applied moves before later → ArePlain moves
+  round_plain own world (Settled count) moves before later round = by_pending before.book.pending refl
+    where
+      by_pending : (pending : List (List ℕ)) → before.book.pending ≡ pending → ArePlain moves
+      by_pending [] is = subst ArePlain (sym (round.idle is).2) tt
+      by_pending (first ∷ rest) is = subst ArePlain (sym (round.by (λ none. some_none (sym is ∙ none)))) (tt, (tt, (tt, (tt, (tt, (tt, tt))))))
+        where
+          some_none : first ∷ rest ≡ [] → ⊥
+          some_none same = cc
+  round_plain own world (Fault errors.Memory) moves before later round = subst ArePlain (sym (round.unchanged (inr refl)).1) tt
+  round_plain own world (Fault errors.Down) moves before later round = subst ArePlain (sym (round.unchanged (inl refl)).1) tt
+  round_plain own world (Fault errors.Full) moves before later round = subst ArePlain (sym (round.taken_down (inl refl)).by) (tt, tt)
+  round_plain own world (Fault errors.Device) moves before later round = subst ArePlain (sym (round.taken_down (inr refl)).by) (tt, tt)
+  round_plain own world (Took ticket new) moves before later round = absurd round
+  round_plain own world (Refused why) moves before later round = absurd round
+  round_plain own world (Unchecked error) moves before later round = absurd round
+  round_plain own world (Reopened count) moves before later round = absurd round
+
+  stops_plain : (own : Node) (world : World) (applied : Applied) (moves : List Move) (before later : Shown S D) → Stops own content outcome world applied moves before later → ArePlain moves
+  stops_plain own world (Reopened count) moves before later stop = stop_plain world moves stop.by
+  stops_plain own world (Took ticket new) moves before later stop = absurd stop
+  stops_plain own world (Refused why) moves before later stop = absurd stop
+  stops_plain own world (Unchecked error) moves before later stop = absurd stop
+  stops_plain own world (Settled count) moves before later stop = absurd stop
+  stops_plain own world (Fault error) moves before later stop = absurd stop
+
+  module _ (node : Setting S → Node) (cluster : Cluster) (value : ℕ → ℕ) (worlds : Worlds) (members : List (Kept S D))
+      (stand : (number : Author) → cluster.honest number.0 ≡ true → StandsAmong node content outcome members number (cluster.node number.0) (worlds number.0)) where
+    -- what a member has signed in its outputs it has signed in its world
+    signed_there : (number : Author) → cluster.honest number.0 ≡ true → (digest : Digest) → signed_by members number digest ≡ true → has_signed (worlds number.0) digest ≡ true
+    signed_there number honest digest is =
+        let at_world = stand number honest in
+        sym (any_outputs digest (worlds number.0).given)
+        ∙ ap (list_any (λ output. signs digest (put_out output))) at_world.stands.out.outputs
+        ∙ sym (ap (λ (found : Option (Kept S D)). option_map_or (λ member. list_any (λ output. signs digest (put_out output)) member.out.outputs) found false) at_world.is)
+        ∙ is
+
+    -- a fair event is fair in the worlds
+    fair_there : (event : Event) → NoneForged cluster members event.message × HasCoin value event.message → IsFair cluster value worlds (accept event)
+    fair_there event fair = (λ vote there honest good. signed_there vote.signer honest vote.digest (fair.0 vote there honest good), fair.1)
+
+    module _ (turns : List Turn) (are_members : AreMembers cluster) (reached : IsReached cluster (Fair cluster value) turns worlds) where
+      -- no vote in what an honest member put out is forged, and it is no coin
+      given_fair : (number : ℕ) → cluster.honest number ≡ true → (one : Given) → Contains (worlds number).given one → (out : Output) → one.outgoing ≡ put_out out → (m : Message) → message_of out ≡ Some m
+          → NoForgery cluster worlds m × HasCoin value m
+      given_fair number honest one there (output.Batch batch) is m same =
+          subst (λ (x : Message). NoForgery cluster worlds x × HasCoin value x) (same_Some (message.Batch batch) m same) (λ vote inside signer good. absurd (Contains-nothing vote inside), tt)
+      given_fair number honest one there (output.Ack to ack) is m same =
+          subst (λ (x : Message). NoForgery cluster worlds x × HasCoin value x) (same_Some (message.BatchAck ack) m same) (λ vote inside signer good. absurd (Contains-nothing vote inside), tt)
+      given_fair number honest one there (output.Header header) is m same =
+          subst (λ (x : Message). NoForgery cluster worlds x × HasCoin value x) (same_Some (message.Header header) m same) (λ vote inside signer good. absurd (Contains-nothing vote inside), tt)
+      given_fair number honest one there (output.Vote vote) is m same =
+          subst (λ (x : Message). NoForgery cluster worlds x × HasCoin value x) (same_Some (message.Vote vote) m same)
+          (vote_unforged cluster value turns worlds are_members reached number honest one there vote is, tt)
+      given_fair number honest one there (output.Certificate certificate) is m same =
+          subst (λ (x : Message). NoForgery cluster worlds x × HasCoin value x) (same_Some (message.Certificate certificate) m same)
+          (certificate_unforged cluster value turns worlds are_members reached number honest one there certificate is, tt)
+      given_fair number honest one there (output.Order start digests) is m same = absurd (none-some m same)
+
+      -- what an honest member put out is fair where it is delivered
+      sent_fair : (from : Author) → cluster.honest from.0 ≡ true → (place : ℕ) (m : Message) → message_at members from place ≡ Some m → NoForgery cluster worlds m × HasCoin value m
+      sent_fair from honest place m is = by_output (slice_get among.member.out.outputs place) refl (sym (ap (option_and_then (λ (k : Kept S D). option_and_then message_of (slice_get k.out.outputs place))) among.is) ∙ is)
+        where
+          among : StandsAmong node content outcome members from (cluster.node from.0) (worlds from.0)
+          among = stand from honest
+
+          by_output : (out : Option Output) → slice_get among.member.out.outputs place ≡ out → option_and_then message_of out ≡ Some m → NoForgery cluster worlds m × HasCoin value m
+          by_output None at_place same = absurd (none-some m same)
+          by_output (Some out) at_place same =
+              let inside : Contains among.member.out.outputs out =
+              subst (λ (o : Output). Contains among.member.out.outputs o) (get_or_from_slice_get among.member.out.outputs place out out at_place)
+              (Contains-get_or among.member.out.outputs place out (slice_get_within among.member.out.outputs place out at_place)) in
+              let found = joined_of (λ (one : Given). output_in one.outgoing) (worlds from.0).given out (subst (λ (l : List Output). Contains l out) (sym among.stands.out.outputs) inside) in
+              given_fair from.0 honest found.0 found.1 out (is_put_out found.0.outgoing out found.2) m same
+
+      module _ (own : Node) (charter : own.charter ≡ cluster.charter) where
+        takes_may : (event : Event) (applied : Applied) (moves : List Move) (before later : Shown S D) → TakesIn own cluster.accepts event applied moves before later
+            → (fault_of cluster.charter cluster.accepts event ≡ None → IsFair cluster value worlds (accept event)) → MayLead cluster value worlds moves
+        takes_may event (Took ticket new) moves before later takes fair =
+            let passed : fault_of cluster.charter cluster.accepts event ≡ None = subst (λ c. fault_of c cluster.accepts event ≡ None) charter takes.passed in
+            subst (MayLead cluster value worlds) (sym takes.by) (passed, fair passed, tt)
+        takes_may event (Refused why) moves before later takes fair = subst (MayLead cluster value worlds) (sym takes.by) tt
+        takes_may event (Unchecked error) moves before later takes fair = subst (MayLead cluster value worlds) (sym takes.by) tt
+        takes_may event (Settled count) moves before later takes fair = absurd takes
+        takes_may event (Fault error) moves before later takes fair = absurd takes
+        takes_may event (Reopened count) moves before later takes fair = absurd takes
+
+        -- the moves that are made of a fair move of the cluster
+        pub does_may : (step : moves.Move) (applied : Applied) (world : World) (moves : List Move) (before later : Shown S D) → Does own content outcome cluster.accepts members step applied world moves before later
+            → ((event : Event) → handed_in cluster members step ≡ Some event → fault_of cluster.charter cluster.accepts event ≡ None → NoneForged cluster members event.message × HasCoin value event.message)
+            → MayLead cluster value worlds moves
+        does_may (Deliver from output to) applied world moves before later (message, is, takes) fair = by_sender (cluster.honest from.0) refl
+          where
+            event : Event
+            event = record { sender = from; message = message }
+
+            by_sender : (honest : Bool) → cluster.honest from.0 ≡ honest → MayLead cluster value worlds moves
+            by_sender true honest = takes_may event applied moves before later takes (λ passed. sent_fair from honest output message is)
+            by_sender false off =
+                takes_may event applied moves before later takes
+                (λ passed. fair_there event (fair event (ap (λ (b : Bool). cond b None (option_map (λ (m : Message). record { sender = from; message = m }) (message_at members from output))) off
+                ∙ ap (option_map (λ (m : Message). record { sender = from; message = m })) is) passed))
+        does_may (Give to sender given) applied world moves before later takes fair =
+            let event : Event = record { sender = sender; message = given } in
+            takes_may event applied moves before later takes (λ passed. fair_there event (fair event refl passed))
+        does_may (Coin from coin) applied world moves before later takes fair =
+            let event : Event = record { sender = from; message = message.Coin coin } in
+            takes_may event applied moves before later takes (λ passed. fair_there event (fair event refl passed))
+        does_may (Flush from) applied world moves before later round fair = plain_may cluster value worlds moves (round_plain own world applied moves before later round)
+        does_may (Stop from) applied world moves before later stop fair = plain_may cluster value worlds moves (stops_plain own world applied moves before later stop)

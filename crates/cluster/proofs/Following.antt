@@ -1,0 +1,295 @@
+-- The worlds of the honest members, behind each move of a cluster.
+use Rattle.std.proofs.Common.{◌≡◌, ◌≢◌, ◌⊎◌, ℕ, true, false, inl, inr, List, [], ◌∷◌, ◌++◌, Option, Some, None, refl, sym, ap, ◌∙◌, subst}
+use Rattle.std.specs.Prelude.{◌<◌, length}
+use Rattle.std.proofs.lemmas.Bool.{cases_Bool, cases_eq, true≢false, eqb-true}
+use Rattle.committee.specs.Charter.{Charter, IsCharter}
+use Rattle.desk.proofs.Runs.{leads_join}
+use Rattle.desk.specs.Desk.{Shown}
+use Rattle.header.specs.Checks.{Accepts}
+use Rattle.spec_accord.specs.Accord.{Agree}
+use Rattle.spec_cluster.specs.Agreement.{AreAgreed, Agreement, GaveIt}
+use Rattle.spec_cluster.specs.Cluster.{Cluster, Worlds, Turn, AreMembers, IsReached}
+use Rattle.spec_cluster.specs.Premises.{FewFaulty, NoTwoTexts, Fair}
+use Rattle.spec_laws.specs.Laws.{Begins}
+use Rattle.spec_model.specs.Nodes.{Node, IsNode}
+use Rattle.spec_model.specs.Words.{Author, Digest}
+use Rattle.spec_world.specs.Steps.{Move, IsRestarted, Leads}
+use Rattle.spec_world.specs.World.{World, run_on}
+use Rattle.validator.specs.Setting.{Setting}
+use Rattle.cluster.specs.Answers.{Makes, MakesSome, IsGone}
+use Rattle.cluster.specs.Applying.{Became, moved, moved_some, refused, gone, IsApplied, MovesLead, IsFairMove, StandsAmong, first_world, BeginsAmong, AreInAccord, GivenOrdersAgree}
+use Rattle.cluster.specs.Cluster.{named, at, actor, Does}
+use Rattle.cluster.specs.Member.{Kept, StandsAt, HasPutOut, IsLongest, going_out}
+use Rattle.cluster.specs.declared.moves.Applied.{Applied}
+use Rattle.cluster.specs.declared.moves.Move as moves
+use Rattle.cluster.proofs.Fairness.{going_plain, does_may}
+use Rattle.cluster.proofs.InTurn.{ArePlain, MayLead, may_join, reached_more, TurnsTo, turns_to}
+use Rattle.cluster.proofs.Places.{found_passes}
+
+some_is : {T : Type 0} (one other : T) → ◌≡◌ {A = Option T} (Some one) (Some other) → one ≡ other
+some_is one other same = cc
+
+same_author : (one other : Author) → one.0 ≡ other.0 → one ≡ other
+same_author one other same = λ i. record { 0 = same i }
+
+none_some : {T : Type 0} (one : T) → ◌≡◌ {A = Option T} None (Some one) → ⊥
+none_some one same = cc
+
+module _ {S D : Type 0} (node : Setting S → Node) (content : D → List ℕ) (outcome : D → List ℕ → Type 0) (cluster : Cluster) (value : ℕ → ℕ) where
+  -- ---- what a member did
+
+  -- a member went on by moves of its world, of which at most the first lets an event in
+  record GoesOn (own : Node) (worlds : Worlds) (world : World) (one other : Kept S D) : Type 0 where
+    pub moves : List Move
+    pub may : MayLead cluster value worlds moves
+    pub to : World
+    pub leads : Leads own world moves to
+    pub stands : StandsAt own content outcome to other
+    pub setting : other.setting ≡ one.setting
+
+  module _ (own : Node) (worlds : Worlds) (Kind : List Move → Shown S D → Shown S D → Type 0) (may : (moves : List Move) (a b : Shown S D) → Kind moves a b → MayLead cluster value worlds moves) (world : World) (one other : Kept S D) where
+    makes_on : Makes own content outcome Kind world one other → GoesOn own worlds world one other
+    makes_on is =
+        let behind = is.behind in
+        let out = going_out is.middle.book.down behind.went in
+        record {
+          moves = is.moved.moves ++ out;
+          may = may_join cluster value worlds is.moved.moves out (may is.moved.moves is.desk is.middle is.moved.does) (going_plain is.middle.book.down behind.went);
+          to = behind.to;
+          leads = leads_join own world is.moved.moves out is.moved.to behind.to is.moved.leads behind.leads;
+          stands = is.stands;
+          setting = is.setting;
+        }
+
+    makes_some_on : MakesSome own content outcome Kind world one other → GoesOn own worlds world one other
+    makes_some_on is =
+        let behind = is.behind in
+        let first : MayLead cluster value worlds is.moved.moves = elim is.moved.does [
+          | inl none ↦ subst (MayLead cluster value worlds) (sym none.0) tt
+          | inr does ↦ may is.moved.moves is.desk is.middle does
+        ] in
+        let plain = elim behind.are as (λ _. ArePlain behind.moves) [
+          | inl none ↦ subst ArePlain (sym none) tt
+          | inr out ↦ subst ArePlain (sym out) (going_plain is.middle.book.down behind.went)
+        ] in
+        record {
+          moves = is.moved.moves ++ behind.moves;
+          may = may_join cluster value worlds is.moved.moves behind.moves first plain;
+          to = behind.to;
+          leads = leads_join own world is.moved.moves behind.moves is.moved.to behind.to is.moved.leads behind.leads;
+          stands = is.stands;
+          setting = is.setting;
+        }
+
+  -- a member that is gone
+  gone_on : (own : Node) (worlds : Worlds) (world : World) (one other : Kept S D) → StandsAt own content outcome world one → IsGone one other → GoesOn own worlds world one other
+  gone_on own worlds world one other stands is = record {
+    moves = [];
+    may = tt;
+    to = world;
+    leads = refl;
+    stands = record {
+      sound = stands.sound;
+      moves = stands.moves;
+      run = stands.run;
+      at = λ desk same. absurd (none_some desk (sym is.gone ∙ same));
+      out = subst (λ o. HasPutOut own world o) (sym is.out) stands.out;
+    };
+    setting = is.setting;
+  }
+
+  -- ---- where the honest members stand
+
+  -- each of them stands among these members at its world, and fair turns led to these worlds
+  pub record AreAt (members : List (Kept S D)) : Type 0 where
+    pub worlds : Worlds
+    pub turns : List Turn
+    pub reached : IsReached cluster (Fair cluster value) turns worlds
+    pub stand : (number : Author) → cluster.honest number.0 ≡ true → StandsAmong node content outcome members number (cluster.node number.0) (worlds number.0)
+
+  among_also : (before later : List (Kept S D)) (number : Author) (own : Node) (world : World) → at later number ≡ at before number → StandsAmong node content outcome before number own world
+      → StandsAmong node content outcome later number own world
+  among_also before later number own world same among = record { member = among.member; is = same ∙ among.is; set_up = among.set_up; stands = among.stands }
+
+  -- a member that isn't honest did something
+  others_on : (before later : List (Kept S D)) (number : Author) → cluster.honest number.0 ≡ false → ((other : Author) → other ≢ number → at later other ≡ at before other) → AreAt before → AreAt later
+  others_on before later number off others are = record {
+    worlds = are.worlds;
+    turns = are.turns;
+    reached = are.reached;
+    stand = λ other honest.
+        let differs : other ≢ number = λ same. true≢false (sym honest ∙ ap (λ (a : Author). cluster.honest a.0) same ∙ off) in
+        among_also before later other (cluster.node other.0) (are.worlds other.0) (others other differs) (are.stand other honest);
+  }
+
+  -- an honest one did something, by these turns
+  honest_turned : (before later : List (Kept S D)) (number : Author) (world : World) → StandsAmong node content outcome later number (cluster.node number.0) world
+      → ((other : Author) → other ≢ number → at later other ≡ at before other) → (are : AreAt before) → TurnsTo cluster value number.0 are.worlds world → AreAt later
+  honest_turned before later number world stands others are to = record {
+    worlds = to.next;
+    turns = are.turns ++ to.turns;
+    reached = reached_more cluster (Fair cluster value) are.turns to.turns are.worlds to.next are.reached to.leads;
+    stand = λ also honest. elim (cases_eq also.0 number.0) [
+      | inl it ↦ subst (λ (a : Author). StandsAmong node content outcome later a (cluster.node a.0) (to.next a.0)) (sym (same_author also number it)) here
+      | inr differs ↦
+          subst (λ (w : World). StandsAmong node content outcome later also (cluster.node also.0) w) (sym (to.others also.0 differs))
+          (among_also before later also (cluster.node also.0) (are.worlds also.0) (others also (λ it. differs (ap (λ (a : Author). a.0) it))) (are.stand also honest))
+    ];
+  }
+    where
+      here : StandsAmong node content outcome later number (cluster.node number.0) (to.next number.0)
+      here = subst (λ (w : World). StandsAmong node content outcome later number (cluster.node number.0) w) (sym to.own) stands
+
+  -- and went on
+  honest_on : (before later : List (Kept S D)) (number : Author) → cluster.honest number.0 ≡ true → (one other : Kept S D) → at before number ≡ Some one → at later number ≡ Some other
+      → ((other : Author) → other ≢ number → at later other ≡ at before other) → (are : AreAt before)
+      → (node one.setting ≡ cluster.node number.0 → StandsAt (node one.setting) content outcome (are.worlds number.0) one → GoesOn (node one.setting) are.worlds (are.worlds number.0) one other) → AreAt later
+  honest_on before later number honest one other was is others are goes =
+      let among = are.stand number honest in
+      let same : among.member ≡ one = some_is among.member one (sym among.is ∙ was) in
+      let own : node one.setting ≡ cluster.node number.0 = ap (λ (m : Kept S D). node m.setting) (sym same) ∙ among.set_up in
+      let stood : StandsAt (cluster.node number.0) content outcome (are.worlds number.0) one = subst (λ (m : Kept S D). StandsAt (cluster.node number.0) content outcome (are.worlds number.0) m) same among.stands in
+      let stood_own : StandsAt (node one.setting) content outcome (are.worlds number.0) one = subst (λ (n : Node). StandsAt n content outcome (are.worlds number.0) one) (sym own) stood in
+      went own (goes own stood_own)
+    where
+      went : node one.setting ≡ cluster.node number.0 → GoesOn (node one.setting) are.worlds (are.worlds number.0) one other → AreAt later
+      went own on =
+          honest_turned before later number on.to
+          (record { member = other; is = is; set_up = ap node on.setting ∙ own; stands = subst (λ (n : Node). StandsAt n content outcome on.to other) own on.stands })
+          others are
+          (turns_to cluster value number.0 honest on.moves are.worlds on.to on.may (subst (λ (n : Node). Leads n (are.worlds number.0) on.moves on.to) own on.leads))
+
+  module _ (are_members : AreMembers cluster) where
+    module _ (before later : List (Kept S D)) (step : moves.Move) (fair : IsFairMove cluster value before step) (are : AreAt before) where
+      may : cluster.honest (actor step).0 ≡ true → (own : Node) → own ≡ cluster.node (actor step).0 → (answer : Applied) (moves : List Move) (a b : Shown S D)
+          → Does own content outcome cluster.accepts before step answer (are.worlds (actor step).0) moves a b → MayLead cluster value are.worlds moves
+      may honest own same answer moves a b does =
+          does_may content outcome node cluster value are.worlds before are.stand are.turns are_members are.reached own (ap (λ (n : Node). n.charter) same ∙ (are_members (actor step).0 honest).charter) step answer (are.worlds (actor step).0) moves a b does
+          (λ event handed passed. fair event handed honest passed)
+
+      honest_became : cluster.honest (actor step).0 ≡ true → ((other : Author) → other ≢ actor step → at later other ≡ at before other) → Became node content outcome cluster.accepts before step later → AreAt later
+      honest_became honest others (moved answer is) =
+          honest_on before later (actor step) honest is.one is.other is.was is.is others are
+          (λ own stands.
+          makes_on (node is.one.setting) are.worlds (Does (node is.one.setting) content outcome cluster.accepts before step answer (are.worlds (actor step).0)) (may honest (node is.one.setting) own answer)
+          (are.worlds (actor step).0) is.one is.other (is.becomes (are.worlds (actor step).0) stands))
+      honest_became honest others (moved_some is) =
+          honest_on before later (actor step) honest is.one is.other is.was is.is others are
+          (λ own stands.
+          let some = is.becomes (are.worlds (actor step).0) stands in
+          makes_some_on (node is.one.setting) are.worlds (Does (node is.one.setting) content outcome cluster.accepts before step some.0 (are.worlds (actor step).0)) (may honest (node is.one.setting) own some.0)
+          (are.worlds (actor step).0) is.one is.other some.1)
+      honest_became honest others (refused same) = subst AreAt (sym same) are
+      honest_became honest others (gone stop is) =
+          honest_on before later (actor step) honest is.one is.other is.was is.is others are
+          (λ own stands. gone_on (node is.one.setting) are.worlds (are.worlds (actor step).0) is.one is.other stands is.becomes)
+
+      -- a fair move was applied
+      step_on : IsApplied node content outcome cluster.accepts before step later → AreAt later
+      step_on applied = elim (cases_Bool (cluster.honest (actor step).0)) [
+        | inl honest ↦ honest_became honest applied.others applied.became
+        | inr off ↦ others_on before later (actor step) off applied.others are
+      ]
+
+    -- and so were these
+    pub leads_on : (steps : List moves.Move) (before later : List (Kept S D)) → MovesLead node content outcome cluster.accepts (IsFairMove cluster value) before steps later → AreAt before → AreAt later
+    leads_on [] before later same are = subst AreAt same are
+    leads_on (step ∷ steps) before later leads are = leads_on steps leads.0 later leads.3 (step_on before leads.0 step leads.1 are leads.2)
+
+  module _ (first : List (Kept S D)) (begin : (number : Author) → cluster.honest number.0 ≡ true → BeginsAmong node content outcome first cluster number) where
+    -- they begin
+    pub begin_at : AreAt first
+    begin_at = record {
+      worlds = λ number. first_world (cluster.node number);
+      turns = [];
+      reached = record {
+        first = λ number. first_world (cluster.node number);
+        begins = λ number honest.
+            let begins = begin (record { 0 = number }) honest in
+            let restarted : IsRestarted (node begins.member.setting) (run_on [] [] []) [] (first_world (node begins.member.setting)) =
+            subst (λ (w : World). IsRestarted (node begins.member.setting) (run_on [] [] []) [] w) begins.runs.leads begins.runs.begins in
+            subst (λ (n : Node). IsRestarted n (run_on [] [] []) [] (first_world n)) begins.set_up restarted;
+        leads = refl;
+      };
+      stand = λ number honest.
+          let begins = begin number honest in
+          record {
+            member = begins.member;
+            is = begins.is;
+            set_up = begins.set_up;
+            stands = subst (λ (n : Node). StandsAt n content outcome (first_world n) begins.member) begins.set_up begins.begins;
+          };
+    }
+
+    -- each of them is a node of the committee
+    module _ (owns : (setting : Setting S) → (node setting).own ≡ setting.own) (charters : (setting : Setting S) → (node setting).charter ≡ setting.charter) where
+      pub members_begin : AreMembers cluster
+      members_begin number honest =
+          let begins = begin (record { 0 = number }) honest in
+          let member = begins.member in
+          let is_number : member.setting.own.0 ≡ number = eqb-true member.setting.own.0 number (found_passes (λ member. named (record { 0 = number }) member) first member begins.is) in
+          let own : (node member.setting).own.0 ≡ number = ap (λ (a : Author). a.0) (owns member.setting) ∙ is_number in
+          let charter : (node member.setting).charter ≡ cluster.charter = charters member.setting ∙ begins.charter in
+          let sound = begins.begins.sound in
+          record {
+            within = subst (λ (n : ℕ). n < length cluster.charter.keys) own (subst (λ (c : Charter). (node member.setting).own.0 < length c.keys) charter sound.member);
+            number = subst (λ (n : Node). n.own.0 ≡ number) begins.set_up own;
+            charter = subst (λ (n : Node). n.charter ≡ cluster.charter) begins.set_up charter;
+            is = subst IsNode begins.set_up sound;
+          }
+
+  -- ---- what they agree on
+
+  -- an order is none, or it was given out
+  gave : (worlds : Worlds) (number : ℕ) → cluster.honest number ≡ true → (digests : List Digest) → IsLongest (cluster.node number) (worlds number) digests → (digests ≡ []) ⊎ GaveIt cluster worlds number digests
+  gave worlds number honest digests longest = elim longest.given [
+    | inl none ↦ inl none
+    | inr some ↦ inr (record { honest = honest; given = some.0; among = some.1; is = some.2 })
+  ]
+
+  none_begins : (one other : List Digest) → one ≡ [] → Begins one other
+  none_begins one other none = record { rest = other; parts = ap (λ (l : List Digest). l ++ other) (sym none) }
+
+  orders_of : (worlds : Worlds) → AreAgreed cluster worlds → (number also : ℕ) (one other : List Digest) → (one ≡ []) ⊎ GaveIt cluster worlds number one → (other ≡ []) ⊎ GaveIt cluster worlds also other → Agree one other
+  orders_of worlds agreed number also one other (inl none) second = inl (none_begins one other none)
+  orders_of worlds agreed number also one other (inr first) (inl none) = inr (none_begins other one none)
+  orders_of worlds agreed number also one other (inr first) (inr second) = agreed.orders number also one other first second
+
+  -- the committee is within its limits, since an honest member is a node of it
+  sound_of : AreMembers cluster → (number : ℕ) → cluster.honest number ≡ true → IsCharter cluster.charter
+  sound_of are number honest = let member = are number honest in subst IsCharter member.charter member.is.charter
+
+  pub in_accord : Agreement → AreMembers cluster → FewFaulty cluster → (members : List (Kept S D)) → AreAt members → AreInAccord node content outcome members cluster value
+  in_accord agreement are few members at_worlds = record {
+    worlds = at_worlds.worlds;
+    turns = at_worlds.turns;
+    reached = at_worlds.reached;
+    stand = at_worlds.stand;
+    agreed = agreed;
+    orders = λ clash number also one other honest honest' is is'.
+        orders_of at_worlds.worlds (agreed clash) number.0 also.0 one.out.order other.out.order (given number honest one is) (given also honest' other is');
+  }
+    where
+      agreed : NoTwoTexts cluster at_worlds.worlds → AreAgreed cluster at_worlds.worlds
+      agreed clash = record {
+        certificates = λ member also one other held held'.
+            (agreement cluster value at_worlds.turns at_worlds.worlds (sound_of are member held.honest) are few at_worlds.reached clash).certificates member also one other held held';
+        orders = λ member also one other gave gave'.
+            (agreement cluster value at_worlds.turns at_worlds.worlds (sound_of are member gave.honest) are few at_worlds.reached clash).orders member also one other gave gave';
+      }
+
+      given : (number : Author) → cluster.honest number.0 ≡ true → (one : Kept S D) → at members number ≡ Some one → (one.out.order ≡ []) ⊎ GaveIt cluster at_worlds.worlds number.0 one.out.order
+      given number honest one is =
+          let among = at_worlds.stand number honest in
+          let same : among.member ≡ one = some_is among.member one (sym among.is ∙ is) in
+          subst (λ (m : Kept S D). (m.out.order ≡ []) ⊎ GaveIt cluster at_worlds.worlds number.0 m.out.order) same
+          (gave at_worlds.worlds number.0 honest among.member.out.order among.stands.out.order)
+
+-- the law
+pub given_orders_agree : {S D : Type 0} (node : Setting S → Node) (content : D → List ℕ) (outcome : D → List ℕ → Type 0) (accepts : Accepts) (members : List (Kept S D))
+    → ((setting : Setting S) → (node setting).own ≡ setting.own) → ((setting : Setting S) → (node setting).charter ≡ setting.charter) → Agreement
+    → GivenOrdersAgree node content outcome accepts members
+given_orders_agree {S} {D} node content outcome accepts members owns charters agreement = λ cluster value first steps same begin few leads.
+    let are = members_begin node content outcome cluster value first begin owns charters in
+    let led = subst (λ (a : Accepts). MovesLead node content outcome a (IsFairMove cluster value) first steps members) (sym same) leads in
+    in_accord node content outcome cluster value agreement are few members (leads_on node content outcome cluster value are steps first members led (begin_at node content outcome cluster value first begin))

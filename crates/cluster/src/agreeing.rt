@@ -1,0 +1,22 @@
+//! The law over all lists of moves.
+
+use crate::cluster::Cluster;
+use diskmodel::StopDisk;
+use sigface::{Sign, Verify};
+use spec_cluster::agreement;
+
+impl<'a, S: Sign, D: StopDisk, V: Verify> Cluster<'a, S, D, V> {
+    ghost use Rattle.validator.specs.Setting.{node_of};
+    ghost use Rattle.cluster.specs.Applying.{GivenOrdersAgree};
+
+    /// Whichever nodes are honest, whatever moves were applied, and whatever each of them was answered: where the honest
+    /// nodes began on empty disks, the others weigh no more than is tolerated, what honest ones were given from outside had
+    /// no forged vote of an honest one, a wave's coin had one value, and no two different texts of headers and certificates
+    /// that honest nodes settled share a digest, of the orders that any two honest nodes gave out one begins the other. The
+    /// call does nothing.
+    pub fn orders_agree(&self)
+        ensures { GivenOrdersAgree (node_of S.own_key S.signature_of) D.content D.outcome (V.accepts self.now.verifier) self.now.members }
+    {
+        agreement();
+    }
+}
