@@ -22,7 +22,7 @@ use Rattle.spec_model.specs.declared.admission.Admission.TheVariants.{New, Known
 use Rattle.spec_model.specs.declared.admission.Admission.TheVariants as admission
 use Rattle.spec_world.specs.Steps.{Move, accept, take_to, device_call, settle, release, read_order, restart, IsAnswered, IsStep, Leads}
 use Rattle.spec_world.specs.World.{World}
-use Rattle.cluster.specs.Answers.{TakesIn, MakesRound, HasMoved}
+use Rattle.cluster.specs.Answers.{TakesIn, MakesRound, IsDeviceFault, HasMoved}
 use Rattle.cluster.specs.declared.moves.Applied.TheVariants.{Took, Refused, Unchecked, Settled, Fault}
 
 -- moves by which nothing goes out
@@ -184,3 +184,10 @@ err_same one other same = cc
 
 pub flush_err_same : (one other : FlushError) → ((◌≡◌ {A = Result ℕ FlushError} (Err one) (Err other)) → one ≡ other)
 flush_err_same one other same = cc
+
+-- which fault of a round is the disk's
+pub device_is : (error : FlushError) → IsDeviceFault (Fault error) → error ≡ errors.Device
+device_is errors.Device is = refl
+device_is errors.Memory is = absurd is
+device_is errors.Down is = absurd is
+device_is errors.Full is = absurd is

@@ -1,5 +1,5 @@
 -- What a move makes of a member, and what it is answered.
-use Rattle.std.specs.Prelude.{◌≡◌, ◌≢◌, ◌⊎◌, ◌↔◌, ⊤, ℕ, ◌+◌, Bool, true, false, List, [], ◌∷◌, length, Some, None}
+use Rattle.std.specs.Prelude.{◌≡◌, ◌≢◌, ◌⊎◌, ◌↔◌, ◌<◌, ⊤, ℕ, ◌+◌, Bool, true, false, List, [], ◌∷◌, length, Some, None}
 use Rattle.book.specs.Book.{Run, Stands, TakesNew, TakesKnown, MayRefuse}
 use Rattle.book.specs.OnTheWay.{Flushes, GoesDown, HasRoomFor}
 use Rattle.book.specs.declared.own.error.FlushError.{FlushError}
@@ -81,6 +81,19 @@ abbrev pub MakesRound : {S D : Type 0} → Node → (D → List ℕ) → World �
 MakesRound node content world (Settled count) moves before later = IsSettled node content world count moves before later
 MakesRound node content world (Fault error) moves before later = IsFault node content error moves before later
 MakesRound node content world other moves before later = ⊥
+
+-- a round's answer where the disk failed
+abbrev pub IsDeviceFault : Applied → Type 0
+IsDeviceFault (Fault flush.Device) = ⊤
+IsDeviceFault other = ⊥
+
+-- the disk of a member counted a failure
+pub record HasFailed {S D : Type 0} (faults : D → ℕ) (before later : Kept S D) : Type 0 where
+  pub desk : Shown S D
+  pub next : Shown S D
+  pub was : before.desk ≡ Some desk
+  pub is : later.desk ≡ Some next
+  pub more : faults (disk_of desk.journal) < faults (disk_of next.journal)
 
 -- ---- a stop
 

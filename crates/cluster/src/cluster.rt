@@ -52,13 +52,13 @@ impl<'a, S: Sign, D: StopDisk + Drop, V: Verify + Drop> Cluster<'a, S, D, V> {
     ghost use Rattle.spec_world.specs.Steps.{IsRun};
     ghost use Rattle.spec_world.specs.World.{World, run_on};
     ghost use Rattle.validator.specs.Setting.{node_of};
-    ghost use Rattle.cluster.specs.Answers.{TakesIn, MakesRound, Stops, Makes, MakesSome, IsJournal, IsJournalFault, IsLost};
+    ghost use Rattle.cluster.specs.Answers.{TakesIn, MakesRound, IsDeviceFault, HasFailed, Stops, Makes, MakesSome, IsJournal, IsJournalFault, IsLost};
     ghost use Rattle.cluster.specs.Applying.{IsApplied};
     ghost use Rattle.cluster.specs.Member.{Kept, StandsAt, Proposes};
     ghost use Rattle.cluster.specs.Cluster.{named, at, has_member, message_at, IsThere, Does, Moved, MovedSome, MovesOne, LacksNode, LacksOutput, IsStopOf, AreOfOne, AreDistinct, actor};
     ghost use Rattle.cluster.specs.Threads.{HasRun};
     ghost use Rattle.cluster.specs.declared.moves.Applied.{Applied};
-    ghost use Rattle.cluster.specs.declared.moves.Move.TheVariants.{Deliver};
+    ghost use Rattle.cluster.specs.declared.moves.Move.TheVariants.{Deliver, Flush};
 
     /// Opens a node for each of these settings, each on the disk at its place.
     ///
@@ -107,6 +107,8 @@ impl<'a, S: Sign, D: StopDisk + Drop, V: Verify + Drop> Cluster<'a, S, D, V> {
         ensures moves { IfOk result (λ applied. Moved (node_of S.own_key S.signature_of) D.content D.outcome (λ node world. Does node D.content D.outcome (V.accepts self.old.verifier) self.old.members step applied world) (actor step) self.old.members self.new.members) }
         // Whatever it is answered, it is one of the moves over which `orders_agree` speaks.
         ensures applied { IsApplied (node_of S.own_key S.signature_of) D.content D.outcome (V.accepts self.old.verifier) self.old.members step self.new.members }
+        // A round answers Device only where the node's disk counted a failure.
+        ensures device { (node : Author) → step ≡ Flush node → IfOk result (λ applied. IsDeviceFault applied → MovesOne (HasFailed D.faults) node self.old.members self.new.members) }
         // All others are as they were, and what each is set up with stays.
         ensures others { (other : Author) → other ≢ actor step → at self.new.members other ≡ at self.old.members other }
         ensures verifier { self.new.verifier ≡ self.old.verifier }
@@ -292,6 +294,7 @@ impl<'a, S: Sign, D: StopDisk + Drop, V: Verify + Drop> Cluster<'a, S, D, V> {
 
     fn flush(&mut self, node: Author) -> Result<Applied, ClusterError>
         ensures moves { IfOk result (λ applied. Moved (node_of S.own_key S.signature_of) D.content D.outcome (λ own world. MakesRound own D.content world applied) node self.old.members self.new.members) }
+        ensures device { IfOk result (λ applied. IsDeviceFault applied → MovesOne (HasFailed D.faults) node self.old.members self.new.members) }
         ensures others { (other : Author) → other ≢ node → at self.new.members other ≡ at self.old.members other }
         ensures verifier { self.new.verifier ≡ self.old.verifier }
         ensures settings { map (λ member. member.setting) self.new.members ≡ map (λ member. member.setting) self.old.members }

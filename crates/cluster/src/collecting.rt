@@ -84,6 +84,7 @@ pub(crate) fn collect<S: Sign, D: StopDisk>(
     given: &mut GivenOut,
 ) -> Result<(), AllocError>
     ensures setting { desk.new.book.validator.setting ≡ desk.old.book.validator.setting }
+    ensures journal { desk.new.journal ≡ desk.old.journal }
     ensures ok { OnOk result ((world : World) → IsAt (node_of S.own_key S.signature_of desk.old.book.validator.setting) D.content D.outcome world desk.old
         → HasPutOut (node_of S.own_key S.signature_of desk.old.book.validator.setting) world given.old
         → HasCollected (node_of S.own_key S.signature_of desk.old.book.validator.setting) D.content D.outcome world desk.old desk.new given.old given.new) }
@@ -122,6 +123,7 @@ fn release_all<S: Sign, D: StopDisk>(
     given: &mut GivenOut,
 ) -> Result<(), AllocError>
     ensures setting { desk.new.book.validator.setting ≡ desk.old.book.validator.setting }
+    ensures journal { desk.new.journal ≡ desk.old.journal }
     ensures ok { OnOk result ((world : World) → IsAt (node_of S.own_key S.signature_of desk.old.book.validator.setting) D.content D.outcome world desk.old
         → IsWhole (node_of S.own_key S.signature_of desk.old.book.validator.setting) world given.old
         → HasReleased (node_of S.own_key S.signature_of desk.old.book.validator.setting) D.content D.outcome world desk.old desk.new given.old given.new) }
@@ -140,6 +142,7 @@ fn release_next<S: Sign, D: StopDisk>(
     given: &mut GivenOut,
 ) -> Result<bool, AllocError>
     ensures setting { desk.new.book.validator.setting ≡ desk.old.book.validator.setting }
+    ensures journal { desk.new.journal ≡ desk.old.journal }
     ensures some { IfOk result (λ more. more ≡ true → IsReleasedNext (node_of S.own_key S.signature_of desk.old.book.validator.setting) D.content D.outcome desk.old desk.new given.old given.new) }
     ensures none { IfOk result (λ more. more ≡ false → (releasable desk.old.book ≡ None) × (desk.new ≡ desk.old) × (given.new ≡ given.old)) }
     ensures err { OnErr result ((desk.new ≡ desk.old) × (given.new ≡ given.old)) }

@@ -53,7 +53,7 @@ impl<'a, S: Sign, D: StopDisk> Member<'a, S, D> {
     ghost use Rattle.spec_world.specs.World.{World, run_on};
     ghost use Rattle.validator.specs.Setting.{node_of};
     ghost use Rattle.desk.specs.Desk.{Shown};
-    ghost use Rattle.cluster.specs.Answers.{TakesIn, MakesRound, Stops, Makes, MakesSome, IsJournal, IsJournalFault, IsLost};
+    ghost use Rattle.cluster.specs.Answers.{TakesIn, MakesRound, IsDeviceFault, HasFailed, Stops, Makes, MakesSome, IsJournal, IsJournalFault, IsLost};
     ghost use Rattle.cluster.specs.Member.{StandsAt, Proposes};
     ghost use Rattle.cluster.specs.declared.moves.Applied.{Applied};
 
@@ -175,6 +175,7 @@ impl<'a, S: Sign, D: StopDisk> Member<'a, S, D> {
             → Makes (node_of S.own_key S.signature_of self.old.setting) D.content D.outcome (MakesRound (node_of S.own_key S.signature_of self.old.setting) D.content world applied) world self.old self.new) }
         ensures memory { IsErrOf result ClusterError.Memory → (world : World) → StandsAt (node_of S.own_key S.signature_of self.old.setting) D.content D.outcome world self.old
             → (applied : Applied) × MakesSome (node_of S.own_key S.signature_of self.old.setting) D.content D.outcome (MakesRound (node_of S.own_key S.signature_of self.old.setting) D.content world applied) world self.old self.new }
+        ensures device { IfOk result (λ applied. IsDeviceFault applied → HasFailed D.faults self.old self.new) }
         ensures gone { IsErrOf result ClusterError.NoSuchNode ↔ (self.old.desk ≡ None) }
         ensures same { IsErrOf result ClusterError.NoSuchNode → self.new ≡ self.old }
         ensures errors { IfErr result (λ error. (error ≡ ClusterError.NoSuchNode) ⊎ (error ≡ ClusterError.Memory)) }

@@ -1,6 +1,6 @@
 //! What a desk does at a move, before anything goes out.
 
-ghost use Rattle.std.specs.Prelude.{◌≡◌, List, ℕ, length, None, Ok, IfOk, OnErr, IfErr};
+ghost use Rattle.std.specs.Prelude.{◌≡◌, ◌<◌, List, ℕ, length, None, Ok, IfOk, OnErr, IfErr};
 ghost use Rattle.header.specs.Checks.{Accepts, fault_of, accepts_all};
 ghost use Rattle.journal.specs.Format.{stands};
 ghost use Rattle.journal.specs.Journal.{disk_of};
@@ -12,7 +12,7 @@ ghost use Rattle.spec_world.specs.World.{World};
 ghost use Rattle.validator.specs.Setting.{node_of};
 ghost use Rattle.desk.specs.AtWorld.{IsAt};
 ghost use Rattle.desk.specs.Desk.{IsOpened};
-ghost use Rattle.cluster.specs.Answers.{TakesIn, MakesRound, HasMoved};
+ghost use Rattle.cluster.specs.Answers.{TakesIn, MakesRound, IsDeviceFault, HasMoved};
 
 use crate::error::ClusterError;
 use crate::moves::Applied;
@@ -71,6 +71,8 @@ fn hand_in<S: Sign, D: StopDisk>(
 pub(crate) fn round<S: Sign, D: StopDisk>(desk: &mut Desk<'_, S, D>) -> Applied
     ensures moved { (world : World) → IsAt (node_of S.own_key S.signature_of desk.old.book.validator.setting) D.content D.outcome world desk.old
         → HasMoved (node_of S.own_key S.signature_of desk.old.book.validator.setting) D.content D.outcome (MakesRound (node_of S.own_key S.signature_of desk.old.book.validator.setting) D.content world result) world desk.old desk.new }
+    // It answers Device only where the disk counted a failure.
+    ensures device { IsDeviceFault result → D.faults (disk_of desk.old.journal) < D.faults (disk_of desk.new.journal) }
     ensures setting { desk.new.book.validator.setting ≡ desk.old.book.validator.setting }
 {
     match desk.flush() {

@@ -11,6 +11,7 @@ pub releasing-init : goal.releasing-init
 releasing-init g c = record {
   so_far = λ world at whole. none_released (node_of g.S.Sign.own_key g.S.Sign.signature_of c.args.desk.now.book.validator.setting) g.D.Disk.content g.D.Disk.outcome world c.args.desk.now c.args.given.now at whole;
   setting = refl;
+  journal = refl;
 }
 
 pub releasing-preserved : goal.releasing-preserved
@@ -21,6 +22,7 @@ releasing-preserved g c =
     record {
       so_far = λ world at whole. released_more node g.D.Disk.content g.D.Disk.outcome world c.args.desk.now c.releasing.desk c.release_next.new.desk c.args.given.now c.releasing.given c.release_next.new.given (c.releasing.invariant.so_far world at whole) more;
       setting = c.release_next.ensures.setting ∙ c.releasing.invariant.setting;
+      journal = c.release_next.ensures.journal ∙ c.releasing.invariant.journal;
     }
 
 pub releasing-smaller : goal.releasing-smaller
@@ -54,3 +56,9 @@ returns-clause-none_left g c =
 
 pub returns-clause-setting : goal.returns-clause-setting
 returns-clause-setting g c = c.release_next.ensures.setting ∙ c.releasing.invariant.setting
+
+pub returns-in_err-release_next-clause-journal : goal.returns-in_err-release_next-clause-journal
+returns-in_err-release_next-clause-journal g c = c.release_next.ensures.journal ∙ c.releasing.invariant.journal
+
+pub returns-clause-journal : goal.returns-clause-journal
+returns-clause-journal g c = c.release_next.ensures.journal ∙ c.releasing.invariant.journal

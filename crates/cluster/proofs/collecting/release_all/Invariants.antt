@@ -12,6 +12,7 @@ invariant-releasing g l = record {
       → IsWhole (node_of g.S.Sign.own_key g.S.Sign.signature_of l.initial.desk.book.validator.setting) world l.initial.given
       → HasReleased (node_of g.S.Sign.own_key g.S.Sign.signature_of l.initial.desk.book.validator.setting) g.D.Disk.content g.D.Disk.outcome world l.initial.desk l.desk l.initial.given l.given;
   setting : l.desk.book.validator.setting ≡ l.initial.desk.book.validator.setting;
+  journal : l.desk.journal ≡ l.initial.desk.journal;
 }
 
 abbrev pub decreases-releasing : goal.decreases-releasing

@@ -1,8 +1,9 @@
-use Rattle.std.proofs.Common.{inl, inr, sym, ap, subst}
+use Rattle.std.proofs.Common.{◌≡◌, inl, inr, sym, ap, ◌∙◌, subst}
 use Rattle.std.specs.Prelude.{IfOk, IfErr, IsErrOf}
 use Rattle.opening.proofs.Telling.{err_weaker}
+use Rattle.spec_model.specs.Words.{Author}
 use Rattle.validator.specs.Setting.{node_of}
-use Rattle.cluster.specs.Answers.{IsJournal, IsLost}
+use Rattle.cluster.specs.Answers.{IsDeviceFault, HasFailed, IsJournal, IsLost}
 use Rattle.cluster.specs.Applying.{IsApplied}
 use Rattle.cluster.specs.Cluster.{Shown, Does, Moved, MovedSome, MovesOne, IsStopOf, actor}
 use Rattle.cluster.specs.Member.{Kept}
@@ -91,3 +92,9 @@ pub returns-in-Stop-clause-applied : goal.returns-in-Stop-clause-applied
 returns-in-Stop-clause-applied g c =
     subst (λ (step : Move). IsApplied (node_of g.S.Sign.own_key g.S.Sign.signature_of) g.D.Disk.content g.D.Disk.outcome (g.V.Verify.accepts c.args.self.now.verifier) c.args.self.now.members step c.stop.new.self.members) (sym c.in-Stop.is)
     (is_stopped (node_of g.S.Sign.own_key g.S.Sign.signature_of) g.D.Disk.content g.D.Disk.outcome (g.V.Verify.accepts c.args.self.now.verifier) c.args.self.now.members (Stop c.in-Stop.node) c.stop.new.self.members c.stop.result c.stop.ensures.moves c.stop.ensures.memory c.stop.ensures.others c.stop.ensures.settings tt (λ none. ap (λ (s : Shown g.row.S.Denot g.row.D.Denot g.row.V.Denot). s.members) (c.stop.ensures.unchanged none)) c.stop.ensures.errors)
+
+pub returns-in-Flush-clause-device : goal.returns-in-Flush-clause-device
+returns-in-Flush-clause-device g c = λ node is.
+    let same : Flush c.in-Flush.node ≡ Flush node = sym c.in-Flush.is ∙ is in
+    let one : c.in-Flush.node ≡ node = cc in
+    subst (λ (n : Author). IfOk c.flush.result (λ applied. IsDeviceFault applied → MovesOne (HasFailed g.D.Disk.faults) n c.args.self.now.members c.flush.new.self.members)) one c.flush.ensures.device

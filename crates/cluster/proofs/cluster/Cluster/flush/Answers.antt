@@ -4,8 +4,8 @@ use Rattle.std.specs.List.{position}
 use Rattle.opening.proofs.Telling.{ok_weaker}
 use Rattle.spec_model.specs.Words.{Author}
 use Rattle.validator.specs.Setting.{node_of}
-use Rattle.cluster.specs.Answers.{MakesRound}
-use Rattle.cluster.specs.Cluster.{Shown, named, at, IsThere, Moved, MovedSome}
+use Rattle.cluster.specs.Answers.{MakesRound, IsDeviceFault, HasFailed}
+use Rattle.cluster.specs.Cluster.{Shown, named, at, IsThere, MovesOne, Moved, MovedSome}
 use Rattle.cluster.specs.declared.error.ClusterError.TheVariants.{NoSuchNode, Memory}
 use Rattle.cluster.proofs.Places.{there_of, moves_one, others_stay, settings_stay, gone_where, none_there}
 use Rattle.cluster.proofs.cluster.Cluster.flush.Goals as goal
@@ -63,3 +63,13 @@ returns-in-Some-clause-settings g c =
     let there = there_of (λ member. named c.args.node member) members c.in-Some.place one first c.index_mut.ensures.value in
     subst (λ (s : Shown g.row.S.Denot g.row.D.Denot g.row.V.Denot). map (λ member. member.setting) (set members c.in-Some.place later) ≡ map (λ member. member.setting) s.members) c.self.view_is
     (settings_stay members c.args.node c.in-Some.place one later first there c.flush.ensures.setting)
+
+pub returns-in-Some-clause-device : goal.returns-in-Some-clause-device
+returns-in-Some-clause-device g c =
+    let members = c.self.inside.members.items in
+    let one = c.index_mut.result.now in
+    let later = c.flush.new.self in
+    let first = ap (λ (s : Shown g.row.S.Denot g.row.D.Denot g.row.V.Denot). position (λ member. named c.args.node member) s.members) c.self.view_is ∙ sym c.place_of.ensures ∙ c.in-Some.is in
+    let there = there_of (λ member. named c.args.node member) members c.in-Some.place one first c.index_mut.ensures.value in
+    subst (λ (s : Shown g.row.S.Denot g.row.D.Denot g.row.V.Denot). IfOk c.flush.result (λ applied. IsDeviceFault applied → MovesOne (HasFailed g.D.Disk.faults) c.args.node s.members (set members c.in-Some.place later))) c.self.view_is
+    (ok_weaker c.flush.result _ _ (λ applied fails is. moves_one members c.args.node c.in-Some.place one later first there c.flush.ensures.setting _ (fails is)) c.flush.ensures.device)

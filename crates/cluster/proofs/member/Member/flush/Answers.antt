@@ -1,8 +1,10 @@
-use Rattle.std.proofs.Common.{Some, refl, ◌∙◌, subst}
+use Rattle.std.proofs.Common.{◌<◌, Some, refl, sym, ◌∙◌, subst}
 use Rattle.desk.specs.AtWorld.{IsAt}
+use Rattle.journal.specs.Journal.{disk_of}
+use Rattle.journal.specs.declared.journal.Journal.{Journal}
 use Rattle.spec_world.specs.World.{World}
 use Rattle.validator.specs.Setting.{Setting, node_of}
-use Rattle.cluster.specs.Answers.{MakesRound, HasMoved, Makes, MakesSome}
+use Rattle.cluster.specs.Answers.{MakesRound, IsDeviceFault, HasFailed, HasMoved, Makes, MakesSome}
 use Rattle.cluster.specs.Member.{Kept, HasPutOut, StandsAt, HasCollected, HasCollectedSome}
 use Rattle.cluster.specs.declared.moves.Applied.{Applied}
 use Rattle.cluster.proofs.Members.{makes, makes_some, moved_or_not}
@@ -32,3 +34,15 @@ returns-clause-ok g c =
     (subst (λ (s : Setting g.row.S.Denot). (w : World) → IsAt (node_of g.S.Sign.own_key g.S.Sign.signature_of s) g.D.Disk.content g.D.Disk.outcome w c.in-Some.desk → HasMoved (node_of g.S.Sign.own_key g.S.Sign.signature_of s) g.D.Disk.content g.D.Disk.outcome (MakesRound (node_of g.S.Sign.own_key g.S.Sign.signature_of s) g.D.Disk.content w c.round-applied.result) w c.in-Some.desk c.round-applied.new.desk) (c.self.invariant c.in-Some.desk c.in-Some.is) c.round-applied.ensures.moved world (stands.at c.in-Some.desk c.in-Some.is))
     (subst (λ (s : Setting g.row.S.Denot). (w : World) → IsAt (node_of g.S.Sign.own_key g.S.Sign.signature_of s) g.D.Disk.content g.D.Disk.outcome w c.round-applied.new.desk → HasPutOut (node_of g.S.Sign.own_key g.S.Sign.signature_of s) w c.self.inside.given
     → HasCollected (node_of g.S.Sign.own_key g.S.Sign.signature_of s) g.D.Disk.content g.D.Disk.outcome w c.round-applied.new.desk c.collect.new.desk c.self.inside.given c.collect.new.given) same c.in_ok-collect.ensures.ok))
+
+pub returns-clause-device : goal.returns-clause-device
+returns-clause-device g c =
+    let later : Kept g.row.S.Denot g.row.D.Denot = record { setting = c.self.inside.config.now; desk = Some c.collect.new.desk; out = c.collect.new.given } in
+    subst (λ (m : Kept g.row.S.Denot g.row.D.Denot). IsDeviceFault c.round-applied.result → HasFailed g.D.Disk.faults m later) c.self.view_is
+    (λ is. record {
+      desk = c.in-Some.desk;
+      next = c.collect.new.desk;
+      was = c.in-Some.is;
+      is = refl;
+      more = subst (λ (j : Journal g.row.D.Denot). g.D.Disk.faults (disk_of c.in-Some.desk.journal) < g.D.Disk.faults (disk_of j)) (sym c.collect.ensures.journal) (c.round-applied.ensures.device is);
+    })
