@@ -1,0 +1,6 @@
+use Rattle.node_cluster.specs.Settings.{AreOfFile}
+use Rattle.node_cluster.proofs.settings.configs_of.Given as goal
+
+-- those of the members before this one
+abbrev pub invariant-loop-own : goal.invariant-loop-own
+invariant-loop-own l = AreOfFile l.file l.own l.configs.items

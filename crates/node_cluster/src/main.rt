@@ -1,0 +1,60 @@
+//! A committee of four in one process: it plays some waves, in the middle of which a member stops, and shows the order of each.
+#![tactic(auto)]
+
+mod play;
+mod settings;
+mod telling;
+
+use anyhow::Result;
+use play::Play;
+use settings::Settings;
+use std::process::ExitCode;
+use telling::{tell_coin, tell_end, tell_growth, tell_round, tell_stop};
+
+/// The waves that are played.
+const WAVES: u64 = 3;
+
+/// The round in which the last member stops.
+const STOPPING: u64 = WAVES + 1;
+
+fn main(rt: HostRuntime) -> Result<ExitCode> {
+    let settings = Settings::new(rt.alloc())?;
+    let mut play = Play::new(rt.alloc(), &settings)?;
+    println!(rt; "four members of one committee, each over a disk in memory, for {WAVES} waves")?;
+    play_all(&rt, &mut play)?;
+    Ok(match tell_end(&rt, &play)? {
+        true => ExitCode::SUCCESS,
+        false => ExitCode::FAILURE,
+    })
+}
+
+/// Plays the rounds of all waves, and the one that shows the last wave's coin.
+fn play_all(rt: &impl Print, play: &mut Play<'_>) -> Result<()> {
+    for round in 1..=2 * WAVES + 1 {
+        play_round(rt, play, round)?;
+        if round % 2 == 1 && round > 1 {
+            play_coin(rt, play, round / 2)?;
+        }
+    }
+    Ok(())
+}
+
+/// Each member proposes, and all that is put out reaches all others.
+fn play_round(rt: &impl Print, play: &mut Play<'_>, round: u64) -> Result<()> {
+    play.propose()?;
+    if round == STOPPING {
+        let (lost, found) = play.stop_last()?;
+        tell_stop(rt, lost, found)?;
+    }
+    play.deliver()?;
+    tell_round(rt, play, round)?;
+    tell_growth(rt, play)
+}
+
+/// The coin of a wave is handed in at each member.
+fn play_coin(rt: &impl Print, play: &mut Play<'_>, wave: u64) -> Result<()> {
+    let taken = play.toss(wave)?;
+    tell_coin(rt, wave, taken)?;
+    play.deliver()?;
+    tell_growth(rt, play)
+}

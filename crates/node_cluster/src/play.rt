@@ -1,0 +1,258 @@
+//! The members, and what is done with them.
+
+ghost use Rattle.std.specs.Prelude.{◌≡◌, [], All, IfOk};
+
+use crate::settings::{MEMBERS, Settings};
+use anyhow::{Result, bail};
+use cluster::{Applied, Cluster, ClusterError, Move};
+use diskmodel::{Disk, MemDisk};
+use sigface::{HashSign, HashVerify};
+use std::alloc::{AllocError, Global};
+use wire::{Author, Coin, Digest, HeaderBody, Message, Wave};
+
+/// The member whose certificates are shown.
+const FIRST: Author = Author(0);
+
+/// The member that stops.
+pub const LAST: Author = Author(MEMBERS - 1);
+
+type Nodes<'a> = Cluster<'a, HashSign, MemDisk, HashVerify>;
+
+/// A certificate that a header named.
+#[derive(Clone, Copy)]
+pub struct Named {
+    pub round: u64,
+    pub author: Author,
+    pub digest: Digest,
+}
+
+/// How far a member was followed.
+#[derive(Clone, Copy)]
+struct Followed {
+    node: Author,
+    /// How many of its outputs were delivered.
+    outputs: u64,
+    /// How many certificates of its order were shown.
+    order: usize,
+}
+
+/// A committee of which each member is a node in this process.
+pub struct Play<'a> {
+    nodes: Nodes<'a>,
+    followed: Vec<Followed>,
+    named: Vec<Named>,
+}
+
+impl<'a> Drop for Play<'a> {
+    fn drop(self) {
+        let Play {
+            nodes: _,
+            followed: _,
+            named: _,
+        } = self;
+    }
+}
+
+impl<'a> Play<'a> {
+    /// Opens a node for each member.
+    pub fn new(alloc: Global, settings: &'a Settings) -> Result<Play<'a>> {
+        let (configs, disks) = (settings.all(), empty_disks(alloc)?);
+        if disks.len() != configs.len() {
+            bail!("each member has a disk");
+        }
+        Ok(Play {
+            nodes: Cluster::new(alloc, configs, disks, HashVerify)?,
+            followed: all_followed(alloc)?,
+            named: Vec::new(alloc),
+        })
+    }
+
+    /// Each member that proposes a header is given it, and writes it.
+    pub fn propose(&mut self) -> Result<()> {
+        for node in 0..MEMBERS {
+            propose(&mut self.nodes, Author(node))?;
+        }
+        Ok(())
+    }
+
+    /// Delivers what is put out to all others, and lets all write, until nothing new is put out.
+    pub fn deliver(&mut self) -> Result<()> {
+        for _ in 0..u64::MAX {
+            if !self.sweep()? {
+                break;
+            }
+        }
+        Ok(())
+    }
+
+    // Delivers what was put out so far, and lets all write. Says whether there was anything.
+    fn sweep(&mut self) -> Result<bool> {
+        let mut any = false;
+        for followed in self.followed.iter_mut() {
+            any = deliver_from(&mut self.nodes, followed)? || any;
+        }
+        flush(&mut self.nodes)?;
+        Ok(any)
+    }
+
+    /// Delivers to the last member alone what is put out, and stops it before it writes that. Says how many events it lost, and on how
+    /// many it was opened again.
+    pub fn stop_last(&mut self) -> Result<(u64, u64)> {
+        let mut lost: u64 = 0;
+        for followed in &self.followed {
+            lost = lost.saturating_add(deliver_to(&mut self.nodes, *followed, LAST)?);
+        }
+        match self.nodes.apply(Move::Stop(LAST))? {
+            Applied::Reopened(found) => Ok((lost, found)),
+            _ => bail!("a stop is answered by how many events are found"),
+        }
+    }
+
+    /// Hands in the coin of a wave at each member, and says how many took it.
+    pub fn toss(&mut self, wave: u64) -> Result<u64> {
+        let coin = Coin {
+            wave: Wave::new(wave)?,
+            value: wave,
+        };
+        let mut taken: u64 = 0;
+        for node in 0..MEMBERS {
+            let node = Author(node);
+            if is_new(self.nodes.apply(Move::Coin { node, coin })?) {
+                taken = taken.saturating_add(1);
+            }
+        }
+        Ok(taken)
+    }
+
+    /// The certificates of a round that the first member's next header names.
+    pub fn certified(&mut self, round: u64) -> Result<&[Named]> {
+        let from = self.named.len();
+        name_certified(&self.nodes, &mut self.named, round)?;
+        Ok(self.named.get(from..).unwrap_or(&[]))
+    }
+
+    /// The certificate of this digest, where a header was seen to name it.
+    pub fn name(&self, digest: &Digest) -> Option<&Named> {
+        self.named.iter().find(|named| named.digest == *digest)
+    }
+
+    /// The order that a member gave out.
+    pub fn order(&self, node: Author) -> &[Digest] {
+        self.nodes.given_order(node).unwrap_or(&[])
+    }
+
+    /// What a member gave out since this was last asked.
+    pub fn growth(&mut self, node: Author) -> &[Digest] {
+        let order = self.nodes.given_order(node).unwrap_or(&[]);
+        let mut from = 0;
+        if let Some(followed) = self.followed.get_mut(node.0 as usize) {
+            from = followed.order;
+            followed.order = order.len();
+        }
+        order.get(from..).unwrap_or(&[])
+    }
+}
+
+// An empty disk for each member.
+fn empty_disks(alloc: Global) -> Result<Vec<MemDisk>, AllocError>
+    ensures { IfOk result (λ disks. All (λ disk. ⟦<MemDisk as Disk>⟧.content disk ≡ []) disks.items) }
+{
+    let mut disks = Vec::new(alloc);
+    for _ in 0..MEMBERS {
+        disks.push(MemDisk::new(alloc, Vec::new(alloc))?)?;
+    }
+    Ok(disks)
+}
+
+// Adds the certificates of a round that the first member's next header names.
+fn name_certified(nodes: &Nodes<'_>, named: &mut Vec<Named>, round: u64) -> Result<()> {
+    match nodes.propose(FIRST)? {
+        Some(header) => name_parents(named, round, &header.body),
+        None => Ok(()),
+    }
+}
+
+// Adds the parents of a header, if they are of this round.
+fn name_parents(named: &mut Vec<Named>, round: u64, body: &HeaderBody) -> Result<()> {
+    if body.round.number().checked_sub(1) == Some(round) {
+        for parent in body.parents.as_slice() {
+            named.push(Named {
+                round,
+                author: parent.author,
+                digest: parent.certificate,
+            })?;
+        }
+    }
+    Ok(())
+}
+
+// Each member, before anything was delivered or shown.
+fn all_followed(alloc: Global) -> Result<Vec<Followed>, AllocError> {
+    let mut followed = Vec::new(alloc);
+    for node in 0..MEMBERS {
+        followed.push(Followed {
+            node: Author(node),
+            outputs: 0,
+            order: 0,
+        })?;
+    }
+    Ok(followed)
+}
+
+fn propose(nodes: &mut Nodes<'_>, node: Author) -> Result<()> {
+    let Some(header) = nodes.propose(node)? else {
+        return Ok(());
+    };
+    nodes.apply(Move::Give {
+        to: node,
+        sender: node,
+        message: Message::Header(header),
+    })?;
+    nodes.apply(Move::Flush(node))?;
+    Ok(())
+}
+
+fn flush(nodes: &mut Nodes<'_>) -> Result<()> {
+    for node in 0..MEMBERS {
+        nodes.apply(Move::Flush(Author(node)))?;
+    }
+    Ok(())
+}
+
+// Delivers what a member put out since it was last followed. Says whether there was anything.
+fn deliver_from(nodes: &mut Nodes<'_>, followed: &mut Followed) -> Result<bool> {
+    let end = nodes.outputs(followed.node).unwrap_or(0);
+    for to in 0..MEMBERS {
+        deliver_to(nodes, *followed, Author(to))?;
+    }
+    let any = followed.outputs < end;
+    followed.outputs = end;
+    Ok(any)
+}
+
+// Delivers what a member put out since it was last followed to another one. Says how many messages were new there.
+fn deliver_to(nodes: &mut Nodes<'_>, from: Followed, to: Author) -> Result<u64> {
+    let mut new: u64 = 0;
+    if from.node == to {
+        return Ok(new);
+    }
+    for output in from.outputs..nodes.outputs(from.node).unwrap_or(0) {
+        if deliver(nodes, from.node, output, to)? {
+            new = new.saturating_add(1);
+        }
+    }
+    Ok(new)
+}
+
+// Delivers an output; a piece of the order is for nobody. Says whether it was new.
+fn deliver(nodes: &mut Nodes<'_>, node: Author, output: u64, to: Author) -> Result<bool> {
+    match nodes.apply(Move::Deliver { node, output, to }) {
+        Ok(applied) => Ok(is_new(applied)),
+        Err(ClusterError::NoSuchOutput) => Ok(false),
+        Err(error) => Err(error.into()),
+    }
+}
+
+fn is_new(applied: Applied) -> bool {
+    matches!(applied, Applied::Took { new: true, .. })
+}

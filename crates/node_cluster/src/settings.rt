@@ -1,0 +1,80 @@
+//! How the members are set up.
+
+ghost use Rattle.std.specs.Prelude.{◌≡◌, ◌+◌, Ok, OnOk, IfOk};
+ghost use Rattle.cluster.specs.Cluster.{AreOfOne, AreDistinct};
+ghost use Rattle.committee.specs.Answer.{answer_to};
+ghost use Rattle.toml.specs.Parse.{parse_document};
+ghost use Rattle.node_cluster.specs.Settings.{AreOfFile, AreSettings};
+
+use committee::Committee;
+use sigface::HashSign;
+use sim_script::{BATCHES, DEPTH, committee_file, signer};
+use std::alloc::{AllocError, Global};
+use validator::Config;
+use wire::Author;
+
+/// Members of the committee.
+pub const MEMBERS: u16 = 4;
+
+/// The settings of the members of a committee, in the order of their numbers. They sign with the test pair.
+#[derive(Drop)]
+pub struct Settings {
+    configs: Vec<Config<HashSign>>,
+    ghost one: { AreOfOne configs.items },
+    ghost distinct: { AreDistinct configs.items },
+}
+
+impl Settings {
+    /// The settings of all members.
+    pub fn new(alloc: Global) -> Result<Settings, AllocError> {
+        let file = committee_file(alloc, DEPTH, BATCHES)?;
+        let configs = configs_of(alloc, file.as_str())?;
+        Ok(Settings { configs })
+    }
+
+    /// One for each member.
+    pub fn all(&self) -> &[Config<HashSign>]
+        ensures { AreSettings result.now }
+    {
+        &self.configs
+    }
+}
+
+// What all members of the committee in a file are set up with.
+fn configs_of(alloc: Global, file: &str) -> Result<Vec<Config<HashSign>>, AllocError>
+    ensures { IfOk result (λ configs. AreSettings configs.items) }
+{
+    let mut configs = Vec::new(alloc);
+    for own in 0..MEMBERS {
+        add_config(alloc, file, own, &mut configs)?;
+    }
+    Ok(configs)
+}
+
+fn add_config(
+    alloc: Global,
+    file: &str,
+    own: u16,
+    configs: &mut Vec<Config<HashSign>>,
+) -> Result<(), AllocError>
+    requires { AreOfFile file.now own configs.old.items }
+    ensures { OnOk result (AreOfFile file.now (own + 1) configs.new.items) }
+{
+    let config = config_of(alloc, file, Author(own))?;
+    configs.push(config)?;
+    Ok(())
+}
+
+// What a member is set up with. The committee's file is sound, so only memory can be wanting.
+fn config_of(alloc: Global, file: &str, own: Author) -> Result<Config<HashSign>, AllocError>
+    ensures own { IfOk result (λ config. config.own ≡ own) }
+    ensures read { IfOk result (λ config. answer_to (parse_document file.now) ≡ Ok config.charter) }
+{
+    let Ok(committee) = Committee::read(alloc, file) else {
+        return Err(AllocError);
+    };
+    match Config::new(committee, own, signer(own)) {
+        Some(config) => Ok(config),
+        None => Err(AllocError),
+    }
+}

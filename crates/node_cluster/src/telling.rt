@@ -1,0 +1,125 @@
+//! What is shown, line by line.
+
+use crate::play::{LAST, Named, Play};
+use crate::settings::MEMBERS;
+use anyhow::Result;
+use wire::{Author, Digest};
+
+/// Shows the certificates of a round, each behind its author.
+pub fn tell_round(rt: &impl Print, play: &mut Play<'_>, round: u64) -> Result<()> {
+    print!(rt; "round {round}, certified:")?;
+    for named in play.certified(round)? {
+        tell_named(rt, named)?;
+    }
+    println!(rt; "")?;
+    Ok(())
+}
+
+fn tell_named(rt: &impl Print, named: &Named) -> Result<()> {
+    let (author, short) = (named.author.0, short(&named.digest));
+    print!(rt; " {author}:{short:08x}")?;
+    Ok(())
+}
+
+/// Shows a stop.
+pub fn tell_stop(rt: &impl Print, lost: u64, found: u64) -> Result<()> {
+    let last = LAST.0;
+    println!(rt;
+        "member {last} stops, and loses {lost} events that it hadn't written; it is opened again on {found}"
+    )?;
+    Ok(())
+}
+
+/// Shows a coin, and how many members took it.
+pub fn tell_coin(rt: &impl Print, wave: u64, taken: u64) -> Result<()> {
+    println!(rt; "the coin of wave {wave} is {wave}, and {taken} members take it")?;
+    Ok(())
+}
+
+/// Shows what each member's order has grown by.
+pub fn tell_growth(rt: &impl Print, play: &mut Play<'_>) -> Result<()> {
+    for node in 0..MEMBERS {
+        tell_grown(rt, node, play.growth(Author(node)))?;
+    }
+    Ok(())
+}
+
+fn tell_grown(rt: &impl Print, node: u16, grown: &[Digest]) -> Result<()> {
+    if grown.is_empty() {
+        return Ok(());
+    }
+    print!(rt; "member {node} orders")?;
+    for digest in grown {
+        print!(rt; " {:08x}", short(digest))?;
+    }
+    println!(rt; "")?;
+    Ok(())
+}
+
+/// Shows each member's order, and whether they are equal. Says whether all is well: something was ordered, and of any two orders one
+/// begins the other.
+pub fn tell_end(rt: &impl Print, play: &Play<'_>) -> Result<bool> {
+    for node in 0..MEMBERS {
+        tell_order(rt, play, Author(node))?;
+    }
+    let (some, agree, equal) = (is_some(play), agree(play), are_equal(play));
+    println!(rt;
+        "{}",
+        match (some, agree, equal) {
+            (false, _, _) => "NOTHING WAS ORDERED",
+            (true, false, _) => "THE ORDERS DISAGREE",
+            (true, true, false) =>
+                "the four orders differ in length, and of any two one begins the other",
+            (true, true, true) => "the four orders are equal",
+        }
+    )?;
+    Ok(some && agree)
+}
+
+fn tell_order(rt: &impl Print, play: &Play<'_>, node: Author) -> Result<()> {
+    let (own, order) = (node.0, play.order(node));
+    let count = order.len();
+    println!(rt; "the order of member {own}, of {count} certificates:")?;
+    for digest in order {
+        tell_digest(rt, play, digest)?;
+    }
+    Ok(())
+}
+
+fn tell_digest(rt: &impl Print, play: &Play<'_>, digest: &Digest) -> Result<()> {
+    let short = short(digest);
+    match play.name(digest) {
+        Some(named) => {
+            let (round, author) = (named.round, named.author.0);
+            println!(rt; "  {short:08x} round {round}, member {author}")?;
+        }
+        None => println!(rt; "  {short:08x}")?,
+    }
+    Ok(())
+}
+
+// The first bytes of a digest.
+fn short(digest: &Digest) -> u32 {
+    let [first, second, third, fourth, ..] = digest.0;
+    u32::from_be_bytes([first, second, third, fourth])
+}
+
+fn is_some(play: &Play<'_>) -> bool {
+    (0..MEMBERS).any(|node| !play.order(Author(node)).is_empty())
+}
+
+fn agree(play: &Play<'_>) -> bool {
+    (0..MEMBERS).all(|one| (0..MEMBERS).all(|other| begin_alike(
+        play.order(Author(one)),
+        play.order(Author(other)),
+    )))
+}
+
+fn are_equal(play: &Play<'_>) -> bool {
+    (0..MEMBERS).all(|node| play.order(Author(node)) == play.order(Author(0)))
+}
+
+// Whether one of two orders begins the other.
+fn begin_alike(one: &[Digest], other: &[Digest]) -> bool {
+    one.iter().zip(other).all(|(one, other)| one == other)
+}
