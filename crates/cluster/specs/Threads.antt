@@ -16,6 +16,7 @@ pub data Act : Type 0 where
   take : Event → Applied → Act
   round : Applied → Act
 
+-- what that is to its desk
 abbrev pub DoesAct : {S D : Type 0} → Node → (D → List ℕ) → Accepts → Act → World → List Move → desk.Shown S D → desk.Shown S D → Type 0
 DoesAct node content accepts (take event applied) world moves before later = TakesIn node accepts event applied moves before later
 DoesAct node content accepts (round applied) world moves before later = MakesRound node content world applied moves before later

@@ -1,11 +1,12 @@
 //! A committee of four in one process: it plays some waves, in the middle of which a member stops, and shows the order of each.
 #![tactic(auto)]
 
+mod ending;
 mod play;
 mod settings;
 mod telling;
 
-use anyhow::Result;
+use ending::Ending;
 use play::Play;
 use settings::Settings;
 use std::process::ExitCode;
@@ -17,19 +18,28 @@ const WAVES: u64 = 3;
 /// The round in which the last member stops.
 const STOPPING: u64 = WAVES + 1;
 
-fn main(rt: HostRuntime) -> Result<ExitCode> {
+fn main(rt: HostRuntime) -> ExitCode {
+    match run(&rt) {
+        Ok(true) => ExitCode::SUCCESS,
+        Ok(false) => ExitCode::FAILURE,
+        Err(ending) => {
+            let _ = eprintln!(rt; "{ending}");
+            ExitCode::FAILURE
+        }
+    }
+}
+
+/// Plays all waves, and says whether all is well behind them.
+fn run<R: AllocGlobal + Print>(rt: &R) -> Result<bool, Ending> {
     let settings = Settings::new(rt.alloc())?;
     let mut play = Play::new(rt.alloc(), &settings)?;
     println!(rt; "four members of one committee, each over a disk in memory, for {WAVES} waves")?;
-    play_all(&rt, &mut play)?;
-    Ok(match tell_end(&rt, &play)? {
-        true => ExitCode::SUCCESS,
-        false => ExitCode::FAILURE,
-    })
+    play_all(rt, &mut play)?;
+    tell_end(rt, &play)
 }
 
 /// Plays the rounds of all waves, and the one that shows the last wave's coin.
-fn play_all(rt: &impl Print, play: &mut Play<'_>) -> Result<()> {
+fn play_all(rt: &impl Print, play: &mut Play<'_>) -> Result<(), Ending> {
     for round in 1..=2 * WAVES + 1 {
         play_round(rt, play, round)?;
         if round % 2 == 1 && round > 1 {
@@ -40,7 +50,7 @@ fn play_all(rt: &impl Print, play: &mut Play<'_>) -> Result<()> {
 }
 
 /// Each member proposes, and all that is put out reaches all others.
-fn play_round(rt: &impl Print, play: &mut Play<'_>, round: u64) -> Result<()> {
+fn play_round(rt: &impl Print, play: &mut Play<'_>, round: u64) -> Result<(), Ending> {
     play.propose()?;
     if round == STOPPING {
         let (lost, found) = play.stop_last()?;
@@ -52,7 +62,7 @@ fn play_round(rt: &impl Print, play: &mut Play<'_>, round: u64) -> Result<()> {
 }
 
 /// The coin of a wave is handed in at each member.
-fn play_coin(rt: &impl Print, play: &mut Play<'_>, wave: u64) -> Result<()> {
+fn play_coin(rt: &impl Print, play: &mut Play<'_>, wave: u64) -> Result<(), Ending> {
     let taken = play.toss(wave)?;
     tell_coin(rt, wave, taken)?;
     play.deliver()?;

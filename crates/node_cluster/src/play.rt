@@ -2,8 +2,8 @@
 
 ghost use Rattle.std.specs.Prelude.{◌≡◌, [], All, IfOk};
 
+use crate::ending::Ending;
 use crate::settings::{MEMBERS, Settings};
-use anyhow::{Result, bail};
 use cluster::{Applied, Cluster, ClusterError, Move};
 use diskmodel::{Disk, MemDisk};
 use sigface::{HashSign, HashVerify};
@@ -55,10 +55,10 @@ impl<'a> Drop for Play<'a> {
 
 impl<'a> Play<'a> {
     /// Opens a node for each member.
-    pub fn new(alloc: Global, settings: &'a Settings) -> Result<Play<'a>> {
+    pub fn new(alloc: Global, settings: &'a Settings) -> Result<Play<'a>, Ending> {
         let (configs, disks) = (settings.all(), empty_disks(alloc)?);
         if disks.len() != configs.len() {
-            bail!("each member has a disk");
+            return Err(Ending::Unexpected);
         }
         Ok(Play {
             nodes: Cluster::new(alloc, configs, disks, HashVerify)?,
@@ -68,7 +68,7 @@ impl<'a> Play<'a> {
     }
 
     /// Each member that proposes a header is given it, and writes it.
-    pub fn propose(&mut self) -> Result<()> {
+    pub fn propose(&mut self) -> Result<(), Ending> {
         for node in 0..MEMBERS {
             propose(&mut self.nodes, Author(node))?;
         }
@@ -76,7 +76,7 @@ impl<'a> Play<'a> {
     }
 
     /// Delivers what is put out to all others, and lets all write, until nothing new is put out.
-    pub fn deliver(&mut self) -> Result<()> {
+    pub fn deliver(&mut self) -> Result<(), Ending> {
         for _ in 0..u64::MAX {
             if !self.sweep()? {
                 break;
@@ -86,7 +86,7 @@ impl<'a> Play<'a> {
     }
 
     // Delivers what was put out so far, and lets all write. Says whether there was anything.
-    fn sweep(&mut self) -> Result<bool> {
+    fn sweep(&mut self) -> Result<bool, Ending> {
         let mut any = false;
         for followed in self.followed.iter_mut() {
             any = deliver_from(&mut self.nodes, followed)? || any;
@@ -97,19 +97,19 @@ impl<'a> Play<'a> {
 
     /// Delivers to the last member alone what is put out, and stops it before it writes that. Says how many events it lost, and on how
     /// many it was opened again.
-    pub fn stop_last(&mut self) -> Result<(u64, u64)> {
+    pub fn stop_last(&mut self) -> Result<(u64, u64), Ending> {
         let mut lost: u64 = 0;
         for followed in &self.followed {
             lost = lost.saturating_add(deliver_to(&mut self.nodes, *followed, LAST)?);
         }
         match self.nodes.apply(Move::Stop(LAST))? {
             Applied::Reopened(found) => Ok((lost, found)),
-            _ => bail!("a stop is answered by how many events are found"),
+            _ => Err(Ending::Unexpected),
         }
     }
 
     /// Hands in the coin of a wave at each member, and says how many took it.
-    pub fn toss(&mut self, wave: u64) -> Result<u64> {
+    pub fn toss(&mut self, wave: u64) -> Result<u64, Ending> {
         let coin = Coin {
             wave: Wave::new(wave)?,
             value: wave,
@@ -125,7 +125,7 @@ impl<'a> Play<'a> {
     }
 
     /// The certificates of a round that the first member's next header names.
-    pub fn certified(&mut self, round: u64) -> Result<&[Named]> {
+    pub fn certified(&mut self, round: u64) -> Result<&[Named], Ending> {
         let from = self.named.len();
         name_certified(&self.nodes, &mut self.named, round)?;
         Ok(self.named.get(from..).unwrap_or(&[]))
@@ -165,7 +165,7 @@ fn empty_disks(alloc: Global) -> Result<Vec<MemDisk>, AllocError>
 }
 
 // Adds the certificates of a round that the first member's next header names.
-fn name_certified(nodes: &Nodes<'_>, named: &mut Vec<Named>, round: u64) -> Result<()> {
+fn name_certified(nodes: &Nodes<'_>, named: &mut Vec<Named>, round: u64) -> Result<(), Ending> {
     match nodes.propose(FIRST)? {
         Some(header) => name_parents(named, round, &header.body),
         None => Ok(()),
@@ -173,7 +173,7 @@ fn name_certified(nodes: &Nodes<'_>, named: &mut Vec<Named>, round: u64) -> Resu
 }
 
 // Adds the parents of a header, if they are of this round.
-fn name_parents(named: &mut Vec<Named>, round: u64, body: &HeaderBody) -> Result<()> {
+fn name_parents(named: &mut Vec<Named>, round: u64, body: &HeaderBody) -> Result<(), Ending> {
     if body.round.number().checked_sub(1) == Some(round) {
         for parent in body.parents.as_slice() {
             named.push(Named {
@@ -199,7 +199,7 @@ fn all_followed(alloc: Global) -> Result<Vec<Followed>, AllocError> {
     Ok(followed)
 }
 
-fn propose(nodes: &mut Nodes<'_>, node: Author) -> Result<()> {
+fn propose(nodes: &mut Nodes<'_>, node: Author) -> Result<(), Ending> {
     let Some(header) = nodes.propose(node)? else {
         return Ok(());
     };
@@ -212,7 +212,7 @@ fn propose(nodes: &mut Nodes<'_>, node: Author) -> Result<()> {
     Ok(())
 }
 
-fn flush(nodes: &mut Nodes<'_>) -> Result<()> {
+fn flush(nodes: &mut Nodes<'_>) -> Result<(), Ending> {
     for node in 0..MEMBERS {
         nodes.apply(Move::Flush(Author(node)))?;
     }
@@ -220,7 +220,7 @@ fn flush(nodes: &mut Nodes<'_>) -> Result<()> {
 }
 
 // Delivers what a member put out since it was last followed. Says whether there was anything.
-fn deliver_from(nodes: &mut Nodes<'_>, followed: &mut Followed) -> Result<bool> {
+fn deliver_from(nodes: &mut Nodes<'_>, followed: &mut Followed) -> Result<bool, Ending> {
     let end = nodes.outputs(followed.node).unwrap_or(0);
     for to in 0..MEMBERS {
         deliver_to(nodes, *followed, Author(to))?;
@@ -231,7 +231,7 @@ fn deliver_from(nodes: &mut Nodes<'_>, followed: &mut Followed) -> Result<bool> 
 }
 
 // Delivers what a member put out since it was last followed to another one. Says how many messages were new there.
-fn deliver_to(nodes: &mut Nodes<'_>, from: Followed, to: Author) -> Result<u64> {
+fn deliver_to(nodes: &mut Nodes<'_>, from: Followed, to: Author) -> Result<u64, Ending> {
     let mut new: u64 = 0;
     if from.node == to {
         return Ok(new);
@@ -245,7 +245,7 @@ fn deliver_to(nodes: &mut Nodes<'_>, from: Followed, to: Author) -> Result<u64> 
 }
 
 // Delivers an output; a piece of the order is for nobody. Says whether it was new.
-fn deliver(nodes: &mut Nodes<'_>, node: Author, output: u64, to: Author) -> Result<bool> {
+fn deliver(nodes: &mut Nodes<'_>, node: Author, output: u64, to: Author) -> Result<bool, Ending> {
     match nodes.apply(Move::Deliver { node, output, to }) {
         Ok(applied) => Ok(is_new(applied)),
         Err(ClusterError::NoSuchOutput) => Ok(false),

@@ -1,12 +1,12 @@
 //! What is shown, line by line.
 
+use crate::ending::Ending;
 use crate::play::{LAST, Named, Play};
 use crate::settings::MEMBERS;
-use anyhow::Result;
 use wire::{Author, Digest};
 
 /// Shows the certificates of a round, each behind its author.
-pub fn tell_round(rt: &impl Print, play: &mut Play<'_>, round: u64) -> Result<()> {
+pub fn tell_round(rt: &impl Print, play: &mut Play<'_>, round: u64) -> Result<(), Ending> {
     print!(rt; "round {round}, certified:")?;
     for named in play.certified(round)? {
         tell_named(rt, named)?;
@@ -15,14 +15,14 @@ pub fn tell_round(rt: &impl Print, play: &mut Play<'_>, round: u64) -> Result<()
     Ok(())
 }
 
-fn tell_named(rt: &impl Print, named: &Named) -> Result<()> {
+fn tell_named(rt: &impl Print, named: &Named) -> Result<(), Ending> {
     let (author, short) = (named.author.0, short(&named.digest));
     print!(rt; " {author}:{short:08x}")?;
     Ok(())
 }
 
 /// Shows a stop.
-pub fn tell_stop(rt: &impl Print, lost: u64, found: u64) -> Result<()> {
+pub fn tell_stop(rt: &impl Print, lost: u64, found: u64) -> Result<(), Ending> {
     let last = LAST.0;
     println!(rt;
         "member {last} stops, and loses {lost} events that it hadn't written; it is opened again on {found}"
@@ -31,20 +31,20 @@ pub fn tell_stop(rt: &impl Print, lost: u64, found: u64) -> Result<()> {
 }
 
 /// Shows a coin, and how many members took it.
-pub fn tell_coin(rt: &impl Print, wave: u64, taken: u64) -> Result<()> {
+pub fn tell_coin(rt: &impl Print, wave: u64, taken: u64) -> Result<(), Ending> {
     println!(rt; "the coin of wave {wave} is {wave}, and {taken} members take it")?;
     Ok(())
 }
 
 /// Shows what each member's order has grown by.
-pub fn tell_growth(rt: &impl Print, play: &mut Play<'_>) -> Result<()> {
+pub fn tell_growth(rt: &impl Print, play: &mut Play<'_>) -> Result<(), Ending> {
     for node in 0..MEMBERS {
         tell_grown(rt, node, play.growth(Author(node)))?;
     }
     Ok(())
 }
 
-fn tell_grown(rt: &impl Print, node: u16, grown: &[Digest]) -> Result<()> {
+fn tell_grown(rt: &impl Print, node: u16, grown: &[Digest]) -> Result<(), Ending> {
     if grown.is_empty() {
         return Ok(());
     }
@@ -58,7 +58,7 @@ fn tell_grown(rt: &impl Print, node: u16, grown: &[Digest]) -> Result<()> {
 
 /// Shows each member's order, and whether they are equal. Says whether all is well: something was ordered, and of any two orders one
 /// begins the other.
-pub fn tell_end(rt: &impl Print, play: &Play<'_>) -> Result<bool> {
+pub fn tell_end(rt: &impl Print, play: &Play<'_>) -> Result<bool, Ending> {
     for node in 0..MEMBERS {
         tell_order(rt, play, Author(node))?;
     }
@@ -76,7 +76,7 @@ pub fn tell_end(rt: &impl Print, play: &Play<'_>) -> Result<bool> {
     Ok(some && agree)
 }
 
-fn tell_order(rt: &impl Print, play: &Play<'_>, node: Author) -> Result<()> {
+fn tell_order(rt: &impl Print, play: &Play<'_>, node: Author) -> Result<(), Ending> {
     let (own, order) = (node.0, play.order(node));
     let count = order.len();
     println!(rt; "the order of member {own}, of {count} certificates:")?;
@@ -86,7 +86,7 @@ fn tell_order(rt: &impl Print, play: &Play<'_>, node: Author) -> Result<()> {
     Ok(())
 }
 
-fn tell_digest(rt: &impl Print, play: &Play<'_>, digest: &Digest) -> Result<()> {
+fn tell_digest(rt: &impl Print, play: &Play<'_>, digest: &Digest) -> Result<(), Ending> {
     let short = short(digest);
     match play.name(digest) {
         Some(named) => {

@@ -1,0 +1,54 @@
+//! What ends a play before its end.
+
+use cluster::ClusterError;
+use std::alloc::{AllocError, AllocFailed};
+use std::io;
+use thiserror::Error;
+use wire::WireError;
+
+/// Why a play isn't played to its end.
+#[derive(Clone, Copy, Debug, Error)]
+pub enum Ending {
+    /// Memory was refused.
+    #[error("memory was refused")]
+    Memory,
+    /// A line couldn't be written.
+    #[error("the output can't be written")]
+    Output,
+    /// A move failed.
+    #[error("a move failed")]
+    Move,
+    /// A call answered what it never should there.
+    #[error("this should not come")]
+    Unexpected,
+}
+
+impl From<AllocError> for Ending {
+    fn from(_: AllocError) -> Ending {
+        Ending::Memory
+    }
+}
+
+impl<T: Drop> From<AllocFailed<T>> for Ending {
+    fn from(_: AllocFailed<T>) -> Ending {
+        Ending::Memory
+    }
+}
+
+impl From<io::Error> for Ending {
+    fn from(_: io::Error) -> Ending {
+        Ending::Output
+    }
+}
+
+impl From<ClusterError> for Ending {
+    fn from(_: ClusterError) -> Ending {
+        Ending::Move
+    }
+}
+
+impl From<WireError> for Ending {
+    fn from(_: WireError) -> Ending {
+        Ending::Unexpected
+    }
+}
