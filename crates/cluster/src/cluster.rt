@@ -12,7 +12,7 @@ use std::marker::Model;
 use std::sync::Wait;
 use std::thread::Threads;
 use validator::Config;
-use wire::{Author, Digest, Header, Message};
+use wire::{Author, Digest, Header, Message, Output};
 
 /// Several nodes of one committee, each with its own disk and of its own number there, by which moves name it. It is for tests
 /// of a committee: what its nodes put out is kept, so that it grows with its moves.
@@ -45,9 +45,9 @@ impl<'a, S: Sign, D: StopDisk, V: Verify> Model for Cluster<'a, S, D, V> {
 }
 
 impl<'a, S: Sign, D: StopDisk + Drop, V: Verify + Drop> Cluster<'a, S, D, V> {
-    ghost use Rattle.std.specs.Prelude.{◌≡◌, ◌≢◌, ◌⊎◌, ◌↔◌, ℕ, [], length, map, position, Some, None, vec_len, All, IfOk, IfErr, IfSome, OnOk, IsNone, IsErrOf, option_copied};
+    ghost use Rattle.std.specs.Prelude.{◌≡◌, ◌≢◌, ◌⊎◌, ◌↔◌, ℕ, [], length, map, position, Some, None, vec_len, All, IfOk, IfErr, IfSome, OnOk, IsNone, IsErrOf, option_copied, slice_get};
     ghost use Rattle.std.specs.List.{AllZip};
-    ghost use Rattle.std.specs.Option.{option_map};
+    ghost use Rattle.std.specs.Option.{option_and_then, option_map};
     ghost use Rattle.spec_world.specs.Runs.{first_bytes};
     ghost use Rattle.spec_world.specs.Steps.{IsRun};
     ghost use Rattle.spec_world.specs.World.{World, run_on};
@@ -169,6 +169,16 @@ impl<'a, S: Sign, D: StopDisk + Drop, V: Verify + Drop> Cluster<'a, S, D, V> {
     {
         match self.member(node) {
             Some(member) => Some(member.outputs()),
+            None => None,
+        }
+    }
+
+    /// The output of this number that a node put out; None where there is none.
+    pub fn output(&self, node: Author, number: u64) -> Option<&Output>
+        ensures { option_copied result ≡ option_and_then (λ member. slice_get member.out.outputs number) (at self.now.members node) }
+    {
+        match self.member(node) {
+            Some(member) => member.output(number),
             None => None,
         }
     }
