@@ -15,6 +15,10 @@ import random
 import histories
 
 MEMBERS, DEPTH = range(4), 50
+
+# Batches that a node holds at most.
+BATCHES = 2
+
 ORDER = 'c11 c10 c12 c13 c20 c21 c22 c30'.split()
 COINS = {1: 1, 2: 0}
 STARTS, STEPS = [1, 2], 400
@@ -83,6 +87,10 @@ class Rules:
         kind, *words = message.split()
         if kind == 'coin':
             return self.node.coin(sender, int(words[0]), int(words[1]))
+        if kind == 'batch':
+            return self.node.batch(self.headers[words[0]], BATCHES)
+        if kind == 'ack':
+            return self.node.ack(self.headers[words[0]], sender)
         header = self.headers[words[0]]
         if kind == 'header':
             return self.node.header(header)

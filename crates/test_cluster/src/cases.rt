@@ -1,14 +1,12 @@
 //! What the commands of a case are put to.
 
-ghost use Rattle.std.specs.Prelude.{◌≡◌, [], All, IfOk};
-
-use crate::disks::{Grip, GrippedDisk};
+use crate::disks::{Grip, GrippedDisk, disks_of, new_grips};
 use crate::moves::{call_of, coin, delivery, gift, leaving, member, parted};
+use crate::schedules::{play_broken, play_tolerated};
 use crate::settings::{MEMBERS, Settings};
 use crate::telling::{tell_error, tell_move, tell_order, tell_outputs, tell_proposal};
 use crate::threads::{circulate, meet};
 use cluster::{Cluster, Move};
-use diskmodel::Disk;
 use sigface::{HashSign, HashVerify};
 use sim_script::{Command, FormError, Labels, define_batch, define_header, parse};
 use std::alloc::{AllocError, Global};
@@ -35,7 +33,7 @@ impl<'a> ClusterCases<'a> {
             alloc,
             settings,
             labels: Labels::new(alloc),
-            grips: grips(alloc)?,
+            grips: new_grips(alloc, MEMBERS)?,
             cluster: None,
         })
     }
@@ -43,7 +41,7 @@ impl<'a> ClusterCases<'a> {
     /// Begins a case.
     pub fn begin(&mut self) -> Told {
         self.labels = Labels::new(self.alloc);
-        self.grips = grips(self.alloc)?;
+        self.grips = new_grips(self.alloc, MEMBERS)?;
         self.cluster = None;
         Ok(())
     }
@@ -59,6 +57,8 @@ impl<'a> ClusterCases<'a> {
             "cluster" => return self.open(words, answer),
             "give" => return self.give(words, answer),
             "stop" => return self.stop(words, answer),
+            "schedules" => return play_tolerated(self.alloc, self.settings, words, answer),
+            "broken" => return play_broken(self.alloc, self.settings, words, answer),
             "deliver" => self.apply(delivery(words), answer),
             "coin" => self.apply(coin(words), answer),
             "flush" => self.apply(flush(words), answer),
@@ -90,7 +90,7 @@ impl<'a> ClusterCases<'a> {
         let Some(configs) = self.settings.first(count) else {
             return told_bad(answer);
         };
-        let disks = self.disks(count)?;
+        let disks = disks_of(self.alloc, &self.grips, count)?;
         if disks.len() != configs.len() {
             return told_bad(answer);
         }
@@ -99,17 +99,6 @@ impl<'a> ClusterCases<'a> {
             Err(error) => tell_error(answer, error),
         }
         Ok(())
-    }
-
-    /// An empty disk for each of the first so many members.
-    fn disks(&self, count: usize) -> Result<Vec<GrippedDisk>, AllocError>
-        ensures { IfOk result (λ disks. All (λ disk. ⟦<GrippedDisk as Disk>⟧.content disk ≡ []) disks.items) }
-    {
-        let mut disks = Vec::new(self.alloc);
-        for grip in self.grips.iter().take(count) {
-            disks.push(grip.disk()?)?;
-        }
-        Ok(disks)
     }
 
     /// Makes a move, if there is one.
@@ -170,15 +159,6 @@ impl<'a> ClusterCases<'a> {
             _ => bad(answer),
         }
     }
-}
-
-// A grip for each member's disk.
-fn grips(alloc: Global) -> Result<Vec<Grip>, AllocError> {
-    let mut grips = Vec::new(alloc);
-    for _ in 0..MEMBERS {
-        grips.push(Grip::new(alloc)?)?;
-    }
-    Ok(grips)
 }
 
 // The words of `flush NODE`.

@@ -1,6 +1,6 @@
 //! Disks in memory that nodes have, and by which a test still lets calls fail and says what a stop leaves.
 
-ghost use Rattle.std.specs.Prelude.{◌≡◌, [], IfOk};
+ghost use Rattle.std.specs.Prelude.{◌≡◌, [], All, IfOk};
 
 use diskmodel::{CallKind, Disk, DiskFault, MemDisk, StopDisk, Switch};
 use std::alloc::{AllocError, Global};
@@ -66,6 +66,26 @@ impl Grip {
     pub fn leave(&self, leaving: Leaving) {
         self.leaving.set(leaving);
     }
+}
+
+/// So many grips.
+pub fn new_grips(alloc: Global, count: u16) -> Result<Vec<Grip>, AllocError> {
+    let mut grips = Vec::new(alloc);
+    for _ in 0..count {
+        grips.push(Grip::new(alloc)?)?;
+    }
+    Ok(grips)
+}
+
+/// An empty disk for each of the first so many grips.
+pub fn disks_of(alloc: Global, grips: &[Grip], count: usize) -> Result<Vec<GrippedDisk>, AllocError>
+    ensures { IfOk result (λ disks. All (λ disk. ⟦<GrippedDisk as Disk>⟧.content disk ≡ []) disks.items) }
+{
+    let mut disks = Vec::new(alloc);
+    for grip in grips.iter().take(count) {
+        disks.push(grip.disk()?)?;
+    }
+    Ok(disks)
 }
 
 /// A disk of which a grip is kept.

@@ -5,6 +5,7 @@
 mod cases;
 mod disks;
 mod moves;
+mod schedules;
 mod settings;
 mod telling;
 mod threads;

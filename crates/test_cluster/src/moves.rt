@@ -9,7 +9,7 @@ use test_cases::bytes_of;
 use wire::{Author, Coin, Message, Signature, Wave};
 
 /// A signature of nobody.
-const UNSIGNED: Signature = Signature([0; 64]);
+pub const UNSIGNED: Signature = Signature([0; 64]);
 
 /// The texts before and behind the first blank; where there is none, the whole one and nothing.
 pub fn parted(text: &str) -> (&str, &str) {

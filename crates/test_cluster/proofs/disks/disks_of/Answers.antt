@@ -2,7 +2,7 @@ use Rattle.std.proofs.Common.{◌≡◌, [], subst, sym}
 use Rattle.std.specs.Prelude.{All}
 use Rattle.std.proofs.lemmas.List.Elements.{All-push}
 use Rattle.diskmodel.specs.Memory.{content_of}
-use Rattle.test_cluster.proofs.cases.ClusterCases.disks.Goals as goal
+use Rattle.test_cluster.proofs.disks.disks_of.Goals as goal
 use Rattle.test_cluster.specs.declared.disks.GrippedDisk.{GrippedDisk}
 
 abbrev IsEmpty : GrippedDisk → Type 0

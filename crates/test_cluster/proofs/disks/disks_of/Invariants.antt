@@ -1,7 +1,7 @@
 use Rattle.std.proofs.Common.{◌≡◌, []}
 use Rattle.std.specs.Prelude.{All}
 use Rattle.diskmodel.specs.Memory.{content_of}
-use Rattle.test_cluster.proofs.cases.ClusterCases.disks.Given as goal
+use Rattle.test_cluster.proofs.disks.disks_of.Given as goal
 
 -- the disks so far are empty
 abbrev pub invariant-loop-grip : goal.invariant-loop-grip

@@ -1,0 +1,90 @@
+//! Schedules: lists of moves that are drawn. `oracles/schedules.py` says how, and plays them by plain rules.
+
+mod dishonest;
+mod draws;
+mod headers;
+mod nodes;
+mod report;
+mod schedule;
+mod wishes;
+
+use crate::settings::Settings;
+use report::Report;
+use schedule::{Honest, Schedule};
+use std::alloc::Global;
+use test_cases::{Told, bad};
+
+/// How many schedules are played, of how many moves each, and where they begin.
+#[derive(Clone, Copy)]
+struct Task {
+    count: u64,
+    moves: u64,
+    start: u64,
+}
+
+/// `schedules COUNT MOVES START`, with as many dishonest members as are tolerated: tells what the moves come to.
+pub fn play_tolerated(
+    alloc: Global,
+    settings: &Settings,
+    words: &str,
+    answer: &mut String,
+) -> Told {
+    play_all(alloc, settings, Honest::Three, words, answer)
+}
+
+/// `broken COUNT MOVES START`: the same with one more.
+pub fn play_broken(alloc: Global, settings: &Settings, words: &str, answer: &mut String) -> Told {
+    play_all(alloc, settings, Honest::Two, words, answer)
+}
+
+fn play_all(
+    alloc: Global,
+    settings: &Settings,
+    honest: Honest,
+    words: &str,
+    answer: &mut String,
+) -> Told {
+    let Some(task) = task_of(words) else {
+        bad(answer);
+        return Ok(());
+    };
+    let mut report = Report::new(alloc);
+    for number in 0..task.count {
+        play(alloc, settings, honest, task, number, &mut report)?;
+    }
+    report.tell(task.start, answer);
+    Ok(())
+}
+
+/// `COUNT MOVES START`.
+fn task_of(words: &str) -> Option<Task> {
+    let (count, words) = words.split_once(' ')?;
+    let (moves, start) = words.split_once(' ')?;
+    Some(Task {
+        count: count.parse().ok()?,
+        moves: moves.parse().ok()?,
+        start: start.parse().ok()?,
+    })
+}
+
+/// Plays the schedule of this number.
+fn play(
+    alloc: Global,
+    settings: &Settings,
+    honest: Honest,
+    task: Task,
+    number: u64,
+    report: &mut Report,
+) -> Told {
+    let mut schedule = Schedule::new(alloc, settings, honest, task.start.wrapping_add(number))?;
+    move_all(&mut schedule, task.moves, report)?;
+    report.end(&schedule);
+    Ok(())
+}
+
+fn move_all(schedule: &mut Schedule<'_>, moves: u64, report: &mut Report) -> Told {
+    for _ in 0..moves {
+        schedule.advance(report)?;
+    }
+    Ok(())
+}

@@ -1,0 +1,36 @@
+//! Numbers drawn from a start value.
+
+ghost use Rattle.std.specs.Prelude.{◌<◌, IfSome};
+
+/// The state of a linear congruential generator, of which 48 bits count.
+#[derive(Clone, Copy)]
+pub struct Draws {
+    state: u64,
+}
+
+impl Draws {
+    /// Before the first number.
+    pub fn from(start: u64) -> Draws {
+        Draws { state: start }
+    }
+
+    /// A number below this one.
+    pub fn below(&mut self, limit: u64) -> u64
+        requires { 0 < limit }
+        ensures { result < limit }
+    {
+        let next = self.state.wrapping_mul(25_214_903_917).wrapping_add(11);
+        self.state = next % (1 << 48);
+        (self.state >> 17) % limit
+    }
+
+    /// A place in a list of this length. Where it is empty there is none, and nothing is drawn.
+    pub fn place(&mut self, length: usize) -> Option<usize>
+        ensures { IfSome result (λ place. place < length) }
+    {
+        if length == 0 {
+            return None;
+        }
+        Some(self.below(length as u64) as usize)
+    }
+}

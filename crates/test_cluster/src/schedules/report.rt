@@ -1,0 +1,155 @@
+//! What the moves of schedules come to.
+
+use super::schedule::{Answered, Schedule};
+use crate::telling::tell_move;
+use cluster::{Applied, ClusterError};
+use std::alloc::Global;
+use std::collections::BTreeMap;
+use test_cases::{Told, put};
+use validator::Refusal;
+use wire::Author;
+
+/// Counts over moves, and a sum over all that they were answered.
+#[derive(Drop)]
+pub struct Report {
+    alloc: Global,
+    /// How many moves were answered so, by their kinds and answers.
+    counts: BTreeMap<String, u64>,
+    line: String,
+    sum: u64,
+    stops: u64,
+    equivocations: u64,
+    growths: u64,
+    longest: usize,
+    grown: u64,
+    wrong: u64,
+}
+
+impl Report {
+    /// Before the first move.
+    pub fn new(alloc: Global) -> Report {
+        Report {
+            alloc,
+            counts: BTreeMap::new(alloc),
+            line: String::new(alloc),
+            sum: 14_695_981_039_346_656_037,
+            stops: 0,
+            equivocations: 0,
+            growths: 0,
+            longest: 0,
+            grown: 0,
+            wrong: 0,
+        }
+    }
+
+    /// Counts a move.
+    pub fn count(&mut self, answered: &Answered) -> Told {
+        self.add_line(answered);
+        match answered.outcome {
+            Ok(Applied::Reopened(_)) => increase(&mut self.stops),
+            Ok(Applied::Refused(Refusal::Equivocation)) => increase(&mut self.equivocations),
+            _ => {}
+        }
+        self.line.clear();
+        put(&mut self.line, answered.kind);
+        put(&mut self.line, ": ");
+        put_short(&mut self.line, answered.outcome);
+        self.count_line()
+    }
+
+    fn add_line(&mut self, answered: &Answered) {
+        self.line.clear();
+        put(&mut self.line, answered.kind);
+        put(&mut self.line, ": ");
+        tell_move(&mut self.line, answered.outcome);
+        self.sum = added(self.sum, self.line.as_bytes());
+    }
+
+    fn count_line(&mut self) -> Told {
+        if let Some(count) = self.counts.get_mut(self.line.as_str()) {
+            increase(count);
+            return Ok(());
+        }
+        let line = String::from_str(self.alloc, self.line.as_str())?;
+        self.counts.insert(line, 1)?;
+        Ok(())
+    }
+
+    /// A node's order grew.
+    pub fn grow(&mut self) {
+        increase(&mut self.growths);
+    }
+
+    /// Of two orders none begins the other.
+    pub fn disagree(&mut self) {
+        increase(&mut self.wrong);
+    }
+
+    /// Counts what a schedule came to.
+    pub fn end(&mut self, schedule: &Schedule<'_>) {
+        let mut any = false;
+        for node in 0..schedule.honest.count() {
+            let order = schedule.order(Author(node));
+            self.longest = self.longest.max(order.len());
+            any = any || !order.is_empty();
+            for digest in order {
+                self.sum = added(self.sum, &digest.0);
+            }
+        }
+        if any {
+            increase(&mut self.grown);
+        }
+    }
+
+    /// Tells all of it.
+    pub fn tell(&self, start: u64, answer: &mut String) {
+        let _ = writeln!(answer, "start {start}");
+        for (line, count) in &self.counts {
+            let _ = writeln!(answer, "{line} {count}");
+        }
+        tell_count(answer, "stops", self.stops);
+        tell_count(answer, "equivocations", self.equivocations);
+        tell_count(answer, "growths of orders", self.growths);
+        tell_count(answer, "longest order", self.longest as u64);
+        tell_count(answer, "schedules with orders", self.grown);
+        tell_count(answer, "sum", self.sum);
+        tell_count(answer, "wrong", self.wrong);
+    }
+}
+
+fn tell_count(answer: &mut String, name: &str, count: u64) {
+    let _ = writeln!(answer, "{name} {count}");
+}
+
+fn increase(count: &mut u64) {
+    *count = count.saturating_add(1);
+}
+
+// FNV-1a of 64 bits.
+fn added(sum: u64, bytes: &[u8]) -> u64 {
+    bytes.iter().fold(sum, |sum, byte| {
+        (sum ^ u64::from(*byte)).wrapping_mul(1_099_511_628_211)
+    })
+}
+
+// What a move was answered, without how many there were.
+fn put_short(line: &mut String, outcome: Result<Applied, ClusterError>) {
+    match outcome {
+        Ok(Applied::Took { new: true, .. }) => put(line, "took new"),
+        Ok(Applied::Took { new: false, .. }) => put(line, "took known"),
+        Ok(Applied::Settled(_)) => put(line, "settled"),
+        Ok(Applied::Reopened(_)) => put(line, "reopened"),
+        Ok(Applied::Refused(refusal)) => {
+            let _ = write!(line, "refused {refusal}");
+        }
+        Ok(Applied::Unchecked(error)) => {
+            let _ = write!(line, "unchecked {error}");
+        }
+        Ok(Applied::Fault(error)) => {
+            let _ = write!(line, "fault {error}");
+        }
+        Err(error) => {
+            let _ = write!(line, "error {error}");
+        }
+    }
+}
