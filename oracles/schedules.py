@@ -325,7 +325,7 @@ def play(name, count, moves, start):
 
 
 def main():
-    print('# crates: cluster desk')
+    print('# crates: test_cluster')
     print('# Schedules that are drawn from start values. `oracles/schedules.py` says how, and computes what they come to.')
     for title, commands in [('three nodes and a dishonest member', COMMANDS), ('two nodes and two dishonest members', BROKEN)]:
         print('\n== ' + title)
