@@ -3,6 +3,7 @@ use Rattle.std.specs.Prelude.{◌≡◌, ◌⊎◌, ℕ, List, [], ◌∷◌, �
 use Rattle.book.specs.Book.{Run, Stands, history_in, releasable}
 use Rattle.desk.specs.AtWorld.{IsAt}
 use Rattle.desk.specs.Desk as desk
+use Rattle.journal.specs.Journal.{disk_of}
 use Rattle.spec_laws.specs.Laws.{Begins}
 use Rattle.spec_model.specs.Holdings.{order}
 use Rattle.spec_model.specs.Nodes.{Node, IsNode}
@@ -42,6 +43,10 @@ pub record StandsAt {S D : Type 0} (node : Node) (content : D → List ℕ) (out
   pub run : IsRun node moves world
   pub at : (one : desk.Shown S D) → member.desk ≡ Some one → IsAt node content outcome world one
   pub out : HasPutOut node world member.out
+
+-- A member was opened on a disk, by what can be told of that: its desk's disk has counted as many failures.
+abbrev pub IsOn : {S D : Type 0} → (D → ℕ) → D → Kept S D → Type 0
+IsOn {S} {D} faults disk member = (one : desk.Shown S D) → member.desk ≡ Some one → faults (disk_of one.journal) ≡ faults disk
 
 -- a member proposes a header, or none: what its node proposes behind all that it accepted
 pub record Proposes {S D : Type 0} (node : Node) (member : Kept S D) (found : Option Header) : Type 0 where

@@ -54,7 +54,7 @@ impl<'a, S: Sign, D: StopDisk + Drop, V: Verify + Drop> Cluster<'a, S, D, V> {
     ghost use Rattle.validator.specs.Setting.{node_of};
     ghost use Rattle.cluster.specs.Answers.{TakesIn, MakesRound, IsDeviceFault, HasFailed, Stops, Makes, MakesSome, IsJournal, IsJournalFault, IsLost};
     ghost use Rattle.cluster.specs.Applying.{IsApplied};
-    ghost use Rattle.cluster.specs.Member.{Kept, StandsAt, Proposes};
+    ghost use Rattle.cluster.specs.Member.{Kept, StandsAt, IsOn, Proposes};
     ghost use Rattle.cluster.specs.Cluster.{named, at, has_member, message_at, IsThere, Does, Moved, MovedSome, MovesOne, LacksNode, LacksOutput, IsStopOf, AreOfOne, AreDistinct, actor};
     ghost use Rattle.cluster.specs.Threads.{HasRun};
     ghost use Rattle.cluster.specs.declared.moves.Applied.{Applied};
@@ -80,6 +80,8 @@ impl<'a, S: Sign, D: StopDisk + Drop, V: Verify + Drop> Cluster<'a, S, D, V> {
         ensures runs { IfOk result (λ cluster. All (λ member. IsRun (node_of S.own_key S.signature_of member.setting) [] (run_on (first_bytes (node_of S.own_key S.signature_of member.setting)) [] [])) cluster.members) }
         ensures begins { IfOk result (λ cluster. All (λ member. StandsAt (node_of S.own_key S.signature_of member.setting) D.content D.outcome (run_on (first_bytes (node_of S.own_key S.signature_of member.setting)) [] []) member) cluster.members) }
         ensures up { IfOk result (λ cluster. All (λ member. member.desk ≢ None) cluster.members) }
+        // Each has the disk at its place.
+        ensures disks { IfOk result (λ cluster. AllZip (IsOn D.faults) disks.items cluster.members) }
         // An empty disk is refused for want of memory or a fault alone.
         ensures errors { IfErr result (λ error. (error ≡ ClusterError.Memory) ⊎ IsJournalFault error) }
     {

@@ -54,7 +54,7 @@ impl<'a, S: Sign, D: StopDisk> Member<'a, S, D> {
     ghost use Rattle.validator.specs.Setting.{node_of};
     ghost use Rattle.desk.specs.Desk.{Shown};
     ghost use Rattle.cluster.specs.Answers.{TakesIn, MakesRound, IsDeviceFault, HasFailed, Stops, Makes, MakesSome, IsJournal, IsJournalFault, IsLost};
-    ghost use Rattle.cluster.specs.Member.{StandsAt, Proposes};
+    ghost use Rattle.cluster.specs.Member.{StandsAt, IsOn, Proposes};
     ghost use Rattle.cluster.specs.declared.moves.Applied.{Applied};
 
     /// Opens a node on a disk. It gave nothing out.
@@ -73,6 +73,7 @@ impl<'a, S: Sign, D: StopDisk> Member<'a, S, D> {
         ensures begins { IfOk result (λ member. D.content disk ≡ [] → StandsAt (node_of S.own_key S.signature_of config.now) D.content D.outcome (run_on (first_bytes (node_of S.own_key S.signature_of config.now)) [] []) member) }
         ensures runs { IfOk result (λ member. IsRun (node_of S.own_key S.signature_of member.setting) [] (run_on (first_bytes (node_of S.own_key S.signature_of member.setting)) [] [])) }
         ensures up { IfOk result (λ member. member.desk ≢ None) }
+        ensures disk { IfOk result (λ member. IsOn D.faults disk member) }
         ensures errors { IfErr result (λ error. D.content disk ≡ [] → IsJournalFault error) }
         ensures journal { IfErr result IsJournal }
     {

@@ -1,6 +1,6 @@
-use Rattle.std.proofs.Common.{◌≡◌, ◌≢◌, ◌+◌, ◌<◌, suc, inr, None, List, [], ◌∷◌, ◌++◌, length, map, take, sym, ap, ◌∙◌, subst, arith}
+use Rattle.std.proofs.Common.{◌≡◌, ◌≢◌, ◌+◌, ◌<◌, suc, inr, None, List, [], ◌∷◌, ◌++◌, length, map, take, drop, get_or, sym, ap, ◌∙◌, subst, arith, take-suc, drop-drop, get_or-drop, length-drop}
 use Rattle.std.specs.Prelude.{All}
-use Rattle.std.proofs.Math.Seq.{take-suc}
+use Rattle.std.specs.List.{AllZip}
 use Rattle.std.proofs.lemmas.List.{map-append}
 use Rattle.std.proofs.lemmas.List.Elements.{All-push, All-drop}
 use Rattle.std.proofs.lemmas.Result.{err_from_is_err_and}
@@ -8,7 +8,8 @@ use Rattle.spec_world.specs.Runs.{first_bytes}
 use Rattle.spec_world.specs.Steps.{IsRun}
 use Rattle.spec_world.specs.World.{run_on}
 use Rattle.validator.specs.Setting.{Setting, node_of}
-use Rattle.cluster.specs.Member.{Kept, StandsAt}
+use Rattle.cluster.specs.Member.{Kept, StandsAt, IsOn}
+use Rattle.cluster.proofs.Running.{zip_more}
 use Rattle.cluster.proofs.cluster.Cluster.new.Goals as goal
 
 pub returns-in_err-open-clause-errors : goal.returns-in_err-open-clause-errors
@@ -32,7 +33,17 @@ loop-config-preserved g c =
     let some : 0 < length disks = omega (arith, so_far.rest, c.loop-config.disks.ok.0) in
     let empty = ap g.D.Disk.content c.remove.ensures.value ∙ so_far.empty 0 c.remove.result some in
     let begins = subst (λ (s : Setting g.row.S.Denot). StandsAt (node_of g.S.Sign.own_key g.S.Sign.signature_of s) g.D.Disk.content g.D.Disk.outcome (run_on (first_bytes (node_of g.S.Sign.own_key g.S.Sign.signature_of s)) [] []) member) (sym c.in_ok-open.ensures.setting) (c.in_ok-open.ensures.begins empty) in
+    let all = c.args.disks.items in
+    let place = c.loop-config.config-index in
+    let within : place < length all = omega (arith, some, ap length so_far.left, length-drop place all) in
+    let here : c.remove.result ≡ get_or all (place + 0) c.remove.result = c.remove.ensures.value ∙ ap (λ (l : List g.row.D.Denot). get_or l 0 c.remove.result) so_far.left ∙ get_or-drop place all 0 c.remove.result in
+    let there : c.remove.result ≡ get_or all place c.remove.result = here ∙ ap (λ n. get_or all n c.remove.result) (omega arith) in
+    let one_more : take (place + 1) all ≡ take place all ++ c.remove.result ∷ [] = ap (λ n. take n all) (sym number) ∙ take-suc all place c.remove.result within ∙ ap (λ (d : g.row.D.Denot). take place all ++ d ∷ []) (sym there) in
     record {
+      disks = subst (λ (l : List g.row.D.Denot). AllZip (IsOn g.D.Disk.faults) l c.push_reserved.new.self.items) (sym one_more)
+          (subst (λ (l : List (Kept g.row.S.Denot g.row.D.Denot)). AllZip (IsOn g.D.Disk.faults) (take place all ++ c.remove.result ∷ []) l) (sym items)
+          (zip_more (IsOn g.D.Disk.faults) (take place all) c.loop-config.members.items c.remove.result member so_far.disks c.in_ok-open.ensures.disk));
+      left = c.remove.ensures.items ∙ ap (drop 1) so_far.left ∙ drop-drop 1 place all;
       settings = ap (map (λ (m : Kept g.row.S.Denot g.row.D.Denot). m.setting)) items ∙ map-append (λ (m : Kept g.row.S.Denot g.row.D.Denot). m.setting) c.loop-config.members.items (member ∷ [])
           ∙ (λ i. so_far.settings i ++ own i ∷ []) ∙ sym more ∙ ap (λ n. take n c.args.configs.now) number;
       runs = subst (All (λ (m : Kept g.row.S.Denot g.row.D.Denot). IsRun (node_of g.S.Sign.own_key g.S.Sign.signature_of m.setting) [] (run_on (first_bytes (node_of g.S.Sign.own_key g.S.Sign.signature_of m.setting)) [] []))) (sym items) (All-push (λ (m : Kept g.row.S.Denot g.row.D.Denot). IsRun (node_of g.S.Sign.own_key g.S.Sign.signature_of m.setting) [] (run_on (first_bytes (node_of g.S.Sign.own_key g.S.Sign.signature_of m.setting)) [] [])) c.loop-config.members.items member so_far.runs c.in_ok-open.ensures.runs);
