@@ -5,7 +5,7 @@ pub mod Counting
 pub mod Members
 pub mod Places
 pub mod Sending
-pub mod Running
+pub mod Acting
 pub mod InTurn
 pub mod Fairness
 pub mod Following

@@ -4,7 +4,7 @@ use crate::delivering::message_in;
 use crate::error::ClusterError;
 use crate::member::Member;
 use crate::moves::{Applied, Move};
-use crate::office::run_members;
+use crate::running::run_members;
 use diskmodel::{Gate, StopDisk};
 use sigface::{Sign, Verify};
 use std::alloc::Global;

@@ -7,8 +7,8 @@ ghost use Rattle.cluster.specs.Threads.{HasRun};
 
 use crate::delivering::message_in;
 use crate::error::ClusterError;
-use crate::letters::{Letter, Letterbox};
 use crate::member::Member;
+use crate::routing::{Envelope, Inbox};
 use crossbeam_channel::Sender;
 use diskmodel::{Gate, StopDisk};
 use sigface::{Sign, Verify};
@@ -20,7 +20,7 @@ pub(crate) struct Worker<'a, S: Sign, D: StopDisk, G> {
     place: usize,
     pub(crate) member: Member<'a, S, D>,
     gate: G,
-    router: Sender<Letter>,
+    router: Sender<Envelope>,
     sent: u64,
 }
 
@@ -42,7 +42,7 @@ impl<'a, S: Sign, D: StopDisk + Drop, G: Gate + Drop> Worker<'a, S, D, G> {
         place: usize,
         member: Member<'a, S, D>,
         gate: G,
-        router: Sender<Letter>,
+        router: Sender<Envelope>,
     ) -> Worker<'a, S, D, G>
         ensures { result.member ≡ member.entry }
     {
@@ -69,13 +69,13 @@ impl<'a, S: Sign, D: StopDisk + Drop, G: Gate + Drop> Worker<'a, S, D, G> {
         mut self,
         rt: &R,
         verifier: &V,
-        letterbox: &Letterbox,
+        inbox: &Inbox,
         turns: u64,
     ) -> Result<Member<'a, S, D>, ClusterError>
         ensures { IfOk result (λ later. HasRun (node_of S.own_key S.signature_of) D.content D.outcome (V.accepts verifier.now) self.entry.member later) }
     {
         'turns: for _ in 0..turns {
-            self.turn(rt, verifier, letterbox)?;
+            self.turn(rt, verifier, inbox)?;
         }
         let Worker {
             place: _,
@@ -92,12 +92,12 @@ impl<'a, S: Sign, D: StopDisk + Drop, G: Gate + Drop> Worker<'a, S, D, G> {
         &mut self,
         rt: &R,
         verifier: &V,
-        letterbox: &Letterbox,
+        inbox: &Inbox,
     ) -> Result<(), ClusterError>
         ensures { OnOk result (HasRun (node_of S.own_key S.signature_of) D.content D.outcome (V.accepts verifier.now) self.old.member self.new.member) }
     {
         self.gate.pass();
-        take_all(&mut self.member, verifier, letterbox.take(rt))?;
+        take_all(&mut self.member, verifier, inbox.take(rt))?;
         make_round(&mut self.member)?;
         self.send_new(rt)
     }
@@ -124,7 +124,7 @@ impl<'a, S: Sign, D: StopDisk + Drop, G: Gate + Drop> Worker<'a, S, D, G> {
         };
         match self
             .router
-            .send(rt, Letter::new(self.member.own(), output, message))
+            .send(rt, Envelope::new(self.member.own(), output, message))
         {
             Ok(()) => Ok(()),
             Err(_) => Err(ClusterError::Memory),
@@ -136,12 +136,12 @@ impl<'a, S: Sign, D: StopDisk + Drop, G: Gate + Drop> Worker<'a, S, D, G> {
 fn take_all<S: Sign, D: StopDisk, V: Verify>(
     member: &mut Member<'_, S, D>,
     verifier: &V,
-    letters: Vec<Letter>,
+    envelopes: Vec<Envelope>,
 ) -> Result<(), ClusterError>
     ensures { OnOk result (HasRun (node_of S.own_key S.signature_of) D.content D.outcome (V.accepts verifier.now) member.old member.new) }
 {
-    'letters: for letter in letters {
-        take_one(member, verifier, letter)?;
+    'envelopes: for envelope in envelopes {
+        take_one(member, verifier, envelope)?;
     }
     Ok(())
 }
@@ -149,14 +149,14 @@ fn take_all<S: Sign, D: StopDisk, V: Verify>(
 fn take_one<S: Sign, D: StopDisk, V: Verify>(
     member: &mut Member<'_, S, D>,
     verifier: &V,
-    letter: Letter,
+    envelope: Envelope,
 ) -> Result<(), ClusterError>
     ensures { OnOk result (HasRun (node_of S.own_key S.signature_of) D.content D.outcome (V.accepts verifier.now) member.old member.new) }
 {
     if !member.is_there() {
         return Ok(());
     }
-    member.take_in(verifier, letter.sender, letter.message)?;
+    member.take_in(verifier, envelope.sender, envelope.message)?;
     Ok(())
 }
 

@@ -1,6 +1,6 @@
 use Rattle.std.proofs.Common.{List, [], ◌∷◌, ◌++◌, sym, ap, ◌∙◌, subst}
 use Rattle.std.specs.List.{AllZip}
-use Rattle.cluster.proofs.Running.{zip_more}
+use Rattle.cluster.proofs.Acting.{zip_more}
 use Rattle.cluster.proofs.threads.+run_each.Goals as goal
 
 pub returns : goal.returns

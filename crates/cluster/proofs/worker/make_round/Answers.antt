@@ -1,6 +1,6 @@
 use Rattle.validator.specs.Setting.{node_of}
 use Rattle.cluster.specs.Threads.{round}
-use Rattle.cluster.proofs.Running.{one_run}
+use Rattle.cluster.proofs.Acting.{one_run}
 use Rattle.cluster.proofs.worker.make_round.Goals as goal
 
 pub returns : goal.returns

@@ -9,7 +9,7 @@ use Rattle.spec_world.specs.Steps.{IsRun}
 use Rattle.spec_world.specs.World.{run_on}
 use Rattle.validator.specs.Setting.{Setting, node_of}
 use Rattle.cluster.specs.Member.{Kept, StandsAt, IsOn}
-use Rattle.cluster.proofs.Running.{zip_more}
+use Rattle.cluster.proofs.Acting.{zip_more}
 use Rattle.cluster.proofs.cluster.Cluster.new.Goals as goal
 
 pub returns-in_err-open-clause-errors : goal.returns-in_err-open-clause-errors

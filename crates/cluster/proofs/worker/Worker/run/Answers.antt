@@ -1,5 +1,5 @@
 use Rattle.validator.specs.Setting.{node_of}
-use Rattle.cluster.proofs.Running.{run_on}
+use Rattle.cluster.proofs.Acting.{run_on}
 use Rattle.cluster.proofs.worker.Worker.run.Goals as goal
 
 pub turns-preserved : goal.turns-preserved

@@ -2,7 +2,7 @@ use Rattle.std.proofs.Common.{sym, subst}
 use Rattle.validator.specs.Setting.{node_of}
 use Rattle.cluster.specs.Member.{Kept}
 use Rattle.cluster.specs.Threads.{HasRun}
-use Rattle.cluster.proofs.Running.{on_ok, run_on}
+use Rattle.cluster.proofs.Acting.{on_ok, run_on}
 use Rattle.cluster.proofs.worker.Worker.turn.Goals as goal
 
 pub returns : goal.returns

@@ -4,8 +4,8 @@ use Rattle.validator.specs.Setting.{node_of}
 use Rattle.cluster.specs.Member.{Kept}
 use Rattle.cluster.specs.Threads.{HasRun}
 use Rattle.cluster.specs.declared.worker.Worker.{Worker}
-use Rattle.cluster.proofs.Running.{if_ok_more, gathered}
-use Rattle.cluster.proofs.office.run_members.Goals as goal
+use Rattle.cluster.proofs.Acting.{if_ok_more, gathered}
+use Rattle.cluster.proofs.running.run_members.Goals as goal
 
 pub returns : goal.returns
 returns g c =

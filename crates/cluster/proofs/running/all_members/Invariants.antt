@@ -1,6 +1,6 @@
 use Rattle.std.proofs.Common.{◌≡◌, Ok}
 use Rattle.std.specs.List.{AllZip}
-use Rattle.cluster.proofs.office.all_members.Given as goal
+use Rattle.cluster.proofs.running.all_members.Given as goal
 
 -- those so far ended well
 abbrev pub invariant-ended : goal.invariant-ended

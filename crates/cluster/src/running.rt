@@ -5,8 +5,8 @@ ghost use Rattle.std.specs.List.{AllZip};
 ghost use Rattle.validator.specs.Setting.{node_of};
 ghost use Rattle.cluster.specs.Threads.{HasRun};
 
-use crate::letters::{Letter, Letterbox, route};
 use crate::member::Member;
+use crate::routing::{Envelope, Inbox, route};
 use crate::threads::{Runner, run_in_threads};
 use crate::worker::Worker;
 use crossbeam_channel::{Sender, unbounded};
@@ -16,17 +16,17 @@ use std::alloc::{AllocError, Global};
 use std::sync::Wait;
 use std::thread::Threads;
 
-// What all threads share: the boxes in the order of the members, and how many turns each makes.
+// What all threads share: the inboxes in the order of the members, and how many turns each makes.
 #[derive(Drop)]
-struct Office<'o, R, V> {
+struct Shared<'o, R, V> {
     rt: &'o R,
     verifier: &'o V,
-    boxes: &'o [Letterbox],
+    inboxes: &'o [Inbox],
     turns: u64,
 }
 
 impl<'o, 'a, R, S, D, V, G> Runner<R, Worker<'a, S, D, G>, Result<Member<'a, S, D>, AllocError>>
-    for Office<'o, R, V>
+    for Shared<'o, R, V>
 where
     R: Wait,
     S: Sign,
@@ -38,13 +38,13 @@ where
     ghost use Rattle.validator.specs.Setting.{node_of};
     ghost use Rattle.cluster.specs.Threads.{HasRun};
 
-    ghost ran = { λ office worker ended. IfOk ended (λ later. HasRun (node_of S.own_key S.signature_of) D.content D.outcome (V.accepts office.verifier.now) worker.member later) };
+    ghost ran = { λ shared worker ended. IfOk ended (λ later. HasRun (node_of S.own_key S.signature_of) D.content D.outcome (V.accepts shared.verifier.now) worker.member later) };
 
     fn run(&self, worker: Worker<'a, S, D, G>) -> Result<Member<'a, S, D>, AllocError> {
-        let Some(letterbox) = self.boxes.get(worker.place()) else {
+        let Some(inbox) = self.inboxes.get(worker.place()) else {
             return Err(AllocError);
         };
-        match worker.run(self.rt, self.verifier, letterbox, self.turns) {
+        match worker.run(self.rt, self.verifier, inbox, self.turns) {
             Ok(member) => Ok(member),
             Err(_) => Err(AllocError),
         }
@@ -70,29 +70,35 @@ where
     requires gates { vec_len gates ≡ vec_len members }
     ensures { IfOk result (λ later. AllZip (HasRun (node_of S.own_key S.signature_of) D.content D.outcome (V.accepts verifier.now)) members.entry.items later.items) }
 {
-    let boxes = boxes_of(alloc, &members)?;
-    let (router, letters) = unbounded(alloc)?;
+    let inboxes = inboxes_of(alloc, &members)?;
+    let (router, envelopes) = unbounded(alloc)?;
     let workers = workers_of(alloc, members, gates, router)?;
-    let office = Office {
+    let shared = Shared {
         rt,
         verifier,
-        boxes: &boxes,
+        inboxes: &inboxes,
         turns,
     };
-    let ended = run_in_threads(rt, alloc, &office, workers, || route(rt, letters, &boxes))?;
+    let ended = run_in_threads(
+        rt,
+        alloc,
+        &shared,
+        workers,
+        || route(rt, envelopes, &inboxes),
+    )?;
     all_members(alloc, ended)
 }
 
 // A box for each member.
-fn boxes_of<S: Sign, D: StopDisk>(
+fn inboxes_of<S: Sign, D: StopDisk>(
     alloc: Global,
     members: &[Member<'_, S, D>],
-) -> Result<Vec<Letterbox>, AllocError> {
-    let mut boxes = Vec::new(alloc);
+) -> Result<Vec<Inbox>, AllocError> {
+    let mut inboxes = Vec::new(alloc);
     for member in members {
-        boxes.push(Letterbox::new(alloc, member.own()))?;
+        inboxes.push(Inbox::new(alloc, member.own()))?;
     }
-    Ok(boxes)
+    Ok(inboxes)
 }
 
 // The members, each with its place, its gate and a way to the router.
@@ -100,7 +106,7 @@ fn workers_of<'a, S: Sign, D: StopDisk + Drop, G: Gate + Drop>(
     alloc: Global,
     members: Vec<Member<'a, S, D>>,
     gates: Vec<G>,
-    router: Sender<Letter>,
+    router: Sender<Envelope>,
 ) -> Result<Vec<Worker<'a, S, D, G>>, AllocError>
     requires gates { vec_len gates ≡ vec_len members }
     ensures { IfOk result (λ workers. map (λ worker. worker.member) workers.items ≡ members.entry.items) }

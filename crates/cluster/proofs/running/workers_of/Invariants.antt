@@ -1,6 +1,6 @@
 use Rattle.std.proofs.Common.{◌≡◌, ◌+◌, ◌++◌, map}
 use Rattle.std.specs.Prelude.{vec_len}
-use Rattle.cluster.proofs.office.workers_of.Given as goal
+use Rattle.cluster.proofs.running.workers_of.Given as goal
 
 -- the first members have theirs
 abbrev pub invariant-places : goal.invariant-places

@@ -5,8 +5,8 @@ use Rattle.std.specs.declared.alloc.AllocError.{AllocError}
 use Rattle.std.proofs.lemmas.Iterator.Consumers.{YieldsList-end}
 use Rattle.std.proofs.lemmas.Iterator.Adapters.{YieldsList-from_vec}
 use Rattle.cluster.specs.Member.{Kept}
-use Rattle.cluster.proofs.Running.{zip_more}
-use Rattle.cluster.proofs.office.all_members.Goals as goal
+use Rattle.cluster.proofs.Acting.{zip_more}
+use Rattle.cluster.proofs.running.all_members.Goals as goal
 
 pub ended-preserved : goal.ended-preserved
 ended-preserved g c =

@@ -1,0 +1,104 @@
+//! Messages on their way from one node's thread to another's: the router, and the inboxes that it fills.
+
+use crate::delivering::{message_again, receiver_of};
+use crossbeam_channel::Receiver;
+use std::alloc::{AllocError, Global};
+use std::mem;
+use std::sync::{Mutex, Wait};
+use wire::{Author, Message, Output};
+
+/// A message on its way.
+#[derive(Drop)]
+pub(crate) struct Envelope {
+    pub(crate) sender: Author,
+    /// None where it is for all others.
+    receiver: Option<Author>,
+    pub(crate) message: Message,
+}
+
+impl Envelope {
+    /// A message that is an output of this sender.
+    pub(crate) fn new(sender: Author, output: &Output, message: Message) -> Envelope {
+        Envelope {
+            sender,
+            receiver: receiver_of(output),
+            message,
+        }
+    }
+
+    fn is_for(&self, node: Author) -> bool {
+        match self.receiver {
+            Some(receiver) => receiver == node,
+            None => self.sender != node,
+        }
+    }
+
+    // The envelope once more.
+    fn again(&self) -> Result<Envelope, AllocError> {
+        Ok(Envelope {
+            sender: self.sender,
+            receiver: self.receiver,
+            message: message_again(&self.message)?,
+        })
+    }
+}
+
+/// What has come for a node and was not yet taken.
+pub(crate) struct Inbox {
+    alloc: Global,
+    owner: Author,
+    envelopes: Mutex<Vec<Envelope>>,
+}
+
+impl Drop for Inbox {
+    fn drop(self) {
+        let Inbox {
+            alloc: _,
+            owner: _,
+            envelopes: _,
+        } = self;
+    }
+}
+
+impl Inbox {
+    /// Nothing has come for this node.
+    pub(crate) fn new(alloc: Global, owner: Author) -> Inbox {
+        Inbox {
+            alloc,
+            owner,
+            envelopes: Mutex::new(Vec::new(alloc)),
+        }
+    }
+
+    /// All that has come, in its order. The box is empty then.
+    pub(crate) fn take<R: Wait>(&self, rt: &R) -> Vec<Envelope> {
+        let mut envelopes = self.envelopes.lock(rt);
+        mem::replace(&mut *envelopes, Vec::new(self.alloc))
+    }
+
+    fn put<R: Wait>(&self, rt: &R, envelope: Envelope) -> Result<(), AllocError> {
+        self.envelopes.lock(rt).push(envelope)?;
+        Ok(())
+    }
+}
+
+/// Puts each envelope into the inboxes that it is for, until nobody can send one any more. `AllocError` where a growth was refused.
+pub(crate) fn route<R: Wait>(
+    rt: &R,
+    envelopes: Receiver<Envelope>,
+    inboxes: &[Inbox],
+) -> Result<(), AllocError> {
+    for envelope in envelopes.iter(rt) {
+        post(rt, &envelope, inboxes)?;
+    }
+    Ok(())
+}
+
+fn post<R: Wait>(rt: &R, envelope: &Envelope, inboxes: &[Inbox]) -> Result<(), AllocError> {
+    for inbox in inboxes {
+        if envelope.is_for(inbox.owner) {
+            inbox.put(rt, envelope.again()?)?;
+        }
+    }
+    Ok(())
+}
