@@ -13,7 +13,8 @@ the number of schedules before it. First the values of four coins are drawn, eac
 
 Each move draws its kind, below 64, and a node. Where a kind has nothing to do the node goes on (below), with the numbers drawn so far gone.
 
-    27  wanted    from the drawn node on, in turn, the first node that wants anything: one of what it wants is drawn, and given to it
+    27  wanted    from the drawn node on, in turn, the first node that wants anything: one of what it wants is drawn, and a number below 64.
+                  If that is 0 the delivery is lost: the node wants it no more, and goes on. Else it is given to the node
      8  any       a node is drawn, and one of its outputs: it is delivered to the first one drawn
     12  go on     from the drawn node on, the first that has anything pending, or is down, flushes; where there is none the first that
                   proposes a header is given it; where there is none the drawn node flushes
@@ -48,9 +49,10 @@ import collections
 import clusters
 import histories
 
-COMMANDS = [('schedules', 500, 400, 1), ('schedules', 500, 400, 501)]
-BROKEN = [('broken', 4, 4000, 1)]
-MEMBERS, WAVES, NEAR = 4, 4, 6
+# Each with how many schedules, how many moves, the start value, and the committee's depth. At depth 2 floors rise.
+COMMANDS = [('schedules', 500, 400, 1, 50), ('schedules', 500, 400, 501, 2)]
+BROKEN = [('broken', 4, 4000, 1, 50)]
+MEMBERS, WAVES, NEAR, LOST_ONE_OF = 4, 4, 6, 64
 BATCHES = 'xy'
 STILL_WANTED = ('refused 2 Down', 'refused 4 MissingParents', 'refused 5 MissingBatch')
 BAD_SIGNATURE = 'unchecked 4 BadSignature'
@@ -70,7 +72,7 @@ class Report:
 
     def __init__(self):
         self.counts, self.sum = collections.Counter(), histories.Sum()
-        self.growths, self.longest, self.grown, self.wrong = 0, 0, 0, 0
+        self.lost, self.growths, self.longest, self.grown, self.wrong = 0, 0, 0, 0, 0
 
     def count(self, kind, answer):
         self.sum.add(('%s: %s\n' % (kind, answer)).encode())
@@ -81,7 +83,8 @@ class Report:
         lines += ['%s %d' % one for one in sorted(self.counts.items())]
         stops = sum(count for line, count in self.counts.items() if line.endswith(': reopened'))
         equivocations = sum(count for line, count in self.counts.items() if line.endswith(': refused 6 Equivocation'))
-        lines += ['stops %d' % stops, 'equivocations %d' % equivocations, 'growths of orders %d' % self.growths]
+        lines += ['stops %d' % stops, 'equivocations %d' % equivocations, 'deliveries lost %d' % self.lost]
+        lines += ['growths of orders %d' % self.growths]
         lines += ['longest order %d' % self.longest, 'schedules with orders %d' % self.grown]
         return lines + ['sum %d' % self.sum.value, 'wrong %d' % self.wrong]
 
@@ -211,6 +214,10 @@ class Schedule:
         wishes = self.wishes[to]
         place = self.draws.below(len(wishes.wanted))
         item, content = wishes.wanted[place]
+        if self.draws.below(LOST_ONE_OF) == 0:
+            wishes.wanted.pop(place)
+            self.report.lost += 1
+            return self.go_on(to)
         answer = self.deliver('wanted', to, item, content)
         if answer not in STILL_WANTED:
             wishes.wanted.pop(place)
@@ -329,9 +336,10 @@ def main():
     print('# Schedules that are drawn from start values. `oracles/schedules.py` says how, and computes what they come to.')
     for title, commands in [('three nodes and a dishonest member', COMMANDS), ('two nodes and two dishonest members', BROKEN)]:
         print('\n== ' + title)
-        for name, count, moves, start in commands:
+        for name, count, moves, start, depth in commands:
+            clusters.DEPTH = depth
             report = play(name, count, moves, start)
-            print('%s %d %d %d' % (name, count, moves, start))
+            print('%s %d %d %d %d' % (name, count, moves, start, depth))
             print('\n'.join('> ' + line for line in report.lines(start)))
             assert (report.wrong > 0) == (commands is BROKEN)
 

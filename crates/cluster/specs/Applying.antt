@@ -67,7 +67,8 @@ abbrev pub NoneForged : {S D : Type 0} → spec.Cluster → List (Kept S D) → 
 NoneForged cluster members message = (vote : Signed) → Contains (signed_in message) vote → cluster.honest vote.signer.0 ≡ true
     → is_signed cluster.charter cluster.accepts vote.signer vote.digest vote.signature ≡ true → signed_by members vote.signer vote.digest ≡ true
 
--- of what is handed in from outside to an honest member, and passes the checks, no vote is forged, and a coin has its wave's one value
+-- of what is handed in from outside to an honest member, and passes the checks, no vote is forged, and a coin has its wave's one value,
+-- also where it is then refused
 abbrev pub IsFairMove : {S D : Type 0} → spec.Cluster → (ℕ → ℕ) → List (Kept S D) → Move → Type 0
 IsFairMove cluster value members step = (event : Event) → handed_in cluster members step ≡ Some event → cluster.honest (actor step).0 ≡ true
     → fault_of cluster.charter cluster.accepts event ≡ None → NoneForged cluster members event.message × HasCoin value event.message

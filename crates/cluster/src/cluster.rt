@@ -80,7 +80,7 @@ impl<'a, S: Sign, D: StopDisk + Drop, V: Verify + Drop> Cluster<'a, S, D, V> {
         ensures runs { IfOk result (λ cluster. All (λ member. IsRun (node_of S.own_key S.signature_of member.setting) [] (run_on (first_bytes (node_of S.own_key S.signature_of member.setting)) [] [])) cluster.members) }
         ensures begins { IfOk result (λ cluster. All (λ member. StandsAt (node_of S.own_key S.signature_of member.setting) D.content D.outcome (run_on (first_bytes (node_of S.own_key S.signature_of member.setting)) [] []) member) cluster.members) }
         ensures up { IfOk result (λ cluster. All (λ member. member.desk ≢ None) cluster.members) }
-        // Each has the disk at its place.
+        // Each has the disk at its place, as far as its count of failures tells.
         ensures disks { IfOk result (λ cluster. AllZip (IsOn D.faults) disks.items cluster.members) }
         // An empty disk is refused for want of memory or a fault alone.
         ensures errors { IfErr result (λ error. (error ≡ ClusterError.Memory) ⊎ IsJournalFault error) }
@@ -190,7 +190,9 @@ impl<'a, S: Sign, D: StopDisk + Drop, V: Verify + Drop> Cluster<'a, S, D, V> {
     /// is not sent. It returns once all threads have ended.
     ///
     /// # Errors
-    /// `Memory` where a growth was refused, or a thread; the cluster is gone then.
+    /// `Memory` where a thread was refused, or a growth outside a round; the cluster is gone then. A round that wants memory
+    /// settles nothing, and the next one tries again. The other threads still make their turns, so no gate may wait without
+    /// limit for another thread.
     pub fn run_threads<R, G>(
         self,
         rt: &R,

@@ -14,56 +14,49 @@ use schedule::{Honest, Schedule};
 use std::alloc::Global;
 use test_cases::{Told, bad};
 
-/// How many schedules are played, of how many moves each, and where they begin.
+/// How many schedules are played, of how many moves each, where they begin, and the depth of the committee.
 #[derive(Clone, Copy)]
 struct Task {
     count: u64,
     moves: u64,
     start: u64,
+    depth: u64,
 }
 
-/// `schedules COUNT MOVES START`, with as many dishonest members as are tolerated: tells what the moves come to.
-pub fn play_tolerated(
-    alloc: Global,
-    settings: &Settings,
-    words: &str,
-    answer: &mut String,
-) -> Told {
-    play_all(alloc, settings, Honest::Three, words, answer)
+/// `schedules COUNT MOVES START DEPTH`, with as many dishonest members as are tolerated: tells what the moves come to.
+pub fn play_tolerated(alloc: Global, words: &str, answer: &mut String) -> Told {
+    play_all(alloc, Honest::Three, words, answer)
 }
 
-/// `broken COUNT MOVES START`: the same with one more.
-pub fn play_broken(alloc: Global, settings: &Settings, words: &str, answer: &mut String) -> Told {
-    play_all(alloc, settings, Honest::Two, words, answer)
+/// `broken COUNT MOVES START DEPTH`: the same with one more.
+pub fn play_broken(alloc: Global, words: &str, answer: &mut String) -> Told {
+    play_all(alloc, Honest::Two, words, answer)
 }
 
-fn play_all(
-    alloc: Global,
-    settings: &Settings,
-    honest: Honest,
-    words: &str,
-    answer: &mut String,
-) -> Told {
+fn play_all(alloc: Global, honest: Honest, words: &str, answer: &mut String) -> Told {
     let Some(task) = task_of(words) else {
         bad(answer);
         return Ok(());
     };
+    let settings = Settings::of_depth(alloc, task.depth)?;
     let mut report = Report::new(alloc);
     for number in 0..task.count {
-        play(alloc, settings, honest, task, number, &mut report)?;
+        play(alloc, &settings, honest, task, number, &mut report)?;
     }
     report.tell(task.start, answer);
     Ok(())
 }
 
-/// `COUNT MOVES START`.
+/// `COUNT MOVES START DEPTH`.
 fn task_of(words: &str) -> Option<Task> {
     let (count, words) = words.split_once(' ')?;
-    let (moves, start) = words.split_once(' ')?;
+    let (moves, words) = words.split_once(' ')?;
+    let (start, depth) = words.split_once(' ')?;
     Some(Task {
         count: count.parse().ok()?,
         moves: moves.parse().ok()?,
         start: start.parse().ok()?,
+        depth: depth.parse().ok()?,
     })
 }
 

@@ -30,7 +30,12 @@ pub struct Settings {
 impl Settings {
     /// The settings of all members.
     pub fn new(alloc: Global) -> Result<Settings, AllocError> {
-        let file = committee_file(alloc, DEPTH, BATCHES)?;
+        Settings::of_depth(alloc, DEPTH)
+    }
+
+    /// Those of a committee of this depth.
+    pub fn of_depth(alloc: Global, depth: u64) -> Result<Settings, AllocError> {
+        let file = committee_file(alloc, depth, BATCHES)?;
         let configs = configs_of(alloc, file.as_str())?;
         Ok(Settings { configs })
     }

@@ -94,25 +94,24 @@ where
 }
 
 /// `circulate TURNS` gives node 0 its own header, which is not flushed, and lets four nodes run for so many turns, the others from
-/// node 0's second turn on. Tells how node 1 then takes that header.
+/// node 0's second turn on. Tells how each of these then takes that header.
 pub fn circulate<R>(rt: &R, alloc: Global, settings: &Settings, words: &str, answer: &mut String)
 where
     R: Threads + Wait + Sync,
 {
     let turns = words.parse().unwrap_or(0);
-    match taken_behind(rt, alloc, settings, turns) {
-        Ok(Applied::Took { ticket: _, new }) => put(answer, if new { "new\n" } else { "known\n" }),
-        Ok(_) => put(answer, "not taken\n"),
-        Err(error) => tell_error(answer, error),
+    if let Err(error) = tell_behind(rt, alloc, settings, turns, answer) {
+        tell_error(answer, error);
     }
 }
 
-fn taken_behind<R>(
+fn tell_behind<R>(
     rt: &R,
     alloc: Global,
     settings: &Settings,
     turns: u64,
-) -> Result<Applied, ClusterError>
+    answer: &mut String,
+) -> Result<(), ClusterError>
 where
     R: Threads + Wait + Sync,
 {
@@ -120,10 +119,20 @@ where
     let Some(header) = nodes.propose(Author(0))? else {
         return Err(ClusterError::NoSuchOutput);
     };
-    let again = header.try_clone()?;
-    give(&mut nodes, Author(0), header)?;
+    give(&mut nodes, Author(0), header.try_clone()?)?;
     let mut nodes = run_behind(rt, alloc, nodes, turns)?;
-    give(&mut nodes, Author(1), again)
+    for node in 1..4 {
+        let taken = give(&mut nodes, Author(node), header.try_clone()?)?;
+        tell_taken(answer, taken);
+    }
+    Ok(())
+}
+
+fn tell_taken(answer: &mut String, taken: Applied) {
+    match taken {
+        Applied::Took { ticket: _, new } => put(answer, if new { "new\n" } else { "known\n" }),
+        _ => put(answer, "not taken\n"),
+    }
 }
 
 // Runs four nodes, the others from node 0's second turn on.

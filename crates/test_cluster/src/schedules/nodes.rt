@@ -9,6 +9,9 @@ use std::alloc::AllocError;
 use validator::Refusal;
 use wire::{Author, Coin, Header, Message, Wave};
 
+/// Of so many deliveries that are wanted one is lost.
+const LOST_ONE_OF: u64 = 64;
+
 /// The calls of a round that fail, and how a failure is told.
 const CALLS: [(CallKind, u64, &str); 4] = [
     (CallKind::Write, 1, "fault write 1"),
@@ -57,6 +60,11 @@ impl<'a> Schedule<'a> {
         let Some(item) = self.known.wanted(to, wanted) else {
             return self.go_on(to);
         };
+        if self.draws.below(LOST_ONE_OF) == 0 {
+            self.known.answered(to, wanted, false);
+            self.lost = self.lost.saturating_add(1);
+            return self.go_on(to);
+        }
         let answered = self.give_item("wanted", to, item)?;
         if !is_still_wanted(&answered) {
             let refused = !matches!(answered.outcome, Ok(Applied::Took { .. }));

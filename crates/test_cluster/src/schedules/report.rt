@@ -19,6 +19,7 @@ pub struct Report {
     sum: u64,
     stops: u64,
     equivocations: u64,
+    lost: u64,
     growths: u64,
     longest: usize,
     grown: u64,
@@ -35,6 +36,7 @@ impl Report {
             sum: 14_695_981_039_346_656_037,
             stops: 0,
             equivocations: 0,
+            lost: 0,
             growths: 0,
             longest: 0,
             grown: 0,
@@ -87,6 +89,7 @@ impl Report {
 
     /// Counts what a schedule came to.
     pub fn end(&mut self, schedule: &Schedule<'_>) {
+        self.lost = self.lost.saturating_add(schedule.lost);
         let mut any = false;
         for node in 0..schedule.honest.count() {
             let order = schedule.order(Author(node));
@@ -109,6 +112,7 @@ impl Report {
         }
         tell_count(answer, "stops", self.stops);
         tell_count(answer, "equivocations", self.equivocations);
+        tell_count(answer, "deliveries lost", self.lost);
         tell_count(answer, "growths of orders", self.growths);
         tell_count(answer, "longest order", self.longest as u64);
         tell_count(answer, "schedules with orders", self.grown);

@@ -59,6 +59,8 @@ pub struct Schedule<'a> {
     pub batches: Vec<Batch>,
     pub headers: Headers,
     pub known: Known,
+    /// How many deliveries were lost.
+    pub lost: u64,
 }
 
 impl<'a> Schedule<'a> {
@@ -88,6 +90,7 @@ impl<'a> Schedule<'a> {
             batches: batches(alloc)?,
             headers: Headers::new(alloc),
             known: Known::new(alloc),
+            lost: 0,
         })
     }
 
