@@ -3,13 +3,13 @@ use Rattle.std.proofs.Common.{◌≡◌, ℕ, suc, ◌≤◌, true, List, [], �
 use Rattle.std.specs.Prelude.{option_map}
 use Rattle.std.specs.Option.{option_map_or}
 use Rattle.std.proofs.lemmas.List.{append-nil}
-use Rattle.spec_model.specs.Histories.{History, coins}
+use Rattle.spec_model.specs.Histories.{History, coins, Begins}
 use Rattle.spec_model.specs.Holdings.{ledger_of, ledger_at, slots, order}
 use Rattle.spec_model.specs.Nodes.{Node}
 use Rattle.spec_model.specs.Ordering.{Ledger, is_directly_committed, top, last_wave, chain, segments}
 use Rattle.spec_model.specs.Slots.{Slots}
 use Rattle.spec_model.specs.Words.{Certificate, Digest}
-use Rattle.spec_laws.specs.Laws.{Begins, last_or, committed_at}
+use Rattle.spec_laws.specs.Laws.{last_or, committed_at}
 use Rattle.spec_laws.proofs.Growing.{AreInPlace, grown}
 use Rattle.spec_laws.proofs.Lists.{given_or_none}
 use Rattle.spec_laws.proofs.OrderLonger.{is_top_of}

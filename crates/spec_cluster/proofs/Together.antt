@@ -10,12 +10,11 @@ use Rattle.spec_accord.specs.Members.{Signed, signed_in, IsParty, HasCoins}
 use Rattle.spec_accord.proofs.Agreeing.{orders_agree}
 use Rattle.spec_accord.proofs.CoinsAgree.{coins_agree}
 use Rattle.spec_accord.proofs.OneHeader.{headers_agree}
-use Rattle.spec_laws.specs.Laws.{Begins}
 use Rattle.spec_laws.proofs.Closed.{kept_slot}
 use Rattle.spec_laws.proofs.InSlots.{in_slots}
 use Rattle.spec_laws.proofs.Legal.{legal-begins, legal-grows}
 use Rattle.spec_model.specs.Admitting.{IsLegal}
-use Rattle.spec_model.specs.Histories.{History}
+use Rattle.spec_model.specs.Histories.{History, Begins}
 use Rattle.spec_model.specs.Holdings.{order, slots}
 use Rattle.spec_model.specs.Nodes.{Node}
 use Rattle.spec_model.specs.Words.{Certificate, Digest, Event}

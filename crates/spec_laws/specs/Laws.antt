@@ -5,7 +5,7 @@ use Rattle.wire.specs.declared.message.Message.TheVariants as message
 use Rattle.header.specs.Checks.{Accepts, fault_of, accepts_all}
 use Rattle.spec_model.specs.Admitting.{admit, header_outputs, IsTaken, IsLegal}
 use Rattle.spec_model.specs.Giving.{MayGive}
-use Rattle.spec_model.specs.Histories.{History, batches, acks, headers, votes, received, coins, as_batch, as_ack, as_header, as_vote, as_certificate, as_coin}
+use Rattle.spec_model.specs.Histories.{History, Begins, batches, acks, headers, votes, received, coins, as_batch, as_ack, as_header, as_vote, as_certificate, as_coin}
 use Rattle.spec_model.specs.Holdings.{batch_digest, batch_at, is_vote_on, voted_header, counted_vote, completed, certificates, slots, ledger_of, ledger_at, order, own_vote, floor, is_full, all_held}
 use Rattle.spec_model.specs.Nodes.{Node, IsNode, AreTied}
 use Rattle.spec_model.specs.Ordering.{Ledger, leader, has_support, is_directly_committed, top, committed, newer, last_wave, segment, segments, floor_by}
@@ -80,11 +80,6 @@ PutsOutGiven node history event (Refused refusal) = ⊤
 -- what each answer puts out may be given out, at legal histories or not
 abbrev pub OutputsGiven : Type 0
 OutputsGiven = (node : Node) (history : History) (event : Event) → PutsOutGiven node history event (admit node history event)
-
--- one list is a beginning of another
-pub record Begins {X : Type 0} (one other : List X) : Type 0 where
-  pub rest : List X
-  pub parts : other ≡ one ++ rest
 
 -- the order of a legal history begins that of each history that it begins
 abbrev pub OrderGrows : Type 0

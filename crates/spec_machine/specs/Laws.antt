@@ -2,10 +2,10 @@
 use Rattle.std.specs.Prelude.{◌≡◌, ◌<◌, ◌≤◌, ◌⊎◌, ℕ, Bool, not, true, false, IsTrue, List, [], ◌∷◌, ◌++◌, ◌+◌, length, drop, filter, flat_map, nat_lt, nat_le, ⊤, Option, Some, None, if◌then◌else◌}
 use Rattle.wire.specs.declared.limits.TheConstants.{MAX_ORDER_DIGESTS}
 use Rattle.wire.specs.declared.output.Output.TheVariants as output
-use Rattle.spec_laws.specs.Laws.{Begins, HoldsFrom, SayTheSame, ordered_since, own_event}
+use Rattle.spec_laws.specs.Laws.{HoldsFrom, SayTheSame, ordered_since, own_event}
 use Rattle.spec_model.specs.Admitting.{admit, is_new, order_outputs, header_outputs, IsTaken, IsLegal}
 use Rattle.spec_model.specs.Giving.{kept}
-use Rattle.spec_model.specs.Histories.{History, batches, coins}
+use Rattle.spec_model.specs.Histories.{History, batches, coins, Begins}
 use Rattle.spec_model.specs.Holdings.{floor, round, is_low, has_acked, voted_digest, voted_header, counted_at, slots, ledger_of}
 use Rattle.spec_model.specs.Nodes.{Node, IsNode}
 use Rattle.spec_model.specs.Ordering.{last_wave}

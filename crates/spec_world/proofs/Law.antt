@@ -5,13 +5,12 @@ use Rattle.std.proofs.lemmas.Bool.{cases_lt}
 use Rattle.std.proofs.lemmas.Option.{none-some}
 use Rattle.std.proofs.lemmas.List.{append-nil}
 use Rattle.std.proofs.lemmas.List.Elements.{All-nil, All-contains}
-use Rattle.spec_laws.specs.Laws.{Begins}
 use Rattle.spec_laws.proofs.Given.{given_grows}
 use Rattle.spec_laws.proofs.Legal.{legal-begins}
 use Rattle.spec_laws.proofs.OrderGrows.{order_grows}
 use Rattle.spec_model.specs.Admitting.{IsTaken, IsLegal}
 use Rattle.spec_model.specs.Giving.{MayGive}
-use Rattle.spec_model.specs.Histories.{History}
+use Rattle.spec_model.specs.Histories.{History, Begins}
 use Rattle.spec_model.specs.Holdings.{order}
 use Rattle.spec_model.specs.Nodes.{Node, IsNode}
 use Rattle.spec_model.specs.Words.{Digest, Output}
@@ -31,12 +30,12 @@ pub record HasVote (node : Node) (history : History) (ballot : Ballot) : Type 0 
   pub may : MayGive node history output
   pub is : vote_in output ≡ Some ballot
 
-has_vote : (node : Node) (history : History) (outgoing : Outgoing) (ballot : Ballot) → IsEnded node history outgoing → vote_given outgoing ≡ Some ballot → HasVote node history ballot
+pub has_vote : (node : Node) (history : History) (outgoing : Outgoing) (ballot : Ballot) → IsEnded node history outgoing → vote_given outgoing ≡ Some ballot → HasVote node history ballot
 has_vote node history (put_out output) ballot ended is = record { output = output; may = ended.may; is = is }
 has_vote node history (read digests) ballot ended is = absurd (none-some ballot is)
 
 -- also at each legal history that goes on
-vote_later : (node : Node) (history later : History) (ballot : Ballot) → IsLegal node later → Begins history later → HasVote node history ballot → HasVote node later ballot
+pub vote_later : (node : Node) (history later : History) (ballot : Ballot) → IsLegal node later → Begins history later → HasVote node history ballot → HasVote node later ballot
 vote_later node history later ballot legal begins has = record {
   output = has.output;
   may = subst (λ h. MayGive node h has.output) (sym begins.parts) (given_grows order_grows node history begins.rest has.output (subst (IsLegal node) begins.parts legal) has.may);

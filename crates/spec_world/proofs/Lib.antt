@@ -11,3 +11,6 @@ pub mod Recovering
 pub mod Standing
 pub mod Groups
 pub mod Lasting
+mod Agreeing
+mod Filling
+pub mod Scripts

@@ -8,10 +8,9 @@ use Rattle.diskmodel.specs.declared.call.Call.{Call}
 use Rattle.diskmodel.specs.Outcomes.{State, state, firmed}
 use Rattle.diskmodel.proofs.Calls.{after_all-push}
 use Rattle.journal.specs.Format.{file_with}
-use Rattle.spec_laws.specs.Laws.{Begins}
 use Rattle.spec_laws.proofs.Legal.{legal-push}
 use Rattle.spec_model.specs.Admitting.{admit, is_new, IsTaken, IsLegal}
-use Rattle.spec_model.specs.Histories.{History}
+use Rattle.spec_model.specs.Histories.{History, Begins}
 use Rattle.spec_model.specs.Holdings.{order}
 use Rattle.spec_model.specs.Nodes.{Node}
 use Rattle.spec_model.specs.Words.{Event, Output}

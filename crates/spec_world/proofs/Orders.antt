@@ -3,12 +3,11 @@ use Rattle.std.proofs.Common.{◌≡◌, ℕ, ◌+◌, ◌-◌, ◌<◌, ◌≤�
 use Rattle.std.proofs.lemmas.Option.{same_Some, none-some}
 use Rattle.std.proofs.lemmas.List.{append-nil, take-take, take_at, take-append-le, drop-take}
 use Rattle.wire.specs.declared.output.Output.TheVariants as output
-use Rattle.spec_laws.specs.Laws.{Begins}
 use Rattle.spec_laws.proofs.Legal.{legal-begins}
 use Rattle.spec_laws.proofs.OrderGrows.{order_grows}
 use Rattle.spec_model.specs.Admitting.{IsLegal}
 use Rattle.spec_model.specs.Giving.{IsPiece, MayGive}
-use Rattle.spec_model.specs.Histories.{History}
+use Rattle.spec_model.specs.Histories.{History, Begins}
 use Rattle.spec_model.specs.Holdings.{order}
 use Rattle.spec_model.specs.Nodes.{Node}
 use Rattle.spec_model.specs.Words.{Digest, Event, Output}

@@ -4,3 +4,4 @@ pub mod Promise
 pub mod Runs
 pub mod Text
 pub mod Lasting
+pub mod Scripts

@@ -1,9 +1,8 @@
 -- What a node never takes back.
 use Rattle.std.specs.Prelude.{◌≡◌, ◌⊎◌, ℕ, ◌≤◌, List, [], ◌∷◌, ◌++◌, length, take, Option, Some, None, Contains}
-use Rattle.spec_laws.specs.Laws.{Begins}
 use Rattle.spec_model.specs.Admitting.{admit, IsLegal}
 use Rattle.spec_model.specs.Giving.{MayGive}
-use Rattle.spec_model.specs.Histories.{History}
+use Rattle.spec_model.specs.Histories.{History, Begins}
 use Rattle.spec_model.specs.Holdings.{order}
 use Rattle.spec_model.specs.Nodes.{Node, IsNode}
 use Rattle.spec_model.specs.Slots.{header_digest}
@@ -103,3 +102,24 @@ pub record NeverTakesBack (node : Node) (world : World) : Type 0 where
 -- later one
 abbrev pub NothingTakenBack : Type 0
 NothingTakenBack = (node : Node) (moves : List Move) (world : World) → IsNode node → IsRun node moves world → NeverTakesBack node world
+
+-- ---- without a world
+
+-- this goes out at a history with which another one begins
+pub record GoesOutWithin (node : Node) (left : History) (given : Given) : Type 0 where
+  pub begins : Begins given.history left
+  pub right : GoesOut node given.history given.outgoing
+
+-- what goes out within one history does not contradict itself
+pub record Agrees (node : Node) (left : History) : Type 0 where
+  -- no two votes differ for one author and round
+  pub votes : (one other : Given) (vote also : Ballot) → GoesOutWithin node left one → GoesOutWithin node left other
+      → vote_given one.outgoing ≡ Some vote → vote_given other.outgoing ≡ Some also → vote.author ≡ also.author → vote.round ≡ also.round → vote.header ≡ also.header
+  -- each order begins every later one
+  pub orders : (one other : Given) (earlier later : List Digest) → GoesOutWithin node left one → GoesOutWithin node left other
+      → order_given (order node one.history) one.outgoing ≡ Some earlier → order_given (order node other.history) other.outgoing ≡ Some later
+      → IsNoLater one other earlier later → Begins earlier later
+
+-- in particular what several threads collect does not, where all of that goes out within what a stop leaves
+abbrev pub WhatGoesOutAgrees : Type 0
+WhatGoesOutAgrees = (node : Node) (left : History) → IsLegal node left → Agrees node left

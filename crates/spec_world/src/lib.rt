@@ -3,8 +3,9 @@
 #![tactic(auto)]
 
 ghost use Rattle.spec_world.specs.Lasting.{SettledGrows, GivenStays, EventsCameIn, GivenVotesAreSettled, GivenOrdersAreSettled};
-ghost use Rattle.spec_world.specs.Promise.{NothingTakenBack};
+ghost use Rattle.spec_world.specs.Promise.{NothingTakenBack, WhatGoesOutAgrees};
 ghost use Rattle.spec_world.specs.Runs.{RunsBegin, StopsArePossible, RunsGoOn, RunsBeginWithWhatStands, GroupsSettle, AppendsMakeCalls};
+ghost use Rattle.spec_world.specs.Scripts.{ScriptsAreRuns, ScriptsBegin};
 
 /// Over every list of runs of one node, in every interleaving of accepts, takes, writes, syncs, settlements and
 /// releases, each run stopped at any moment, also inside a write, recovery finds the state after a beginning of the
@@ -69,4 +70,21 @@ pub fn given_votes_are_settled()
 /// An order that was given out is a beginning of the settled order.
 pub fn given_orders_are_settled()
     ensures { GivenOrdersAreSettled }
+{}
+
+/// What goes out within one legal history does not contradict itself: no two votes differ for one author and round, and each
+/// order begins every later one. So it is with all that several threads collect, where it goes out within what a stop leaves.
+pub fn what_goes_out_agrees()
+    ensures { WhatGoesOutAgrees }
+{}
+
+/// Every text of a script is what some run gives out: wherever a run stands at a script's desk, it goes on by moves and gives
+/// out the text of the commands, as frames, and nothing else, and stands at the desk behind them.
+pub fn scripts_are_runs()
+    ensures { ScriptsAreRuns }
+{}
+
+/// A run that has just begun stands at the desk of a script that begins with its history.
+pub fn scripts_begin()
+    ensures { ScriptsBegin }
 {}
