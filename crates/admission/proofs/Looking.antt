@@ -109,13 +109,6 @@ holds_without old new last was less rise = record {
       ]);
 }
 
--- a member of the table's committee is one of the committee of each entry
-pub member_of : (inside headers : Headers) (number : ℕ) (assembled : Assembled) (voter : ℕ) → IsHeaders inside → Some assembled ≡ lookup (is_at (nat_cmp number)) inside.rounds → inside ≡ headers
-    → voter < length headers.charter.keys → voter < length assembled.charter.keys
-member_of inside headers number assembled voter holds is view member =
-    let entry = holds.entries number assembled (looked inside inside number number (Some assembled) is refl refl) in
-    subst (λ (charter : Charter). voter < length charter.keys) (ap (λ (h : Headers). h.charter) (sym view) ∙ sym entry.charter) member
-
 -- what a vote is answered by what its round has
 pub answer_of : (headers : Headers) (vote : Vote) (o : Option Assembled) → assembly_at headers vote.round ≡ o → answer_in headers vote ≡ option_map_or (λ assembled. answer assembled vote) o NotOurs
 answer_of headers vote o is = ap (λ o. option_map_or (λ assembled. answer assembled vote) o NotOurs) is

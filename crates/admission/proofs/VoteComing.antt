@@ -4,7 +4,7 @@ use Rattle.std.proofs.Math.Path.{fun_ext}
 use Rattle.std.specs.Prelude.{not, ◌==◌, ◌&&◌, ◌||◌, nat_lt, is_some, option_map, option_and_then, if◌then◌else◌}
 use Rattle.std.specs.Option.{option_map_or, option_or}
 use Rattle.std.specs.Str.{bytes_eq}
-use Rattle.std.proofs.lemmas.Bool.{cases_Bool, and_from, eqb-true, eq-eqb}
+use Rattle.std.proofs.lemmas.Bool.{cases_Bool, and_from, eqb-true, eq-eqb, lt-ltb}
 use Rattle.std.proofs.lemmas.List.{length-set}
 use Rattle.std.proofs.lemmas.Option.{none-some, same_Some}
 use Rattle.std.proofs.lemmas.Slice.Eq.{bytes_eq-Decides}
@@ -12,7 +12,7 @@ use Rattle.wire.specs.Digests.{header_digest_of}
 use Rattle.wire.specs.declared.message.Message.TheVariants as message
 use Rattle.committee.specs.Charter.{Charter, quorum_of}
 use Rattle.committee.proofs.Weights.{weight-same}
-use Rattle.certify.specs.Answer.{is_too_few, is_again, answer, after}
+use Rattle.certify.specs.Answer.{is_ours, is_too_few, is_again, answer, after}
 use Rattle.certify.specs.Answer as certify
 use Rattle.certify.specs.Assembled.{Assembled, is_on, has_voted, votes_weight}
 use Rattle.certify.specs.declared.added.Added.{Added}
@@ -100,11 +100,13 @@ met node state vote before assembled sound holds at new held =
 -- ---- the answer
 
 -- the vote is counted, or completes the certificate
-answered_is : (node : Node) (assembled : Assembled) (vote : Vote) → assembled.charter ≡ node.charter → is_on assembled.header.body vote ≡ true → is_again assembled vote ≡ false
+answered_is : (node : Node) (assembled : Assembled) (vote : Vote) → assembled.charter ≡ node.charter → vote.voter.0 < size_of node → is_on assembled.header.body vote ≡ true → is_again assembled vote ≡ false
     → answer assembled vote ≡ (if is_too_few assembled vote then Counted else Complete (certify.certificate_of assembled.header.body (with assembled vote).places))
-answered_is node assembled vote charter on first =
+answered_is node assembled vote charter member on first =
+    let here = lt-ltb vote.voter.0 (length assembled.charter.keys) (subst (λ (c : Charter). vote.voter.0 < length c.keys) (sym charter) member) in
+    let ours : is_ours assembled vote ≡ true = and_from (nat_lt vote.voter.0 (length assembled.charter.keys)) (is_on assembled.header.body vote) here on in
     let made = Complete (certify.certificate_of assembled.header.body (with assembled vote).places) in
-    ap (λ b. if not b then NotOurs else if is_again assembled vote then Again else if is_too_few assembled vote then Counted else made) on
+    ap (λ b. if not b then NotOurs else if is_again assembled vote then Again else if is_too_few assembled vote then Counted else made) ours
     ∙ ap (λ b. if b then Again else if is_too_few assembled vote then Counted else made) first
 
 -- the votes that count with it are those of the assembly with it
@@ -156,7 +158,7 @@ vote_grown node state vote before later assembled at is member with' =
     let held_is : held ≡ Some (after added assembled vote) = ap (option_map (λ (a : Assembled). after added a vote)) is.held in
     let few = is_too_few assembled vote in
     let certificate = certify.certificate_of assembled.header.body (with assembled vote).places in
-    let added_is' : added ≡ (if few then Counted else Complete certificate) = answered_is node assembled vote is.charter is.on is.first in
+    let added_is' : added ≡ (if few then Counted else Complete certificate) = answered_is node assembled vote is.charter member is.on is.first in
     record {
       charter = with'.charter ∙ at.charter;
       own = with'.own ∙ at.own;
@@ -216,7 +218,7 @@ vote_comes agree node state sender vote before step holds at =
     let completed = completed_is node state vote before assembled at is member in
     let answered : answer_in before vote ≡ answer assembled vote = ap (λ o. option_map_or (λ (a : Assembled). answer a vote) o NotOurs) is.held in
     let by : answer_in before vote ≡ added_by (certificate_of node state m) =
-    answered ∙ answered_is node assembled vote is.charter is.on is.first
+    answered ∙ answered_is node assembled vote is.charter member is.on is.first
     ∙ added_is (is_too_few assembled vote) (certify.certificate_of assembled.header.body (with assembled vote).places) ∙ ap added_by (sym completed) in
     record {
       member = subst (λ (c : Charter). vote.voter.0 < length c.keys) (sym at.charter) member;

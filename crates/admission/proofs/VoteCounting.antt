@@ -1,6 +1,6 @@
 -- What a new vote on an own header comes to.
 use Rattle.std.proofs.Common.{◌≡◌, ℕ, Bool, true, false, List, [], ◌∷◌, ◌++◌, length, drop, Option, Some, None, ◌⊎◌, inl, inr, refl, ap, sym, ◌∙◌}
-use Rattle.std.specs.Prelude.{not, ◌==◌, nat_le, map, if◌then◌else◌}
+use Rattle.std.specs.Prelude.{not, ◌==◌, nat_lt, nat_le, map, if◌then◌else◌}
 use Rattle.std.specs.Option.{option_map_or, option_to_list}
 use Rattle.std.specs.Str.{bytes_eq}
 use Rattle.std.proofs.lemmas.Bool.{and_parts, eqb-true}
@@ -9,7 +9,7 @@ use Rattle.std.proofs.lemmas.Slice.Eq.{bytes_eq-Decides}
 use Rattle.wire.specs.Digests.{header_digest_of, certificate_digest_of}
 use Rattle.wire.specs.declared.output.Output.TheVariants as output
 use Rattle.wire.specs.declared.message.Message.TheVariants as message
-use Rattle.certify.specs.Answer.{answer, is_again, is_too_few}
+use Rattle.certify.specs.Answer.{answer, is_ours, is_again, is_too_few}
 use Rattle.certify.specs.Assembled.{Assembled, is_on}
 use Rattle.certify.specs.declared.added.Added.TheVariants.{Counted, Complete, Again, NotOurs}
 use Rattle.spec_laws.proofs.Lists.{given_or_none}
@@ -36,8 +36,8 @@ vote_high low_is node state event tables vote meets new =
     ∙ vote_is_high (is_own node vote.author) (is_low (floor_in node state) vote.round) _ (ap is_new (sym (answered_as node state event (message.Vote vote) meets.message)) ∙ new)
 
 -- the certificate that it completes is of its header
-same_body : (assembled : Assembled) (vote : Vote) (certificate : Certificate) (on again few : Bool) (made : Certificate)
-    → (if not on then NotOurs else if again then Again else if few then Counted else Complete made) ≡ Complete certificate → (on ≡ true) × (made ≡ certificate)
+same_body : (assembled : Assembled) (vote : Vote) (certificate : Certificate) (ours again few : Bool) (made : Certificate)
+    → (if not ours then NotOurs else if again then Again else if few then Counted else Complete made) ≡ Complete certificate → (ours ≡ true) × (made ≡ certificate)
 same_body assembled vote certificate false again few made is = absurd cc
 same_body assembled vote certificate true true few made is = absurd cc
 same_body assembled vote certificate true false true made is = absurd cc
@@ -46,9 +46,10 @@ same_body assembled vote certificate true false false made is = (refl, cc)
 digest_by : (assembled : Assembled) (vote : Vote) (certificate : Certificate) → answer assembled vote ≡ Complete certificate
     → ◌≡◌ {A = Digest} (record { 0 = certificate_digest_of vote.header.0 vote.round vote.author.0 }) (certificate_digest certificate.header)
 digest_by assembled vote certificate is =
-    let parts = same_body assembled vote certificate (is_on assembled.header.body vote) (is_again assembled vote) (is_too_few assembled vote) _ is in
+    let parts = same_body assembled vote certificate (is_ours assembled vote) (is_again assembled vote) (is_too_few assembled vote) _ is in
     let body = assembled.header.body in
-    let on = and_parts (bytes_eq vote.header.0 (header_digest_of body)) _ parts.0 in
+    let ours = and_parts (nat_lt vote.voter.0 (length assembled.charter.keys)) (is_on body vote) parts.0 in
+    let on = and_parts (bytes_eq vote.header.0 (header_digest_of body)) _ ours.1 in
     let place = and_parts (vote.round == body.round) (vote.author.0 == body.author.0) on.1 in
     let text : vote.header.0 ≡ header_digest_of body = (bytes_eq-Decides vote.header.0 (header_digest_of body)).0 on.0 in
     ap (λ (t : List ℕ). record { 0 = certificate_digest_of t vote.round vote.author.0 }) text

@@ -106,9 +106,8 @@ impl<'a> Assemblies<'a> {
         Ok(())
     }
 
-    /// What comes of a member's vote. `AllocError` where a growth for the certificate was refused.
+    /// What comes of a vote. `AllocError` where a growth for the certificate was refused.
     pub fn answer(&self, vote: &Vote) -> Result<Added, AllocError>
-        requires member { vote.now.voter.0 < length self.now.charter.keys }
         ensures { IfOk result (λ added. added ≡ answer_in self.now vote.now) }
     {
         match self.rounds.get(&vote.round.number()) {
@@ -117,10 +116,9 @@ impl<'a> Assemblies<'a> {
         }
     }
 
-    /// Counts a member's vote of which this comes. It takes no memory.
+    /// Counts a vote of which this comes. It takes no memory.
     pub fn count(&mut self, added: &Added, vote: Vote)
-        requires member { vote.voter.0 < length self.old.charter.keys }
-        requires added { added.now ≡ answer_in self.old vote }
+        requires { added.now ≡ answer_in self.old vote }
         ensures { IsWith self.old self.new vote.round (counted_in added.now self.old vote) }
     {
         if let Some(assembly) = self.rounds.get_mut(&vote.round.number()) {

@@ -6,7 +6,7 @@ use Rattle.std.specs.Map.{remove_entry}
 use Rattle.std.specs.BTreeMap.{insert_entry, is_at}
 use Rattle.std.specs.Str.{bytes_eq}
 use Rattle.std.proofs.Math.Bool.{or-false, and-false}
-use Rattle.std.proofs.lemmas.Bool.{eqb-true, eq-eqb, leb-true, le-leb, lt-leb, and_parts, not-true}
+use Rattle.std.proofs.lemmas.Bool.{cases_Bool, eqb-true, eq-eqb, leb-true, le-leb, lt-leb, and_parts, not-true}
 use Rattle.std.proofs.lemmas.List.Folds.{list_any-append}
 use Rattle.std.proofs.lemmas.List.Elements.{recursion_from_All, All-from_recursion, All-push}
 use Rattle.std.proofs.lemmas.List.Quantifiers.{all_pairs_push}
@@ -18,7 +18,7 @@ use Rattle.committee.specs.Sets.{has}
 use Rattle.committee.specs.declared.sets.MemberSet.{MemberSet}
 use Rattle.committee.proofs.Weights.{weight-same, weight-one, weight-within}
 use Rattle.std.specs.Option.{option_map_or}
-use Rattle.batchstore.specs.Stock.{Stock, IsHeld, held_at, has_own, has_acked, holds, as_reference, holders, is_quorate, may_be_named}
+use Rattle.batchstore.specs.Stock.{Stock, IsStock, IsHeld, held_at, has_own, has_acked, holds, as_reference, holders, is_quorate, may_be_named}
 use Rattle.batchstore.specs.Answer.{with_member, acked_by, named_by}
 use Rattle.batchstore.specs.Kept.{IsKept, compared, reference_of}
 use Rattle.batchstore.specs.declared.held.Held.{Held}
@@ -322,3 +322,31 @@ other_than stock digest member apart same =
     let is = eq-eqb member stock.own same in
     let isnt = first_false (member == stock.own) (has_acked stock digest member) apart in
     absurd cc
+
+-- what is found holds what each of the batches does
+found_one : (P : Held → Type 0) (digest : Digest) (batches : List Held) (held : Held) → AllByRecursion P batches → find (is_of digest) batches ≡ Some held → P held
+found_one P digest [] held all is = absurd cc
+found_one P digest (h ∷ rest) held all is =
+    elim (cases_Bool (is_of digest h)) [
+      | inl here ↦
+          let one : ◌≡◌ {A = Option Held} (Some h) (Some held) = sym (ap (λ b. cond b (Some h) (find (is_of digest) rest)) here) ∙ is in
+          let same : h ≡ held = cc in
+          subst P same all.0
+      | inr apart ↦ found_one P digest rest held all.1 (sym (ap (λ b. cond b (Some h) (find (is_of digest) rest)) apart) ∙ is)
+    ]
+
+acked_by_member : (charter : Charter) (own : ℕ) (found : Option Held) (member : ℕ) → ((held : Held) → found ≡ Some held → IsHeld charter own held)
+    → option_map_or (λ held. has held.acknowledged member) found false ≡ true → member < length charter.keys
+acked_by_member charter own None member all is = absurd cc
+acked_by_member charter own (Some held) member all is = ((all held refl).acknowledged member is).inside
+
+-- only members hold a batch
+pub holds_member : (stock : Stock) (digest : Digest) (member : ℕ) → IsStock stock → holds stock digest member ≡ true → member < length stock.charter.keys
+holds_member stock digest member is holds =
+    elim (cases_Bool (member == stock.own)) [
+      | inl own ↦ let same = eqb-true member stock.own own in omega (arith, same, is.own)
+      | inr apart ↦
+          acked_by_member stock.charter stock.own (held_at stock digest) member
+          (λ held found. found_one (IsHeld stock.charter stock.own) digest stock.held held (recursion_from_All (IsHeld stock.charter stock.own) stock.held is.each) found)
+          (sym (ap (λ b. b || has_acked stock digest member) apart) ∙ holds)
+    ]

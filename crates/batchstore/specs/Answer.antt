@@ -1,5 +1,5 @@
 -- What a store answers, and what it has then.
-use Rattle.std.specs.Prelude.{ℕ, ◌==◌, ◌&&◌, ◌++◌, ◌^◌, not, nat_le, Bool, true, false, List, [], ◌∷◌, length, map, is_none, if◌then◌else◌}
+use Rattle.std.specs.Prelude.{ℕ, ◌==◌, ◌&&◌, ◌++◌, ◌^◌, not, nat_lt, nat_le, Bool, true, false, List, [], ◌∷◌, length, map, is_none, if◌then◌else◌}
 use Rattle.std.specs.Prelude.{bit_or}
 use Rattle.std.specs.List.{list_any}
 use Rattle.std.specs.Option.{option_map_or}
@@ -38,6 +38,10 @@ abbrev pub with_batch : Stock → Contents → Stock
 with_batch stock batch = record stock { held = stock.held ++ record { batch = batch; acknowledged = no_members; named = false } ∷ [] }
 
 -- ---- a member acknowledges a batch
+
+-- a number is that of a member
+abbrev pub is_member : Stock → ℕ → Bool
+is_member stock member = nat_lt member (length stock.charter.keys)
 
 -- a set with one member more
 abbrev pub with_member : MemberSet → ℕ → MemberSet

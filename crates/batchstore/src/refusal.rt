@@ -18,7 +18,7 @@ pub enum StoreRefusal {
     /// As many batches are held as the committee allows.
     #[error("3 Full")]
     Full,
-    /// No own batch of the digest is held.
+    /// No own batch of the digest is held, or who acknowledges it is no member.
     #[error("4 NotOurs")]
     NotOurs,
 }

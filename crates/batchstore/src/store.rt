@@ -8,7 +8,7 @@ ghost use Rattle.committee.specs.declared.members.TheConstants.{MAX_MEMBERS};
 ghost use Rattle.batchstore.specs.declared.held.Held.{Held};
 ghost use Rattle.batchstore.specs.Kept.{reference_of};
 ghost use Rattle.batchstore.specs.Stock.{is_quorate, Stock, IsStock, digest_of, held_at, batch_in, has_with, has_own, holds, is_available, was_named, nameable};
-ghost use Rattle.batchstore.specs.Answer.{is_known, is_clash, is_new, is_full, with_batch, with_ack, with_names};
+ghost use Rattle.batchstore.specs.Answer.{is_member, is_known, is_clash, is_new, is_full, with_batch, with_ack, with_names};
 
 use crate::answers::{Acked, Put};
 use crate::held::Held;
@@ -227,16 +227,19 @@ impl<'a> BatchStore<'a> {
     /// Counts that a member holds the own batch of this digest.
     ///
     /// # Errors
-    /// `NotOurs` where no own batch of the digest is held, `Memory` where a growth was refused. They change nothing.
+    /// `NotOurs` where the author is no member or no own batch of the digest is held, `Memory` where a growth was refused.
+    /// They change nothing.
     pub fn ack(&mut self, author: Author, digest: &Digest) -> Result<Acked, StoreRefusal>
-        requires member { author.0 < length self.old.charter.keys }
-        ensures not_ours { IsErrOf result StoreRefusal.NotOurs ↔ IsTrue (not (has_own self.old digest.now)) }
+        ensures not_ours { IsErrOf result StoreRefusal.NotOurs ↔ IsTrue (not (is_member self.old author.0 && has_own self.old digest.now)) }
         ensures known { (result ≡ Ok Acked.Known) ↔ IsTrue (has_own self.old digest.now && holds self.old digest.now author.0) }
         ensures same { result ≡ Ok Acked.Known → self.new ≡ self.old }
         ensures new { result ≡ Ok Acked.New → self.new ≡ with_ack self.old digest.now author.0 }
         ensures memory { OnErr result ((result ≡ Err StoreRefusal.NotOurs) ⊎ (result ≡ Err StoreRefusal.Memory)) }
         ensures err { OnErr result (self.new ≡ self.old) }
     {
+        if author.0 >= self.committee.size() {
+            return Err(StoreRefusal::NotOurs);
+        }
         match self.acked(author, digest) {
             None => Err(StoreRefusal::NotOurs),
             Some(true) => Ok(Acked::Known),

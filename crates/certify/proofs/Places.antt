@@ -1,6 +1,6 @@
 -- The votes in places, one after another, and what they weigh with one more.
 use Rattle.std.proofs.Common.{◌≡◌, ◌≢◌, ℕ, zero, suc, ◌+◌, ◌<◌, ◌≤◌, Bool, true, false, List, [], ◌∷◌, ◌++◌, length, get_or, Option, Some, None, refl, sym, ap, ◌∙◌, inl, inr, arith}
-use Rattle.std.specs.Prelude.{not, ◌||◌, ◌&&◌, ◌==◌, nat_lt, replicate, is_some, option_map}
+use Rattle.std.specs.Prelude.{◌||◌, ◌&&◌, ◌==◌, nat_lt, replicate, is_some, option_map}
 use Rattle.std.specs.Str.{bytes_eq}
 use Rattle.std.proofs.lemmas.Slice.Eq.{bytes_eq-Decides}
 use Rattle.std.specs.List.{filter_map, range_with_len, cons_option}
@@ -22,8 +22,9 @@ use Rattle.committee.specs.Charter.{Charter, IsCharter, weight, quorum_of}
 use Rattle.committee.specs.Sets.{has}
 use Rattle.committee.specs.declared.sets.MemberSet.{MemberSet}
 use Rattle.committee.proofs.Weights.{weight-same, weight-one}
-use Rattle.certify.specs.declared.added.Added.TheVariants.{Counted, Complete}
-use Rattle.certify.specs.Answer.{answer, certificate_of, is_again, is_too_few}
+use Rattle.certify.specs.declared.added.Added.{Added}
+use Rattle.certify.specs.declared.added.Added.TheVariants.{Counted, Complete, Again, NotOurs}
+use Rattle.certify.specs.Answer.{answer, certificate_of, is_ours, is_again, is_too_few}
 use Rattle.certify.specs.Assembled.{Places, Assembled, IsKept, is_on, has_voted, with_vote, entry_of, votes_weight}
 
 -- ---- the votes of the first members
@@ -156,6 +157,14 @@ kept-with old vote digest before voters complete kept within more few many =
       voted = voted;
     }
 
+-- a vote that is ours is a member's, and on the header
+pub ours_member : (old : Assembled) (vote : Vote) → is_ours old vote ≡ true → vote.voter.0 < length old.charter.keys
+ours_member old vote ours =
+    ltb-true vote.voter.0 (length old.charter.keys) (and_parts (nat_lt vote.voter.0 (length old.charter.keys)) (is_on old.header.body vote) ours).0
+
+pub ours_on : (old : Assembled) (vote : Vote) → is_ours old vote ≡ true → is_on old.header.body vote ≡ true
+ours_on old vote ours = (and_parts (nat_lt vote.voter.0 (length old.charter.keys)) (is_on old.header.body vote) ours).1
+
 neither : (a b : Bool) → a ≡ false → b ≡ false → (a || b) ≡ false
 neither a b first second = rw (first, second)
 
@@ -169,7 +178,8 @@ counts old vote digest before voters kept within more on going absent few =
     let again = neither old.complete (has_voted old.places vote.voter.0) going (sym (kept.voted vote.voter.0) ∙ absent) in
     let weighs = weight-with old vote digest before voters kept within more in
     let low = lt-ltb (votes_weight old.charter (with_vote old.places vote)) (quorum_of old.charter) (omega (arith, few, weighs)) in
-    rw (on, again, low)
+    let member = lt-ltb vote.voter.0 (length old.charter.keys) within in
+    rw (member, on, again, low)
 
 -- one with which they weigh a quorum makes the certificate
 pub completes : (old : Assembled) (vote : Vote) (digest : Digest) (before voters : MemberSet) → IsKept old digest before → vote.voter.0 < length old.charter.keys
@@ -181,14 +191,22 @@ completes old vote digest before voters kept within more on going absent many =
     let again = neither old.complete (has_voted old.places vote.voter.0) going (sym (kept.voted vote.voter.0) ∙ absent) in
     let weighs = weight-with old vote digest before voters kept within more in
     let high = le-ltb (votes_weight old.charter (with_vote old.places vote)) (quorum_of old.charter) (omega (arith, many, weighs)) in
-    rw (on, again, high)
+    let member = lt-ltb vote.voter.0 (length old.charter.keys) within in
+    rw (member, on, again, high)
+
+-- behind the answer the vote is counted
+abbrev pub is_counted : Added → Bool
+is_counted NotOurs = false
+is_counted Again = false
+is_counted Counted = true
+is_counted (Complete certificate) = true
 
 -- with a vote that is counted they weigh too little
 pub counted-low : (old : Assembled) (vote : Vote) → answer old vote ≡ Counted → votes_weight old.charter (with_vote old.places vote) < quorum_of old.charter
 counted-low old vote is =
-    elim (cases_Bool (not (is_on old.header.body vote))) [
-      | inl off ↦ let never = rw off at is in absurd cc
-      | inr on ↦
+    elim (cases_Bool (is_ours old vote)) [
+      | inr off ↦ let never = rw off at is in absurd cc
+      | inl on ↦
           elim (cases_Bool (is_again old vote)) [
             | inl again ↦ let never = rw (on, again) at is in absurd cc
             | inr first ↦
@@ -202,9 +220,9 @@ counted-low old vote is =
 -- with one that makes the certificate they weigh a quorum
 pub complete-high : (old : Assembled) (vote : Vote) (certificate : Certificate) → answer old vote ≡ Complete certificate → quorum_of old.charter ≤ votes_weight old.charter (with_vote old.places vote)
 complete-high old vote certificate is =
-    elim (cases_Bool (not (is_on old.header.body vote))) [
-      | inl off ↦ let never = rw off at is in absurd cc
-      | inr on ↦
+    elim (cases_Bool (is_ours old vote)) [
+      | inr off ↦ let never = rw off at is in absurd cc
+      | inl on ↦
           elim (cases_Bool (is_again old vote)) [
             | inl again ↦ let never = rw (on, again) at is in absurd cc
             | inr first ↦
@@ -213,4 +231,14 @@ complete-high old vote certificate is =
                   | inr many ↦ ltb-false (votes_weight old.charter (with_vote old.places vote)) (quorum_of old.charter) many
                 ]
           ]
+    ]
+
+-- a vote that is counted is a member's
+pub of_member : (old : Assembled) (vote : Vote) (added : Added) → answer old vote ≡ added → is_counted added ≡ true → vote.voter.0 < length old.charter.keys
+of_member old vote added is counted =
+    elim (cases_Bool (is_ours old vote)) [
+      | inl ours ↦ ours_member old vote ours
+      | inr off ↦
+          let none : answer old vote ≡ NotOurs = rw off refl in
+          let never : is_counted NotOurs ≡ true = ap is_counted (sym none ∙ is) ∙ counted in absurd cc
     ]

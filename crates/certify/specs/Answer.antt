@@ -1,5 +1,5 @@
 -- What an assembly answers a vote, and what it is then.
-use Rattle.std.specs.Prelude.{Bool, true, not, ◌||◌, nat_lt, if◌then◌else◌}
+use Rattle.std.specs.Prelude.{Bool, true, not, ◌&&◌, ◌||◌, nat_lt, length, if◌then◌else◌}
 use Rattle.wire.specs.declared.header.Certificate.{Certificate}
 use Rattle.wire.specs.declared.header.HeaderBody.{HeaderBody}
 use Rattle.wire.specs.declared.header.Vote.{Vote}
@@ -7,6 +7,10 @@ use Rattle.committee.specs.Charter.{quorum_of}
 use Rattle.certify.specs.declared.added.Added.{Added}
 use Rattle.certify.specs.declared.added.Added.TheVariants.{Counted, Complete, Again, NotOurs}
 use Rattle.certify.specs.Assembled.{Places, Assembled, is_on, has_voted, with_vote, votes_in, votes_weight}
+
+-- the vote is a member's, and on the header
+abbrev pub is_ours : Assembled → Vote → Bool
+is_ours assembled vote = nat_lt vote.voter.0 (length assembled.charter.keys) && is_on assembled.header.body vote
 
 -- the votes with this one weigh less than a quorum
 abbrev pub is_too_few : Assembled → Vote → Bool
@@ -24,7 +28,7 @@ certificate_of body places = record { header = body; votes = votes_in places }
 -- what is answered
 abbrev pub answer : Assembled → Vote → Added
 answer assembled vote =
-    if not (is_on assembled.header.body vote) then NotOurs
+    if not (is_ours assembled vote) then NotOurs
     else if is_again assembled vote then Again
     else if is_too_few assembled vote then Counted
     else Complete (certificate_of assembled.header.body (with_vote assembled.places vote))

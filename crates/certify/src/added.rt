@@ -11,6 +11,6 @@ pub enum Added {
     Complete(Certificate),
     /// The vote is on the header, but its voter's vote is counted already, or the certificate is made.
     Again,
-    /// The vote is on another header.
+    /// The vote is on another header, or its voter is no member.
     NotOurs,
 }

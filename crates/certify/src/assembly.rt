@@ -2,7 +2,7 @@
 
 ghost use Rattle.std.specs.Prelude.{◌≡◌, ◌<◌, length, IsTrue, IfOk, OnErr};
 ghost use Rattle.certify.specs.Assembled.{IsAssembled, is_on, has_voted, started};
-ghost use Rattle.certify.specs.Answer.{answer, after};
+ghost use Rattle.certify.specs.Answer.{is_ours, answer, after};
 ghost use Rattle.wire.specs.Digests.{header_digest_of};
 
 use crate::added::Added;
@@ -84,10 +84,9 @@ impl<'a> Assembly<'a> {
         })
     }
 
-    /// Counts a member's vote, if it is on the header and the votes don't make a certificate yet. Where a growth is
+    /// Counts a vote, if it is a member's and on the header and the votes don't make a certificate yet. Where a growth is
     /// refused nothing changes.
     pub fn add(&mut self, vote: Vote) -> Result<Added, AllocError>
-        requires member { vote.voter.0 < length self.old.charter.keys }
         ensures answer { IfOk result (λ added. added ≡ answer self.old vote) }
         ensures after { IfOk result (λ added. self.new ≡ after added self.old vote) }
         ensures err { OnErr result (self.new ≡ self.old) }
@@ -97,12 +96,11 @@ impl<'a> Assembly<'a> {
         Ok(added)
     }
 
-    /// What comes of a member's vote. `AllocError` where a growth for the certificate was refused.
+    /// What comes of a vote. `AllocError` where a growth for the certificate was refused.
     pub fn answer(&self, vote: &Vote) -> Result<Added, AllocError>
-        requires member { vote.now.voter.0 < length self.now.charter.keys }
         ensures { IfOk result (λ added. added ≡ answer self.now vote.now) }
     {
-        if !is_on(&self.header.body, &self.digest, vote) {
+        if !self.is_ours(vote) {
             return Ok(Added::NotOurs);
         }
         if self.complete || self.voters.contains(vote.voter) {
@@ -117,10 +115,16 @@ impl<'a> Assembly<'a> {
         Ok(Added::Complete(certificate))
     }
 
-    /// Counts a member's vote of which this comes. It takes no memory.
+    // Whether a vote is a member's, and on the header.
+    fn is_ours(&self, vote: &Vote) -> bool
+        ensures { result ≡ is_ours self.now vote.now }
+    {
+        vote.voter.0 < self.committee.size() && is_on(&self.header.body, &self.digest, vote)
+    }
+
+    /// Counts a vote of which this comes. It takes no memory.
     pub fn count(&mut self, added: &Added, vote: Vote)
-        requires member { vote.voter.0 < length self.old.charter.keys }
-        requires added { added.now ≡ answer self.old vote }
+        requires { added.now ≡ answer self.old vote }
         ensures { self.new ≡ after added.now self.old vote }
     {
         let complete = match added {

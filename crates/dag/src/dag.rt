@@ -1,6 +1,6 @@
 //! The DAG.
 
-ghost use Rattle.std.specs.Prelude.{◌≡◌, ◌≢◌, ◌&&◌, nat_lt, ◌+◌, ◌-◌, ◌<◌, ◌≤◌, ◌^◌, ℕ, true, false, max, not, nat_le, length, map, Ok, Err, Some, is_some, IfOk, OnOk, OnErr, option_copied, if◌then◌else◌};
+ghost use Rattle.std.specs.Prelude.{◌≡◌, ◌≢◌, ◌&&◌, nat_lt, ◌+◌, ◌-◌, ◌<◌, ◌≤◌, ◌^◌, ℕ, true, false, max, min, not, nat_le, length, map, Ok, Err, Some, is_some, IfOk, OnOk, OnErr, option_copied, if◌then◌else◌};
 ghost use Rattle.committee.specs.Charter.{numbers};
 ghost use Rattle.committee.specs.Sets.{has};
 ghost use Rattle.committee.specs.declared.members.TheConstants.{MAX_MEMBERS};
@@ -397,7 +397,8 @@ impl<'a> Dag<'a> {
         self.committee.weight(&self.authors_at(round))
     }
 
-    /// The parent that what a slot holds names at a place, by its author and digest. Where there is one, it is read.
+    /// The parent that what a slot holds names at a place, by its author and digest. Where there is one, it is read; a full
+    /// count stays.
     pub fn parent(
         &self,
         round: Round,
@@ -405,13 +406,12 @@ impl<'a> Dag<'a> {
         place: usize,
         reads: &mut Reads,
     ) -> Option<(Author, Digest)>
-        requires { reads.old + 1 < 2 ^ 64 }
         ensures value { result ≡ parent_in self.now round author.0 place }
-        ensures reads { reads.new ≡ (if is_some result then reads.old + 1 else reads.old) }
+        ensures reads { reads.new ≡ (if is_some result then min (reads.old + 1) (2 ^ 64 - 1) else reads.old) }
     {
         let certificate = self.get(round, author)?;
         let parent = certificate.header.parents.as_slice().get(place)?;
-        reads.add(1);
+        reads.add_one();
         Some((parent.author, parent.certificate))
     }
 
@@ -527,13 +527,18 @@ impl<'a> Dag<'a> {
         rows::mark(&mut self.rows, (number - floor) as usize, authors);
     }
 
-    /// Holds nothing below a round from now on. It takes no memory.
+    /// Holds nothing below a round from now on, if the round is below that of the last committed leader. Of another round
+    /// nothing changes. It takes no memory.
     pub fn drop_below(&mut self, round: Round)
-        requires { round < self.old.base }
-        ensures { IsDropped self.old self.new round }
+        ensures below { round < self.old.base → IsDropped self.old self.new round }
+        ensures other { self.old.base ≤ round → self.new ≡ self.old }
     {
+        let base = self.base.number();
         let floor = self.floor.number();
         let number = round.number();
+        if base <= number {
+            return;
+        }
         if number <= floor {
             return;
         }

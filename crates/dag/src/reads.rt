@@ -1,6 +1,6 @@
 //! Counts of what was read.
 
-ghost use Rattle.std.specs.Prelude.{◌≡◌, ◌+◌, ◌<◌, ◌^◌};
+ghost use Rattle.std.specs.Prelude.{◌≡◌, ◌+◌, ◌-◌, ◌<◌, ◌^◌, min};
 
 use std::marker::Model;
 
@@ -34,6 +34,13 @@ impl Reads {
         ensures { self.new ≡ self.old + count }
     {
         self.number += count;
+    }
+
+    /// Counts one more, up to the greatest number.
+    pub(crate) fn add_one(&mut self)
+        ensures { self.new ≡ min (self.old + 1) (2 ^ 64 - 1) }
+    {
+        self.number = self.number.saturating_add(1);
     }
 
     /// How many were read.

@@ -1,6 +1,6 @@
 //! Messages that passed the tests.
 
-ghost use Rattle.std.specs.Prelude.{◌≡◌, IfOk, IfErr, IsErrOf, option_copied};
+ghost use Rattle.std.specs.Prelude.{◌≡◌, IfOk, IfErr, IsErrOf, IsSome, IsTrue, None, option_copied};
 ghost use Rattle.wire.specs.Events.{Event};
 ghost use Rattle.wire.specs.declared.keys.Digest.{Digest};
 ghost use Rattle.wire.specs.declared.keys.Key.{Key};
@@ -10,7 +10,7 @@ ghost use Rattle.header.specs.Digested.{batch_digest_in, header_digest_in, certi
 
 use crate::digested::Digested;
 use crate::error::CheckError;
-use crate::faults::test_message;
+use crate::faults::{is_member, test_digested, test_message};
 use committee::Committee;
 use sigface::Verify;
 use std::marker::Model;
@@ -161,4 +161,19 @@ pub fn recheck(
     ensures no_bad_signature { ¬ IsErrOf result CheckError.BadSignature }
 {
     check(committee, &AcceptAll, sender, message)
+}
+
+/// Whether an event is a certificate that passes the tests of a committee which need no signatures. Whatever waits is one: what
+/// keeps it doesn't know of which committee. It takes no memory and computes no digest.
+pub fn passes(committee: &Committee, event: &Checked) -> bool
+    ensures passed { IsTrue result → fault_of committee.now accepts_all event.now ≡ None }
+    ensures only { IsSome (certificate_digest_in event.now.message) → fault_of committee.now accepts_all event.now ≡ None → IsTrue result }
+{
+    match (event.message(), event.certificate_digest()) {
+        (Message::Certificate(certificate), Some(digest)) => {
+            is_member(committee, event.sender())
+                && test_digested(committee, &AcceptAll, certificate, digest).is_ok()
+        }
+        _ => false,
+    }
 }

@@ -19,7 +19,8 @@ use wire::{
     certificate_digest, header_digest,
 };
 
-fn is_member(committee: &Committee, author: Author) -> bool
+/// Whether a number is that of a member.
+pub(crate) fn is_member(committee: &Committee, author: Author) -> bool
     ensures { result ≡ is_member committee.now author }
 {
     author.0 < committee.size()
@@ -237,6 +238,23 @@ fn test_certificate<V: Verify>(
         header,
         certificate: certificate_digest,
     })
+}
+
+/// Tests a certificate of this digest, which isn't computed again: the first test that fails is the answer.
+pub(crate) fn test_digested<V: Verify>(
+    committee: &Committee,
+    verifier: &V,
+    certificate: &Certificate,
+    digest: &Digest,
+) -> Result<(), CheckError>
+    requires { digest.now ≡ digest_of_certificate certificate.now.header }
+    ensures { result_err result ≡ first_failing (certificate_tests committee.now (V.accepts verifier.now) certificate.now) }
+{
+    if !is_member(committee, certificate.header.author) {
+        return Err(CheckError::UnknownAuthor);
+    }
+    test_body(committee, &certificate.header)?;
+    test_votes(committee, verifier, digest, &certificate.votes)
 }
 
 /// Tests a message from its sender: the first test that fails is the answer. Of one that passes its digests.

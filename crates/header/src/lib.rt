@@ -8,7 +8,7 @@ mod faults;
 mod laws;
 mod making;
 
-pub use checked::{Checked, check, recheck};
+pub use checked::{Checked, check, passes, recheck};
 pub use error::CheckError;
 pub use laws::{ones_are_counted, passed_are_signed, passed_have_quorums};
 pub use making::make;

@@ -6,7 +6,6 @@ mod ending;
 mod faults;
 mod input;
 mod makers;
-mod passing;
 mod request;
 mod told;
 
@@ -15,6 +14,5 @@ pub use ending::Ending;
 pub use faults::Faults;
 pub use input::{End, Input};
 pub use makers::Makers;
-pub use passing::passes;
 pub use request::{Request, SEALS, TRANSACTIONS, request_of};
 pub use told::Told;

@@ -1,4 +1,5 @@
 mod Agreeing
 mod Fitting
+mod Keys
 mod Meeting
 mod NeverDown

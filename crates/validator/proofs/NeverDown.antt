@@ -1,6 +1,6 @@
 -- Admission never answers that a node is down.
 use Rattle.std.proofs.Common.{◌≡◌, ◌≢◌, ◌+◌, ◌*◌, ◌-◌, Bool, true, false, [], ◌∷◌, length, inl, inr, refl, ap, sym, ◌∙◌}
-use Rattle.std.specs.Prelude.{Option, Some, None, option_map, not, nat_le, ◌&&◌, ◌||◌, ◌==◌, if◌then◌else◌, is_some, slice_get, Result, Ok, Err, IfErr}
+use Rattle.std.specs.Prelude.{Option, Some, None, option_map, not, nat_le, ◌||◌, ◌==◌, if◌then◌else◌, is_some, slice_get, Result, Ok, Err, IfErr}
 use Rattle.std.specs.List.{list_all}
 use Rattle.std.specs.Str.{bytes_eq}
 use Rattle.std.proofs.lemmas.Bool.{true≢false}
@@ -12,7 +12,7 @@ use Rattle.spec_model.specs.Holdings.{batch_digest, is_low, is_full, all_held}
 use Rattle.spec_model.specs.Nodes.{Node}
 use Rattle.spec_model.specs.Slots.{same_digest, header_digest, certificate_digest}
 use Rattle.spec_model.specs.States.{State, batch_in, has_own_batch, floor_in}
-use Rattle.spec_model.specs.Words.{Author, BatchAck, Certificate, Coin, Contents, Digest, Event, Header, Message, Vote}
+use Rattle.spec_model.specs.Words.{Author, BatchAck, Certificate, Coin, Contents, Event, Header, Message, Vote}
 use Rattle.spec_model.specs.declared.admission.Admission.{Admission}
 use Rattle.spec_model.specs.declared.admission.Admission.TheVariants.{New, Known, Refused}
 use Rattle.spec_model.specs.declared.refusal.Refusal.TheVariants.{Memory, Down, TooOld, MissingParents, MissingBatch, Equivocation, CertConflict, DigestClash, AlreadyProposed, NotOurs, CoinOutOfTurn, CoinEarly, CoinConflict, StoreFull}

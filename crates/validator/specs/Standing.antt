@@ -2,14 +2,14 @@
 use Rattle.std.specs.Prelude.{◌≡◌, ◌++◌, ◌∷◌, [], IsTrue, Result}
 use Rattle.spec_model.specs.Admitting.{is_new, header_outputs, IsTaken, IsLegal}
 use Rattle.spec_model.specs.Giving.{kept}
-use Rattle.spec_model.specs.Histories.{History}
+use Rattle.spec_model.specs.Histories.{History, Begins}
 use Rattle.spec_model.specs.Holdings.{order}
 use Rattle.spec_model.specs.Nodes.{Node}
 use Rattle.spec_model.specs.States.{State}
 use Rattle.spec_model.specs.Words.{Digest, Event, Header, Signature}
 use Rattle.spec_model.specs.declared.admission.Admission.TheVariants.{New}
 use Rattle.spec_model.specs.declared.refusal.Refusal.{Refusal}
-use Rattle.spec_laws.specs.Laws.{Begins, own_event}
+use Rattle.spec_laws.specs.Laws.{own_event}
 use Rattle.spec_machine.specs.Machine.{answered, after}
 use Rattle.spec_machine.specs.Sound.{IsSound}
 use Rattle.admission.specs.Answers.{IsAnswer, RefusesAs}

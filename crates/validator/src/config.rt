@@ -1,6 +1,7 @@
 //! What a validator is set up with.
 
-ghost use Rattle.std.specs.Prelude.{◌≡◌, IfSome, IsNone, Some, slice_get};
+ghost use Rattle.std.specs.Prelude.{◌≡◌, All, IfSome, IsNone, Some, slice_get};
+ghost use Rattle.wire.specs.Fields.{AreBytes, EachIsByte};
 ghost use Rattle.spec_model.specs.Nodes.{IsNode};
 ghost use Rattle.validator.specs.Setting.{node_of};
 
@@ -8,7 +9,7 @@ use committee::Committee;
 use sigface::Sign;
 use spec_model::Node;
 use std::marker::Model;
-use wire::Author;
+use wire::{Author, Key};
 
 /// A member of a committee with its signer. Contracts see all three.
 pub struct Config<S: Sign> {
@@ -81,4 +82,37 @@ impl<S: Sign> Config<S> {
     {
         let _ = &self.node;
     }
+
+    /// What holds of the committee's keys: each key has 32 bytes. It looks at each, and does nothing.
+    pub fn keys_hold(&self)
+        ensures { All (λ key. AreBytes 32 key.0) self.now.charter.keys }
+    {
+        look_at_keys(&self.node.committee);
+    }
+}
+
+// What holds of the keys of a committee: each has 32 bytes. It looks at each, and does nothing.
+fn look_at_keys(committee: &Committee)
+    ensures { All (λ key. AreBytes 32 key.0) committee.now.keys }
+{
+    for member in 0..committee.size() {
+        match committee.key(Author(member)) {
+            Some(key) => is_key(key),
+            None => unreachable!(),
+        }
+    }
+}
+
+// What holds of a key: it has 32 bytes. The call does nothing.
+fn is_key(key: &Key)
+    ensures { AreBytes 32 key.now.0 }
+{
+    are_bytes(&key.0);
+}
+
+// What holds of bytes. The call does nothing.
+fn are_bytes(bytes: &[u8])
+    ensures { EachIsByte bytes.now }
+{
+    let _ = bytes;
 }

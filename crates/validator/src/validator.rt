@@ -66,7 +66,7 @@ impl<'a, S: Sign> Validator<'a, S> {
     /// One that has taken nothing: it holds the genesis. `AllocError` where a growth was refused.
     pub fn new(alloc: Global, config: &'a Config<S>) -> Result<Validator<'a, S>, AllocError>
         ensures setting { IfOk result (λ made. made.setting ≡ config.now) }
-        ensures at { IfOk result (λ made. AreAtSound (node_of S.own_key S.signature_of config.now) made.tables (fresh (node_of S.own_key S.signature_of config.now))) }
+        ensures at { let node = node_of S.own_key S.signature_of config.now in IfOk result (λ made. AreAtSound node made.tables (fresh node)) }
     {
         spec_machine::fresh_is_sound();
         config.limits_hold();
@@ -100,24 +100,24 @@ impl<'a, S: Sign> Validator<'a, S> {
     /// The refusal of admission, or `Memory` where a growth was refused. They change nothing.
     pub fn step(&mut self, event: Checked) -> Result<Step, Refusal>
         requires passed { fault_of self.old.setting.charter accepts_all event ≡ None }
-        ensures answer { (state : State) → AreAtSound (node_of S.own_key S.signature_of self.old.setting) self.old.tables state
-            → IsAnswer (answered (node_of S.own_key S.signature_of self.old.setting) state event) result }
-        ensures refused { (state : State) → AreAtSound (node_of S.own_key S.signature_of self.old.setting) self.old.tables state
-            → RefusesAs (answered (node_of S.own_key S.signature_of self.old.setting) state event) result }
-        ensures at { is_new_step result ≡ true → (state : State) → AreAtSound (node_of S.own_key S.signature_of self.old.setting) self.old.tables state
-            → AreAtSound (node_of S.own_key S.signature_of self.old.setting) self.new.tables (after (node_of S.own_key S.signature_of self.old.setting) state event) }
+        ensures answer { let node = node_of S.own_key S.signature_of self.old.setting in (state : State) → AreAtSound node self.old.tables state
+            → IsAnswer (answered node state event) result }
+        ensures refused { let node = node_of S.own_key S.signature_of self.old.setting in (state : State) → AreAtSound node self.old.tables state
+            → RefusesAs (answered node state event) result }
+        ensures at { let node = node_of S.own_key S.signature_of self.old.setting in is_new_step result ≡ true → (state : State) → AreAtSound node self.old.tables state
+            → AreAtSound node self.new.tables (after node state event) }
         ensures same { is_new_step result ≡ false → self.new ≡ self.old }
         ensures setting { self.new.setting ≡ self.old.setting }
         // It doesn't know of Down.
         ensures never_down { IfErr result (λ refusal. refusal ≢ Refusal.Down) }
         // Said of a legal history: where the tables are what is kept of it, the answer is that of admission, and behind a new
         // event they are what is kept of the longer one, whose order begins with that from before.
-        ensures admits { (history : History) → IsLegal (node_of S.own_key S.signature_of self.old.setting) history
-            → AreAtSound (node_of S.own_key S.signature_of self.old.setting) self.old.tables (kept (node_of S.own_key S.signature_of self.old.setting) history)
-            → IsAnswer (admit (node_of S.own_key S.signature_of self.old.setting) history event) result }
-        ensures longer { is_new_step result ≡ true → (history : History) → IsLegal (node_of S.own_key S.signature_of self.old.setting) history
-            → AreAtSound (node_of S.own_key S.signature_of self.old.setting) self.old.tables (kept (node_of S.own_key S.signature_of self.old.setting) history)
-            → GoesOn (node_of S.own_key S.signature_of self.old.setting) history event self.new.tables }
+        ensures admits { let node = node_of S.own_key S.signature_of self.old.setting in (history : History) → IsLegal node history
+            → AreAtSound node self.old.tables (kept node history)
+            → IsAnswer (admit node history event) result }
+        ensures longer { let node = node_of S.own_key S.signature_of self.old.setting in is_new_step result ≡ true → (history : History) → IsLegal node history
+            → AreAtSound node self.old.tables (kept node history)
+            → GoesOn node history event self.new.tables }
     {
         spec_machine::sound_stays();
         spec_machine::state_answers();
@@ -131,20 +131,20 @@ impl<'a, S: Sign> Validator<'a, S> {
     /// The order: the digests of the certificates that are ordered.
     pub fn order(&self) -> &[Digest]
         ensures at { (state : State) → AreAtSound (node_of S.own_key S.signature_of self.now.setting) self.now.tables state → result.now ≡ state.order }
-        ensures scratch { (history : History)
-            → AreAtSound (node_of S.own_key S.signature_of self.now.setting) self.now.tables (kept (node_of S.own_key S.signature_of self.now.setting) history)
-            → result.now ≡ order_of (node_of S.own_key S.signature_of self.now.setting) history }
+        ensures scratch { let node = node_of S.own_key S.signature_of self.now.setting in (history : History)
+            → AreAtSound node self.now.tables (kept node history)
+            → result.now ≡ order_of node history }
     {
         self.tables.sequencer().order()
     }
 
     /// The validator's round, up to `Round::MAX + 1`: 1 plus the greatest round of which a quorum of authors has certificates.
     pub fn round(&self) -> u64
-        ensures at { (state : State) → AreAtSound (node_of S.own_key S.signature_of self.now.setting) self.now.tables state
-            → result ≡ round_in (node_of S.own_key S.signature_of self.now.setting) state }
-        ensures history { (history : History) → IsLegal (node_of S.own_key S.signature_of self.now.setting) history
-            → AreAtSound (node_of S.own_key S.signature_of self.now.setting) self.now.tables (kept (node_of S.own_key S.signature_of self.now.setting) history)
-            → result ≡ round_of (node_of S.own_key S.signature_of self.now.setting) history }
+        ensures at { let node = node_of S.own_key S.signature_of self.now.setting in (state : State) → AreAtSound node self.now.tables state
+            → result ≡ round_in node state }
+        ensures history { let node = node_of S.own_key S.signature_of self.now.setting in (history : History) → IsLegal node history
+            → AreAtSound node self.now.tables (kept node history)
+            → result ≡ round_of node history }
         ensures limit { result ≤ MAX + 1 }
     {
         spec_machine::state_proposes();
@@ -154,11 +154,11 @@ impl<'a, S: Sign> Validator<'a, S> {
     /// The floor: nothing of a lower round is held, and no header, vote or certificate of a round up to it is taken, if it is
     /// above 0.
     pub fn floor(&self) -> Round
-        ensures at { (state : State) → AreAtSound (node_of S.own_key S.signature_of self.now.setting) self.now.tables state
-            → result ≡ floor_in (node_of S.own_key S.signature_of self.now.setting) state }
-        ensures history { (history : History) → IsLegal (node_of S.own_key S.signature_of self.now.setting) history
-            → AreAtSound (node_of S.own_key S.signature_of self.now.setting) self.now.tables (kept (node_of S.own_key S.signature_of self.now.setting) history)
-            → result ≡ floor_of (node_of S.own_key S.signature_of self.now.setting) history }
+        ensures at { let node = node_of S.own_key S.signature_of self.now.setting in (state : State) → AreAtSound node self.now.tables state
+            → result ≡ floor_in node state }
+        ensures history { let node = node_of S.own_key S.signature_of self.now.setting in (history : History) → IsLegal node history
+            → AreAtSound node self.now.tables (kept node history)
+            → result ≡ floor_of node history }
     {
         spec_machine::state_proposes();
         self.tables.floor()
@@ -168,8 +168,8 @@ impl<'a, S: Sign> Validator<'a, S> {
     pub fn voted(&self, author: Author, round: Round) -> Option<Digest>
         ensures at { (state : State) → AreAtSound (node_of S.own_key S.signature_of self.now.setting) self.now.tables state
             → result ≡ state.votes round author.0 }
-        ensures history { (history : History) → AreAtSound (node_of S.own_key S.signature_of self.now.setting) self.now.tables (kept (node_of S.own_key S.signature_of self.now.setting) history)
-            → result ≡ unless_low (floor_of (node_of S.own_key S.signature_of self.now.setting) history) round (voted_digest history round author.0) }
+        ensures history { let node = node_of S.own_key S.signature_of self.now.setting in (history : History) → AreAtSound node self.now.tables (kept node history)
+            → result ≡ unless_low (floor_of node history) round (voted_digest history round author.0) }
     {
         votes_agree();
         self.tables.voted(author, round)
@@ -178,11 +178,11 @@ impl<'a, S: Sign> Validator<'a, S> {
     /// Whether an event that passed the checks is ready: its answer isn't that a parent is missing.
     pub fn ready(&self, event: &Checked) -> bool
         requires passed { fault_of self.now.setting.charter accepts_all event.now ≡ None }
-        ensures at { (state : State) → AreAtSound (node_of S.own_key S.signature_of self.now.setting) self.now.tables state
-            → result ≡ is_ready (node_of S.own_key S.signature_of self.now.setting) state event.now }
-        ensures history { (history : History) → IsLegal (node_of S.own_key S.signature_of self.now.setting) history
-            → AreAtSound (node_of S.own_key S.signature_of self.now.setting) self.now.tables (kept (node_of S.own_key S.signature_of self.now.setting) history)
-            → result ≡ not (is_missing_parents (admit (node_of S.own_key S.signature_of self.now.setting) history event.now)) }
+        ensures at { let node = node_of S.own_key S.signature_of self.now.setting in (state : State) → AreAtSound node self.now.tables state
+            → result ≡ is_ready node state event.now }
+        ensures history { let node = node_of S.own_key S.signature_of self.now.setting in (history : History) → IsLegal node history
+            → AreAtSound node self.now.tables (kept node history)
+            → result ≡ not (is_missing_parents (admit node history event.now)) }
     {
         spec_machine::state_is_ready();
         self.config.limits_hold();
@@ -193,11 +193,11 @@ impl<'a, S: Sign> Validator<'a, S> {
     /// Whether an event that passed the checks would be new. It takes no memory.
     pub fn is_new(&self, event: &Checked) -> bool
         requires passed { fault_of self.now.setting.charter accepts_all event.now ≡ None }
-        ensures at { (state : State) → AreAtSound (node_of S.own_key S.signature_of self.now.setting) self.now.tables state
-            → result ≡ is_new (answered (node_of S.own_key S.signature_of self.now.setting) state event.now) }
-        ensures history { (history : History) → IsLegal (node_of S.own_key S.signature_of self.now.setting) history
-            → AreAtSound (node_of S.own_key S.signature_of self.now.setting) self.now.tables (kept (node_of S.own_key S.signature_of self.now.setting) history)
-            → result ≡ is_new (admit (node_of S.own_key S.signature_of self.now.setting) history event.now) }
+        ensures at { let node = node_of S.own_key S.signature_of self.now.setting in (state : State) → AreAtSound node self.now.tables state
+            → result ≡ is_new (answered node state event.now) }
+        ensures history { let node = node_of S.own_key S.signature_of self.now.setting in (history : History) → IsLegal node history
+            → AreAtSound node self.now.tables (kept node history)
+            → result ≡ is_new (admit node history event.now) }
     {
         spec_machine::state_answers();
         self.config.limits_hold();
@@ -209,14 +209,14 @@ impl<'a, S: Sign> Validator<'a, S> {
     /// `MAX_BATCHES` least digests of available own batches that no own header has named. None where its round has an own
     /// header, or is past `Round::MAX`. `AllocError` where a growth was refused.
     pub fn propose(&self) -> Result<Option<Header>, AllocError>
-        ensures at { IfOk result (λ found. (state : State) → AreAtSound (node_of S.own_key S.signature_of self.now.setting) self.now.tables state
-            → found ≡ proposed (node_of S.own_key S.signature_of self.now.setting) state) }
-        ensures history { IfOk result (λ found. (history : History) → IsLegal (node_of S.own_key S.signature_of self.now.setting) history
-            → AreAtSound (node_of S.own_key S.signature_of self.now.setting) self.now.tables (kept (node_of S.own_key S.signature_of self.now.setting) history)
-            → found ≡ propose_of (node_of S.own_key S.signature_of self.now.setting) history) }
+        ensures at { let node = node_of S.own_key S.signature_of self.now.setting in IfOk result (λ found. (state : State) → AreAtSound node self.now.tables state
+            → found ≡ proposed node state) }
+        ensures history { let node = node_of S.own_key S.signature_of self.now.setting in IfOk result (λ found. (history : History) → IsLegal node history
+            → AreAtSound node self.now.tables (kept node history)
+            → found ≡ propose_of node history) }
         // Taken back as an event, it is new.
-        ensures new { IfOk result (λ found. (state : State) → AreAtSound (node_of S.own_key S.signature_of self.now.setting) self.now.tables state
-            → IfSome found (IsNewThere (node_of S.own_key S.signature_of self.now.setting) state)) }
+        ensures new { let node = node_of S.own_key S.signature_of self.now.setting in IfOk result (λ found. (state : State) → AreAtSound node self.now.tables state
+            → IfSome found (IsNewThere node state)) }
     {
         self.config.limits_hold();
         spec_machine::sound_proposes();

@@ -1,14 +1,7 @@
 use Rattle.std.proofs.Common.{sym, Some, None}
 use Rattle.admission.specs.Headers.{Headers}
-use Rattle.admission.proofs.Looking.{looked, member_of, answer_of}
+use Rattle.admission.proofs.Looking.{looked, answer_of}
 use Rattle.admission.proofs.assemblies.Assemblies.answer.Goals as goal
-
-pub answer-requires : goal.answer-requires
-answer-requires c =
-    let inside : Headers = record { charter = c.self.inside.committee.now; own = c.self.inside.own.0; rounds = c.self.inside.rounds.entries } in
-    record {
-      member = member_of inside c.args.self.now c.number.result c.in-Some.assembly.now c.args.vote.now.voter.0 c.self.invariant c.in-Some.ensures.value c.self.view_is c.requires.member;
-    }
 
 pub returns-in-Some : goal.returns-in-Some
 returns-in-Some c =

@@ -4,19 +4,14 @@ use Rattle.std.proofs.lemmas.Option.{same_Some}
 use Rattle.certify.specs.Answer.{after}
 use Rattle.certify.specs.Assembled.{Assembled}
 use Rattle.admission.specs.Headers.{Headers, IsEntry, IsWith}
-use Rattle.admission.proofs.Looking.{looked, member_of, answer_of, written, unchanged, holds_with}
+use Rattle.admission.proofs.Looking.{looked, answer_of, written, unchanged, holds_with}
 use Rattle.admission.proofs.assemblies.Assemblies.count.Goals as goal
 use Rattle.admission.proofs.assemblies.Assemblies.count.Goals.{in-Some, in_default}
 
-pub count-requires-clause-member : goal.count-requires-clause-member
-count-requires-clause-member c =
+pub count-requires : goal.count-requires
+count-requires c =
     let inside : Headers = record { charter = c.self.inside.committee.now; own = c.self.inside.own.0; rounds = c.self.inside.rounds.entries } in
-    member_of inside c.args.self.now c.number.result c.in-Some.assembly.now c.args.vote.voter.0 c.self.invariant c.in-Some.ensures.value c.self.view_is c.requires.member
-
-pub count-requires-clause-added : goal.count-requires-clause-added
-count-requires-clause-added c =
-    let inside : Headers = record { charter = c.self.inside.committee.now; own = c.self.inside.own.0; rounds = c.self.inside.rounds.entries } in
-    c.requires.added
+    c.requires
     ∙ answer_of c.args.self.now c.args.vote (Some c.in-Some.assembly.now)
     (looked inside c.args.self.now c.number.result c.args.vote.round (Some c.in-Some.assembly.now) c.in-Some.ensures.value c.number.ensures.value c.self.view_is)
 

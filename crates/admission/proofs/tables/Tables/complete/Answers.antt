@@ -77,15 +77,3 @@ returns-clause-at c = λ node state event meets new.
     c.trim.ensures.own c.trim.ensures.batches at c.trim.ensures.sequencer c.floor-before.ensures c.trim.ensures.votes
     (is.behind counted with later.headers (subst (λ (f : ℕ). IsForgotten counted later.headers f) at.floor
     (c.trim.ensures.headers (subst (λ (f : ℕ). IsForgotten counted counted f) (sym (c.floor-before.ensures ∙ meets.at.sequence.floor)) forgotten))))
-
-pub count-requires-clause-member : goal.count-requires-clause-member
-count-requires-clause-member c =
-    let headers = c.args.self.now.headers in
-    let vote = c.args.vote in
-    let node = c.requires.meets.0 in
-    let state = c.requires.meets.1 in
-    let event = c.requires.meets.2 in
-    let meets = c.requires.meets.3 in
-    let comes = comes_of node state event c.args.self.now (message.Vote vote) meets c.requires.meets.4 in
-    let is = c.vote_comes.ensures node state event vote headers comes c.limits_hold.ensures meets.at.headers meets.message in
-    is.member

@@ -24,13 +24,6 @@ returns-in-Counted-clause-outputs c = λ node state event meets new.
     (vote_answered c.votes_agree.ensures node state event tables vote meets) new
     ∙ ap admission.New (outputs_without node state event vote tables.headers meets.message is none (sym beside.sequence.order ∙ meets.at.sequence.order) ∙ sym c.new.ensures.items)
 
-pub answer-requires : goal.answer-requires
-answer-requires c =
-    let meets = c.requires.meets in
-    let comes = comes_of meets.0 meets.1 meets.2 c.args.self.now (message.Vote c.args.vote) meets.3 meets.4 in
-    let is = c.vote_comes.ensures meets.0 meets.1 meets.2 c.args.vote c.args.self.now.headers comes c.limits_hold.ensures meets.3.at.headers meets.3.message in
-    record { member = is.member }
-
 pub unreachable-requires : goal.unreachable-requires
 unreachable-requires c =
     let meets = c.requires.meets in

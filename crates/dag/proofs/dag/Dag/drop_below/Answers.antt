@@ -12,13 +12,13 @@ invariant_of-self c =
     let rows = inside.rows.items in
     let round = c.args.round in
     let higher : inside.floor < round = omega (arith, c.if-number-floor.false, c.number-number.ensures.value, c.number-floor.ensures.value) in
-    let within : round < inside.base = rw (← c.self.view_is) at c.requires in
+    let within : round < inside.base = omega (arith, c.if-base-number.false, c.number-number.ensures.value, c.number-base.ensures.value) in
     let all : c.drop_front.new.rows.items ≡ drop (round - inside.floor) rows =
     c.drop_front.ensures ∙ ap (λ k. drop k rows) (omega (arith, c.number-number.ensures.value, c.number-floor.ensures.value)) in
     subst (λ (l : Rows). IsKept charter round inside.base l) (sym all) (kept_from charter inside.floor round inside.base rows c.self.invariant higher within)
 
-pub returns : goal.returns
-returns c =
+pub returns-clause-below : goal.returns-clause-below
+returns-clause-below c _ =
     let inside = c.self.inside in
     let charter = inside.committee.now in
     let rows = inside.rows.items in
