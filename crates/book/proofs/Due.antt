@@ -3,10 +3,10 @@ use Rattle.std.proofs.Common.{◌≡◌, ℕ, ◌+◌, ◌≤◌, List, [], ◌�
 use Rattle.std.specs.Prelude.{All, Contains}
 use Rattle.std.proofs.lemmas.List.{take_all, take-append-le, length_push, length-append, take-append-drop}
 use Rattle.std.proofs.lemmas.List.Elements.{All-map, All-weaker, All-append, All-head, All-tail, All-contains, All-contains_itself}
-use Rattle.spec_laws.specs.Laws.{Begins, PutsOutGiven, OutputsGiven}
+use Rattle.spec_laws.specs.Laws.{PutsOutGiven, OutputsGiven}
 use Rattle.spec_model.specs.Admitting.{admit}
 use Rattle.spec_model.specs.Giving.{MayGive}
-use Rattle.spec_model.specs.Histories.{History}
+use Rattle.spec_model.specs.Histories.{History, Begins}
 use Rattle.spec_model.specs.Nodes.{Node}
 use Rattle.spec_model.specs.Words.{Event, Output}
 use Rattle.spec_model.specs.declared.admission.Admission.TheVariants.{New, Known}

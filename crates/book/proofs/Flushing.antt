@@ -3,10 +3,9 @@ use Rattle.std.proofs.Common.{◌≡◌, ℕ, zero, suc, ◌+◌, ◌≤◌, Lis
 use Rattle.std.specs.Prelude.{All}
 use Rattle.std.proofs.lemmas.List.{take_all, drop_at, take_at, take-map, drop-take, take-append-le, take-append-drop, length-take-le, length-append, drop-map, length-map, length-drop}
 use Rattle.std.proofs.lemmas.List.Elements.{All-nil, All-weaker, All-tail}
-use Rattle.spec_laws.specs.Laws.{Begins}
 use Rattle.spec_model.specs.Admitting.{IsLegal}
 use Rattle.spec_model.specs.Giving.{kept}
-use Rattle.spec_model.specs.Histories.{History}
+use Rattle.spec_model.specs.Histories.{History, Begins}
 use Rattle.spec_model.specs.Holdings.{order}
 use Rattle.spec_model.specs.Nodes.{Node}
 use Rattle.spec_records.specs.Records.{record_of}

@@ -4,8 +4,7 @@ use Rattle.std.specs.Prelude.{Result, IfOk, OnErr, Option, Some, None, IfSome, I
 use Rattle.std.specs.declared.alloc.AllocError.{AllocError}
 use Rattle.std.proofs.lemmas.List.{nil_from_length, take_all, take-take, drop_at, take-append-le, take-append-drop, length-take-le, drop-append-le, drop-map, map-append, length-append, length-map, length-drop}
 use Rattle.std.proofs.lemmas.Grind.{flat_map-append}
-use Rattle.spec_laws.specs.Laws.{Begins}
-use Rattle.spec_model.specs.Histories.{History}
+use Rattle.spec_model.specs.Histories.{History, Begins}
 use Rattle.spec_model.specs.Nodes.{Node}
 use Rattle.spec_model.specs.Words.{Event}
 use Rattle.spec_model.specs.declared.refusal.Refusal.{Refusal}

@@ -4,7 +4,8 @@ use Rattle.std.specs.Prelude.{All, Option, Some, None, is_some, MatchOption}
 use Rattle.std.proofs.lemmas.Bool.{true≢false}
 use Rattle.std.proofs.lemmas.List.{take-append-drop, take-append-le, take_at, drop-append-le, nil_from_length, length-drop}
 use Rattle.std.proofs.lemmas.List.Elements.{All-head}
-use Rattle.spec_laws.specs.Laws.{Begins, GivenGrows, OrderGrows}
+use Rattle.spec_laws.specs.Laws.{GivenGrows, OrderGrows}
+use Rattle.spec_model.specs.Histories.{Begins}
 use Rattle.spec_laws.proofs.Legal.{legal-begins}
 use Rattle.spec_model.specs.Admitting.{IsLegal}
 use Rattle.spec_model.specs.Giving.{MayGive}

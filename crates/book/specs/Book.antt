@@ -1,9 +1,8 @@
 -- The book: what a run accepted, what of it was taken and settled, and what may go out.
 use Rattle.std.specs.Prelude.{◌≡◌, ◌⊎◌, ⊤, ℕ, ◌+◌, ◌≤◌, List, [], ◌∷◌, ◌++◌, length, map, take, drop, Option, None, Bool, true, false, IsTrue, ◌<◌, All, if◌then◌else◌}
-use Rattle.spec_laws.specs.Laws.{Begins}
 use Rattle.spec_model.specs.Admitting.{admit, is_new, IsLegal, IsTaken}
 use Rattle.spec_model.specs.Giving.{kept, MayGive}
-use Rattle.spec_model.specs.Histories.{History}
+use Rattle.spec_model.specs.Histories.{History, Begins}
 use Rattle.spec_model.specs.Holdings.{order}
 use Rattle.spec_model.specs.Nodes.{Node}
 use Rattle.spec_model.specs.States.{State}

@@ -43,9 +43,8 @@ impl<'a, S: Sign> Model for OwnBook<'a, S> {
 
 impl<'a, S: Sign> OwnBook<'a, S> {
     ghost use Rattle.std.specs.Prelude.{◌≡◌, ◌≢◌, ◌⊎◌, ◌↔◌, ◌+◌, ◌<◌, ◌≤◌, ◌==◌, drop, map, false, is_some, if◌then◌else◌, IsNone, ◌++◌, ◌∷◌, [], List, ℕ, length, true, None, Ok, IfOk, IfErr, IfSome, OnOk, OnErr, IsErrOf, IsTrue};
-    ghost use Rattle.diskmodel.specs.Disk.{AtEachMoment};
+    ghost use Rattle.diskmodel.specs.Disk.{AtEachMoment, TellsFault};
     ghost use Rattle.header.specs.Checks.{fault_of, accepts_all};
-    ghost use Rattle.spec_laws.specs.Laws.{Begins};
     ghost use Rattle.journal.specs.Journal.{disk_of, IsAlive};
     ghost use Rattle.spec_records.specs.Records.{record_of};
     ghost use Rattle.validator.specs.Setting.{node_of};
@@ -54,7 +53,7 @@ impl<'a, S: Sign> OwnBook<'a, S> {
     ghost use Rattle.book.specs.declared.book.TheConstants.{MAX_ACCEPTED};
     ghost use Rattle.spec_model.specs.Admitting.{IsLegal};
     ghost use Rattle.spec_model.specs.Giving.{kept};
-    ghost use Rattle.spec_model.specs.Histories.{History};
+    ghost use Rattle.spec_model.specs.Histories.{History, Begins};
     ghost use Rattle.spec_model.specs.Holdings.{order as order_of, round as round_of};
     ghost use Rattle.book.specs.OnTheWay.{AreOnTheWay, Flushes, FindsNoRoom, FailsWithRoom, IsWithOrWithout, StandsAtLegal};
     ghost use Rattle.book.specs.Pending.{IsLongestBeginning};
@@ -62,9 +61,9 @@ impl<'a, S: Sign> OwnBook<'a, S> {
     /// A book that has accepted nothing, over a validator that stands at a history.
     pub fn new(alloc: Global, validator: Validator<'a, S>) -> OwnBook<'a, S>
         requires { StandsAtLegal (node_of S.own_key S.signature_of validator.setting) validator.tables }
-        ensures stands { (began : History) → IsLegal (node_of S.own_key S.signature_of validator.entry.setting) began
-            → AreAtSound (node_of S.own_key S.signature_of validator.entry.setting) validator.entry.tables (kept (node_of S.own_key S.signature_of validator.entry.setting) began)
-            → Stands (node_of S.own_key S.signature_of validator.entry.setting) (run_on began) result }
+        ensures stands { let node = node_of S.own_key S.signature_of validator.entry.setting in (began : History) → IsLegal node began
+            → AreAtSound node validator.entry.tables (kept node began)
+            → Stands node (run_on began) result }
         ensures validator { result.validator ≡ validator.entry }
         ensures pending { result.pending ≡ [] }
         ensures queue { result.queue ≡ [] }
@@ -83,11 +82,11 @@ impl<'a, S: Sign> OwnBook<'a, S> {
         ensures known { IfOk result (λ receipt. receipt.new ≡ false → TakesKnown (node_of S.own_key S.signature_of self.old.validator.setting) self.old self.new event) }
         ensures ticket { IfOk result (λ receipt. receipt.ticket ≡ self.new.accepted) }
         ensures limit { IfOk result (λ receipt. receipt.ticket ≤ MAX_ACCEPTED) }
-        ensures refused { IfErr result (λ refusal. (run : Run) → Stands (node_of S.own_key S.signature_of self.old.validator.setting) run self.old
-            → MayRefuse (node_of S.own_key S.signature_of self.old.validator.setting) run self.old event refusal) }
+        ensures refused { let node = node_of S.own_key S.signature_of self.old.validator.setting in IfErr result (λ refusal. (run : Run) → Stands node run self.old
+            → MayRefuse node run self.old event refusal) }
         ensures err { OnErr result (self.new ≡ self.old) }
-        ensures way { (groups : List (List (List ℕ))) → AreOnTheWay (node_of S.own_key S.signature_of self.old.validator.setting) self.old groups
-            → AreOnTheWay (node_of S.own_key S.signature_of self.old.validator.setting) self.new groups }
+        ensures way { let node = node_of S.own_key S.signature_of self.old.validator.setting in (groups : List (List (List ℕ))) → AreOnTheWay node self.old groups
+            → AreOnTheWay node self.new groups }
         ensures setting { self.new.validator.setting ≡ self.old.validator.setting }
     {
         self.book.accept(event)
@@ -101,8 +100,8 @@ impl<'a, S: Sign> OwnBook<'a, S> {
         ensures taken { IfOk result (λ taken. IfSome taken (λ group. self.new ≡ record self.old { pending = self.new.pending; taken = self.old.taken + length group })) }
         ensures nothing { IfOk result (λ taken. IsNone taken → self.new ≡ self.old) }
         ensures err { OnErr result (self.new ≡ self.old) }
-        ensures way { IfOk result (λ taken. IfSome taken (λ group. (groups : List (List (List ℕ))) → AreOnTheWay (node_of S.own_key S.signature_of self.old.validator.setting) self.old groups
-            → AreOnTheWay (node_of S.own_key S.signature_of self.old.validator.setting) self.new (groups ++ group ∷ []))) }
+        ensures way { let node = node_of S.own_key S.signature_of self.old.validator.setting in IfOk result (λ taken. IfSome taken (λ group. (groups : List (List (List ℕ))) → AreOnTheWay node self.old groups
+            → AreOnTheWay node self.new (groups ++ group ∷ []))) }
         ensures setting { self.new.validator.setting ≡ self.old.validator.setting }
     {
         self.book.take()
@@ -111,13 +110,13 @@ impl<'a, S: Sign> OwnBook<'a, S> {
     /// Settles the first group on the way.
     pub fn settle(&mut self, synced: Synced)
         requires { SettlesNext (node_of S.own_key S.signature_of self.old.validator.setting) self.old synced }
-        ensures stands { (run : Run) → Stands (node_of S.own_key S.signature_of self.old.validator.setting) run self.old
+        ensures stands { let node = node_of S.own_key S.signature_of self.old.validator.setting in (run : Run) → Stands node run self.old
             → Begins synced (map record_of (drop (length run.settled) run.taken))
-            → Stands (node_of S.own_key S.signature_of self.old.validator.setting) (with_settled run (length synced)) self.new }
+            → Stands node (with_settled run (length synced)) self.new }
         ensures settled { self.new.settled ≡ self.old.settled + length synced }
         ensures rest { self.new ≡ record self.old { settled = self.new.settled; ordered = self.new.ordered; reached = self.new.reached } }
-        ensures way { (groups : List (List (List ℕ))) → AreOnTheWay (node_of S.own_key S.signature_of self.old.validator.setting) self.old (synced ∷ groups)
-            → AreOnTheWay (node_of S.own_key S.signature_of self.old.validator.setting) self.new groups }
+        ensures way { let node = node_of S.own_key S.signature_of self.old.validator.setting in (groups : List (List (List ℕ))) → AreOnTheWay node self.old (synced ∷ groups)
+            → AreOnTheWay node self.new groups }
         ensures setting { self.new.validator.setting ≡ self.old.validator.setting }
     {
         self.book.settle(synced);
@@ -135,12 +134,12 @@ impl<'a, S: Sign> OwnBook<'a, S> {
     pub fn release(&mut self) -> Option<Output>
         ensures output { result ≡ releasable self.old }
         ensures queue { self.new ≡ (if is_some result then record self.old { queue = drop 1 self.old.queue } else self.old) }
-        ensures stands { (run : Run) → Stands (node_of S.own_key S.signature_of self.old.validator.setting) run self.old
-            → Stands (node_of S.own_key S.signature_of self.old.validator.setting) run self.new }
-        ensures goes_out { IfSome result (λ output. (run : Run) → Stands (node_of S.own_key S.signature_of self.old.validator.setting) run self.old
-            → GoesOutSettled (node_of S.own_key S.signature_of self.old.validator.setting) run output) }
-        ensures way { (groups : List (List (List ℕ))) → AreOnTheWay (node_of S.own_key S.signature_of self.old.validator.setting) self.old groups
-            → AreOnTheWay (node_of S.own_key S.signature_of self.old.validator.setting) self.new groups }
+        ensures stands { let node = node_of S.own_key S.signature_of self.old.validator.setting in (run : Run) → Stands node run self.old
+            → Stands node run self.new }
+        ensures goes_out { let node = node_of S.own_key S.signature_of self.old.validator.setting in IfSome result (λ output. (run : Run) → Stands node run self.old
+            → GoesOutSettled node run output) }
+        ensures way { let node = node_of S.own_key S.signature_of self.old.validator.setting in (groups : List (List (List ℕ))) → AreOnTheWay node self.old groups
+            → AreOnTheWay node self.new groups }
         ensures setting { self.new.validator.setting ≡ self.old.validator.setting }
     {
         self.book.release()
@@ -149,8 +148,8 @@ impl<'a, S: Sign> OwnBook<'a, S> {
     /// Takes the book down. From now on nothing is accepted or released.
     pub fn fail(&mut self)
         ensures down { self.new ≡ record self.old { down = true } }
-        ensures way { (groups : List (List (List ℕ))) → AreOnTheWay (node_of S.own_key S.signature_of self.old.validator.setting) self.old groups
-            → AreOnTheWay (node_of S.own_key S.signature_of self.old.validator.setting) self.new groups }
+        ensures way { let node = node_of S.own_key S.signature_of self.old.validator.setting in (groups : List (List (List ℕ))) → AreOnTheWay node self.old groups
+            → AreOnTheWay node self.new groups }
         ensures setting { self.new.validator.setting ≡ self.old.validator.setting }
     {
         self.book.fail();
@@ -180,9 +179,7 @@ impl<'a, S: Sign> OwnBook<'a, S> {
         ensures alive { (IsErrOf result FlushError.Device) ⊎ IsAlive D.content D.outcome journal.new }
         ensures dead { IsErrOf result FlushError.Device → ¬ IsAlive D.content D.outcome journal.new }
         // It answers Device exactly where the disk has failed.
-        ensures device { IsErrOf result FlushError.Device → D.faults (disk_of journal.old) < D.faults (disk_of journal.new) }
-        ensures no_fault { OnOk result (D.faults (disk_of journal.new) ≡ D.faults (disk_of journal.old)) }
-        ensures no_fault_err { IfErr result (λ error. error ≢ FlushError.Device → D.faults (disk_of journal.new) ≡ D.faults (disk_of journal.old)) }
+        ensures cause { TellsFault FlushError.Device (D.faults (disk_of journal.old)) (D.faults (disk_of journal.new)) result }
         ensures setting { self.new.validator.setting ≡ self.old.validator.setting }
     {
         if self.is_down() {
@@ -242,8 +239,8 @@ impl<'a, S: Sign> OwnBook<'a, S> {
 
     /// The validator's round, behind all that was accepted.
     pub fn round_now(&self) -> u64
-        ensures { (run : Run) → Stands (node_of S.own_key S.signature_of self.now.validator.setting) run self.now
-            → result ≡ round_of (node_of S.own_key S.signature_of self.now.validator.setting) (history_in run) }
+        ensures { let node = node_of S.own_key S.signature_of self.now.validator.setting in (run : Run) → Stands node run self.now
+            → result ≡ round_of node (history_in run) }
     {
         self.book.round_now()
     }
@@ -253,8 +250,8 @@ impl<'a, S: Sign> OwnBook<'a, S> {
     /// # Errors
     /// `Down` where the book is down, `Memory` where a growth was refused.
     pub fn order(&self, from: u64) -> Result<Vec<Digest>, Refusal>
-        ensures order { IfOk result (λ digests. (run : Run) → Stands (node_of S.own_key S.signature_of self.now.validator.setting) run self.now
-            → digests.items ≡ drop from (order_of (node_of S.own_key S.signature_of self.now.validator.setting) (settled_in run))) }
+        ensures order { let node = node_of S.own_key S.signature_of self.now.validator.setting in IfOk result (λ digests. (run : Run) → Stands node run self.now
+            → digests.items ≡ drop from (order_of node (settled_in run))) }
         ensures down { IsErrOf result Refusal.Down ↔ IsTrue self.now.down }
         ensures errors { IfErr result (λ refusal. (refusal ≡ Refusal.Down) ⊎ (refusal ≡ Refusal.Memory)) }
     {

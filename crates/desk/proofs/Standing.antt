@@ -11,10 +11,9 @@ use Rattle.journal.specs.declared.journal.Journal.{Journal}
 use Rattle.opening.specs.Told.{told}
 use Rattle.opening.proofs.Longer.{told_more, some_more}
 use Rattle.opening.proofs.Telling.{told_same}
-use Rattle.spec_laws.specs.Laws.{Begins}
 use Rattle.spec_laws.proofs.Legal.{legal-begins}
 use Rattle.spec_model.specs.Admitting.{IsLegal}
-use Rattle.spec_model.specs.Histories.{History}
+use Rattle.spec_model.specs.Histories.{History, Begins}
 use Rattle.spec_model.specs.Nodes.{Node}
 use Rattle.spec_records.specs.Records.{record_of}
 use Rattle.desk.specs.Desk.{IsUp, IsLeft}

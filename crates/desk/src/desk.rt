@@ -43,9 +43,9 @@ impl<'a, S: Sign, D: Disk> Model for Desk<'a, S, D> {
 
 impl<'a, S: Sign, D: Disk> Desk<'a, S, D> {
     ghost use Rattle.std.specs.Prelude.{◌≡◌, ◌≢◌, ◌⊎◌, ◌↔◌, ◌+◌, ◌<◌, ◌≤◌, ◌∷◌, [], ◌++◌, List, ℕ, length, drop, not, true, false, is_some, None, Ok, IfOk, IfErr, IfSome, OnOk, OnErr, IsErrOf, IsTrue, if◌then◌else◌};
-    ghost use Rattle.diskmodel.specs.Disk.{AtEachMoment};
+    ghost use Rattle.diskmodel.specs.Disk.{AtEachMoment, TellsFault};
     ghost use Rattle.header.specs.Checks.{fault_of, accepts_all};
-    ghost use Rattle.journal.specs.Journal.{disk_of, IsAlive};
+    ghost use Rattle.journal.specs.Journal.{disk_of, TellsFaultBack, IsAlive};
     ghost use Rattle.book.specs.Book.{Run, Stands, TakesNew, TakesKnown, MayRefuse, GoesOutSettled, releasable, history_in, settled_in};
     ghost use Rattle.book.specs.OnTheWay.{Flushes, FindsNoRoom, FailsWithRoom, IsWithOrWithout};
     ghost use Rattle.book.specs.declared.book.TheConstants.{MAX_ACCEPTED};
@@ -72,9 +72,7 @@ impl<'a, S: Sign, D: Disk> Desk<'a, S, D> {
         ensures ok { IfOk result (λ desk. IsOpened (node_of S.own_key S.signature_of config.now) D.content D.outcome (D.content disk) desk) }
         ensures err { IfErr result (λ failed. IsNotOpened (node_of S.own_key S.signature_of config.now) failed.error (D.content disk) (D.outcome disk) (D.outcome failed.disk)) }
         // It answers Device exactly where the disk has failed.
-        ensures device { IfErr result (λ failed. failed.error ≡ JournalError.Device → D.faults disk < D.faults failed.disk) }
-        ensures no_fault { IfOk result (λ desk. D.faults (disk_of desk.journal) ≡ D.faults disk) }
-        ensures no_fault_err { IfErr result (λ failed. failed.error ≢ JournalError.Device → D.faults failed.disk ≡ D.faults disk) }
+        ensures cause { TellsFaultBack D.faults (λ desk. disk_of desk.journal) JournalError.Device disk result }
     {
         match reopen(alloc, config, disk) {
             Ok((validator, journal)) => Ok(Desk {
@@ -96,14 +94,14 @@ impl<'a, S: Sign, D: Disk> Desk<'a, S, D> {
         ensures known { IfOk result (λ receipt. receipt.new ≡ false → TakesKnown (node_of S.own_key S.signature_of self.old.book.validator.setting) self.old.book self.new.book event) }
         ensures ticket { IfOk result (λ receipt. receipt.ticket ≡ self.new.book.accepted) }
         ensures limit { IfOk result (λ receipt. receipt.ticket ≤ MAX_ACCEPTED) }
-        ensures refused { IfErr result (λ refusal. (run : Run) → Stands (node_of S.own_key S.signature_of self.old.book.validator.setting) run self.old.book
-            → MayRefuse (node_of S.own_key S.signature_of self.old.book.validator.setting) run self.old.book event refusal) }
+        ensures refused { let node = node_of S.own_key S.signature_of self.old.book.validator.setting in IfErr result (λ refusal. (run : Run) → Stands node run self.old.book
+            → MayRefuse node run self.old.book event refusal) }
         ensures err { OnErr result (self.new ≡ self.old) }
         ensures same { self.new.journal ≡ self.old.journal }
         ensures setting { self.new.book.validator.setting ≡ self.old.book.validator.setting }
         // In the world it is accepted.
-        ensures step { OnOk result ((world : World) → IsAt (node_of S.own_key S.signature_of self.old.book.validator.setting) D.content D.outcome world self.old
-            → LeadsTo (node_of S.own_key S.signature_of self.old.book.validator.setting) D.content D.outcome world (accept_event event ∷ []) self.new) }
+        ensures step { let node = node_of S.own_key S.signature_of self.old.book.validator.setting in OnOk result ((world : World) → IsAt node D.content D.outcome world self.old
+            → LeadsTo node D.content D.outcome world (accept_event event ∷ []) self.new) }
     {
         book::accept_is_a_step::<S>();
         self.book.accept(event)
@@ -128,16 +126,14 @@ impl<'a, S: Sign, D: Disk> Desk<'a, S, D> {
         ensures alive { OnOk result (IsAlive D.content D.outcome self.new.journal) }
         ensures accepted { self.new.book.accepted ≡ self.old.book.accepted }
         // It answers Device exactly where the disk has failed.
-        ensures device { IsErrOf result FlushError.Device → D.faults (disk_of self.old.journal) < D.faults (disk_of self.new.journal) }
-        ensures no_fault { OnOk result (D.faults (disk_of self.new.journal) ≡ D.faults (disk_of self.old.journal)) }
-        ensures no_fault_err { IfErr result (λ error. error ≢ FlushError.Device → D.faults (disk_of self.new.journal) ≡ D.faults (disk_of self.old.journal)) }
+        ensures cause { TellsFault FlushError.Device (D.faults (disk_of self.old.journal)) (D.faults (disk_of self.new.journal)) result }
         ensures setting { self.new.book.validator.setting ≡ self.old.book.validator.setting }
         // In the world so many events are taken, the four device calls are made, and they are settled.
-        ensures steps { IfOk result (λ count. self.old.book.pending ≢ [] → (world : World) → IsAt (node_of S.own_key S.signature_of self.old.book.validator.setting) D.content D.outcome world self.old
-            → LeadsTo (node_of S.own_key S.signature_of self.old.book.validator.setting) D.content D.outcome world (take_to (length world.settled + count) ∷ device_call ∷ device_call ∷ device_call ∷ device_call ∷ settle ∷ []) self.new) }
+        ensures steps { let node = node_of S.own_key S.signature_of self.old.book.validator.setting in IfOk result (λ count. self.old.book.pending ≢ [] → (world : World) → IsAt node D.content D.outcome world self.old
+            → LeadsTo node D.content D.outcome world (take_to (length world.settled + count) ∷ device_call ∷ device_call ∷ device_call ∷ device_call ∷ settle ∷ []) self.new) }
         // Where the desk goes down they are taken.
-        ensures fails_step { IfErr result (λ error. (error ≡ FlushError.Full) ⊎ (error ≡ FlushError.Device) → (world : World) → IsAt (node_of S.own_key S.signature_of self.old.book.validator.setting) D.content D.outcome world self.old
-            → (count : ℕ) × LeadsTo (node_of S.own_key S.signature_of self.old.book.validator.setting) D.content D.outcome world (take_to count ∷ []) self.new) }
+        ensures fails_step { let node = node_of S.own_key S.signature_of self.old.book.validator.setting in IfErr result (λ error. (error ≡ FlushError.Full) ⊎ (error ≡ FlushError.Device) → (world : World) → IsAt node D.content D.outcome world self.old
+            → (count : ℕ) × LeadsTo node D.content D.outcome world (take_to count ∷ []) self.new) }
     {
         book::flush_is_steps::<S>();
         book::fail_is_a_step::<S>();
@@ -151,15 +147,15 @@ impl<'a, S: Sign, D: Disk> Desk<'a, S, D> {
     pub fn release(&mut self) -> Option<Output>
         ensures output { result ≡ releasable self.old.book }
         ensures queue { self.new.book ≡ (if is_some result then record self.old.book { queue = drop 1 self.old.book.queue } else self.old.book) }
-        ensures stands { (run : Run) → Stands (node_of S.own_key S.signature_of self.old.book.validator.setting) run self.old.book
-            → Stands (node_of S.own_key S.signature_of self.old.book.validator.setting) run self.new.book }
-        ensures goes_out { IfSome result (λ output. (run : Run) → Stands (node_of S.own_key S.signature_of self.old.book.validator.setting) run self.old.book
-            → GoesOutSettled (node_of S.own_key S.signature_of self.old.book.validator.setting) run output) }
+        ensures stands { let node = node_of S.own_key S.signature_of self.old.book.validator.setting in (run : Run) → Stands node run self.old.book
+            → Stands node run self.new.book }
+        ensures goes_out { let node = node_of S.own_key S.signature_of self.old.book.validator.setting in IfSome result (λ output. (run : Run) → Stands node run self.old.book
+            → GoesOutSettled node run output) }
         ensures same { self.new.journal ≡ self.old.journal }
         ensures setting { self.new.book.validator.setting ≡ self.old.book.validator.setting }
         // In the world it goes out.
-        ensures step { IfSome result (λ output. (world : World) → IsAt (node_of S.own_key S.signature_of self.old.book.validator.setting) D.content D.outcome world self.old
-            → (ticket : ℕ) × LeadsTo (node_of S.own_key S.signature_of self.old.book.validator.setting) D.content D.outcome world (release_output (record { ticket = ticket; output = output }) ∷ []) self.new) }
+        ensures step { let node = node_of S.own_key S.signature_of self.old.book.validator.setting in IfSome result (λ output. (world : World) → IsAt node D.content D.outcome world self.old
+            → (ticket : ℕ) × LeadsTo node D.content D.outcome world (release_output (record { ticket = ticket; output = output }) ∷ []) self.new) }
     {
         book::release_is_a_step::<S>();
         self.book.release()
@@ -170,21 +166,21 @@ impl<'a, S: Sign, D: Disk> Desk<'a, S, D> {
     /// # Errors
     /// `Down` exactly where the desk is down, `Memory` where a growth was refused.
     pub fn order(&self, from: u64) -> Result<Vec<Digest>, Refusal>
-        ensures order { IfOk result (λ digests. (run : Run) → Stands (node_of S.own_key S.signature_of self.now.book.validator.setting) run self.now.book
-            → digests.items ≡ drop from (order_of (node_of S.own_key S.signature_of self.now.book.validator.setting) (settled_in run))) }
+        ensures order { let node = node_of S.own_key S.signature_of self.now.book.validator.setting in IfOk result (λ digests. (run : Run) → Stands node run self.now.book
+            → digests.items ≡ drop from (order_of node (settled_in run))) }
         ensures down { IsErrOf result Refusal.Down ↔ IsTrue self.now.book.down }
         ensures errors { IfErr result (λ refusal. (refusal ≡ Refusal.Down) ⊎ (refusal ≡ Refusal.Memory)) }
         // In the world the settled order may be read.
-        ensures step { OnOk result ((world : World) → IsAt (node_of S.own_key S.signature_of self.now.book.validator.setting) D.content D.outcome world self.now
-            → LeadsTo (node_of S.own_key S.signature_of self.now.book.validator.setting) D.content D.outcome world (read_order ∷ []) self.now) }
+        ensures step { let node = node_of S.own_key S.signature_of self.now.book.validator.setting in OnOk result ((world : World) → IsAt node D.content D.outcome world self.now
+            → LeadsTo node D.content D.outcome world (read_order ∷ []) self.now) }
     {
         self.book.order(from)
     }
 
     /// The validator's round, behind all that was accepted.
     pub fn round_now(&self) -> u64
-        ensures { (run : Run) → Stands (node_of S.own_key S.signature_of self.now.book.validator.setting) run self.now.book
-            → result ≡ round_of (node_of S.own_key S.signature_of self.now.book.validator.setting) (history_in run) }
+        ensures { let node = node_of S.own_key S.signature_of self.now.book.validator.setting in (run : Run) → Stands node run self.now.book
+            → result ≡ round_of node (history_in run) }
     {
         self.book.round_now()
     }
@@ -192,8 +188,8 @@ impl<'a, S: Sign, D: Disk> Desk<'a, S, D> {
     /// Whether an event that passed the checks is ready: its answer isn't that a parent is missing.
     pub fn ready(&self, event: &Checked) -> bool
         requires passed { fault_of self.now.book.validator.setting.charter accepts_all event.now ≡ None }
-        ensures { (run : Run) → Stands (node_of S.own_key S.signature_of self.now.book.validator.setting) run self.now.book
-            → result ≡ not (is_missing_parents (admit (node_of S.own_key S.signature_of self.now.book.validator.setting) (history_in run) event.now)) }
+        ensures { let node = node_of S.own_key S.signature_of self.now.book.validator.setting in (run : Run) → Stands node run self.now.book
+            → result ≡ not (is_missing_parents (admit node (history_in run) event.now)) }
     {
         self.book.validator().ready(event)
     }
@@ -201,8 +197,8 @@ impl<'a, S: Sign, D: Disk> Desk<'a, S, D> {
     /// The header that the node proposes, behind all that was accepted. None where its round has an own header, or is past
     /// `Round::MAX`. `AllocError` where a growth was refused.
     pub fn propose(&self) -> Result<Option<Header>, AllocError>
-        ensures { IfOk result (λ found. (run : Run) → Stands (node_of S.own_key S.signature_of self.now.book.validator.setting) run self.now.book
-            → found ≡ propose_of (node_of S.own_key S.signature_of self.now.book.validator.setting) (history_in run)) }
+        ensures { let node = node_of S.own_key S.signature_of self.now.book.validator.setting in IfOk result (λ found. (run : Run) → Stands node run self.now.book
+            → found ≡ propose_of node (history_in run)) }
     {
         self.book.validator().propose()
     }
@@ -232,7 +228,7 @@ impl<'a, S: Sign, D: Disk> Desk<'a, S, D> {
 
 impl<'a, S: Sign, D: StopDisk> Desk<'a, S, D> {
     ghost use Rattle.std.specs.Prelude.{◌≡◌, ◌≢◌, ◌<◌, List, ℕ, IfOk, IfErr};
-    ghost use Rattle.journal.specs.Journal.{disk_of};
+    ghost use Rattle.journal.specs.Journal.{disk_of, TellsFaultBack};
     ghost use Rattle.validator.specs.Setting.{node_of};
     ghost use Rattle.spec_world.specs.Steps.{Move};
     ghost use Rattle.spec_world.specs.World.{World};
@@ -252,11 +248,9 @@ impl<'a, S: Sign, D: StopDisk> Desk<'a, S, D> {
         ensures ok { IfOk result (λ next. (found : List ℕ) × D.outcome (disk_of self.entry.journal) found × IsOpened (node_of S.own_key S.signature_of config.now) D.content D.outcome found next) }
         ensures err { IfErr result (λ failed. (found : List ℕ) × D.outcome (disk_of self.entry.journal) found × IsNotOpened (node_of S.own_key S.signature_of config.now) failed.error found (D.outcome (disk_of self.entry.journal)) (D.outcome failed.disk)) }
         // In the world the machine stops, and what that left is opened.
-        ensures steps { IfOk result (λ next. (world : World) → IsAt (node_of S.own_key S.signature_of config.now) D.content D.outcome world self.entry
-            → (moves : List Move) × IsStop world moves × LeadsTo (node_of S.own_key S.signature_of config.now) D.content D.outcome world moves next) }
-        ensures device { IfErr result (λ failed. failed.error ≡ JournalError.Device → D.faults (disk_of self.entry.journal) < D.faults failed.disk) }
-        ensures no_fault { IfOk result (λ next. D.faults (disk_of next.journal) ≡ D.faults (disk_of self.entry.journal)) }
-        ensures no_fault_err { IfErr result (λ failed. failed.error ≢ JournalError.Device → D.faults failed.disk ≡ D.faults (disk_of self.entry.journal)) }
+        ensures steps { let node = node_of S.own_key S.signature_of config.now in IfOk result (λ next. (world : World) → IsAt node D.content D.outcome world self.entry
+            → (moves : List Move) × IsStop world moves × LeadsTo node D.content D.outcome world moves next) }
+        ensures cause { TellsFaultBack D.faults (λ next. disk_of next.journal) JournalError.Device (disk_of self.entry.journal) result }
     {
         let mut disk = self.into_disk();
         disk.stop();

@@ -1,5 +1,5 @@
 -- What the calls of a disk do to its bytes, and what a stop may leave of them.
-use Rattle.std.specs.Prelude.{◌<◌, ◌≡◌, ◌⊎◌, ℕ, ◌+◌, ◌≤◌, max, min, List, [], ◌∷◌, ◌++◌, length, take, drop, Result, OnOk, OnErr}
+use Rattle.std.specs.Prelude.{◌<◌, ◌≡◌, ◌≢◌, ◌⊎◌, ℕ, ◌+◌, ◌≤◌, max, min, List, [], ◌∷◌, ◌++◌, length, take, drop, Result, OnOk, OnErr, IfErr}
 use Rattle.diskmodel.specs.declared.call.Call.{Call}
 use Rattle.diskmodel.specs.declared.disk.DiskFault.{DiskFault}
 
@@ -46,6 +46,10 @@ pub record HasCause {T : Type 0} (before now : ℕ) (result : Result T DiskFault
   pub later : before ≤ now
   pub failed : OnErr result (before < now)
   pub none : OnOk result (now ≡ before)
+
+-- A call with other errors too answers this one exactly where the disk has failed since.
+abbrev pub TellsFault : {T E : Type 0} → E → ℕ → ℕ → Result T E → Type 0
+TellsFault device before now result = OnOk result (now ≡ before) × IfErr result (λ error. (error ≡ device → before < now) × (error ≢ device → now ≡ before))
 
 -- this call was made behind the others; one that failed was made, or it wasn't
 pub record Makes {T : Type 0} (call : Call) (result : Result T DiskFault) (old new : List Call) : Type 0 where

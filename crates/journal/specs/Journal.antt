@@ -1,8 +1,9 @@
 -- What a journal on a disk is, and what a stop of the machine leaves of it.
-use Rattle.std.specs.Prelude.{◌≡◌, ◌⊎◌, ℕ, ◌+◌, ◌-◌, ◌<◌, ◌≤◌, List, [], ◌∷◌, ◌++◌, length, take, Result, Ok, Err}
+use Rattle.std.specs.Prelude.{◌≡◌, ◌≢◌, ◌⊎◌, ℕ, ◌+◌, ◌-◌, ◌<◌, ◌≤◌, List, [], ◌∷◌, ◌++◌, length, take, Result, Ok, Err, IfOk, IfErr}
 use Rattle.diskmodel.specs.Disk.{LeavesOnly}
 use Rattle.diskmodel.specs.declared.call.Call.{Call}
 use Rattle.diskmodel.specs.declared.call.Call.TheVariants.{Wrote, Synced}
+use Rattle.journal.specs.declared.error.Failed.{Failed}
 use Rattle.journal.specs.declared.layout.TheConstants.{CLOSED, OPEN}
 use Rattle.journal.specs.declared.record.Record.{Record}
 use Rattle.journal.specs.declared.journal.Journal.{Journal}
@@ -11,6 +12,12 @@ use Rattle.journal.specs.Format.{group_bytes, kept, walk, stands, ScansTo}
 -- the disk of a journal
 abbrev pub disk_of : {D : Type 0} → Journal D → D
 disk_of journal = journal.disk
+
+-- A call that takes a disk, and gives it back with its answer, answers this error exactly where the disk has failed since.
+abbrev pub TellsFaultBack : {T D E : Type 0} → (D → ℕ) → (T → D) → E → D → Result T (Failed E D) → Type 0
+TellsFaultBack faults disk_in device disk result =
+    IfOk result (λ given. faults (disk_in given) ≡ faults disk)
+    × IfErr result (λ failed. (failed.error ≡ device → faults disk < faults failed.disk) × (failed.error ≢ device → faults failed.disk ≡ faults disk))
 
 -- The file stands for records, and the closed gate that ends its groups is its last byte.
 pub record EndsClosed (file : List ℕ) : Type 0 where

@@ -1,9 +1,9 @@
 //! A journal on a disk.
 
 ghost use Rattle.std.specs.Prelude.{◌≡◌, ◌≢◌, ◌⊎◌, ◌↔◌, ◌+◌, ◌-◌, ◌*◌, ◌^◌, ◌<◌, ◌≤◌, List, ℕ, ◌++◌, length, Ok, Err, IfOk, IfErr, OnOk, OnErr, IsErrOf};
-ghost use Rattle.diskmodel.specs.Disk.{LeavesOnly, AtEachMoment, NoneNew};
+ghost use Rattle.diskmodel.specs.Disk.{LeavesOnly, AtEachMoment, NoneNew, TellsFault};
 ghost use Rattle.journal.specs.Format.{group_bytes, stands, file_with, ScansTo};
-ghost use Rattle.journal.specs.Journal.{disk_of, append_calls, EndsClosed, IsAlive, MadeSome, stands_with, IsClosedUp, IsBeforeOrAfter, StandsAsOneOf};
+ghost use Rattle.journal.specs.Journal.{disk_of, TellsFaultBack, append_calls, EndsClosed, IsAlive, MadeSome, stands_with, IsClosedUp, IsBeforeOrAfter, StandsAsOneOf};
 
 use crate::error::{Failed, JournalError};
 use crate::group::Group;
@@ -79,9 +79,7 @@ impl<D: Disk> Journal<D> {
         ensures never_config { IfErr result (λ failed. failed.error ≢ JournalError.ConfigMismatch) }
 
         // It answers Device exactly where the disk has failed.
-        ensures device { IfErr result (λ failed. failed.error ≡ JournalError.Device → D.faults disk < D.faults failed.disk) }
-        ensures no_fault { IfOk result (λ opened. D.faults (disk_of opened.0) ≡ D.faults disk) }
-        ensures no_fault_err { IfErr result (λ failed. failed.error ≢ JournalError.Device → D.faults failed.disk ≡ D.faults disk) }
+        ensures cause { TellsFaultBack D.faults (λ opened. disk_of opened.0) JournalError.Device disk result }
     {
         match repair(alloc, &mut disk) {
             Ok((records, len)) => Ok((Journal { disk, len }, records)),
@@ -105,8 +103,7 @@ impl<D: Disk> Journal<D> {
         ensures errors { IfErr result (λ error. (error ≡ JournalError.Device) ⊎ (error ≡ JournalError.Full)) }
 
         // It answers Device exactly where the disk has failed.
-        ensures device { IsErrOf result JournalError.Device → D.faults (disk_of self.old) < D.faults (disk_of self.new) }
-        ensures no_fault { OnOk result (D.faults (disk_of self.new) ≡ D.faults (disk_of self.old)) }
+        ensures cause { TellsFault JournalError.Device (D.faults (disk_of self.old)) (D.faults (disk_of self.new)) result }
 
         // At `Device` nothing can be added any more.
         ensures dead { IsErrOf result JournalError.Device → ¬ IsAlive D.content D.outcome self.new }
@@ -179,9 +176,7 @@ fn repair<D: Disk>(alloc: Global, disk: &mut D) -> Result<(Vec<Record>, u64), Jo
     ensures firm { OnOk result (LeavesOnly (D.content disk.new) (D.outcome disk.new)) }
     ensures any_moment { AtEachMoment D.clock D.outcome_since disk.old disk.new (StandsAsOneOf (D.outcome disk.old)) }
     ensures damaged { (gate : ℕ) → IsErrOf result (JournalError.Damaged gate) → stands (D.content disk.old) ≡ Err gate }
-    ensures device { IsErrOf result JournalError.Device → D.faults disk.old < D.faults disk.new }
-    ensures no_fault { OnOk result (D.faults disk.new ≡ D.faults disk.old) }
-    ensures no_fault_err { IfErr result (λ error. error ≢ JournalError.Device → D.faults disk.new ≡ D.faults disk.old) }
+    ensures cause { TellsFault JournalError.Device (D.faults disk.old) (D.faults disk.new) result }
     ensures never_full { IfErr result (λ error. error ≢ JournalError.Full) }
     ensures never_config { IfErr result (λ error. error ≢ JournalError.ConfigMismatch) }
 {
@@ -200,9 +195,7 @@ fn read_all<D: Disk>(alloc: Global, disk: &mut D) -> Result<Vec<u8>, JournalErro
     ensures outcomes { NoneNew (D.outcome disk.old) (D.outcome disk.new) }
     ensures any_moment { AtEachMoment D.clock D.outcome_since disk.old disk.new (D.outcome disk.old) }
     ensures errors { IfErr result (λ error. (error ≡ JournalError.Memory) ⊎ (error ≡ JournalError.Device)) }
-    ensures device { IsErrOf result JournalError.Device → D.faults disk.old < D.faults disk.new }
-    ensures no_fault { OnOk result (D.faults disk.new ≡ D.faults disk.old) }
-    ensures no_fault_err { IfErr result (λ error. error ≢ JournalError.Device → D.faults disk.new ≡ D.faults disk.old) }
+    ensures cause { TellsFault JournalError.Device (D.faults disk.old) (D.faults disk.new) result }
 {
     let len = disk.len()? as usize;
     let mut bytes = vec![in alloc; 0; len]?;

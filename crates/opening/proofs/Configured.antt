@@ -1,5 +1,5 @@
 -- What holds of the record of a configuration.
-use Rattle.std.proofs.Common.{◌≡◌, ℕ, zero, suc, ◌+◌, ◌<◌, ◌≤◌, ◌^◌, Bool, true, false, cond, List, [], ◌∷◌, ◌++◌, length, take, Some, None, refl, sym, ap, ◌∙◌, subst, eqb, inl, inr, arith, append_assoc}
+use Rattle.std.proofs.Common.{◌≡◌, ℕ, zero, suc, ◌+◌, ◌<◌, ◌≤◌, ◌^◌, Bool, true, false, cond, List, [], ◌∷◌, ◌++◌, length, take, Some, None, refl, sym, ap, ◌∙◌, eqb, inl, inr, arith, append_assoc}
 use Rattle.std.specs.Prelude.{◌==◌, All, sum, slice_get}
 use Rattle.std.specs.Int.{w16, to_be_bytes, from_be_bytes}
 use Rattle.std.specs.List.{list_all, flat_map}
@@ -16,7 +16,6 @@ use Rattle.spec_records.specs.declared.version.Version.{Version}
 use Rattle.spec_records.specs.declared.version.Version.TheVariants.{First, Second}
 use Rattle.opening.specs.Told.{members_in, size_in, has_ones, can_tell, has_front, is_configuration, shaped_version}
 use Rattle.wire.specs.declared.keys.Author.{Author}
-use Rattle.wire.specs.declared.keys.Key.{Key}
 
 -- ---- stakes
 
@@ -122,15 +121,3 @@ shaped_is First charter own small long =
     let configuration = configuration_of First charter own in
     ap (λ (b : Bool). cond b (Some First) (cond (is_configuration Second configuration) (Some Second) None)) (shape_is First charter own small long)
 shaped_is Second charter own small long = (λ i. cond (not_first charter own i) (Some First) (cond (shape_is Second charter own small long i) (Some Second) None))
-
--- ---- keys
-
--- what holds of each key so far, and of one more
-more_hold : (P : Key → Type 0) (keys : List Key) (m : ℕ) (key : Key) → slice_get keys m ≡ Some key → P key → All P (take m keys) → All P (take (suc m) keys)
-more_hold P [] m key is holds all = absurd (cc)
-more_hold P (first ∷ keys) zero key is holds all = All-cons P first [] (subst P (sym (same_Some first key is)) holds) (All-nil P)
-more_hold P (first ∷ keys) (suc m) key is holds all =
-    All-cons P first (take (suc m) keys) (All-head P first (take m keys) all) (more_hold P keys m key is holds (All-tail P first (take m keys) all))
-
-pub one_more : (P : Key → Type 0) (keys : List Key) (m : ℕ) (key : Key) → slice_get keys m ≡ Some key → P key → All P (take m keys) → All P (take (m + 1) keys)
-one_more P keys m key is holds all = let same : suc m ≡ m + 1 = omega arith in subst (λ (n : ℕ). All P (take n keys)) same (more_hold P keys m key is holds all)

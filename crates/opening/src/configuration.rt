@@ -1,13 +1,12 @@
 //! The record of a node's configuration, as it is read.
 
-ghost use Rattle.std.specs.Prelude.{◌≡◌, ◌+◌, ◌*◌, ◌≤◌, true, length, All};
+ghost use Rattle.std.specs.Prelude.{◌≡◌, ◌+◌, ◌*◌, ◌≤◌, true, length};
 ghost use Rattle.spec_records.specs.Records.{number_of, CanTell};
 ghost use Rattle.opening.specs.Told.{has_ones as told_ones, can_tell as told_by_version, stakes_size, size_in, has_front, is_configuration as told_configuration, shaped_version as told_version};
-ghost use Rattle.wire.specs.Fields.{AreBytes, EachIsByte};
+ghost use Rattle.wire.specs.Fields.{EachIsByte};
 
 use committee::Committee;
 use spec_records::Version;
-use wire::{Author, Key};
 
 /// The kind of a record that has a configuration.
 pub const CONFIGURATION: u8 = 0;
@@ -80,25 +79,6 @@ fn stakes_size(version: Version, members: u16) -> usize
         Version::First => 0,
         Version::Second => members as usize * STAKE_BYTES,
     }
-}
-
-/// What holds of the keys of a committee: each has 32 bytes. It looks at each key, and does nothing.
-pub fn keys_hold(committee: &Committee)
-    ensures { All (λ key. AreBytes 32 key.0) committee.now.keys }
-{
-    for member in 0..committee.size() {
-        match committee.key(Author(member)) {
-            Some(key) => is_key(key),
-            None => unreachable!(),
-        }
-    }
-}
-
-// What holds of a key: it has 32 bytes. The call does nothing.
-fn is_key(key: &Key)
-    ensures { AreBytes 32 key.now.0 }
-{
-    are_bytes(&key.0);
 }
 
 /// What holds of bytes. The call does nothing.

@@ -74,12 +74,12 @@ fn take_event<S: Sign>(
     one: &Record,
 ) -> Result<(), JournalError>
     ensures setting { validator.new.setting ≡ validator.old.setting }
-    ensures ok { OnOk result ((history : History) → IsLegal (node_of S.own_key S.signature_of validator.old.setting) history
-        → AreAtSound (node_of S.own_key S.signature_of validator.old.setting) validator.old.tables (kept (node_of S.own_key S.signature_of validator.old.setting) history)
-        → StandsAt (node_of S.own_key S.signature_of validator.old.setting) (read_event (node_of S.own_key S.signature_of validator.old.setting) history one.now) validator.new.tables) }
-    ensures err { IfErr result (λ error. (history : History) → IsLegal (node_of S.own_key S.signature_of validator.old.setting) history
-        → AreAtSound (node_of S.own_key S.signature_of validator.old.setting) validator.old.tables (kept (node_of S.own_key S.signature_of validator.old.setting) history)
-        → FailsAs error (read_event (node_of S.own_key S.signature_of validator.old.setting) history one.now)) }
+    ensures ok { let node = node_of S.own_key S.signature_of validator.old.setting in OnOk result ((history : History) → IsLegal node history
+        → AreAtSound node validator.old.tables (kept node history)
+        → StandsAt node (read_event node history one.now) validator.new.tables) }
+    ensures err { let node = node_of S.own_key S.signature_of validator.old.setting in IfErr result (λ error. (history : History) → IsLegal node history
+        → AreAtSound node validator.old.tables (kept node history)
+        → FailsAs error (read_event node history one.now)) }
 {
     let found = event_of(alloc, validator.committee(), one.bytes.as_slice())?;
     let Some(event) = found else {
@@ -116,7 +116,7 @@ pub fn replay<'a, S: Sign>(
     records: &[Record],
 ) -> Result<Validator<'a, S>, JournalError>
     ensures setting { IfOk result (λ validator. validator.setting ≡ config.now) }
-    ensures ok { IfOk result (λ validator. StandsAt (node_of S.own_key S.signature_of config.now) (read_events (node_of S.own_key S.signature_of config.now) [] records.now) validator.tables) }
+    ensures ok { let node = node_of S.own_key S.signature_of config.now in IfOk result (λ validator. StandsAt node (read_events node [] records.now) validator.tables) }
     ensures err { IfErr result (λ error. FailsAs error (read_events (node_of S.own_key S.signature_of config.now) [] records.now)) }
     ensures texts { OnOk result (All IsText records.now) }
 {

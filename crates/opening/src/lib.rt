@@ -7,6 +7,6 @@ mod first_group;
 mod reopening;
 mod standing;
 
-pub use configuration::{can_tell, keys_hold};
+pub use configuration::can_tell;
 pub use reopening::{reopen, write_configuration};
 pub use standing::{told_stands_for, what_stands_is_told, worlds_are_told};

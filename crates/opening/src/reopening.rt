@@ -2,15 +2,15 @@
 
 ghost use Rattle.std.specs.Prelude.{◌≡◌, ◌≢◌, ◌⊎◌, ◌<◌, [], ◌∷◌, drop, true, Ok, ◌&&◌, All, IfOk, IfErr, OnOk};
 ghost use Rattle.std.specs.Str.{bytes_eq};
-ghost use Rattle.diskmodel.specs.Disk.{AtEachMoment};
+ghost use Rattle.diskmodel.specs.Disk.{AtEachMoment, TellsFault};
 ghost use Rattle.journal.specs.Format.{stands};
-ghost use Rattle.journal.specs.Journal.{disk_of, IsAlive, IsClosedUp};
+ghost use Rattle.journal.specs.Journal.{disk_of, TellsFaultBack, IsAlive, IsClosedUp};
 ghost use Rattle.spec_records.specs.Records.{configuration_of, CanTell};
 ghost use Rattle.validator.specs.Setting.{node_of};
 ghost use Rattle.opening.specs.Laws.{StandsForAt, HoldsAt, IsLeft, AreLeftTold, IsNoRefusal};
 ghost use Rattle.opening.specs.Told.{IsText, HasTexts, first_version as told_version, is_alone as told_alone, is_own as told_own, read_journal, told, Tells, StandsAt, IsToldAsOneOf, KeepsOrBegins, KeepsRecords};
 
-use crate::configuration::{can_tell, keys_hold, shaped_version};
+use crate::configuration::{can_tell, shaped_version};
 use crate::events::replay;
 use crate::first_group::{configuration, configuration_group};
 use crate::standing::worlds_are_told;
@@ -36,8 +36,8 @@ pub fn reopen<'a, S: Sign, D: Disk>(
 ) -> Result<(Validator<'a, S>, Journal<D>), Failed<JournalError, D>>
     // The validator stands at what the bytes are told as, and so is what they are then.
     ensures setting { IfOk result (λ opened. opened.0.setting ≡ config.now) }
-    ensures stands { IfOk result (λ opened. StandsAt (node_of S.own_key S.signature_of config.now) (told (node_of S.own_key S.signature_of config.now) (D.content disk)) opened.0.tables) }
-    ensures same { IfOk result (λ opened. told (node_of S.own_key S.signature_of config.now) (D.content (disk_of opened.1)) ≡ told (node_of S.own_key S.signature_of config.now) (D.content disk)) }
+    ensures stands { let node = node_of S.own_key S.signature_of config.now in IfOk result (λ opened. StandsAt node (told node (D.content disk)) opened.0.tables) }
+    ensures same { let node = node_of S.own_key S.signature_of config.now in IfOk result (λ opened. told node (D.content (disk_of opened.1)) ≡ told node (D.content disk)) }
     ensures alive { IfOk result (λ opened. IsAlive D.content D.outcome opened.1) }
     ensures configured { IfOk result (λ opened. stands (D.content (disk_of opened.1)) ≢ Ok []) }
 
@@ -50,9 +50,7 @@ pub fn reopen<'a, S: Sign, D: Disk>(
     ensures err { IfErr result (λ failed. failed.error ≢ JournalError.Device → Tells failed.error (told (node_of S.own_key S.signature_of config.now) (D.content disk))) }
     ensures never_full { IfErr result (λ failed. failed.error ≢ JournalError.Full) }
     // It answers Device exactly where the disk has failed.
-    ensures device { IfErr result (λ failed. failed.error ≡ JournalError.Device → D.faults disk < D.faults failed.disk) }
-    ensures no_fault { IfOk result (λ opened. D.faults (disk_of opened.1) ≡ D.faults disk) }
-    ensures no_fault_err { IfErr result (λ failed. failed.error ≢ JournalError.Device → D.faults failed.disk ≡ D.faults disk) }
+    ensures cause { TellsFaultBack D.faults (λ opened. disk_of opened.1) JournalError.Device disk result }
     // Only a failure of the disk leaves other bytes than there were, but for those behind the closed gate.
     ensures unchanged { IfErr result (λ failed. failed.error ≢ JournalError.Device → (D.content failed.disk ≡ D.content disk) ⊎ IsClosedUp (D.content disk) (D.content failed.disk)) }
 
@@ -84,7 +82,7 @@ fn outcomes_are_told<S: Sign>(config: &Config<S>)
 {
     worlds_are_told();
     config.limits_hold();
-    keys_hold(config.committee());
+    config.keys_hold();
 }
 
 // The validator after the events of a journal's records. Where there are none, the journal gets the configuration.
@@ -98,17 +96,15 @@ fn validator_on<'a, S: Sign, D: Disk>(
     requires records { stands (D.content (disk_of journal.old)) ≡ Ok records.now }
 
     ensures setting { IfOk result (λ validator. validator.setting ≡ config.now) }
-    ensures stands { IfOk result (λ validator. StandsAt (node_of S.own_key S.signature_of config.now) (told (node_of S.own_key S.signature_of config.now) (D.content (disk_of journal.old))) validator.tables) }
-    ensures same { OnOk result (told (node_of S.own_key S.signature_of config.now) (D.content (disk_of journal.new)) ≡ told (node_of S.own_key S.signature_of config.now) (D.content (disk_of journal.old))) }
+    ensures stands { let node = node_of S.own_key S.signature_of config.now in IfOk result (λ validator. StandsAt node (told node (D.content (disk_of journal.old))) validator.tables) }
+    ensures same { let node = node_of S.own_key S.signature_of config.now in OnOk result (told node (D.content (disk_of journal.new)) ≡ told node (D.content (disk_of journal.old))) }
     ensures alive { OnOk result (IsAlive D.content D.outcome journal.new) }
     ensures configured { OnOk result (stands (D.content (disk_of journal.new)) ≢ Ok []) }
     ensures err { IfErr result (λ error. error ≢ JournalError.Device → Tells error (told (node_of S.own_key S.signature_of config.now) (D.content (disk_of journal.old)))) }
-    ensures device { IfErr result (λ error. error ≡ JournalError.Device → D.faults (disk_of journal.old) < D.faults (disk_of journal.new)) }
-    ensures no_fault { OnOk result (D.faults (disk_of journal.new) ≡ D.faults (disk_of journal.old)) }
-    ensures no_fault_err { IfErr result (λ error. error ≢ JournalError.Device → D.faults (disk_of journal.new) ≡ D.faults (disk_of journal.old)) }
+    ensures cause { TellsFault JournalError.Device (D.faults (disk_of journal.old)) (D.faults (disk_of journal.new)) result }
     ensures never_full { IfErr result (λ error. error ≢ JournalError.Full) }
     ensures unchanged { IfErr result (λ error. error ≢ JournalError.Device → D.content (disk_of journal.new) ≡ D.content (disk_of journal.old)) }
-    ensures any_moment { AtEachMoment D.clock D.outcome_since (disk_of journal.old) (disk_of journal.new) (λ left. told (node_of S.own_key S.signature_of config.now) left ≡ told (node_of S.own_key S.signature_of config.now) (D.content (disk_of journal.old))) }
+    ensures any_moment { let node = node_of S.own_key S.signature_of config.now in AtEachMoment D.clock D.outcome_since (disk_of journal.old) (disk_of journal.new) (λ left. told node left ≡ told node (D.content (disk_of journal.old))) }
     ensures keeps { AtEachMoment D.clock D.outcome_since (disk_of journal.old) (disk_of journal.new) (KeepsOrBegins Version.Second (node_of S.own_key S.signature_of config.now) (D.content (disk_of journal.old))) }
     ensures texts { OnOk result (All IsText (drop 1 records.now)) }
     ensures texts_left { OnOk result (HasTexts (D.content (disk_of journal.new))) }
@@ -127,7 +123,7 @@ fn validator_after<'a, S: Sign>(
     records: &[Record],
 ) -> Result<Validator<'a, S>, JournalError>
     ensures setting { IfOk result (λ validator. validator.setting ≡ config.now) }
-    ensures stands { IfOk result (λ validator. StandsAt (node_of S.own_key S.signature_of config.now) (read_journal (node_of S.own_key S.signature_of config.now) records.now) validator.tables) }
+    ensures stands { let node = node_of S.own_key S.signature_of config.now in IfOk result (λ validator. StandsAt node (read_journal node records.now) validator.tables) }
     ensures err { IfErr result (λ error. Tells error (read_journal (node_of S.own_key S.signature_of config.now) records.now)) }
     ensures never { IfErr result (λ error. (error ≢ JournalError.Device) × (error ≢ JournalError.Full)) }
     ensures texts { OnOk result (All IsText (drop 1 records.now)) }
@@ -144,7 +140,7 @@ fn fresh_validator<'a, S: Sign>(
     config: &'a Config<S>,
 ) -> Result<Validator<'a, S>, JournalError>
     ensures setting { IfOk result (λ validator. validator.setting ≡ config.now) }
-    ensures stands { IfOk result (λ validator. StandsAt (node_of S.own_key S.signature_of config.now) (read_journal (node_of S.own_key S.signature_of config.now) []) validator.tables) }
+    ensures stands { let node = node_of S.own_key S.signature_of config.now in IfOk result (λ validator. StandsAt node (read_journal node []) validator.tables) }
     ensures err { IfErr result (λ error. Tells error (read_journal (node_of S.own_key S.signature_of config.now) [])) }
     ensures never { IfErr result (λ error. (error ≢ JournalError.Device) × (error ≢ JournalError.Full)) }
 {
@@ -159,7 +155,7 @@ fn validator_behind<'a, S: Sign>(
     events: &[Record],
 ) -> Result<Validator<'a, S>, JournalError>
     ensures setting { IfOk result (λ validator. validator.setting ≡ config.now) }
-    ensures stands { IfOk result (λ validator. StandsAt (node_of S.own_key S.signature_of config.now) (read_journal (node_of S.own_key S.signature_of config.now) (first.now ∷ events.now)) validator.tables) }
+    ensures stands { let node = node_of S.own_key S.signature_of config.now in IfOk result (λ validator. StandsAt node (read_journal node (first.now ∷ events.now)) validator.tables) }
     ensures err { IfErr result (λ error. Tells error (read_journal (node_of S.own_key S.signature_of config.now) (first.now ∷ events.now))) }
     ensures never { IfErr result (λ error. (error ≢ JournalError.Device) × (error ≢ JournalError.Full)) }
     ensures texts { OnOk result (All IsText events.now) }
@@ -219,12 +215,11 @@ pub fn write_configuration<S: Sign, D: Disk>(
     ensures alive { OnOk result (IsAlive D.content D.outcome journal.new) }
     ensures configured { OnOk result (stands (D.content (disk_of journal.new)) ≢ Ok []) }
     ensures texts { OnOk result (HasTexts (D.content (disk_of journal.new))) }
-    ensures same { OnOk result (told (node_of S.own_key S.signature_of config.now) (D.content (disk_of journal.new)) ≡ told (node_of S.own_key S.signature_of config.now) (D.content (disk_of journal.old))) }
+    ensures same { let node = node_of S.own_key S.signature_of config.now in OnOk result (told node (D.content (disk_of journal.new)) ≡ told node (D.content (disk_of journal.old))) }
     ensures errors { IfErr result (λ error. (error ≡ JournalError.Device) ⊎ (error ≡ JournalError.Memory)) }
-    ensures device { IfErr result (λ error. error ≡ JournalError.Device → D.faults (disk_of journal.old) < D.faults (disk_of journal.new)) }
-    ensures no_fault { OnOk result (D.faults (disk_of journal.new) ≡ D.faults (disk_of journal.old)) }
+    ensures cause { TellsFault JournalError.Device (D.faults (disk_of journal.old)) (D.faults (disk_of journal.new)) result }
     ensures unchanged { IfErr result (λ error. error ≡ JournalError.Memory → journal.new ≡ journal.old) }
-    ensures any_moment { AtEachMoment D.clock D.outcome_since (disk_of journal.old) (disk_of journal.new) (λ left. told (node_of S.own_key S.signature_of config.now) left ≡ told (node_of S.own_key S.signature_of config.now) (D.content (disk_of journal.old))) }
+    ensures any_moment { let node = node_of S.own_key S.signature_of config.now in AtEachMoment D.clock D.outcome_since (disk_of journal.old) (disk_of journal.new) (λ left. told node left ≡ told node (D.content (disk_of journal.old))) }
     ensures keeps { AtEachMoment D.clock D.outcome_since (disk_of journal.old) (disk_of journal.new) (KeepsOrBegins version (node_of S.own_key S.signature_of config.now) (D.content (disk_of journal.old))) }
 {
     let group = configuration_group(alloc, version, config.committee(), config.own())?;

@@ -1,12 +1,8 @@
-use Rattle.std.proofs.Common.{subst}
-use Rattle.std.specs.Prelude.{All}
 use Rattle.validator.specs.Setting.{node_of}
-use Rattle.wire.specs.Fields.{AreBytes}
 use Rattle.opening.proofs.reopening.outcomes_are_told.Goals as goal
 
 pub returns : goal.returns
 returns g c = λ bytes is.
     let node = node_of g.S.Sign.own_key g.S.Sign.signature_of c.args.config.now in
-    let keys = subst (λ charter. All (λ key. AreBytes 32 key.0) charter.keys) c.committee.ensures c.keys_hold.ensures in
-    let found = c.worlds_are_told.ensures node is.moves is.world bytes c.limits_hold.ensures keys is.run is.may_stop in
+    let found = c.worlds_are_told.ensures node is.moves is.world bytes c.limits_hold.ensures c.keys_hold.ensures is.run is.may_stop in
     (found.history, found.is_told)

@@ -93,12 +93,14 @@ returns-clause-alive g c =
       | else-is_empty w ↦ rw w.journal-is c.requires.alive
     ]
 
-pub returns-clause-no_fault : goal.returns-clause-no_fault
-returns-clause-no_fault g c =
-    elim c.if-is_empty.branch [
-      | then-is_empty+in_ok-write_configuration w ↦ ap (λ j. g.D.Disk.faults (disk_of j)) w.journal-is ∙ w.in_ok-write_configuration.ensures.no_fault
-      | else-is_empty w ↦ ap (λ j. g.D.Disk.faults (disk_of j)) w.journal-is
-    ]
+pub returns-clause-cause : goal.returns-clause-cause
+returns-clause-cause g c = (
+  elim c.if-is_empty.branch [
+    | then-is_empty+in_ok-write_configuration w ↦ ap (λ j. g.D.Disk.faults (disk_of j)) w.journal-is ∙ w.in_ok-write_configuration.ensures.cause.0
+    | else-is_empty w ↦ ap (λ j. g.D.Disk.faults (disk_of j)) w.journal-is
+  ],
+  tt,
+)
 
 pub returns-clause-configured : goal.returns-clause-configured
 returns-clause-configured g c =

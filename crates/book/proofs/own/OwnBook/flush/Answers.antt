@@ -4,7 +4,7 @@ use Rattle.journal.specs.Format.{group_bytes}
 use Rattle.journal.specs.Journal.{disk_of, IsBeforeOrAfter}
 use Rattle.journal.specs.declared.error.JournalError.{JournalError}
 use Rattle.journal.specs.declared.layout.TheConstants.{MAX_JOURNAL_BYTES}
-use Rattle.spec_laws.specs.Laws.{Begins}
+use Rattle.spec_model.specs.Histories.{Begins}
 use Rattle.spec_records.specs.Records.{record_of}
 use Rattle.book.specs.Book.{Shown, Run, Stands, with_settled, SettlesNext}
 use Rattle.spec_model.specs.Nodes.{Node}
@@ -127,9 +127,7 @@ returns-in-Err g c =
           (with_or_without before.pending group middle.pending longest file);
       alive = search rules;
       dead = search rules;
-      device = search rules;
-      no_fault = search rules;
-      no_fault_err = search rules;
+      cause = search rules;
       setting = search rules;
     }
 
