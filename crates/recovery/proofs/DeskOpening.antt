@@ -16,7 +16,7 @@ use Rattle.recovery.specs.declared.driving.DriveError.TheVariants.{Device, Full}
 use Rattle.desk.specs.Desk as desks
 use Rattle.opening.proofs.Opened.{no_refusal}
 
-ok_is : (one other : History) → ◌≡◌ {A = Result History JournalError} (Ok one) (Ok other) → one ≡ other
+pub ok_is : (one other : History) → ◌≡◌ {A = Result History JournalError} (Ok one) (Ok other) → one ≡ other
 ok_is one other same = cc
 
 -- a script ends as full only where the journal is full

@@ -8,10 +8,9 @@ use Rattle.journal.specs.Format.{group_bytes, stands}
 use Rattle.journal.specs.Journal.{disk_of, IsAlive, stands_with}
 use Rattle.journal.specs.declared.journal.Journal.{Journal}
 use Rattle.journal.specs.declared.layout.TheConstants.{MAX_JOURNAL_BYTES}
-use Rattle.spec_laws.specs.Laws.{Begins}
 use Rattle.spec_laws.proofs.Legal.{legal-begins}
 use Rattle.spec_model.specs.Admitting.{admit, IsLegal}
-use Rattle.spec_model.specs.Histories.{History}
+use Rattle.spec_model.specs.Histories.{History, Begins}
 use Rattle.spec_model.specs.Nodes.{Node}
 use Rattle.spec_model.specs.Words.{Event}
 use Rattle.spec_model.specs.declared.admission.Admission.{Admission}

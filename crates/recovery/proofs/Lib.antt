@@ -5,3 +5,4 @@ pub mod Rounds
 pub mod Dues
 pub mod DeskOpening
 pub mod Carrying
+pub mod Running

@@ -1,3 +1,4 @@
 pub mod Faults
+pub mod Running
 pub mod Script
 pub mod Writing

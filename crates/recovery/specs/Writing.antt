@@ -1,7 +1,7 @@
 -- What is written, also where a writer fails.
 use Rattle.std.specs.Prelude.{◌≡◌, ◌<◌, ⊤, ℕ, List, [], Option, Some, None, length, drop}
 use Rattle.std.specs.Io.KnownBytes.{Appends}
-use Rattle.spec_laws.specs.Laws.{Begins}
+use Rattle.spec_model.specs.Histories.{Begins}
 use Rattle.spec_model.specs.Words.{Output}
 use Rattle.spec_world.specs.Text.{frame_of}
 use Rattle.book.specs.Book.{Shown, releasable}

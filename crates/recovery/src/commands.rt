@@ -1,9 +1,10 @@
 //! What a desk does at a command.
 
 ghost use Rattle.std.specs.Prelude.{◌≡◌, ◌≢◌, ◌⊎◌, ◌+◌, ◌<◌, ◌≤◌, true, false, IfOk, IfErr, OnOk, OnErr, IsErrOf, IsOk, None};
+ghost use Rattle.diskmodel.specs.Disk.{TellsFault};
 ghost use Rattle.std.specs.Io.KnownBytes.{Appends};
 ghost use Rattle.header.specs.Checks.{fault_of, accepts_all};
-ghost use Rattle.journal.specs.Journal.{disk_of};
+ghost use Rattle.journal.specs.Journal.{disk_of, TellsFaultBack};
 ghost use Rattle.book.specs.Book.{Run, Stands};
 ghost use Rattle.book.specs.declared.book.TheConstants.{MAX_ACCEPTED};
 ghost use Rattle.validator.specs.Setting.{node_of};
@@ -33,9 +34,7 @@ pub(crate) fn open<'a, S: Sign, D: StopDisk>(
     ensures ok { IfOk result (λ desk. IsOpenedOf (node_of S.own_key S.signature_of config.now) D.content D.outcome (D.content disk) desk.book desk.journal) }
     ensures none { IfOk result (λ desk. desk.book.accepted ≡ 0) }
     ensures err { IfErr result (λ failed. IsNotOpened (node_of S.own_key S.signature_of config.now) failed.error (D.content disk) (D.outcome disk) (D.outcome failed.disk)) }
-    ensures device { IfErr result (λ failed. failed.error ≡ DriveError.Device → D.faults disk < D.faults failed.disk) }
-    ensures no_fault { IfOk result (λ desk. D.faults (disk_of desk.journal) ≡ D.faults disk) }
-    ensures no_fault_err { IfErr result (λ failed. failed.error ≢ DriveError.Device → D.faults failed.disk ≡ D.faults disk) }
+    ensures cause { TellsFaultBack D.faults (λ desk. disk_of desk.journal) DriveError.Device disk result }
     ensures never_output { IfErr result (λ failed. failed.error ≢ DriveError.Output) }
 {
     match Desk::open(alloc, config, disk) {
@@ -58,18 +57,16 @@ pub(crate) fn carry_out<'a, S: Sign, D: StopDisk, W: Write>(
     requires room { desk.book.accepted < MAX_ACCEPTED }
 
     ensures setting { IfOk result (λ next. next.book.validator.setting ≡ config.now) }
-    ensures ok { IfOk result (λ next. (script : ScriptDesk) → IsOf (node_of S.own_key S.signature_of config.now) D.content D.outcome script desk.entry.book desk.entry.journal
-        → IsOf (node_of S.own_key S.signature_of config.now) D.content D.outcome (carried_out (node_of S.own_key S.signature_of config.now) script (said command)) next.book next.journal) }
-    ensures writes { OnOk result ((script : ScriptDesk) → IsOf (node_of S.own_key S.signature_of config.now) D.content D.outcome script desk.entry.book desk.entry.journal
-        → Appends (W.contents writer.old) (W.contents writer.new) (frames (due (after (node_of S.own_key S.signature_of config.now) script (said command))))) }
+    ensures ok { let node = node_of S.own_key S.signature_of config.now in IfOk result (λ next. (script : ScriptDesk) → IsOf node D.content D.outcome script desk.entry.book desk.entry.journal
+        → IsOf node D.content D.outcome (carried_out node script (said command)) next.book next.journal) }
+    ensures writes { let node = node_of S.own_key S.signature_of config.now in OnOk result ((script : ScriptDesk) → IsOf node D.content D.outcome script desk.entry.book desk.entry.journal
+        → Appends (W.contents writer.old) (W.contents writer.new) (frames (due (after node script (said command))))) }
     ensures count { IfOk result (λ next. next.book.accepted ≤ desk.entry.book.accepted + 1) }
-    ensures err { IfErr result (λ failed. (script : ScriptDesk) → IsOf (node_of S.own_key S.signature_of config.now) D.content D.outcome script desk.entry.book desk.entry.journal
-        → Breaks (node_of S.own_key S.signature_of config.now) script (said command) failed.error (D.content failed.disk) (D.outcome failed.disk)) }
-    ensures writes_part { IfErr result (λ failed. (script : ScriptDesk) → IsOf (node_of S.own_key S.signature_of config.now) D.content D.outcome script desk.entry.book desk.entry.journal
-        → AppendsPart failed.error (W.contents writer.old) (W.contents writer.new) (frames (due (after (node_of S.own_key S.signature_of config.now) script (said command))))) }
-    ensures device { IfErr result (λ failed. failed.error ≡ DriveError.Device → D.faults (disk_of desk.entry.journal) < D.faults failed.disk) }
-    ensures no_fault { IfOk result (λ next. D.faults (disk_of next.journal) ≡ D.faults (disk_of desk.entry.journal)) }
-    ensures no_fault_err { IfErr result (λ failed. failed.error ≢ DriveError.Device → D.faults failed.disk ≡ D.faults (disk_of desk.entry.journal)) }
+    ensures err { let node = node_of S.own_key S.signature_of config.now in IfErr result (λ failed. (script : ScriptDesk) → IsOf node D.content D.outcome script desk.entry.book desk.entry.journal
+        → Breaks node script (said command) failed.error (D.content failed.disk) (D.outcome failed.disk)) }
+    ensures writes_part { let node = node_of S.own_key S.signature_of config.now in IfErr result (λ failed. (script : ScriptDesk) → IsOf node D.content D.outcome script desk.entry.book desk.entry.journal
+        → AppendsPart failed.error (W.contents writer.old) (W.contents writer.new) (frames (due (after node script (said command))))) }
+    ensures cause { TellsFaultBack D.faults (λ next. disk_of next.journal) DriveError.Device (disk_of desk.entry.journal) result }
 {
     let mut desk = apply(desk, alloc, config, command)?;
     match write_due(&mut desk, alloc, writer) {
@@ -91,14 +88,12 @@ fn apply<'a, S: Sign, D: StopDisk>(
     requires room { desk.book.accepted < MAX_ACCEPTED }
 
     ensures setting { IfOk result (λ next. next.book.validator.setting ≡ config.now) }
-    ensures ok { IfOk result (λ next. (script : ScriptDesk) → IsOf (node_of S.own_key S.signature_of config.now) D.content D.outcome script desk.entry.book desk.entry.journal
-        → IsOf (node_of S.own_key S.signature_of config.now) D.content D.outcome (after (node_of S.own_key S.signature_of config.now) script (said command)) next.book next.journal) }
+    ensures ok { let node = node_of S.own_key S.signature_of config.now in IfOk result (λ next. (script : ScriptDesk) → IsOf node D.content D.outcome script desk.entry.book desk.entry.journal
+        → IsOf node D.content D.outcome (after node script (said command)) next.book next.journal) }
     ensures count { IfOk result (λ next. next.book.accepted ≤ desk.entry.book.accepted + 1) }
-    ensures err { IfErr result (λ failed. (script : ScriptDesk) → IsOf (node_of S.own_key S.signature_of config.now) D.content D.outcome script desk.entry.book desk.entry.journal
-        → Breaks (node_of S.own_key S.signature_of config.now) script (said command) failed.error (D.content failed.disk) (D.outcome failed.disk)) }
-    ensures device { IfErr result (λ failed. failed.error ≡ DriveError.Device → D.faults (disk_of desk.entry.journal) < D.faults failed.disk) }
-    ensures no_fault { IfOk result (λ next. D.faults (disk_of next.journal) ≡ D.faults (disk_of desk.entry.journal)) }
-    ensures no_fault_err { IfErr result (λ failed. failed.error ≢ DriveError.Device → D.faults failed.disk ≡ D.faults (disk_of desk.entry.journal)) }
+    ensures err { let node = node_of S.own_key S.signature_of config.now in IfErr result (λ failed. (script : ScriptDesk) → IsOf node D.content D.outcome script desk.entry.book desk.entry.journal
+        → Breaks node script (said command) failed.error (D.content failed.disk) (D.outcome failed.disk)) }
+    ensures cause { TellsFaultBack D.faults (λ next. disk_of next.journal) DriveError.Device (disk_of desk.entry.journal) result }
     ensures never_output { IfErr result (λ failed. failed.error ≢ DriveError.Output) }
 {
     match command {
@@ -118,13 +113,13 @@ fn with_event<'a, S: Sign, D: StopDisk>(
     requires room { desk.book.accepted < MAX_ACCEPTED }
 
     ensures setting { IfOk result (λ next. next.book.validator.setting ≡ desk.entry.book.validator.setting) }
-    ensures ok { IfOk result (λ next. (script : ScriptDesk) → IsOf (node_of S.own_key S.signature_of desk.entry.book.validator.setting) D.content D.outcome script desk.entry.book desk.entry.journal
-        → IsOf (node_of S.own_key S.signature_of desk.entry.book.validator.setting) D.content D.outcome (after (node_of S.own_key S.signature_of desk.entry.book.validator.setting) script (take_in event)) next.book next.journal) }
+    ensures ok { let node = node_of S.own_key S.signature_of desk.entry.book.validator.setting in IfOk result (λ next. (script : ScriptDesk) → IsOf node D.content D.outcome script desk.entry.book desk.entry.journal
+        → IsOf node D.content D.outcome (after node script (take_in event)) next.book next.journal) }
     ensures count { IfOk result (λ next. next.book.accepted ≤ desk.entry.book.accepted + 1) }
     ensures same { IfOk result (λ next. next.journal ≡ desk.entry.journal) }
     ensures same_err { IfErr result (λ failed. failed.disk ≡ disk_of desk.entry.journal) }
-    ensures err { IfErr result (λ failed. (script : ScriptDesk) → IsOf (node_of S.own_key S.signature_of desk.entry.book.validator.setting) D.content D.outcome script desk.entry.book desk.entry.journal
-        → Breaks (node_of S.own_key S.signature_of desk.entry.book.validator.setting) script (take_in event) failed.error (D.content failed.disk) (D.outcome failed.disk)) }
+    ensures err { let node = node_of S.own_key S.signature_of desk.entry.book.validator.setting in IfErr result (λ failed. (script : ScriptDesk) → IsOf node D.content D.outcome script desk.entry.book desk.entry.journal
+        → Breaks node script (take_in event) failed.error (D.content failed.disk) (D.outcome failed.disk)) }
     ensures memory { IfErr result (λ failed. failed.error ≡ DriveError.Memory) }
 {
     match accept(&mut desk, event) {
@@ -140,14 +135,12 @@ fn flushed<'a, S: Sign, D: StopDisk>(
     requires stands { (script : ScriptDesk) × IsOf (node_of S.own_key S.signature_of desk.book.validator.setting) D.content D.outcome script desk.book desk.journal }
 
     ensures setting { IfOk result (λ next. next.book.validator.setting ≡ desk.entry.book.validator.setting) }
-    ensures ok { IfOk result (λ next. (script : ScriptDesk) → IsOf (node_of S.own_key S.signature_of desk.entry.book.validator.setting) D.content D.outcome script desk.entry.book desk.entry.journal
-        → IsOf (node_of S.own_key S.signature_of desk.entry.book.validator.setting) D.content D.outcome (after (node_of S.own_key S.signature_of desk.entry.book.validator.setting) script flush_it) next.book next.journal) }
+    ensures ok { let node = node_of S.own_key S.signature_of desk.entry.book.validator.setting in IfOk result (λ next. (script : ScriptDesk) → IsOf node D.content D.outcome script desk.entry.book desk.entry.journal
+        → IsOf node D.content D.outcome (after node script flush_it) next.book next.journal) }
     ensures count { IfOk result (λ next. next.book.accepted ≡ desk.entry.book.accepted) }
-    ensures err { IfErr result (λ failed. (script : ScriptDesk) → IsOf (node_of S.own_key S.signature_of desk.entry.book.validator.setting) D.content D.outcome script desk.entry.book desk.entry.journal
-        → Breaks (node_of S.own_key S.signature_of desk.entry.book.validator.setting) script flush_it failed.error (D.content failed.disk) (D.outcome failed.disk)) }
-    ensures device { IfErr result (λ failed. failed.error ≡ DriveError.Device → D.faults (disk_of desk.entry.journal) < D.faults failed.disk) }
-    ensures no_fault { IfOk result (λ next. D.faults (disk_of next.journal) ≡ D.faults (disk_of desk.entry.journal)) }
-    ensures no_fault_err { IfErr result (λ failed. failed.error ≢ DriveError.Device → D.faults failed.disk ≡ D.faults (disk_of desk.entry.journal)) }
+    ensures err { let node = node_of S.own_key S.signature_of desk.entry.book.validator.setting in IfErr result (λ failed. (script : ScriptDesk) → IsOf node D.content D.outcome script desk.entry.book desk.entry.journal
+        → Breaks node script flush_it failed.error (D.content failed.disk) (D.outcome failed.disk)) }
+    ensures cause { TellsFaultBack D.faults (λ next. disk_of next.journal) DriveError.Device (disk_of desk.entry.journal) result }
     ensures never_output { IfErr result (λ failed. failed.error ≢ DriveError.Output) }
 {
     match flush(&mut desk) {
@@ -163,14 +156,12 @@ fn stopped<'a, S: Sign, D: StopDisk>(
     config: &'a Config<S>,
 ) -> Result<Desk<'a, S, D>, Failed<DriveError, D>>
     ensures setting { IfOk result (λ next. next.book.validator.setting ≡ config.now) }
-    ensures ok { IfOk result (λ next. (script : ScriptDesk) → IsOf (node_of S.own_key S.signature_of config.now) D.content D.outcome script desk.entry.book desk.entry.journal
-        → IsOf (node_of S.own_key S.signature_of config.now) D.content D.outcome (after (node_of S.own_key S.signature_of config.now) script stop_it) next.book next.journal) }
+    ensures ok { let node = node_of S.own_key S.signature_of config.now in IfOk result (λ next. (script : ScriptDesk) → IsOf node D.content D.outcome script desk.entry.book desk.entry.journal
+        → IsOf node D.content D.outcome (after node script stop_it) next.book next.journal) }
     ensures count { IfOk result (λ next. next.book.accepted ≡ 0) }
-    ensures err { IfErr result (λ failed. (script : ScriptDesk) → IsOf (node_of S.own_key S.signature_of config.now) D.content D.outcome script desk.entry.book desk.entry.journal
-        → Breaks (node_of S.own_key S.signature_of config.now) script stop_it failed.error (D.content failed.disk) (D.outcome failed.disk)) }
-    ensures device { IfErr result (λ failed. failed.error ≡ DriveError.Device → D.faults (disk_of desk.entry.journal) < D.faults failed.disk) }
-    ensures no_fault { IfOk result (λ next. D.faults (disk_of next.journal) ≡ D.faults (disk_of desk.entry.journal)) }
-    ensures no_fault_err { IfErr result (λ failed. failed.error ≢ DriveError.Device → D.faults failed.disk ≡ D.faults (disk_of desk.entry.journal)) }
+    ensures err { let node = node_of S.own_key S.signature_of config.now in IfErr result (λ failed. (script : ScriptDesk) → IsOf node D.content D.outcome script desk.entry.book desk.entry.journal
+        → Breaks node script stop_it failed.error (D.content failed.disk) (D.outcome failed.disk)) }
+    ensures cause { TellsFaultBack D.faults (λ next. disk_of next.journal) DriveError.Device (disk_of desk.entry.journal) result }
     ensures never_output { IfErr result (λ failed. failed.error ≢ DriveError.Output) }
 {
     match desk.stop(alloc, config) {
@@ -186,8 +177,8 @@ fn accept<S: Sign, D: StopDisk>(desk: &mut Desk<'_, S, D>, event: Checked) -> Re
     requires room { desk.old.book.accepted < MAX_ACCEPTED }
 
     ensures setting { desk.new.book.validator.setting ≡ desk.old.book.validator.setting }
-    ensures ok { OnOk result ((script : ScriptDesk) → IsOf (node_of S.own_key S.signature_of desk.old.book.validator.setting) D.content D.outcome script desk.old.book desk.old.journal
-        → IsOf (node_of S.own_key S.signature_of desk.old.book.validator.setting) D.content D.outcome (after (node_of S.own_key S.signature_of desk.old.book.validator.setting) script (take_in event)) desk.new.book desk.new.journal) }
+    ensures ok { let node = node_of S.own_key S.signature_of desk.old.book.validator.setting in OnOk result ((script : ScriptDesk) → IsOf node D.content D.outcome script desk.old.book desk.old.journal
+        → IsOf node D.content D.outcome (after node script (take_in event)) desk.new.book desk.new.journal) }
     ensures count { desk.new.book.accepted ≤ desk.old.book.accepted + 1 }
     ensures same { desk.new.journal ≡ desk.old.journal }
     ensures memory { IfErr result (λ error. error ≡ DriveError.Memory) }
@@ -200,14 +191,12 @@ fn flush<S: Sign, D: StopDisk>(desk: &mut Desk<'_, S, D>) -> Result<(), DriveErr
     requires stands { (script : ScriptDesk) × IsOf (node_of S.own_key S.signature_of desk.old.book.validator.setting) D.content D.outcome script desk.old.book desk.old.journal }
 
     ensures setting { desk.new.book.validator.setting ≡ desk.old.book.validator.setting }
-    ensures ok { OnOk result ((script : ScriptDesk) → IsOf (node_of S.own_key S.signature_of desk.old.book.validator.setting) D.content D.outcome script desk.old.book desk.old.journal
-        → IsOf (node_of S.own_key S.signature_of desk.old.book.validator.setting) D.content D.outcome (after (node_of S.own_key S.signature_of desk.old.book.validator.setting) script flush_it) desk.new.book desk.new.journal) }
+    ensures ok { let node = node_of S.own_key S.signature_of desk.old.book.validator.setting in OnOk result ((script : ScriptDesk) → IsOf node D.content D.outcome script desk.old.book desk.old.journal
+        → IsOf node D.content D.outcome (after node script flush_it) desk.new.book desk.new.journal) }
     ensures count { desk.new.book.accepted ≡ desk.old.book.accepted }
-    ensures err { IfErr result (λ error. (script : ScriptDesk) → IsOf (node_of S.own_key S.signature_of desk.old.book.validator.setting) D.content D.outcome script desk.old.book desk.old.journal
-        → Breaks (node_of S.own_key S.signature_of desk.old.book.validator.setting) script flush_it error (D.content (disk_of desk.new.journal)) (D.outcome (disk_of desk.new.journal))) }
-    ensures device { IfErr result (λ error. error ≡ DriveError.Device → D.faults (disk_of desk.old.journal) < D.faults (disk_of desk.new.journal)) }
-    ensures no_fault { OnOk result (D.faults (disk_of desk.new.journal) ≡ D.faults (disk_of desk.old.journal)) }
-    ensures no_fault_err { IfErr result (λ error. error ≢ DriveError.Device → D.faults (disk_of desk.new.journal) ≡ D.faults (disk_of desk.old.journal)) }
+    ensures err { let node = node_of S.own_key S.signature_of desk.old.book.validator.setting in IfErr result (λ error. (script : ScriptDesk) → IsOf node D.content D.outcome script desk.old.book desk.old.journal
+        → Breaks node script flush_it error (D.content (disk_of desk.new.journal)) (D.outcome (disk_of desk.new.journal))) }
+    ensures cause { TellsFault DriveError.Device (D.faults (disk_of desk.old.journal)) (D.faults (disk_of desk.new.journal)) result }
     ensures never_output { IfErr result (λ error. error ≢ DriveError.Output) }
 {
     unless_failed(desk.flush())
@@ -222,8 +211,8 @@ fn write_due<S: Sign, D: StopDisk, W: Write>(
     requires up { desk.old.book.down ≡ false }
 
     ensures setting { desk.new.book.validator.setting ≡ desk.old.book.validator.setting }
-    ensures ok { OnOk result ((script : ScriptDesk) → IsOf (node_of S.own_key S.signature_of desk.old.book.validator.setting) D.content D.outcome script desk.old.book desk.old.journal
-        → IsOf (node_of S.own_key S.signature_of desk.old.book.validator.setting) D.content D.outcome (without_due script) desk.new.book desk.new.journal) }
+    ensures ok { let node = node_of S.own_key S.signature_of desk.old.book.validator.setting in OnOk result ((script : ScriptDesk) → IsOf node D.content D.outcome script desk.old.book desk.old.journal
+        → IsOf node D.content D.outcome (without_due script) desk.new.book desk.new.journal) }
     ensures writes { OnOk result ((script : ScriptDesk) → IsOf (node_of S.own_key S.signature_of desk.old.book.validator.setting) D.content D.outcome script desk.old.book desk.old.journal
         → Appends (W.contents writer.old) (W.contents writer.new) (frames (due script))) }
     ensures count { desk.new.book.accepted ≡ desk.old.book.accepted }
@@ -243,8 +232,8 @@ fn write_next<S: Sign, D: StopDisk, W: Write>(
     writer: &mut W,
 ) -> Result<bool, DriveError>
     ensures setting { desk.new.book.validator.setting ≡ desk.old.book.validator.setting }
-    ensures stands { (run : Run) → Stands (node_of S.own_key S.signature_of desk.old.book.validator.setting) run desk.old.book
-        → Stands (node_of S.own_key S.signature_of desk.old.book.validator.setting) run desk.new.book }
+    ensures stands { let node = node_of S.own_key S.signature_of desk.old.book.validator.setting in (run : Run) → Stands node run desk.old.book
+        → Stands node run desk.new.book }
     ensures next { IfOk result (λ more. more ≡ true → WritesFirst desk.old.book desk.new.book (W.contents writer.old) (W.contents writer.new)) }
     ensures none { IfOk result (λ more. more ≡ false → WritesNone desk.old.book desk.new.book (W.contents writer.old) (W.contents writer.new)) }
     ensures count { desk.new.book.accepted ≡ desk.old.book.accepted }

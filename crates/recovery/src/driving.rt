@@ -1,8 +1,10 @@
 //! A node with one owner, driven by commands.
 
-ghost use Rattle.std.specs.Prelude.{◌≡◌, ◌≢◌, ◌⊎◌, ◌<◌, ◌≤◌, All, IfOk, IfErr, vec_len};
+ghost use Rattle.std.specs.Prelude.{◌≡◌, ◌≢◌, ◌⊎◌, ◌<◌, ◌≤◌, All, IfOk, IfErr, OnOk, OnErr, vec_len};
+ghost use Rattle.journal.specs.Journal.{TellsFaultBack};
 ghost use Rattle.book.specs.declared.book.TheConstants.{MAX_ACCEPTED};
 ghost use Rattle.validator.specs.Setting.{node_of};
+ghost use Rattle.recovery.specs.Running.{IsWithinLimits, EachRunOn, GivesOut, GivesOutNoLess};
 ghost use Rattle.recovery.specs.Script.{script_of, Passes, HasRun, IsUnopened, IsCutShort};
 
 use crate::commands::{carry_out, open};
@@ -98,17 +100,32 @@ pub fn drive<'a, S: Sign, D: StopDisk, W: Write>(
     ensures ok { IfOk result (λ left. HasRun (node_of S.own_key S.signature_of config.now) (script_of commands.items) (D.content disk) (D.content left) (D.outcome left) (W.contents writer.old) (W.contents writer.new)) }
 
     // Else nothing was carried out, or some of the commands and a part of the next one.
-    ensures err { IfErr result (λ failed. IsUnopened (node_of S.own_key S.signature_of config.now) failed.error (D.content disk) (D.outcome disk) (D.outcome failed.disk) (W.contents writer.old) (W.contents writer.new)
-        ⊎ IsCutShort (node_of S.own_key S.signature_of config.now) (script_of commands.items) failed.error (D.content disk) (D.content failed.disk) (D.outcome failed.disk) (W.contents writer.old) (W.contents writer.new)) }
+    ensures err { let node = node_of S.own_key S.signature_of config.now in IfErr result (λ failed. IsUnopened node failed.error (D.content disk) (D.outcome disk) (D.outcome failed.disk) (W.contents writer.old) (W.contents writer.new)
+        ⊎ IsCutShort node (script_of commands.items) failed.error (D.content disk) (D.content failed.disk) (D.outcome failed.disk) (W.contents writer.old) (W.contents writer.new)) }
+
+    // It is what runs of the node give out: each that has just begun with what the disk was told as goes on by the commands, and
+    // what goes out on the way is what is written, as frames. At an error that is a beginning of what so goes out.
+    ensures given_out { let node = node_of S.own_key S.signature_of config.now in OnOk result (EachRunOn node (D.content disk) (GivesOut node (script_of commands.items) (W.contents writer.old) (W.contents writer.new))) }
+    ensures given_out_err { let node = node_of S.own_key S.signature_of config.now in OnErr result (EachRunOn node (D.content disk) (GivesOutNoLess node (script_of commands.items) (W.contents writer.old) (W.contents writer.new))) }
 
     // It answers Device exactly where the disk has failed.
-    ensures device { IfErr result (λ failed. failed.error ≡ DriveError.Device → D.faults disk < D.faults failed.disk) }
-    ensures no_fault { IfOk result (λ left. D.faults left ≡ D.faults disk) }
-    ensures no_fault_err { IfErr result (λ failed. failed.error ≢ DriveError.Device → D.faults failed.disk ≡ D.faults disk) }
+    ensures cause { TellsFaultBack D.faults (λ left. left) DriveError.Device disk result }
 {
     let mut desk = open(alloc, config, disk)?;
     for command in commands {
+        limits_hold(&command);
         desk = carry_out(desk, alloc, config, command, writer)?;
     }
     Ok(desk.into_disk())
+}
+
+// What holds of each command: the message of an event is within all limits. The call does nothing.
+fn limits_hold(command: &Command)
+    ensures { IsWithinLimits command.now }
+{
+    match command {
+        Command::Event(event) => event.message().limits_hold(),
+        Command::Flush => {}
+        Command::Stop => {}
+    }
 }

@@ -7,6 +7,5 @@ mod frames;
 
 pub use driving::{Command, DriveError, drive};
 pub use opening::{
-    can_tell, keys_hold, reopen, told_stands_for, what_stands_is_told, worlds_are_told,
-    write_configuration,
+    can_tell, reopen, told_stands_for, what_stands_is_told, worlds_are_told, write_configuration,
 };

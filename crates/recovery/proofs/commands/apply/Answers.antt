@@ -1,4 +1,4 @@
-use Rattle.std.proofs.Common.{◌≡◌, None, sym, ap, ◌∙◌, subst, arith}
+use Rattle.std.proofs.Common.{◌≡◌, None, Result, Ok, Err, sym, ap, ◌∙◌, subst, arith}
 use Rattle.std.specs.Prelude.{IfOk, IfErr}
 use Rattle.header.specs.Checks.{fault_of, accepts_all}
 use Rattle.journal.specs.Journal.{disk_of}
@@ -59,14 +59,15 @@ returns-in-Stop-clause-err g c =
     subst (λ (k : ScriptCommand). IfErr c.stopped.result (λ failed. (desk : Desk) → IsOf (node_of g.S.Sign.own_key g.S.Sign.signature_of c.args.config.now) g.D.Disk.content g.D.Disk.outcome desk c.args.desk.book c.args.desk.journal → Breaks (node_of g.S.Sign.own_key g.S.Sign.signature_of c.args.config.now) desk k failed.error (g.D.Disk.content failed.disk) (g.D.Disk.outcome failed.disk))) (ap said (sym c.in-Stop.is))
     c.stopped.ensures.err
 
-pub returns-in-Event-clause-no_fault : goal.returns-in-Event-clause-no_fault
-returns-in-Event-clause-no_fault g c = ok_weaker c.with_event.result _ _ (λ next same. ap (λ (j : Journal g.row.D.Denot). g.D.Disk.faults (disk_of j)) same) c.with_event.ensures.same
+err_by_both : {T E : Type 0} (result : Result T E) (P Q R : E → Type 0) → ((error : E) → P error → Q error → R error) → IfErr result P → IfErr result Q → IfErr result R
+err_by_both (Ok value) P Q R both one other = tt
+err_by_both (Err error) P Q R both one other = both error one other
 
-pub returns-in-Event-clause-no_fault_err : goal.returns-in-Event-clause-no_fault_err
-returns-in-Event-clause-no_fault_err g c = err_weaker c.with_event.result _ _ (λ failed same other. ap g.D.Disk.faults same) c.with_event.ensures.same_err
-
-pub returns-in-Event-clause-device : goal.returns-in-Event-clause-device
-returns-in-Event-clause-device g c = err_weaker c.with_event.result _ _ (λ failed memory device. absurd (cc)) c.with_event.ensures.memory
+pub returns-in-Event-clause-cause : goal.returns-in-Event-clause-cause
+returns-in-Event-clause-cause g c = (
+  ok_weaker c.with_event.result _ _ (λ next same. ap (λ (j : Journal g.row.D.Denot). g.D.Disk.faults (disk_of j)) same) c.with_event.ensures.same,
+  err_by_both c.with_event.result _ _ _ (λ failed same memory. (λ device. absurd (cc), λ other. ap g.D.Disk.faults same)) c.with_event.ensures.same_err c.with_event.ensures.memory,
+)
 
 pub returns-in-Flush-clause-count : goal.returns-in-Flush-clause-count
 returns-in-Flush-clause-count g c = ok_weaker c.flushed.result _ _ (λ next same. omega (arith, same)) c.flushed.ensures.count

@@ -55,11 +55,14 @@ returns-in-Err-clause-writes_part g c = λ desk is.
     part_less c.fail.result.error (g.W.Write.contents c.args.writer.now) (g.W.Write.contents c.write_due.new.writer) _
     (not_at_disk c.fail.result.error c.in-Err.error c.fail.ensures.error c.in-Err.ensures.errors) less
 
-pub returns-in-Err-clause-device : goal.returns-in-Err-clause-device
-returns-in-Err-clause-device g c = λ device. absurd (not_device c.in-Err.error c.in-Err.ensures.errors (sym c.fail.ensures.error ∙ device))
-
-pub returns-in-Err-clause-no_fault_err : goal.returns-in-Err-clause-no_fault_err
-returns-in-Err-clause-no_fault_err g c = λ other. ap g.D.Disk.faults (c.fail.ensures.disk ∙ ap disk_of c.write_due.ensures.same) ∙ c.in_ok-desk.ensures.no_fault
+pub returns-in-Err-clause-cause : goal.returns-in-Err-clause-cause
+returns-in-Err-clause-cause g c = (
+  tt,
+  (
+    λ device. absurd (not_device c.in-Err.error c.in-Err.ensures.errors (sym c.fail.ensures.error ∙ device)),
+    λ other. ap g.D.Disk.faults (c.fail.ensures.disk ∙ ap disk_of c.write_due.ensures.same) ∙ c.in_ok-desk.ensures.cause.0,
+  ),
+)
 
 pub branch-desk-requires : goal.branch-desk-requires
 branch-desk-requires g c κs = λ h. simp (in_lives, h.0.0, h.1.0, h.1.1.0, h.1.1.1.0) (search rules)

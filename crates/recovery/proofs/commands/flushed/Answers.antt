@@ -10,13 +10,15 @@ returns-in-Err-clause-err g c = λ desk is.
     let node = node_of g.S.Sign.own_key g.S.Sign.signature_of c.args.desk.book.validator.setting in
     breaks_at node g.D.Disk.content g.D.Disk.outcome desk flush c.fail.result.error c.in-Err.error c.fail.result.disk (disk_of c.flush.new.desk.journal) c.fail.ensures.error c.fail.ensures.disk (c.in-Err.ensures.err desk is)
 
-pub returns-in-Err-clause-device : goal.returns-in-Err-clause-device
-returns-in-Err-clause-device g c = λ device.
-    subst (λ (d : g.row.D.Denot). g.D.Disk.faults (disk_of c.args.desk.journal) < g.D.Disk.faults d) (sym c.fail.ensures.disk) (c.in-Err.ensures.device (sym c.fail.ensures.error ∙ device))
-
-pub returns-in-Err-clause-no_fault_err : goal.returns-in-Err-clause-no_fault_err
-returns-in-Err-clause-no_fault_err g c = λ other.
-    subst (λ (d : g.row.D.Denot). g.D.Disk.faults d ≡ g.D.Disk.faults (disk_of c.args.desk.journal)) (sym c.fail.ensures.disk) (c.in-Err.ensures.no_fault_err (λ is. other (c.fail.ensures.error ∙ is)))
+pub returns-in-Err-clause-cause : goal.returns-in-Err-clause-cause
+returns-in-Err-clause-cause g c =
+    let before = g.D.Disk.faults (disk_of c.args.desk.journal) in (
+      tt,
+      (
+        λ device. subst (λ (d : g.row.D.Denot). before < g.D.Disk.faults d) (sym c.fail.ensures.disk) (c.in-Err.ensures.cause.1.0 (sym c.fail.ensures.error ∙ device)),
+        λ other. subst (λ (d : g.row.D.Denot). g.D.Disk.faults d ≡ before) (sym c.fail.ensures.disk) (c.in-Err.ensures.cause.1.1 (λ is. other (c.fail.ensures.error ∙ is))),
+      ),
+    )
 
 pub returns-in-Err-clause-never_output : goal.returns-in-Err-clause-never_output
 returns-in-Err-clause-never_output g c = λ output. c.in-Err.ensures.never_output (sym c.fail.ensures.error ∙ output)

@@ -1,6 +1,8 @@
 use Rattle.std.proofs.Common.{◌≡◌, ◌≤◌, length}
+use Rattle.std.specs.Prelude.{All}
 use Rattle.journal.specs.Journal.{disk_of}
 use Rattle.validator.specs.Setting.{node_of}
+use Rattle.spec_world.specs.Scripts.{IsTakenIn}
 use Rattle.recovery.specs.Script.{script_of}
 use Rattle.recovery.proofs.Carrying.{IsCarriedOut}
 use Rattle.recovery.proofs.driving.drive.Given as goal
@@ -9,6 +11,7 @@ use Rattle.recovery.proofs.driving.drive.Given as goal
 abbrev pub invariant-loop-command : goal.invariant-loop-command
 invariant-loop-command g l = record {
   so_far : IsCarriedOut (node_of g.S.Sign.own_key g.S.Sign.signature_of l.config) g.D.Disk.content g.D.Disk.outcome (g.D.Disk.content l.fn.disk) (script_of l.yielded) l.desk.book l.desk.journal (g.W.Write.contents l.initial.writer) (g.W.Write.contents l.writer);
+  taken : All (IsTakenIn (node_of g.S.Sign.own_key g.S.Sign.signature_of l.config)) (script_of l.yielded);
   setting : l.desk.book.validator.setting ≡ l.config;
   count : l.desk.book.accepted ≤ length l.yielded;
   no_fault : g.D.Disk.faults (disk_of l.desk.journal) ≡ g.D.Disk.faults l.fn.disk;

@@ -1,0 +1,41 @@
+-- That what is written is what runs of the node give out.
+use Rattle.std.specs.Prelude.{◌≡◌, ⊤, ℕ, List, Option, Ok}
+use Rattle.std.specs.Io.KnownBytes.{Appends}
+use Rattle.spec_model.specs.Histories.{History, Begins}
+use Rattle.spec_model.specs.Nodes.{Node}
+use Rattle.spec_world.specs.World.{World, run_on}
+use Rattle.spec_world.specs.Steps.{Move, IsRun}
+use Rattle.spec_world.specs.Scripts.{GivesOutText}
+use Rattle.spec_world.specs.Text as script
+use Rattle.opening.specs.Told.{told}
+use Rattle.wire.specs.Grammar.{IsMessage}
+use Rattle.recovery.specs.declared.driving.Command.{Command}
+use Rattle.recovery.specs.declared.driving.Command.TheVariants.{Event}
+
+-- the message of an event is within all limits
+abbrev pub IsWithinLimits : Command → Type 0
+IsWithinLimits (Event event) = IsMessage event.message
+IsWithinLimits other = ⊤
+
+-- a run of the node has just begun with a history
+pub record HasBegun (node : Node) (history : History) (moves : List Move) (world : World) : Type 0 where
+  pub run : IsRun node moves world
+  pub is : world ≡ run_on world.bytes_at_start history world.given
+
+-- each run of the node that has just begun with what bytes are told as
+abbrev pub EachRunOn : Node → List ℕ → (History → List Move → World → Type 0) → Type 0
+EachRunOn node before P = (history : History) (moves : List Move) (world : World) → told node before ≡ Ok history → HasBegun node history moves world → P history moves world
+
+-- it goes on as commands say, and what goes out on the way is what a writer got, as frames
+pub record GivesOut (node : Node) (commands : List script.Command) (old new : Option (List ℕ)) (history : History) (moves : List Move) (world : World) : Type 0 where
+  pub goes_on : GivesOutText node moves world (script.desk_on history) commands
+  pub writes : Appends old new (script.frames goes_on.outputs)
+
+-- it goes on as some of the commands say, and what a writer got is a beginning of what goes out on the way
+pub record GivesOutNoLess (node : Node) (commands : List script.Command) (old new : Option (List ℕ)) (history : History) (moves : List Move) (world : World) : Type 0 where
+  pub some : List script.Command
+  pub are_first : Begins some commands
+  pub goes_on : GivesOutText node moves world (script.desk_on history) some
+  pub written : List ℕ
+  pub writes : Appends old new written
+  pub begins : Begins written (script.frames goes_on.outputs)
