@@ -61,17 +61,17 @@ module _ {S D : Type 0} (node : Setting S → Node) (content : D → List ℕ) (
         fails (Journal cause) is = absurd (err_is Applied result (λ error. IsJournal error → ⊥) (Journal cause) never is tt)
 
     -- one that stops a machine
-    pub is_stopped : IsStopOf step → (IsErrOf result NoSuchNode → later ≡ before)
-        → IfErr result (λ error. (error ≡ NoSuchNode) ⊎ ((error ≡ Memory) ⊎ (IsJournal error × MovesOne (λ member. IsLost (node member.setting) content outcome error member) (actor step) before later)))
+    pub is_stopped : (faults : D → ℕ) → IsStopOf step → (IsErrOf result NoSuchNode → later ≡ before)
+        → IfErr result (λ error. (error ≡ NoSuchNode) ⊎ ((error ≡ Memory) ⊎ (IsJournal error × MovesOne (λ member. IsLost (node member.setting) content outcome faults error member) (actor step) before later)))
         → IsApplied node content outcome accepts before step later
-    is_stopped stop unchanged errors = record { became = became result moves fails; others = others; settings = settings }
+    is_stopped faults stop unchanged errors = record { became = became result moves fails; others = others; settings = settings }
       where
-        lost : (error : ClusterError) → MovesOne (λ member. IsLost (node member.setting) content outcome error member) (actor step) before later → MovesOne IsGone (actor step) before later
+        lost : (error : ClusterError) → MovesOne (λ member. IsLost (node member.setting) content outcome faults error member) (actor step) before later → MovesOne IsGone (actor step) before later
         lost error is = record { one = is.one; other = is.other; was = is.was; is = is.is; becomes = is.becomes.gone }
 
-        either : (error : ClusterError) → IsErrOf result error → (error ≡ NoSuchNode) ⊎ ((error ≡ Memory) ⊎ (IsJournal error × MovesOne (λ member. IsLost (node member.setting) content outcome error member) (actor step) before later))
+        either : (error : ClusterError) → IsErrOf result error → (error ≡ NoSuchNode) ⊎ ((error ≡ Memory) ⊎ (IsJournal error × MovesOne (λ member. IsLost (node member.setting) content outcome faults error member) (actor step) before later))
         either error is =
-            err_is Applied result (λ error. (error ≡ NoSuchNode) ⊎ ((error ≡ Memory) ⊎ (IsJournal error × MovesOne (λ member. IsLost (node member.setting) content outcome error member) (actor step) before later))) error errors is
+            err_is Applied result (λ error. (error ≡ NoSuchNode) ⊎ ((error ≡ Memory) ⊎ (IsJournal error × MovesOne (λ member. IsLost (node member.setting) content outcome faults error member) (actor step) before later))) error errors is
 
         fails : (error : ClusterError) → IsErrOf result error → Fails error
         fails Memory is = memory is

@@ -10,7 +10,7 @@ use Rattle.spec_accord.specs.Accord.{Agree}
 use Rattle.spec_cluster.specs.Agreement.{AreAgreed, Agreement, GaveIt}
 use Rattle.spec_cluster.specs.Cluster.{Cluster, Worlds, Turn, AreMembers, IsReached}
 use Rattle.spec_cluster.specs.Premises.{FewFaulty, NoTwoTexts, Fair}
-use Rattle.spec_laws.specs.Laws.{Begins}
+use Rattle.spec_model.specs.Histories.{Begins}
 use Rattle.spec_model.specs.Nodes.{Node, IsNode}
 use Rattle.spec_model.specs.Words.{Author, Digest}
 use Rattle.spec_world.specs.Steps.{Move, IsRestarted, Leads}

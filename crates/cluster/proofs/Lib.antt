@@ -10,3 +10,4 @@ pub mod InTurn
 pub mod Fairness
 pub mod Following
 pub mod Applications
+pub mod Sent

@@ -1,16 +1,20 @@
 -- A member behind a move.
 use Rattle.std.proofs.Common.{◌≡◌, ◌⊎◌, ℕ, inl, inr, List, [], length, refl, sym, ap, ◌∙◌, subst, arith}
-use Rattle.std.specs.Prelude.{Option, Some, Contains}
+use Rattle.std.specs.Prelude.{◌<◌, Option, Some, Contains, Result, Err}
 use Rattle.desk.specs.AtWorld.{IsAt, LeadsTo, IsStop}
 use Rattle.desk.specs.Desk.{Shown, IsOpened}
 use Rattle.journal.specs.Journal.{disk_of}
+use Rattle.journal.specs.declared.error.JournalError.{JournalError}
+use Rattle.journal.specs.declared.error.JournalError.TheVariants.{Device}
 use Rattle.spec_model.specs.Nodes.{Node}
 use Rattle.spec_world.specs.Steps.{Move}
 use Rattle.spec_world.specs.Runs.{first_bytes}
 use Rattle.spec_world.specs.World.{World, Given, run_on}
-use Rattle.cluster.specs.Answers.{HasMoved, Makes, MakesSome, Stops}
+use Rattle.cluster.specs.Answers.{HasMoved, Makes, MakesSome, Stops, CountsMore}
 use Rattle.cluster.specs.Member.{Out, Kept, HasPutOut, StandsAt, HasCollected, HasCollectedSome}
 use Rattle.cluster.specs.Outputs.{outputs_in}
+use Rattle.cluster.specs.declared.error.ClusterError.{ClusterError}
+use Rattle.cluster.specs.declared.error.ClusterError.TheVariants.{Journal}
 use Rattle.cluster.specs.declared.moves.Applied.TheVariants.{Reopened}
 use Rattle.cluster.proofs.Releasing.{none_collected}
 use Rattle.cluster.proofs.Turning.{stays, moved, stop_quiet}
@@ -143,3 +147,18 @@ begins_at {S} {D} node content outcome member desk has outputs order at = record
     order = record { given = inl order; begins = λ one other there told. absurd (omega (arith, there.1)) };
   };
 }
+
+-- ---- why a node isn't opened
+
+pub journal_is : (one other : JournalError) → Journal one ≡ Journal other → one ≡ other
+journal_is one other same = cc
+
+pub journal_err : {T : Type 0} (one other : JournalError) → ◌≡◌ {A = Result T ClusterError} (Err (Journal one)) (Err (Journal other)) → one ≡ other
+journal_err one other same = cc
+
+pub err_of : {T : Type 0} (one : JournalError) → ◌≡◌ {A = Result T JournalError} (Err one) (Err Device) → one ≡ Device
+err_of one same = cc
+
+-- a disk counted a failure more than one that counts as this does
+pub counts_as : {D : Type 0} (faults : D → ℕ) (one other : D) → faults one ≡ faults other → CountsMore faults one → CountsMore faults other
+counts_as faults one other same more = (more.0, subst (λ n. n < faults more.0) same more.1)

@@ -9,6 +9,7 @@ use Rattle.desk.specs.Desk.{Shown, IsOpened}
 use Rattle.header.specs.Checks.{Accepts, fault_of}
 use Rattle.header.specs.declared.error.CheckError.{CheckError}
 use Rattle.journal.specs.Journal.{disk_of}
+use Rattle.journal.specs.declared.error.JournalError.TheVariants as journal
 use Rattle.opening.specs.Laws.{IsNoRefusal}
 use Rattle.spec_model.specs.Nodes.{Node}
 use Rattle.spec_model.specs.Words.{Event}
@@ -154,13 +155,21 @@ abbrev pub IsJournalFault : ClusterError → Type 0
 IsJournalFault (errors.Journal cause) = IsNoRefusal cause
 IsJournalFault other = ⊥
 
+-- a disk counted a failure more than this one has
+abbrev pub CountsMore : {D : Type 0} → (D → ℕ) → D → Type 0
+CountsMore {D} faults disk = (later : D) × (faults disk < faults later)
+
 -- a node is gone: what it gave out stays
 pub record IsGone {S D : Type 0} (before later : Kept S D) : Type 0 where
   pub gone : later.desk ≡ None
   pub setting : later.setting ≡ before.setting
   pub out : later.out ≡ before.out
 
--- A node whose machine stopped is gone. One that stood at a world was refused for want of memory or a fault of the disk alone.
-pub record IsLost {S D : Type 0} (node : Node) (content : D → List ℕ) (outcome : D → List ℕ → Type 0) (error : ClusterError) (before later : Kept S D) : Type 0 where
+-- A node whose machine stopped is gone. One that stood at a world was refused for want of memory or a fault of the disk alone, a fault only
+-- where its disk counted a failure.
+pub record IsLost {S D : Type 0} (node : Node) (content : D → List ℕ) (outcome : D → List ℕ → Type 0) (faults : D → ℕ) (error : ClusterError) (before later : Kept S D) : Type 0 where
   pub gone : IsGone before later
+  pub desk : Shown S D
+  pub was : before.desk ≡ Some desk
+  pub device : error ≡ errors.Journal journal.Device → CountsMore faults (disk_of desk.journal)
   pub fault : (world : World) → StandsAt node content outcome world before → IsJournalFault error

@@ -4,7 +4,7 @@ use Rattle.book.specs.Book.{Run, Stands, history_in, releasable}
 use Rattle.desk.specs.AtWorld.{IsAt}
 use Rattle.desk.specs.Desk as desk
 use Rattle.journal.specs.Journal.{disk_of}
-use Rattle.spec_laws.specs.Laws.{Begins}
+use Rattle.spec_model.specs.Histories.{Begins}
 use Rattle.spec_model.specs.Holdings.{order}
 use Rattle.spec_model.specs.Nodes.{Node, IsNode}
 use Rattle.spec_model.specs.Proposing.{propose}

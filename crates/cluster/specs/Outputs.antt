@@ -1,7 +1,8 @@
 -- What leaves a node as a message.
-use Rattle.std.specs.Prelude.{List, [], ◌∷◌, flat_map, Option, Some, None}
-use Rattle.spec_model.specs.Words.{Message, Output}
+use Rattle.std.specs.Prelude.{◌≡◌, ◌⊎◌, List, [], ◌∷◌, flat_map, Option, Some, None}
+use Rattle.spec_model.specs.Words.{Author, Message, Output}
 use Rattle.spec_world.specs.World.{Outgoing, put_out, read, Given}
+use Rattle.wire.specs.Outputs.{receiver_of}
 use Rattle.wire.specs.declared.message.Message.TheVariants as message
 use Rattle.wire.specs.declared.output.Output.TheVariants as output
 
@@ -13,6 +14,10 @@ message_of (output.Header header) = Some (message.Header header)
 message_of (output.Vote vote) = Some (message.Vote vote)
 message_of (output.Certificate certificate) = Some (message.Certificate certificate)
 message_of (output.Order start digests) = None
+
+-- an output is for a member: it names it, or is for all
+abbrev pub IsFor : Output → Author → Type 0
+IsFor output member = (receiver_of output ≡ member.0) ⊎ (receiver_of output ≡ 65535)
 
 -- the outputs among what was given out, in order
 abbrev pub output_in : Outgoing → List Output

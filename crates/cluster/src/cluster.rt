@@ -6,6 +6,7 @@ use crate::member::Member;
 use crate::moves::{Applied, Move};
 use crate::running::run_members;
 use diskmodel::{Gate, StopDisk};
+use journal::JournalError;
 use sigface::{Sign, Verify};
 use std::alloc::Global;
 use std::marker::Model;
@@ -45,14 +46,14 @@ impl<'a, S: Sign, D: StopDisk, V: Verify> Model for Cluster<'a, S, D, V> {
 }
 
 impl<'a, S: Sign, D: StopDisk + Drop, V: Verify + Drop> Cluster<'a, S, D, V> {
-    ghost use Rattle.std.specs.Prelude.{◌≡◌, ◌≢◌, ◌⊎◌, ◌↔◌, ℕ, [], length, map, position, Some, None, vec_len, All, IfOk, IfErr, IfSome, OnOk, IsNone, IsErrOf, option_copied, slice_get};
+    ghost use Rattle.std.specs.Prelude.{◌≡◌, ◌≢◌, ◌⊎◌, ◌↔◌, ℕ, [], length, map, position, Some, None, vec_len, All, Contains, IfOk, IfErr, IfSome, OnOk, IsNone, IsErrOf, option_copied, slice_get};
     ghost use Rattle.std.specs.List.{AllZip};
     ghost use Rattle.std.specs.Option.{option_and_then, option_map};
     ghost use Rattle.spec_world.specs.Runs.{first_bytes};
     ghost use Rattle.spec_world.specs.Steps.{IsRun};
     ghost use Rattle.spec_world.specs.World.{World, run_on};
     ghost use Rattle.validator.specs.Setting.{node_of};
-    ghost use Rattle.cluster.specs.Answers.{TakesIn, MakesRound, IsDeviceFault, HasFailed, Stops, Makes, MakesSome, IsJournal, IsJournalFault, IsLost};
+    ghost use Rattle.cluster.specs.Answers.{TakesIn, MakesRound, IsDeviceFault, HasFailed, Stops, Makes, MakesSome, IsJournal, IsJournalFault, IsLost, CountsMore};
     ghost use Rattle.cluster.specs.Applying.{IsApplied};
     ghost use Rattle.cluster.specs.Member.{Kept, StandsAt, IsOn, Proposes};
     ghost use Rattle.cluster.specs.Cluster.{named, at, has_member, message_at, IsThere, Does, Moved, MovedSome, MovesOne, LacksNode, LacksOutput, IsStopOf, AreOfOne, AreDistinct, actor};
@@ -82,8 +83,9 @@ impl<'a, S: Sign, D: StopDisk + Drop, V: Verify + Drop> Cluster<'a, S, D, V> {
         ensures up { IfOk result (λ cluster. All (λ member. member.desk ≢ None) cluster.members) }
         // Each has the disk at its place, as far as its count of failures tells.
         ensures disks { IfOk result (λ cluster. AllZip (IsOn D.faults) disks.items cluster.members) }
-        // An empty disk is refused for want of memory or a fault alone.
+        // An empty disk is refused for want of memory or a fault alone, a fault only where one of the disks counted a failure.
         ensures errors { IfErr result (λ error. (error ≡ ClusterError.Memory) ⊎ IsJournalFault error) }
+        ensures device { IsErrOf result (ClusterError.Journal JournalError.Device) → (disk : D) × Contains disks.items disk × CountsMore D.faults disk }
     {
         let mut disks = disks;
         let mut members = Vec::new(alloc);
@@ -123,7 +125,7 @@ impl<'a, S: Sign, D: StopDisk + Drop, V: Verify + Drop> Cluster<'a, S, D, V> {
         ensures memory { IsErrOf result ClusterError.Memory → MovedSome (node_of S.own_key S.signature_of) D.content D.outcome (λ applied node world. Does node D.content D.outcome (V.accepts self.old.verifier) self.old.members step applied world) (actor step) self.old.members self.new.members }
         // A node that could not be opened behind a stop is gone, for want of memory or a fault of its disk, and what it gave out
         // stays.
-        ensures gone { IfErr result (λ error. IsJournal error → IsStopOf step × MovesOne (λ member. IsLost (node_of S.own_key S.signature_of member.setting) D.content D.outcome error member) (actor step) self.old.members self.new.members) }
+        ensures gone { IfErr result (λ error. IsJournal error → IsStopOf step × MovesOne (λ member. IsLost (node_of S.own_key S.signature_of member.setting) D.content D.outcome D.faults error member) (actor step) self.old.members self.new.members) }
     {
         match step {
             Move::Deliver { node, output, to } => self.deliver(node, output, to),
@@ -206,8 +208,9 @@ impl<'a, S: Sign, D: StopDisk + Drop, V: Verify + Drop> Cluster<'a, S, D, V> {
         D: Send,
         V: Sync,
         requires gates { vec_len gates ≡ length self.members }
-        // Each node took messages and made rounds, and did not stop. That anything comes to it no clause says.
-        ensures ran { IfOk result (λ later. AllZip (HasRun (node_of S.own_key S.signature_of) D.content D.outcome (V.accepts self.entry.verifier)) self.entry.members later.members) }
+        // Each node made a round in each turn, took messages that others' outputs are, for it, and did not stop. That anything
+        // comes to it, and that its sender put it out, no clause says.
+        ensures ran { IfOk result (λ later. AllZip (HasRun (node_of S.own_key S.signature_of) D.content D.outcome (V.accepts self.entry.verifier) turns) self.entry.members later.members) }
         ensures verifier { IfOk result (λ later. later.verifier ≡ self.entry.verifier) }
         ensures errors { IfErr result (λ error. error ≡ ClusterError.Memory) }
     {
@@ -331,7 +334,7 @@ impl<'a, S: Sign, D: StopDisk + Drop, V: Verify + Drop> Cluster<'a, S, D, V> {
         ensures no_node { IsErrOf result ClusterError.NoSuchNode ↔ (IsThere self.old.members node → ⊥) }
         ensures unchanged { IsErrOf result ClusterError.NoSuchNode → self.new ≡ self.old }
         ensures memory { IsErrOf result ClusterError.Memory → MovedSome (node_of S.own_key S.signature_of) D.content D.outcome (λ applied own world. Stops own D.content D.outcome world applied) node self.old.members self.new.members }
-        ensures errors { IfErr result (λ error. (error ≡ ClusterError.NoSuchNode) ⊎ ((error ≡ ClusterError.Memory) ⊎ (IsJournal error × MovesOne (λ member. IsLost (node_of S.own_key S.signature_of member.setting) D.content D.outcome error member) node self.old.members self.new.members))) }
+        ensures errors { IfErr result (λ error. (error ≡ ClusterError.NoSuchNode) ⊎ ((error ≡ ClusterError.Memory) ⊎ (IsJournal error × MovesOne (λ member. IsLost (node_of S.own_key S.signature_of member.setting) D.content D.outcome D.faults error member) node self.old.members self.new.members))) }
     {
         match self.place_of(node) {
             Some(place) => self.members[place].stop(self.alloc),

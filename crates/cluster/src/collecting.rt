@@ -85,12 +85,12 @@ pub(crate) fn collect<S: Sign, D: StopDisk>(
 ) -> Result<(), AllocError>
     ensures setting { desk.new.book.validator.setting ≡ desk.old.book.validator.setting }
     ensures journal { desk.new.journal ≡ desk.old.journal }
-    ensures ok { OnOk result ((world : World) → IsAt (node_of S.own_key S.signature_of desk.old.book.validator.setting) D.content D.outcome world desk.old
-        → HasPutOut (node_of S.own_key S.signature_of desk.old.book.validator.setting) world given.old
-        → HasCollected (node_of S.own_key S.signature_of desk.old.book.validator.setting) D.content D.outcome world desk.old desk.new given.old given.new) }
-    ensures err { OnErr result ((world : World) → IsAt (node_of S.own_key S.signature_of desk.old.book.validator.setting) D.content D.outcome world desk.old
-        → HasPutOut (node_of S.own_key S.signature_of desk.old.book.validator.setting) world given.old
-        → HasCollectedSome (node_of S.own_key S.signature_of desk.old.book.validator.setting) D.content D.outcome world desk.old desk.new given.old given.new) }
+    ensures ok { let node = node_of S.own_key S.signature_of desk.old.book.validator.setting in OnOk result ((world : World) → IsAt node D.content D.outcome world desk.old
+        → HasPutOut node world given.old
+        → HasCollected node D.content D.outcome world desk.old desk.new given.old given.new) }
+    ensures err { let node = node_of S.own_key S.signature_of desk.old.book.validator.setting in OnErr result ((world : World) → IsAt node D.content D.outcome world desk.old
+        → HasPutOut node world given.old
+        → HasCollectedSome node D.content D.outcome world desk.old desk.new given.old given.new) }
 {
     if desk.is_down() {
         return Ok(());
@@ -105,9 +105,9 @@ fn read_order<S: Sign, D: StopDisk>(
     given: &mut GivenOut,
 ) -> Result<(), AllocError>
     requires up { desk.now.book.down ≡ false }
-    ensures ok { OnOk result ((world : World) → IsAt (node_of S.own_key S.signature_of desk.now.book.validator.setting) D.content D.outcome world desk.now
-        → HasPutOut (node_of S.own_key S.signature_of desk.now.book.validator.setting) world given.old
-        → HasRead (node_of S.own_key S.signature_of desk.now.book.validator.setting) D.content D.outcome world desk.now given.new) }
+    ensures ok { let node = node_of S.own_key S.signature_of desk.now.book.validator.setting in OnOk result ((world : World) → IsAt node D.content D.outcome world desk.now
+        → HasPutOut node world given.old
+        → HasRead node D.content D.outcome world desk.now given.new) }
     ensures outputs { given.new.outputs ≡ given.old.outputs }
     ensures err { OnErr result (given.new ≡ given.old) }
 {
@@ -124,13 +124,13 @@ fn release_all<S: Sign, D: StopDisk>(
 ) -> Result<(), AllocError>
     ensures setting { desk.new.book.validator.setting ≡ desk.old.book.validator.setting }
     ensures journal { desk.new.journal ≡ desk.old.journal }
-    ensures ok { OnOk result ((world : World) → IsAt (node_of S.own_key S.signature_of desk.old.book.validator.setting) D.content D.outcome world desk.old
-        → IsWhole (node_of S.own_key S.signature_of desk.old.book.validator.setting) world given.old
-        → HasReleased (node_of S.own_key S.signature_of desk.old.book.validator.setting) D.content D.outcome world desk.old desk.new given.old given.new) }
+    ensures ok { let node = node_of S.own_key S.signature_of desk.old.book.validator.setting in OnOk result ((world : World) → IsAt node D.content D.outcome world desk.old
+        → IsWhole node world given.old
+        → HasReleased node D.content D.outcome world desk.old desk.new given.old given.new) }
     ensures none_left { OnOk result (releasable desk.new.book ≡ None) }
-    ensures err { OnErr result ((world : World) → IsAt (node_of S.own_key S.signature_of desk.old.book.validator.setting) D.content D.outcome world desk.old
-        → IsWhole (node_of S.own_key S.signature_of desk.old.book.validator.setting) world given.old
-        → HasReleased (node_of S.own_key S.signature_of desk.old.book.validator.setting) D.content D.outcome world desk.old desk.new given.old given.new) }
+    ensures err { let node = node_of S.own_key S.signature_of desk.old.book.validator.setting in OnErr result ((world : World) → IsAt node D.content D.outcome world desk.old
+        → IsWhole node world given.old
+        → HasReleased node D.content D.outcome world desk.old desk.new given.old given.new) }
 {
     'releasing: while release_next(desk, given)? {}
     Ok(())

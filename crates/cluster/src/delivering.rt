@@ -1,6 +1,7 @@
 //! The message that an output is, and whose it is.
 
-ghost use Rattle.std.specs.Prelude.{◌≡◌, ◌≢◌, None, IfOk, OnErr};
+ghost use Rattle.std.specs.Prelude.{◌≡◌, ◌≢◌, ◌⊎◌, None, IfOk, IfSome, IsNone, OnErr};
+ghost use Rattle.wire.specs.Outputs as wire;
 ghost use Rattle.cluster.specs.Outputs.{message_of};
 
 use std::alloc::AllocError;
@@ -40,8 +41,11 @@ pub(crate) fn message_again(message: &Message) -> Result<Message, AllocError>
     })
 }
 
-/// Whom an output is for, if it is for one member; None where it is for all others.
-pub(crate) fn receiver_of(output: &Output) -> Option<Author> {
+/// Whom an output is for, if it is for one member; None where it is for all others, or is no message.
+pub(crate) fn receiver_of(output: &Output) -> Option<Author>
+    ensures some { IfSome result (λ to. to.0 ≡ wire.receiver_of output.now) }
+    ensures none { IsNone result → (wire.receiver_of output.now ≡ 65535) ⊎ (message_of output.now ≡ None) }
+{
     match output {
         Output::Ack { to, ack: _ } => Some(*to),
         Output::Vote(vote) => Some(vote.author),

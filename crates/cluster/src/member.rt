@@ -6,7 +6,7 @@ use crate::moves::Applied;
 use crate::turns::{offer, restart, round};
 use desk::Desk;
 use diskmodel::StopDisk;
-use opening::keys_hold;
+use journal::JournalError;
 use sigface::{Sign, Verify};
 use std::alloc::Global;
 use std::marker::Model;
@@ -53,7 +53,7 @@ impl<'a, S: Sign, D: StopDisk> Member<'a, S, D> {
     ghost use Rattle.spec_world.specs.World.{World, run_on};
     ghost use Rattle.validator.specs.Setting.{node_of};
     ghost use Rattle.desk.specs.Desk.{Shown};
-    ghost use Rattle.cluster.specs.Answers.{TakesIn, MakesRound, IsDeviceFault, HasFailed, Stops, Makes, MakesSome, IsJournal, IsJournalFault, IsLost};
+    ghost use Rattle.cluster.specs.Answers.{TakesIn, MakesRound, IsDeviceFault, HasFailed, Stops, Makes, MakesSome, IsJournal, IsJournalFault, IsLost, CountsMore};
     ghost use Rattle.cluster.specs.Member.{StandsAt, IsOn, Proposes};
     ghost use Rattle.cluster.specs.declared.moves.Applied.{Applied};
 
@@ -70,15 +70,16 @@ impl<'a, S: Sign, D: StopDisk> Member<'a, S, D> {
         D: Drop,
         ensures setting { IfOk result (λ member. member.setting ≡ config.now) }
         // On an empty disk it stands where its runs begin.
-        ensures begins { IfOk result (λ member. D.content disk ≡ [] → StandsAt (node_of S.own_key S.signature_of config.now) D.content D.outcome (run_on (first_bytes (node_of S.own_key S.signature_of config.now)) [] []) member) }
+        ensures begins { let node = node_of S.own_key S.signature_of config.now in IfOk result (λ member. D.content disk ≡ [] → StandsAt node D.content D.outcome (run_on (first_bytes node) [] []) member) }
         ensures runs { IfOk result (λ member. IsRun (node_of S.own_key S.signature_of member.setting) [] (run_on (first_bytes (node_of S.own_key S.signature_of member.setting)) [] [])) }
         ensures up { IfOk result (λ member. member.desk ≢ None) }
         ensures disk { IfOk result (λ member. IsOn D.faults disk member) }
         ensures errors { IfErr result (λ error. D.content disk ≡ [] → IsJournalFault error) }
         ensures journal { IfErr result IsJournal }
+        ensures device { IsErrOf result (ClusterError.Journal JournalError.Device) → CountsMore D.faults disk }
     {
         config.limits_hold();
-        keys_hold(config.committee());
+        config.keys_hold();
         match Desk::open(alloc, config, disk) {
             Ok(desk) => Ok(Member {
                 config,
@@ -150,14 +151,15 @@ impl<'a, S: Sign, D: StopDisk> Member<'a, S, D> {
         sender: Author,
         message: Message,
     ) -> Result<Applied, ClusterError>
-        ensures ok { IfOk result (λ applied. (world : World) → StandsAt (node_of S.own_key S.signature_of self.old.setting) D.content D.outcome world self.old
-            → Makes (node_of S.own_key S.signature_of self.old.setting) D.content D.outcome (TakesIn (node_of S.own_key S.signature_of self.old.setting) (V.accepts verifier.now) (record { sender = sender; message = message }) applied) world self.old self.new) }
-        ensures memory { IsErrOf result ClusterError.Memory → (world : World) → StandsAt (node_of S.own_key S.signature_of self.old.setting) D.content D.outcome world self.old
-            → (applied : Applied) × MakesSome (node_of S.own_key S.signature_of self.old.setting) D.content D.outcome (TakesIn (node_of S.own_key S.signature_of self.old.setting) (V.accepts verifier.now) (record { sender = sender; message = message }) applied) world self.old self.new }
+        ensures ok { let node = node_of S.own_key S.signature_of self.old.setting in IfOk result (λ applied. (world : World) → StandsAt node D.content D.outcome world self.old
+            → Makes node D.content D.outcome (TakesIn node (V.accepts verifier.now) (record { sender = sender; message = message }) applied) world self.old self.new) }
+        ensures memory { let node = node_of S.own_key S.signature_of self.old.setting in IsErrOf result ClusterError.Memory → (world : World) → StandsAt node D.content D.outcome world self.old
+            → (applied : Applied) × MakesSome node D.content D.outcome (TakesIn node (V.accepts verifier.now) (record { sender = sender; message = message }) applied) world self.old self.new }
         ensures gone { IsErrOf result ClusterError.NoSuchNode ↔ (self.old.desk ≡ None) }
         ensures same { IsErrOf result ClusterError.NoSuchNode → self.new ≡ self.old }
         ensures errors { IfErr result (λ error. (error ≡ ClusterError.NoSuchNode) ⊎ (error ≡ ClusterError.Memory)) }
         ensures setting { self.new.setting ≡ self.old.setting }
+        ensures there { is_some self.new.desk ≡ is_some self.old.desk }
     {
         let Some(desk) = &mut self.desk else {
             return Err(ClusterError::NoSuchNode);
@@ -172,15 +174,16 @@ impl<'a, S: Sign, D: StopDisk> Member<'a, S, D> {
     /// # Errors
     /// `NoSuchNode` where it is gone; `Memory` where a growth was refused behind the round.
     pub(crate) fn flush(&mut self) -> Result<Applied, ClusterError>
-        ensures ok { IfOk result (λ applied. (world : World) → StandsAt (node_of S.own_key S.signature_of self.old.setting) D.content D.outcome world self.old
-            → Makes (node_of S.own_key S.signature_of self.old.setting) D.content D.outcome (MakesRound (node_of S.own_key S.signature_of self.old.setting) D.content world applied) world self.old self.new) }
-        ensures memory { IsErrOf result ClusterError.Memory → (world : World) → StandsAt (node_of S.own_key S.signature_of self.old.setting) D.content D.outcome world self.old
-            → (applied : Applied) × MakesSome (node_of S.own_key S.signature_of self.old.setting) D.content D.outcome (MakesRound (node_of S.own_key S.signature_of self.old.setting) D.content world applied) world self.old self.new }
+        ensures ok { let node = node_of S.own_key S.signature_of self.old.setting in IfOk result (λ applied. (world : World) → StandsAt node D.content D.outcome world self.old
+            → Makes node D.content D.outcome (MakesRound node D.content world applied) world self.old self.new) }
+        ensures memory { let node = node_of S.own_key S.signature_of self.old.setting in IsErrOf result ClusterError.Memory → (world : World) → StandsAt node D.content D.outcome world self.old
+            → (applied : Applied) × MakesSome node D.content D.outcome (MakesRound node D.content world applied) world self.old self.new }
         ensures device { IfOk result (λ applied. IsDeviceFault applied → HasFailed D.faults self.old self.new) }
         ensures gone { IsErrOf result ClusterError.NoSuchNode ↔ (self.old.desk ≡ None) }
         ensures same { IsErrOf result ClusterError.NoSuchNode → self.new ≡ self.old }
         ensures errors { IfErr result (λ error. (error ≡ ClusterError.NoSuchNode) ⊎ (error ≡ ClusterError.Memory)) }
         ensures setting { self.new.setting ≡ self.old.setting }
+        ensures there { is_some self.new.desk ≡ is_some self.old.desk }
     {
         let Some(desk) = &mut self.desk else {
             return Err(ClusterError::NoSuchNode);
@@ -198,13 +201,13 @@ impl<'a, S: Sign, D: StopDisk> Member<'a, S, D> {
     pub(crate) fn stop(&mut self, alloc: Global) -> Result<Applied, ClusterError>
     where
         D: Drop,
-        ensures ok { IfOk result (λ applied. (world : World) → StandsAt (node_of S.own_key S.signature_of self.old.setting) D.content D.outcome world self.old
-            → Makes (node_of S.own_key S.signature_of self.old.setting) D.content D.outcome (Stops (node_of S.own_key S.signature_of self.old.setting) D.content D.outcome world applied) world self.old self.new) }
-        ensures memory { IsErrOf result ClusterError.Memory → (world : World) → StandsAt (node_of S.own_key S.signature_of self.old.setting) D.content D.outcome world self.old
-            → (applied : Applied) × MakesSome (node_of S.own_key S.signature_of self.old.setting) D.content D.outcome (Stops (node_of S.own_key S.signature_of self.old.setting) D.content D.outcome world applied) world self.old self.new }
+        ensures ok { let node = node_of S.own_key S.signature_of self.old.setting in IfOk result (λ applied. (world : World) → StandsAt node D.content D.outcome world self.old
+            → Makes node D.content D.outcome (Stops node D.content D.outcome world applied) world self.old self.new) }
+        ensures memory { let node = node_of S.own_key S.signature_of self.old.setting in IsErrOf result ClusterError.Memory → (world : World) → StandsAt node D.content D.outcome world self.old
+            → (applied : Applied) × MakesSome node D.content D.outcome (Stops node D.content D.outcome world applied) world self.old self.new }
         ensures gone { IsErrOf result ClusterError.NoSuchNode ↔ (self.old.desk ≡ None) }
         ensures same { IsErrOf result ClusterError.NoSuchNode → self.new ≡ self.old }
-        ensures journal { IfErr result (λ error. (error ≡ ClusterError.NoSuchNode) ⊎ ((error ≡ ClusterError.Memory) ⊎ (IsJournal error × IsLost (node_of S.own_key S.signature_of self.old.setting) D.content D.outcome error self.old self.new))) }
+        ensures journal { IfErr result (λ error. (error ≡ ClusterError.NoSuchNode) ⊎ ((error ≡ ClusterError.Memory) ⊎ (IsJournal error × IsLost (node_of S.own_key S.signature_of self.old.setting) D.content D.outcome D.faults error self.old self.new))) }
         ensures never { ¬ IsErrOf result ClusterError.NoSuchOutput }
         ensures setting { self.new.setting ≡ self.old.setting }
     {

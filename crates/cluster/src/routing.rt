@@ -1,24 +1,43 @@
 //! Messages on their way from one node's thread to another's: the router, and the inboxes that it fills.
 
+ghost use Rattle.std.specs.Prelude.{◌≡◌, true, Some, IfOk};
+ghost use Rattle.cluster.specs.Outputs.{message_of};
+ghost use Rattle.cluster.specs.Threads.{IsHeard};
+
 use crate::delivering::{message_again, receiver_of};
 use crossbeam_channel::Receiver;
 use std::alloc::{AllocError, Global};
+use std::marker::Model;
 use std::mem;
 use std::sync::{Mutex, Wait};
 use wire::{Author, Message, Output};
 
-/// A message on its way.
+/// A message on its way: that of an output. Contracts see it with its sender.
 #[derive(Drop)]
 pub(crate) struct Envelope {
-    pub(crate) sender: Author,
-    /// None where it is for all others.
+    sender: Author,
+    // None where it is for all others.
     receiver: Option<Author>,
-    pub(crate) message: Message,
+    message: Message,
+}
+
+impl Model for Envelope {
+    ghost use Rattle.spec_model.specs.Words.{Event};
+    ghost use Rattle.cluster.specs.Threads.{IsSent};
+
+    ghost Value = { Event };
+
+    ghost view = { λ e. record { sender = e.sender; message = e.message } };
+
+    ghost invariant = { λ e. IsSent e.receiver (record { sender = e.sender; message = e.message }) };
 }
 
 impl Envelope {
-    /// A message that is an output of this sender.
-    pub(crate) fn new(sender: Author, output: &Output, message: Message) -> Envelope {
+    /// The message of an output of this sender.
+    pub(crate) fn new(sender: Author, output: &Output, message: Message) -> Envelope
+        requires { message_of output.now ≡ Some message }
+        ensures { result ≡ record { sender = sender; message = message } }
+    {
         Envelope {
             sender,
             receiver: receiver_of(output),
@@ -26,15 +45,40 @@ impl Envelope {
         }
     }
 
-    fn is_for(&self, node: Author) -> bool {
-        match self.receiver {
+    /// Whether it is for this node: another one sent it, to this one or to all.
+    pub(crate) fn is_for(&self, node: Author) -> bool
+        ensures { result ≡ true → IsHeard node self.now }
+    {
+        let is_named = match self.receiver {
             Some(receiver) => receiver == node,
-            None => self.sender != node,
-        }
+            None => true,
+        };
+        is_named && self.sender != node
+    }
+
+    /// Who sent it.
+    pub(crate) fn sender(&self) -> Author
+        ensures { result ≡ self.now.sender }
+    {
+        self.sender
+    }
+
+    /// The message.
+    pub(crate) fn into_message(self) -> Message
+        ensures { result ≡ self.message }
+    {
+        let Envelope {
+            sender: _,
+            receiver: _,
+            message,
+        } = self;
+        message
     }
 
     // The envelope once more.
-    fn again(&self) -> Result<Envelope, AllocError> {
+    fn again(&self) -> Result<Envelope, AllocError>
+        ensures { IfOk result (λ again. again ≡ self.now) }
+    {
         Ok(Envelope {
             sender: self.sender,
             receiver: self.receiver,

@@ -72,9 +72,9 @@ impl<'a, S: Sign, D: StopDisk + Drop, G: Gate + Drop> Worker<'a, S, D, G> {
         inbox: &Inbox,
         turns: u64,
     ) -> Result<Member<'a, S, D>, ClusterError>
-        ensures { IfOk result (λ later. HasRun (node_of S.own_key S.signature_of) D.content D.outcome (V.accepts verifier.now) self.entry.member later) }
+        ensures { IfOk result (λ later. HasRun (node_of S.own_key S.signature_of) D.content D.outcome (V.accepts verifier.now) turns self.entry.member later) }
     {
-        'turns: for _ in 0..turns {
+        'turns: for made in 0..turns {
             self.turn(rt, verifier, inbox)?;
         }
         let Worker {
@@ -94,7 +94,7 @@ impl<'a, S: Sign, D: StopDisk + Drop, G: Gate + Drop> Worker<'a, S, D, G> {
         verifier: &V,
         inbox: &Inbox,
     ) -> Result<(), ClusterError>
-        ensures { OnOk result (HasRun (node_of S.own_key S.signature_of) D.content D.outcome (V.accepts verifier.now) self.old.member self.new.member) }
+        ensures { OnOk result (HasRun (node_of S.own_key S.signature_of) D.content D.outcome (V.accepts verifier.now) 1 self.old.member self.new.member) }
     {
         self.gate.pass();
         take_all(&mut self.member, verifier, inbox.take(rt))?;
@@ -132,13 +132,13 @@ impl<'a, S: Sign, D: StopDisk + Drop, G: Gate + Drop> Worker<'a, S, D, G> {
     }
 }
 
-// Gives a member all that came for it. One that is gone takes nothing.
+// Gives a member all that came for it.
 fn take_all<S: Sign, D: StopDisk, V: Verify>(
     member: &mut Member<'_, S, D>,
     verifier: &V,
     envelopes: Vec<Envelope>,
 ) -> Result<(), ClusterError>
-    ensures { OnOk result (HasRun (node_of S.own_key S.signature_of) D.content D.outcome (V.accepts verifier.now) member.old member.new) }
+    ensures { OnOk result (HasRun (node_of S.own_key S.signature_of) D.content D.outcome (V.accepts verifier.now) 0 member.old member.new) }
 {
     'envelopes: for envelope in envelopes {
         take_one(member, verifier, envelope)?;
@@ -146,23 +146,28 @@ fn take_all<S: Sign, D: StopDisk, V: Verify>(
     Ok(())
 }
 
+// Gives it one message. One that is gone takes none.
 fn take_one<S: Sign, D: StopDisk, V: Verify>(
     member: &mut Member<'_, S, D>,
     verifier: &V,
     envelope: Envelope,
 ) -> Result<(), ClusterError>
-    ensures { OnOk result (HasRun (node_of S.own_key S.signature_of) D.content D.outcome (V.accepts verifier.now) member.old member.new) }
+    ensures { OnOk result (HasRun (node_of S.own_key S.signature_of) D.content D.outcome (V.accepts verifier.now) 0 member.old member.new) }
 {
     if !member.is_there() {
         return Ok(());
     }
-    member.take_in(verifier, envelope.sender, envelope.message)?;
+    if !envelope.is_for(member.own()) {
+        return Ok(());
+    }
+    let sender = envelope.sender();
+    member.take_in(verifier, sender, envelope.into_message())?;
     Ok(())
 }
 
 // Lets a member make a round. One that is gone makes none.
 fn make_round<S: Sign, D: StopDisk>(member: &mut Member<'_, S, D>) -> Result<(), ClusterError>
-    ensures { OnOk result ((accepts : Accepts) → HasRun (node_of S.own_key S.signature_of) D.content D.outcome accepts member.old member.new) }
+    ensures { OnOk result ((accepts : Accepts) → HasRun (node_of S.own_key S.signature_of) D.content D.outcome accepts 1 member.old member.new) }
 {
     if !member.is_there() {
         return Ok(());

@@ -9,7 +9,7 @@ use Rattle.cluster.proofs.running.run_members.Goals as goal
 
 pub returns : goal.returns
 returns g c =
-    let run = HasRun (node_of g.S.Sign.own_key g.S.Sign.signature_of) g.D.Disk.content g.D.Disk.outcome (g.V.Verify.accepts c.args.verifier.now) in
+    let run = HasRun (node_of g.S.Sign.own_key g.S.Sign.signature_of) g.D.Disk.content g.D.Disk.outcome (g.V.Verify.accepts c.args.verifier.now) c.args.turns in
     if_ok_more c.all_members.result _ _
     (λ members all.
     subst (λ (l : List (Kept g.row.S.Denot g.row.D.Denot)). AllZip run l members.items) c.in_ok-workers.ensures

@@ -3,6 +3,7 @@ use Rattle.opening.proofs.Opened.{no_refusal}
 use Rattle.opening.proofs.Telling.{opening_fails}
 use Rattle.opening.specs.Told.{told}
 use Rattle.cluster.proofs.Counting.{told_length}
+use Rattle.cluster.proofs.Members.{err_of}
 use Rattle.cluster.proofs.turns.count_events.Goals as goal
 
 pub returns-in-Ok-clause-count : goal.returns-in-Ok-clause-count
@@ -14,3 +15,6 @@ returns-in-Err-clause-refused g c = λ node history told_as.
     let file = g.D.Disk.content c.args.disk in
     let error = c.in-Err.failed.error in
     no_refusal error history (told node file) told_as (opening_fails node file error c.in-Err.ensures.damaged c.in-Err.ensures.never_full c.in-Err.ensures.never_config)
+
+pub returns-in-Err-clause-device : goal.returns-in-Err-clause-device
+returns-in-Err-clause-device g c = λ is. (c.in-Err.failed.disk, c.in-Err.ensures.cause.1.0 (err_of c.in-Err.failed.error is))

@@ -1,9 +1,10 @@
-use Rattle.std.proofs.Common.{◌∙◌, subst}
+use Rattle.std.proofs.Common.{Err, ap, ◌∙◌, subst}
 use Rattle.std.proofs.lemmas.Result.{err_from_is_err_and}
 use Rattle.opening.proofs.Opened.{no_refusal}
 use Rattle.opening.specs.Told.{told}
 use Rattle.opening.proofs.Telling.{told_same}
 use Rattle.validator.specs.Setting.{node_of}
+use Rattle.cluster.proofs.Members.{counts_as, err_of}
 use Rattle.cluster.proofs.Turning.{opened_same, left_told}
 use Rattle.cluster.proofs.turns.restart.Goals as goal
 
@@ -32,3 +33,14 @@ returns-in-Err-clause-refused g c = λ world at.
     let told_as = left_told node g.D.Disk.content g.D.Disk.outcome world c.args.desk at found may in
     let later = g.D.Disk.content c.in_ok-events.disk in
     no_refusal c.in-Err.failed.error told_as.0 (told node later) (told_same node later found c.in_ok-events.ensures.same ∙ told_as.1) c.in-Err.ensures.err.tells
+
+pub returns-in_err-events-clause-device : goal.returns-in_err-events-clause-device
+returns-in_err-events-clause-device g c =
+    let p = err_from_is_err_and c.from_residual.result c.from_residual.ensures.1 in
+    rw (p.1, p.2)
+    (λ is. counts_as g.D.Disk.faults c.stop.new.self _ (c.stop.ensures.faults ∙ ap g.D.Disk.faults c.into_disk-disk.ensures) (c.in_err-events.ensures.device (ap (λ e. Err e) (err_of _ is))))
+
+pub returns-in-Err-clause-device : goal.returns-in-Err-clause-device
+returns-in-Err-clause-device g c = λ is.
+    counts_as g.D.Disk.faults c.in_ok-events.disk _ (c.in_ok-events.ensures.no_fault ∙ c.stop.ensures.faults ∙ ap g.D.Disk.faults c.into_disk-disk.ensures)
+    (c.in-Err.failed.disk, c.in-Err.ensures.cause.1.0 (err_of c.in-Err.failed.error is))

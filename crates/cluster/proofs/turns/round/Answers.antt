@@ -18,4 +18,4 @@ pub returns-in-Ok-clause-device : goal.returns-in-Ok-clause-device
 returns-in-Ok-clause-device g c = λ is. absurd is
 
 pub returns-in-Err-clause-device : goal.returns-in-Err-clause-device
-returns-in-Err-clause-device g c = λ is. c.in-Err.ensures.device (ap (λ e. Err e) (device_is c.in-Err.error is))
+returns-in-Err-clause-device g c = λ is. c.in-Err.ensures.cause.1.0 (device_is c.in-Err.error is)

@@ -65,7 +65,7 @@ returns-in-Stop-clause-memory g c =
 
 pub returns-in-Stop-clause-gone : goal.returns-in-Stop-clause-gone
 returns-in-Stop-clause-gone g c =
-    subst (λ (step : Move). IfErr c.stop.result (λ error. IsJournal error → IsStopOf step × MovesOne (λ (member : Kept g.row.S.Denot g.row.D.Denot). IsLost (node_of g.S.Sign.own_key g.S.Sign.signature_of member.setting) g.D.Disk.content g.D.Disk.outcome error member) (actor step) c.args.self.now.members c.stop.new.self.members)) (sym c.in-Stop.is)
+    subst (λ (step : Move). IfErr c.stop.result (λ error. IsJournal error → IsStopOf step × MovesOne (λ (member : Kept g.row.S.Denot g.row.D.Denot). IsLost (node_of g.S.Sign.own_key g.S.Sign.signature_of member.setting) g.D.Disk.content g.D.Disk.outcome g.D.Disk.faults error member) (actor step) c.args.self.now.members c.stop.new.self.members)) (sym c.in-Stop.is)
     (err_weaker c.stop.result _ _ (λ error either is. elim either [ inl none ↦ absurd (subst IsJournal none is) | inr (inl memory) ↦ absurd (subst IsJournal memory is) | inr (inr gone) ↦ (tt, gone.1) ]) c.stop.ensures.errors)
 
 pub returns-in-Deliver-clause-applied : goal.returns-in-Deliver-clause-applied
@@ -91,7 +91,7 @@ returns-in-Flush-clause-applied g c =
 pub returns-in-Stop-clause-applied : goal.returns-in-Stop-clause-applied
 returns-in-Stop-clause-applied g c =
     subst (λ (step : Move). IsApplied (node_of g.S.Sign.own_key g.S.Sign.signature_of) g.D.Disk.content g.D.Disk.outcome (g.V.Verify.accepts c.args.self.now.verifier) c.args.self.now.members step c.stop.new.self.members) (sym c.in-Stop.is)
-    (is_stopped (node_of g.S.Sign.own_key g.S.Sign.signature_of) g.D.Disk.content g.D.Disk.outcome (g.V.Verify.accepts c.args.self.now.verifier) c.args.self.now.members (Stop c.in-Stop.node) c.stop.new.self.members c.stop.result c.stop.ensures.moves c.stop.ensures.memory c.stop.ensures.others c.stop.ensures.settings tt (λ none. ap (λ (s : Shown g.row.S.Denot g.row.D.Denot g.row.V.Denot). s.members) (c.stop.ensures.unchanged none)) c.stop.ensures.errors)
+    (is_stopped (node_of g.S.Sign.own_key g.S.Sign.signature_of) g.D.Disk.content g.D.Disk.outcome (g.V.Verify.accepts c.args.self.now.verifier) c.args.self.now.members (Stop c.in-Stop.node) c.stop.new.self.members c.stop.result c.stop.ensures.moves c.stop.ensures.memory c.stop.ensures.others c.stop.ensures.settings g.D.Disk.faults tt (λ none. ap (λ (s : Shown g.row.S.Denot g.row.D.Denot g.row.V.Denot). s.members) (c.stop.ensures.unchanged none)) c.stop.ensures.errors)
 
 pub returns-in-Flush-clause-device : goal.returns-in-Flush-clause-device
 returns-in-Flush-clause-device g c = λ node is.

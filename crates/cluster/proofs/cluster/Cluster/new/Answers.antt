@@ -1,4 +1,4 @@
-use Rattle.std.proofs.Common.{◌≡◌, ◌≢◌, ◌+◌, ◌<◌, suc, inr, None, List, [], ◌∷◌, ◌++◌, length, map, take, drop, get_or, sym, ap, ◌∙◌, subst, arith, take-suc, drop-drop, get_or-drop, length-drop}
+use Rattle.std.proofs.Common.{Result, Err, ◌≡◌, ◌≢◌, ◌+◌, ◌<◌, suc, inr, None, List, [], ◌∷◌, ◌++◌, length, map, take, drop, get_or, sym, ap, ◌∙◌, subst, arith, take-suc, drop-drop, get_or-drop, length-drop}
 use Rattle.std.specs.Prelude.{All}
 use Rattle.std.specs.List.{AllZip}
 use Rattle.std.proofs.lemmas.List.{map-append}
@@ -20,6 +20,22 @@ returns-in_err-open-clause-errors g c =
     let empty = ap g.D.Disk.content c.remove.ensures.value ∙ so_far.empty 0 c.remove.result some in
     rw (p.1, p.2)
     (inr (c.in_err-open.ensures.errors empty))
+
+err_is : {T E : Type 0} {one other : E} → ◌≡◌ {A = Result T E} (Err one) (Err other) → one ≡ other
+err_is same = cc
+
+pub returns-in_err-open-clause-device : goal.returns-in_err-open-clause-device
+returns-in_err-open-clause-device g c =
+    let p = err_from_is_err_and c.from_residual-in_err-open.result c.from_residual-in_err-open.ensures.1 in
+    let so_far = c.loop-config.invariant in
+    let some : 0 < length c.loop-config.disks.items = omega (arith, so_far.rest, c.loop-config.disks.ok.0) in
+    let all = c.args.disks.items in
+    let place = c.loop-config.config-index in
+    let within : place < length all = omega (arith, some, ap length so_far.left, length-drop place all) in
+    let here : c.remove.result ≡ get_or all (place + 0) c.remove.result = c.remove.ensures.value ∙ ap (λ (l : List g.row.D.Denot). get_or l 0 c.remove.result) so_far.left ∙ get_or-drop place all 0 c.remove.result in
+    let there : c.remove.result ≡ get_or all place c.remove.result = here ∙ ap (λ n. get_or all n c.remove.result) (omega arith) in
+    rw (p.1, p.2)
+    (λ is. (c.remove.result, (place, within, sym there), c.in_err-open.ensures.device (ap (λ e. Err e) (err_is is))))
 
 pub loop-config-preserved : goal.loop-config-preserved
 loop-config-preserved g c =

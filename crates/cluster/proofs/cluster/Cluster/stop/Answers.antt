@@ -62,8 +62,8 @@ returns-in-Some-clause-errors g c =
     let later = c.stop.new.self in
     let first = ap (λ (s : Shown g.row.S.Denot g.row.D.Denot g.row.V.Denot). position (λ member. named c.args.node member) s.members) c.self.view_is ∙ sym c.place_of.ensures ∙ c.in-Some.is in
     let there = there_of (λ member. named c.args.node member) members c.in-Some.place one first c.index_mut.ensures.value in
-    subst (λ (s : Shown g.row.S.Denot g.row.D.Denot g.row.V.Denot). IfErr c.stop.result (λ error. (error ≡ NoSuchNode) ⊎ ((error ≡ Memory) ⊎ (IsJournal error × MovesOne (λ (member : Kept g.row.S.Denot g.row.D.Denot). IsLost (node_of g.S.Sign.own_key g.S.Sign.signature_of member.setting) g.D.Disk.content g.D.Disk.outcome error member) c.args.node s.members (set members c.in-Some.place later))))) c.self.view_is
-    (err_weaker c.stop.result _ _ (λ error either. elim either [ inl none ↦ inl none | inr (inl memory) ↦ inr (inl memory) | inr (inr gone) ↦ inr (inr (gone.0, moves_one members c.args.node c.in-Some.place one later first there c.stop.ensures.setting (λ (member : Kept g.row.S.Denot g.row.D.Denot). IsLost (node_of g.S.Sign.own_key g.S.Sign.signature_of member.setting) g.D.Disk.content g.D.Disk.outcome error member) gone.1)) ]) c.stop.ensures.journal)
+    subst (λ (s : Shown g.row.S.Denot g.row.D.Denot g.row.V.Denot). IfErr c.stop.result (λ error. (error ≡ NoSuchNode) ⊎ ((error ≡ Memory) ⊎ (IsJournal error × MovesOne (λ (member : Kept g.row.S.Denot g.row.D.Denot). IsLost (node_of g.S.Sign.own_key g.S.Sign.signature_of member.setting) g.D.Disk.content g.D.Disk.outcome g.D.Disk.faults error member) c.args.node s.members (set members c.in-Some.place later))))) c.self.view_is
+    (err_weaker c.stop.result _ _ (λ error either. elim either [ inl none ↦ inl none | inr (inl memory) ↦ inr (inl memory) | inr (inr gone) ↦ inr (inr (gone.0, moves_one members c.args.node c.in-Some.place one later first there c.stop.ensures.setting (λ (member : Kept g.row.S.Denot g.row.D.Denot). IsLost (node_of g.S.Sign.own_key g.S.Sign.signature_of member.setting) g.D.Disk.content g.D.Disk.outcome g.D.Disk.faults error member) gone.1)) ]) c.stop.ensures.journal)
 
 pub returns-in-Some-clause-settings : goal.returns-in-Some-clause-settings
 returns-in-Some-clause-settings g c =

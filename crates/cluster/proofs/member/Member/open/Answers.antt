@@ -10,13 +10,14 @@ use Rattle.std.specs.Prelude.{All}
 use Rattle.wire.specs.Fields.{AreBytes}
 use Rattle.cluster.specs.Member.{Kept}
 use Rattle.cluster.proofs.Counting.{told_nothing}
-use Rattle.cluster.proofs.Members.{begins_at}
+use Rattle.cluster.proofs.Members.{begins_at, journal_err}
+use Rattle.journal.specs.declared.error.JournalError.TheVariants.{Device}
 use Rattle.cluster.proofs.member.Member.open.Goals as goal
 
 pub returns-in-Ok-clause-begins : goal.returns-in-Ok-clause-begins
 returns-in-Ok-clause-begins g c = λ empty.
     let node = node_of g.S.Sign.own_key g.S.Sign.signature_of c.args.config.now in
-    let keys = subst (λ (k : Charter). All (λ key. AreBytes 32 key.0) k.keys) c.committee.ensures c.keys_hold.ensures in
+    let keys = c.keys_hold.ensures in
     let opened = subst (λ (bytes : List ℕ). IsOpened node g.D.Disk.content g.D.Disk.outcome bytes c.in-Ok.desk) empty c.in-Ok.ensures.ok in
     let member : Kept g.row.S.Denot g.row.D.Denot = record { setting = c.args.config.now; desk = Some c.in-Ok.desk; out = c.new.result } in
     begins_at node g.D.Disk.content g.D.Disk.outcome member c.in-Ok.desk refl c.new.ensures.outputs c.new.ensures.order
@@ -29,5 +30,8 @@ returns-in-Err-clause-errors g c = λ empty.
 
 pub returns-in-Ok-clause-runs : goal.returns-in-Ok-clause-runs
 returns-in-Ok-clause-runs g c =
-    let keys = subst (λ (k : Charter). All (λ key. AreBytes 32 key.0) k.keys) c.committee.ensures c.keys_hold.ensures in
+    let keys = c.keys_hold.ensures in
     runs_begin (node_of g.S.Sign.own_key g.S.Sign.signature_of c.args.config.now) c.limits_hold.ensures keys
+
+pub returns-in-Err-clause-device : goal.returns-in-Err-clause-device
+returns-in-Err-clause-device g c = λ is. (c.in-Err.failed.disk, c.in-Err.ensures.cause.1.0 (journal_err c.in-Err.failed.error Device is))

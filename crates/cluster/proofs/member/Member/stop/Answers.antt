@@ -1,4 +1,4 @@
-use Rattle.std.proofs.Common.{◌≡◌, ◌⊎◌, inr, Some, refl, sym, ◌∙◌, subst}
+use Rattle.std.proofs.Common.{Err, ap, ◌≡◌, ◌⊎◌, inr, Some, refl, sym, ◌∙◌, subst}
 use Rattle.desk.specs.AtWorld.{IsAt}
 use Rattle.spec_world.specs.World.{World}
 use Rattle.validator.specs.Setting.{Setting, node_of}
@@ -7,7 +7,8 @@ use Rattle.cluster.specs.Member.{Kept, HasPutOut, StandsAt, HasCollected, HasCol
 use Rattle.cluster.specs.declared.error.ClusterError.TheVariants.{NoSuchNode, Memory, Journal}
 use Rattle.cluster.specs.declared.moves.Applied.{Applied}
 use Rattle.cluster.specs.declared.moves.Applied.TheVariants.{Reopened}
-use Rattle.cluster.proofs.Members.{makes, makes_some, moved_or_not, stopped}
+use Rattle.cluster.proofs.Members.{journal_is, makes, makes_some, moved_or_not, stopped}
+use Rattle.journal.specs.declared.error.JournalError.TheVariants.{Device}
 use Rattle.desk.proofs.Worlds.{stops}
 use Rattle.cluster.proofs.member.Member.stop.Goals as goal
 
@@ -41,11 +42,14 @@ returns-in-Err-clause-journal g c =
     let before : Kept g.row.S.Denot g.row.D.Denot = record { setting = c.self.inside.config.now; desk = c.self.inside.desk; out = c.self.inside.given } in
     let later : Kept g.row.S.Denot g.row.D.Denot = record { setting = c.self.inside.config.now; desk = c.take.new.self; out = c.self.inside.given } in
     let at_desk = sym c.take.ensures.value ∙ c.in-Some.is in
-    subst (λ (m : Kept g.row.S.Denot g.row.D.Denot). (Journal c.in-Err.error ≡ NoSuchNode) ⊎ ((Journal c.in-Err.error ≡ Memory) ⊎ (IsJournal (Journal c.in-Err.error) × IsLost (node_of g.S.Sign.own_key g.S.Sign.signature_of m.setting) g.D.Disk.content g.D.Disk.outcome (Journal c.in-Err.error) m later))) c.self.view_is
+    subst (λ (m : Kept g.row.S.Denot g.row.D.Denot). (Journal c.in-Err.error ≡ NoSuchNode) ⊎ ((Journal c.in-Err.error ≡ Memory) ⊎ (IsJournal (Journal c.in-Err.error) × IsLost (node_of g.S.Sign.own_key g.S.Sign.signature_of m.setting) g.D.Disk.content g.D.Disk.outcome g.D.Disk.faults (Journal c.in-Err.error) m later))) c.self.view_is
     (inr (inr (
       tt,
       record {
         gone = record { gone = c.take.ensures.after; setting = refl; out = refl };
+        desk = c.in-Some.desk;
+        was = at_desk;
+        device = λ is. c.in-Err.ensures.device (ap (λ e. Err e) (journal_is c.in-Err.error Device is));
         fault = λ world stands. c.in-Err.ensures.refused world (stands.at c.in-Some.desk at_desk);
       },
     )))

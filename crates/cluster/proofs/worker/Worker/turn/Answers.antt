@@ -9,5 +9,5 @@ pub returns : goal.returns
 returns g c =
     let node = node_of g.S.Sign.own_key g.S.Sign.signature_of in
     let accepts = g.V.Verify.accepts c.args.verifier.now in
-    on_ok c.send_new.result (subst (λ (m : Kept g.row.S.Denot g.row.D.Denot). HasRun node g.D.Disk.content g.D.Disk.outcome accepts c.args.self.now.member m) (sym c.send_new.ensures)
-    (run_on node g.D.Disk.content g.D.Disk.outcome accepts c.args.self.now.member c.take_all.new.member c.make_round.new.member c.in_ok-take_all.ensures (c.in_ok-make_round.ensures accepts)))
+    on_ok c.send_new.result (subst (λ (m : Kept g.row.S.Denot g.row.D.Denot). HasRun node g.D.Disk.content g.D.Disk.outcome accepts 1 c.args.self.now.member m) (sym c.send_new.ensures)
+    (run_on node g.D.Disk.content g.D.Disk.outcome accepts 0 1 c.args.self.now.member c.take_all.new.member c.make_round.new.member c.in_ok-take_all.ensures (c.in_ok-make_round.ensures accepts)))
