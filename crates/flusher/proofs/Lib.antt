@@ -1,2 +1,3 @@
 pub mod Adding
 pub mod Taking
+pub mod Collecting

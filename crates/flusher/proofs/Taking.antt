@@ -1,22 +1,21 @@
 -- What a flush seat has taken, and what that comes to on a disk.
-use Rattle.std.proofs.Common.{◌≡◌, ◌⊎◌, inl, inr, ℕ, ◌+◌, ◌<◌, ◌≤◌, List, ◌++◌, length, map, take, drop, refl, sym, ap, ◌∙◌, subst, arith}
+use Rattle.std.proofs.Common.{◌≡◌, inl, inr, ℕ, ◌+◌, ◌<◌, List, length, map, take, drop, refl, sym, ap, ◌∙◌, subst, arith}
 use Rattle.std.specs.Prelude.{All, Option, None, IsNone}
-use Rattle.std.proofs.lemmas.List.{take_at, take-map, drop_at, length-map, length-take-le}
+use Rattle.std.proofs.lemmas.List.{take_at, take-map, drop_at, length-take-le}
 use Rattle.std.proofs.lemmas.List.Elements.{All-drop, All-take}
 use Rattle.journal.specs.Format.{group_bytes}
 use Rattle.journal.specs.declared.layout.TheConstants.{MAX_JOURNAL_BYTES}
 use Rattle.book.specs.Pending.{IsLongestBeginning}
-use Rattle.spec_laws.specs.Laws.{Begins}
 use Rattle.spec_model.specs.Admitting.{IsTaken, IsLegal}
-use Rattle.spec_model.specs.Histories.{History}
 use Rattle.spec_model.specs.Nodes.{Node}
+use Rattle.spec_model.specs.Histories.{Begins}
 use Rattle.spec_records.specs.Records.{record_of}
 use Rattle.node_seats.specs.Views.{events}
 use Rattle.node_seats.specs.declared.view.Marked.{Marked}
 use Rattle.node_seats.proofs.Beginnings.{begins_take, take_begins}
 use Rattle.node_shared.specs.Home.{Shared, IsFlushOf, TakesNext, taken_by, group_of, seen_by}
 use Rattle.node_shared.specs.declared.flush_seat.FlushSeat.{FlushSeat}
-use Rattle.flusher.specs.Rounds.{records_behind, IsGroupOf, TakesLongest, HasNoRoom}
+use Rattle.flusher.specs.Rounds.{records_behind, TakesLongest, HasNoRoom}
 
 module _ {S : Type 0} (node : Shared S) (flush : FlushSeat) (of : IsFlushOf node flush) where
   -- where no more is taken than is settled

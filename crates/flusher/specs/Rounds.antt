@@ -1,21 +1,22 @@
 -- A flusher, and what its rounds do.
-use Rattle.std.specs.Prelude.{◌≡◌, ◌⊎◌, ℕ, ◌+◌, ◌<◌, false, Bool, List, length, map, drop, ◌++◌}
-use Rattle.diskmodel.specs.Disk.{AtEachMoment}
+use Rattle.std.specs.Prelude.{◌≡◌, ◌≢◌, ◌⊎◌, ◌↔◌, ℕ, ◌+◌, ◌<◌, false, Bool, List, length, map, drop, ◌++◌, Result, IsErrOf, IsTrue, IfOk, IfErr, OnOk, OnErr}
 use Rattle.journal.specs.Format.{group_bytes}
 use Rattle.journal.specs.Journal.{disk_of, IsAlive}
 use Rattle.journal.specs.declared.journal.Journal.{Journal}
 use Rattle.journal.specs.declared.layout.TheConstants.{MAX_JOURNAL_BYTES}
-use Rattle.spec_laws.specs.Laws.{Begins}
-use Rattle.spec_model.specs.Histories.{History}
+use Rattle.spec_model.specs.Histories.{History, Begins}
 use Rattle.spec_model.specs.Nodes.{Node}
 use Rattle.spec_records.specs.Records.{record_of}
 use Rattle.spec_world.specs.World.{Holds}
 use Rattle.book.specs.Pending.{IsLongestBeginning}
 use Rattle.validator.specs.Setting.{Setting}
-use Rattle.node_seats.specs.Views.{events}
+use Rattle.node_seats.specs.Sights.{Sight}
+use Rattle.node_seats.specs.Views.{events, IsSame}
 use Rattle.node_seats.specs.declared.view.Marked.{Marked}
 use Rattle.node_shared.specs.Home.{Shared, IsFlushOf, taken_by}
 use Rattle.node_shared.specs.declared.flush_seat.FlushSeat.{FlushSeat}
+use Rattle.flusher.specs.declared.error.FlushError.{FlushError}
+use Rattle.flusher.specs.declared.error.FlushError.TheVariants.{Memory, Device, Full, Down}
 use Rattle.flusher.specs.declared.flusher.Flusher.{Flusher}
 
 -- ---- what a flusher has
@@ -82,3 +83,45 @@ HoldsEither node_of node settled taken left = Holds (node_of node.setting) left 
 pub record HasNoRoom (content : List ℕ) (settled taken : List Marked) : Type 0 where
   pub some : length settled < length taken
   pub too_long : MAX_JOURNAL_BYTES < length content + length (group_bytes (records_behind settled taken))
+
+-- ---- what it answers
+
+-- Of a round: it answers Down exactly where it is down, and changes nothing then. One that answers Device or Full takes it down.
+pub record GoesDown {D : Type 0} (before later : Flusher D) (result : Result ℕ FlushError) : Type 0 where
+  pub down : IsErrOf result Down ↔ IsTrue (is_down before)
+  pub same : IsErrOf result Down → later ≡ before
+  pub device : IsErrOf result Device → IsTrue (is_down later)
+  pub full : IsErrOf result Full → IsTrue (is_down later)
+  pub nothing_else : IsTrue (is_down later) → IsErrOf result Device ⊎ IsErrOf result Full ⊎ IsErrOf result Down
+
+-- Of the seat that it is made with: it is the same one, has seen and knows as settled what it did and perhaps more, and where the round
+-- takes the node down it knows of that.
+pub record IsToldOf (before later : Sight) (result : Result ℕ FlushError) : Type 0 where
+  pub same : IsSame before later
+  pub more : Begins before.view.seen later.view.seen
+  pub more_firm : Begins before.view.firm later.view.firm
+  pub no_change : IsErrOf result Down → later ≡ before
+  pub device : IsErrOf result Device → IsTrue later.view.down
+  pub full : IsErrOf result Full → IsTrue later.view.down
+
+-- Of what had seen: it takes a group, and settles all that is taken, which the seat then knows. For want of memory it takes nothing; a
+-- round that fails settles nothing.
+pub record TakesAndSettles {D : Type 0} (seat later_seat : Sight) (before later : Flusher D) (result : Result ℕ FlushError) : Type 0 where
+  pub takes : IsErrOf result Down ⊎ IsErrOf result Memory ⊎ TakesLongest seat.view.seen (settled_in before) (taken_in later)
+  pub memory : IsErrOf result Memory → (journal_of later ≡ journal_of before) × (taken_in later ≡ settled_in before)
+  pub size : IfOk result (λ count. length (taken_in later) ≡ length (settled_in before) + count)
+  pub settled : OnOk result (settled_in later ≡ taken_in later)
+  pub told : OnOk result (later_seat.view.firm ≡ taken_in later)
+  pub not_settled : OnErr result (settled_in later ≡ settled_in before)
+
+-- it answers Full exactly where the journal has no room for what it took, and leaves the journal then
+pub record TellsRoom {D : Type 0} (content : D → List ℕ) (before later : Flusher D) (result : Result ℕ FlushError) : Type 0 where
+  pub full : is_down before ≡ false → IsErrOf result Full ↔ HasNoRoom (content (disk_of (journal_of before))) (settled_in before) (taken_in later)
+  pub same : IsErrOf result Full → journal_of later ≡ journal_of before
+
+-- Of another call: what is settled and taken, the journal and whether it is down are as they were.
+pub record StaysAsIs {D : Type 0} (before later : Flusher D) : Type 0 where
+  pub settled : settled_in later ≡ settled_in before
+  pub taken : taken_in later ≡ taken_in before
+  pub journal : journal_of later ≡ journal_of before
+  pub down : is_down later ≡ is_down before

@@ -1,17 +1,17 @@
 //! The flusher.
 
-ghost use Rattle.std.specs.Prelude.{◌≡◌, ◌≢◌, ◌⊎◌, ◌↔◌, ◌+◌, ◌<◌, true, false, length, IfOk, IfErr, IsErrOf, IsTrue, OnOk, OnErr};
-ghost use Rattle.diskmodel.specs.Disk.{AtEachMoment};
+ghost use Rattle.std.specs.Prelude.{◌≡◌, ◌⊎◌, ◌↔◌, ◌+◌, ◌<◌, true, false, length, IfOk, IfErr, IsErrOf, OnOk, OnErr};
+ghost use Rattle.diskmodel.specs.Disk.{AtEachMoment, TellsFault};
 ghost use Rattle.journal.specs.Format.{group_bytes};
 ghost use Rattle.journal.specs.Journal.{disk_of, IsAlive};
 ghost use Rattle.journal.specs.declared.layout.TheConstants.{MAX_JOURNAL_BYTES};
-ghost use Rattle.spec_laws.specs.Laws.{Begins};
+ghost use Rattle.spec_model.specs.Histories.{Begins};
 ghost use Rattle.spec_model.specs.Admitting.{IsLegal};
 ghost use Rattle.spec_world.specs.World.{Holds};
 ghost use Rattle.validator.specs.Setting.{node_of};
-ghost use Rattle.node_seats.specs.Views.{IsSame};
+ghost use Rattle.node_seats.specs.Plays.{with_down};
 ghost use Rattle.node_shared.specs.Home.{IsOf, IsFlushOf, group_of, seen_by};
-ghost use Rattle.flusher.specs.Rounds.{journal_of, seat_of, is_down, settled_in, taken_in, from_start, IsFlusherOf, TakesLongest, HoldsEither, HasNoRoom};
+ghost use Rattle.flusher.specs.Rounds.{journal_of, seat_of, is_down, settled_in, taken_in, from_start, IsFlusherOf, HoldsEither, GoesDown, IsToldOf, TakesAndSettles, TellsRoom, StaysAsIs};
 
 use crate::error::FlushError;
 use diskmodel::Disk;
@@ -66,7 +66,8 @@ impl<D: Disk> Flusher<D> {
 
     /// Takes a group of what the node accepted, adds it to the journal and settles it. The lock is held for the take and for the
     /// settle, not while the disk is written. What the seat had seen is there to be taken; behind the round the seat knows what is
-    /// settled. The answer is how many records the group has; 0 where all was settled.
+    /// settled, and where the round took the node down, that it is. The answer is how many records the group has; 0 where all was
+    /// settled.
     ///
     /// # Errors
     /// Each of them, as told there.
@@ -80,32 +81,14 @@ impl<D: Disk> Flusher<D> {
         requires of { IsOf node.now seat.old }
         ensures flusher { IsFlusherOf (node_of S.own_key S.signature_of) D.content D.outcome node.now self.new }
         ensures of { IsOf node.now seat.new }
-        ensures same { IsSame seat.old seat.new }
-        ensures more { Begins seat.old.view.seen seat.new.view.seen }
-        ensures more_firm { Begins seat.old.view.firm seat.new.view.firm }
-
-        // It answers Down exactly where it is down, and changes nothing then. A round that answers Device or Full takes it down.
-        ensures down { IsErrOf result FlushError.Down ↔ IsTrue (is_down self.old) }
-        ensures no_change { IsErrOf result FlushError.Down → (self.new ≡ self.old) × (seat.new ≡ seat.old) }
-        ensures goes_down { IsTrue (is_down self.new) → (IsErrOf result FlushError.Device) ⊎ (IsErrOf result FlushError.Full) ⊎ (IsErrOf result FlushError.Down) }
-        ensures takes_down { (IsErrOf result FlushError.Device) ⊎ (IsErrOf result FlushError.Full) → IsTrue (is_down self.new) }
-
-        // What it takes; for want of memory that is nothing.
-        ensures takes { (IsErrOf result FlushError.Down) ⊎ (IsErrOf result FlushError.Memory) ⊎ TakesLongest seat.old.view.seen (settled_in self.old) (taken_in self.new) }
-        ensures memory { IsErrOf result FlushError.Memory → (journal_of self.new ≡ journal_of self.old) × (taken_in self.new ≡ settled_in self.old) }
+        ensures down { GoesDown self.old self.new result }
+        ensures told { IsToldOf seat.old seat.new result }
+        ensures settles { TakesAndSettles seat.old seat.new self.old self.new result }
+        ensures room { TellsRoom D.content self.old self.new result }
+        ensures cause { TellsFault FlushError.Device (D.faults (disk_of (journal_of self.old))) (D.faults (disk_of (journal_of self.new))) result }
 
         // At each moment a stop leaves what was settled, or that with the group; and once it is settled that is so for good.
         ensures any_moment { IsErrOf result FlushError.Down ⊎ AtEachMoment D.clock D.outcome_since (disk_of (journal_of self.old)) (disk_of (journal_of self.new)) (HoldsEither (node_of S.own_key S.signature_of) node.now (settled_in self.old) (taken_in self.new)) }
-        ensures settles { IfOk result (λ count. (length (taken_in self.new) ≡ length (settled_in self.old) + count) × (settled_in self.new ≡ taken_in self.new) × (seat.new.view.firm ≡ taken_in self.new)) }
-        ensures not_settled { OnErr result (settled_in self.new ≡ settled_in self.old) }
-
-        ensures full { is_down self.old ≡ false → IsErrOf result FlushError.Full ↔ HasNoRoom (D.content (disk_of (journal_of self.old))) (settled_in self.old) (taken_in self.new) }
-        ensures full_same { IsErrOf result FlushError.Full → journal_of self.new ≡ journal_of self.old }
-
-        // It answers Device exactly where the disk has failed.
-        ensures device { IsErrOf result FlushError.Device → D.faults (disk_of (journal_of self.old)) < D.faults (disk_of (journal_of self.new)) }
-        ensures no_fault { OnOk result (D.faults (disk_of (journal_of self.new)) ≡ D.faults (disk_of (journal_of self.old))) }
-        ensures no_fault_err { IfErr result (λ error. error ≢ FlushError.Device → D.faults (disk_of (journal_of self.new)) ≡ D.faults (disk_of (journal_of self.old))) }
     {
         if self.down {
             return Err(FlushError::Down);
@@ -115,39 +98,51 @@ impl<D: Disk> Flusher<D> {
             Err(_) => return Err(FlushError::Memory),
         };
         let count = match found {
-            Some(group) => self.add(rt, node, group)?,
+            Some(group) => self.add(rt, node, seat, group)?,
             None => 0,
         };
         node.tell_settled(rt, &mut self.seat, seat);
         Ok(count)
     }
 
-    // Adds the group that was taken to the journal, and settles it.
+    /// A caller's seat is then known to know as settled no more than is settled here. It writes nothing.
+    pub fn cover<'a, S: Sign, R: Wait>(&mut self, rt: &R, node: &Node<'a, S>, seat: &mut Seat)
+        requires flusher { IsFlusherOf (node_of S.own_key S.signature_of) D.content D.outcome node.now self.old }
+        requires of { IsOf node.now seat.old }
+        ensures flusher { IsFlusherOf (node_of S.own_key S.signature_of) D.content D.outcome node.now self.new }
+        ensures stays { StaysAsIs self.old self.new }
+        ensures seat { seat.new ≡ seat.old }
+        ensures covers { Begins seat.old.view.firm (settled_in self.new) }
+    {
+        node.cover(rt, &mut self.seat, seat);
+    }
+
+    // Adds the group that was taken to the journal, and settles it. Where it can't, the node goes down, which the seat then knows.
     fn add<'a, S: Sign, R: Wait>(
         &mut self,
         rt: &R,
         node: &Node<'a, S>,
+        seat: &mut Seat,
         group: Group,
     ) -> Result<u64, FlushError>
-        requires seat { IsFlushOf node.now (seat_of self.old) }
+        requires flush_seat { IsFlushOf node.now (seat_of self.old) }
         requires up { is_down self.old ≡ false }
         requires alive { IsAlive D.content D.outcome (journal_of self.old) }
         requires holds { Holds (node_of S.own_key S.signature_of node.now.setting) (D.content (disk_of (journal_of self.old))) (from_start node.now (settled_in self.old)) }
         requires legal { IsLegal (node_of S.own_key S.signature_of node.now.setting) (seen_by (seat_of self.old).seat) }
         requires group { group ≡ group_of (seat_of self.old) }
+        requires of { IsOf node.now seat.old }
         ensures flusher { IsFlusherOf (node_of S.own_key S.signature_of) D.content D.outcome node.now self.new }
         ensures taken { taken_in self.new ≡ taken_in self.old }
         ensures any_moment { AtEachMoment D.clock D.outcome_since (disk_of (journal_of self.old)) (disk_of (journal_of self.new)) (HoldsEither (node_of S.own_key S.signature_of) node.now (settled_in self.old) (taken_in self.old)) }
         ensures ok { IfOk result (λ count. (count ≡ length group) × (settled_in self.new ≡ taken_in self.old) × (is_down self.new ≡ false)) }
         ensures err { OnErr result ((settled_in self.new ≡ settled_in self.old) × (is_down self.new ≡ true)) }
+        ensures seat { OnOk result (seat.new ≡ seat.old) }
+        ensures seat_err { OnErr result (seat.new ≡ record seat.old { view = with_down seat.old.view }) }
         ensures errors { IfErr result (λ error. (error ≡ FlushError.Device) ⊎ (error ≡ FlushError.Full)) }
         ensures full { IsErrOf result FlushError.Full ↔ (MAX_JOURNAL_BYTES < length (D.content (disk_of (journal_of self.old))) + length (group_bytes group)) }
         ensures full_same { IsErrOf result FlushError.Full → journal_of self.new ≡ journal_of self.old }
-
-        // It answers Device exactly where the disk has failed.
-        ensures device { IsErrOf result FlushError.Device → D.faults (disk_of (journal_of self.old)) < D.faults (disk_of (journal_of self.new)) }
-        ensures no_fault { OnOk result (D.faults (disk_of (journal_of self.new)) ≡ D.faults (disk_of (journal_of self.old))) }
-        ensures no_fault_err { IfErr result (λ error. error ≢ FlushError.Device → D.faults (disk_of (journal_of self.new)) ≡ D.faults (disk_of (journal_of self.old))) }
+        ensures cause { TellsFault FlushError.Device (D.faults (disk_of (journal_of self.old))) (D.faults (disk_of (journal_of self.new))) result }
     {
         let count = group.records_count();
         match self.journal.append(group) {
@@ -156,7 +151,7 @@ impl<D: Disk> Flusher<D> {
                 Ok(count)
             }
             Err(error) => {
-                node.fail(rt);
+                node.fail(seat);
                 self.down = true;
                 match error {
                     JournalError::Full => Err(FlushError::Full),

@@ -3,6 +3,8 @@
 
 mod error;
 mod flusher;
+mod laws;
 
 pub use error::FlushError;
 pub use flusher::Flusher;
+pub use laws::collected_agrees;

@@ -1,16 +1,15 @@
 //! What a thread calls a node with.
 
-ghost use Rattle.std.specs.Prelude.{◌≡◌, ◌⊎◌, None, [], not, drop, length, IsOk, IfOk, IfErr, IfSome};
+ghost use Rattle.std.specs.Prelude.{◌≡◌, ◌⊎◌, ◌↔◌, None, not, drop, length, IsNone, IsOk, IsTrue, IsErrOf, IfOk, IfErr, IfSome};
 ghost use Rattle.header.specs.Checks.{fault_of, accepts_all};
-ghost use Rattle.spec_laws.specs.Laws.{Begins};
 ghost use Rattle.spec_machine.specs.Machine.{is_missing_parents};
-ghost use Rattle.spec_model.specs.Admitting.{admit, IsLegal};
-ghost use Rattle.spec_model.specs.Giving.{MayGive, unless_low};
+ghost use Rattle.spec_model.specs.Admitting.{admit};
+ghost use Rattle.spec_model.specs.Giving.{unless_low};
 ghost use Rattle.spec_model.specs.Holdings.{order as order_of, round as round_of, floor as floor_of, voted_digest};
 ghost use Rattle.spec_model.specs.Proposing.{propose as propose_of};
 ghost use Rattle.validator.specs.Setting.{node_of};
-ghost use Rattle.node_seats.specs.Views.{IsSame};
-ghost use Rattle.node_shared.specs.Answers.{Submits, IsPutOutBy};
+ghost use Rattle.node_shared.specs.Answers.{Submits, Gives};
+ghost use Rattle.node_shared.specs.Calls.{Looked, Learned, Brought, IsBeside};
 ghost use Rattle.node_shared.specs.Home.{IsOf, seen_by, firm_by};
 ghost use Rattle.node.specs.Callers.{StaysWith};
 
@@ -27,7 +26,7 @@ use wire::{Author, Digest, Header, Output, Round};
 pub struct Caller<'n, 'a, S: Sign> {
     node: &'n Node<'a, S>,
     config: &'a Config<S>,
-    seat: Seat,
+    pub(crate) seat: Seat,
 }
 
 impl<'n, 'a, S: Sign> Drop for Caller<'n, 'a, S> {
@@ -75,33 +74,30 @@ impl<'n, 'a, S: Sign> Caller<'n, 'a, S> {
         ensures ok { IsOk result }
         ensures same { self.new ≡ self.old }
         ensures other { IfOk result (λ other. StaysWith self.old other) }
-        ensures knows { IfOk result (λ other. (other.seat.view.seen ≡ self.old.seat.view.seen) × (other.seat.view.firm ≡ self.old.seat.view.firm) × (other.seat.view.mine ≡ [])) }
+        ensures knows { IfOk result (λ other. IsBeside self.old.node self.old.seat other.seat) }
     {
         let seat = self.node.split(&mut self.seat)?;
         Ok(Caller::new(self.node, self.config, seat))
     }
 
     /// Takes an event that passed the checks under the node's committee, behind all that was accepted. The caller has then seen all of
-    /// that, and a new event is one of its own.
+    /// that, and a new event is one of its own. It answers Down exactly where the caller then knows that the node is down.
     pub fn submit<R: Wait>(&mut self, rt: &R, event: Checked) -> Result<Receipt, Refusal>
         requires passed { fault_of self.old.setting.charter accepts_all event ≡ None }
         ensures stays { StaysWith self.old self.new }
-        ensures same { (self.new.seat.id ≡ self.old.seat.id) × (self.new.seat.view.number ≡ self.old.seat.view.number) }
-        ensures firm { self.new.seat.view.firm ≡ self.old.seat.view.firm }
+        ensures brought { Brought (node_of S.own_key S.signature_of) self.old.node self.old.seat self.new.seat }
         ensures submits { Submits (node_of S.own_key S.signature_of self.old.node.setting) event self.old.seat.view self.new.seat.view result }
+        ensures down { IsErrOf result Refusal.Down ↔ IsTrue self.new.seat.view.down }
     {
         self.node.submit(rt, &mut self.seat, event)
     }
 
-    /// The next output that may go out.
+    /// The next output that may go out; none where the node is down.
     pub fn collect<R: Wait>(&mut self, rt: &R) -> Option<Output>
         ensures stays { StaysWith self.old self.new }
-        ensures same { IsSame self.old.seat self.new.seat }
-        ensures more { Begins self.old.seat.view.firm self.new.seat.view.firm }
-        ensures seen { Begins self.old.seat.view.seen self.new.seat.view.seen }
-        ensures within { Begins self.new.seat.view.firm self.new.seat.view.seen }
-        ensures goes_out { IfSome result (λ output. MayGive (node_of S.own_key S.signature_of self.old.node.setting) (firm_by self.new.seat) output) }
-        ensures put_out { IfSome result (λ output. IsPutOutBy (node_of S.own_key S.signature_of self.old.node.setting) self.new.seat.view output) }
+        ensures learned { Learned (node_of S.own_key S.signature_of) self.old.node self.old.seat self.new.seat }
+        ensures down { IsTrue self.new.seat.view.down → IsNone result }
+        ensures gives { IfSome result (λ output. Gives (node_of S.own_key S.signature_of self.old.node.setting) self.new.seat output) }
     {
         self.node.collect(rt, &mut self.seat)
     }
@@ -109,10 +105,8 @@ impl<'n, 'a, S: Sign> Caller<'n, 'a, S> {
     /// The settled order from a place on.
     pub fn order<R: Wait>(&mut self, rt: &R, from: u64) -> Result<Vec<Digest>, Refusal>
         ensures stays { StaysWith self.old self.new }
-        ensures same { IsSame self.old.seat self.new.seat }
-        ensures more { Begins self.old.seat.view.firm self.new.seat.view.firm }
-        ensures seen { Begins self.old.seat.view.seen self.new.seat.view.seen }
-        ensures within { Begins self.new.seat.view.firm self.new.seat.view.seen }
+        ensures learned { Learned (node_of S.own_key S.signature_of) self.old.node self.old.seat self.new.seat }
+        ensures down { IsErrOf result Refusal.Down ↔ IsTrue self.new.seat.view.down }
         ensures order { IfOk result (λ digests. digests.items ≡ drop from (order_of (node_of S.own_key S.signature_of self.old.node.setting) (firm_by self.new.seat))) }
         ensures errors { IfErr result (λ refusal. (refusal ≡ Refusal.Down) ⊎ (refusal ≡ Refusal.Memory)) }
     {
@@ -122,9 +116,7 @@ impl<'n, 'a, S: Sign> Caller<'n, 'a, S> {
     /// The header that has the vote of an author and round, unless that is low.
     pub fn peek_voted<R: Wait>(&mut self, rt: &R, author: Author, round: Round) -> Option<Digest>
         ensures stays { StaysWith self.old self.new }
-        ensures same { IsSame self.old.seat self.new.seat }
-        ensures firm { self.new.seat.view.firm ≡ self.old.seat.view.firm }
-        ensures more { Begins self.old.seat.view.seen self.new.seat.view.seen }
+        ensures looked { Looked (node_of S.own_key S.signature_of) self.old.node self.old.seat self.new.seat }
         ensures voted { result ≡ unless_low (floor_of (node_of S.own_key S.signature_of self.old.node.setting) (seen_by self.new.seat)) round (voted_digest (seen_by self.new.seat) round author.0) }
     {
         self.node.peek_voted(rt, &mut self.seat, author, round)
@@ -133,9 +125,7 @@ impl<'n, 'a, S: Sign> Caller<'n, 'a, S> {
     /// The round behind all that was accepted.
     pub fn round_now<R: Wait>(&mut self, rt: &R) -> u64
         ensures stays { StaysWith self.old self.new }
-        ensures same { IsSame self.old.seat self.new.seat }
-        ensures firm { self.new.seat.view.firm ≡ self.old.seat.view.firm }
-        ensures more { Begins self.old.seat.view.seen self.new.seat.view.seen }
+        ensures looked { Looked (node_of S.own_key S.signature_of) self.old.node self.old.seat self.new.seat }
         ensures round { result ≡ round_of (node_of S.own_key S.signature_of self.old.node.setting) (seen_by self.new.seat) }
     {
         self.node.round_now(rt, &mut self.seat)
@@ -145,9 +135,7 @@ impl<'n, 'a, S: Sign> Caller<'n, 'a, S> {
     pub fn ready<R: Wait>(&mut self, rt: &R, event: &Checked) -> bool
         requires passed { fault_of self.old.setting.charter accepts_all event.now ≡ None }
         ensures stays { StaysWith self.old self.new }
-        ensures same { IsSame self.old.seat self.new.seat }
-        ensures firm { self.new.seat.view.firm ≡ self.old.seat.view.firm }
-        ensures more { Begins self.old.seat.view.seen self.new.seat.view.seen }
+        ensures looked { Looked (node_of S.own_key S.signature_of) self.old.node self.old.seat self.new.seat }
         ensures ready { result ≡ not (is_missing_parents (admit (node_of S.own_key S.signature_of self.old.node.setting) (seen_by self.new.seat) event.now)) }
     {
         self.node.ready(rt, &mut self.seat, event)
@@ -156,9 +144,7 @@ impl<'n, 'a, S: Sign> Caller<'n, 'a, S> {
     /// The header that the validator proposes, if it proposes one.
     pub fn propose<R: Wait>(&mut self, rt: &R) -> Result<Option<Header>, AllocError>
         ensures stays { StaysWith self.old self.new }
-        ensures same { IsSame self.old.seat self.new.seat }
-        ensures firm { self.new.seat.view.firm ≡ self.old.seat.view.firm }
-        ensures more { Begins self.old.seat.view.seen self.new.seat.view.seen }
+        ensures looked { Looked (node_of S.own_key S.signature_of) self.old.node self.old.seat self.new.seat }
         ensures header { IfOk result (λ found. found ≡ propose_of (node_of S.own_key S.signature_of self.old.node.setting) (seen_by self.new.seat)) }
     {
         self.node.propose(rt, &mut self.seat)
@@ -167,11 +153,8 @@ impl<'n, 'a, S: Sign> Caller<'n, 'a, S> {
     /// How many events were accepted since the node began, all of which the caller has then seen. It waits for nobody.
     pub fn accepted(&mut self) -> u64
         ensures stays { StaysWith self.old self.new }
-        ensures same { IsSame self.old.seat self.new.seat }
-        ensures firm { self.new.seat.view.firm ≡ self.old.seat.view.firm }
-        ensures more { Begins self.old.seat.view.seen self.new.seat.view.seen }
+        ensures looked { Looked (node_of S.own_key S.signature_of) self.old.node self.old.seat self.new.seat }
         ensures count { result ≡ length self.new.seat.view.seen }
-        ensures legal { IsLegal (node_of S.own_key S.signature_of self.old.node.setting) (seen_by self.new.seat) }
     {
         self.node.accepted(&mut self.seat)
     }
@@ -179,10 +162,7 @@ impl<'n, 'a, S: Sign> Caller<'n, 'a, S> {
     /// How many of these are settled, which the caller then knows. It waits for nobody.
     pub fn synced(&mut self) -> u64
         ensures stays { StaysWith self.old self.new }
-        ensures same { IsSame self.old.seat self.new.seat }
-        ensures more { Begins self.old.seat.view.firm self.new.seat.view.firm }
-        ensures seen { Begins self.old.seat.view.seen self.new.seat.view.seen }
-        ensures within { Begins self.new.seat.view.firm self.new.seat.view.seen }
+        ensures learned { Learned (node_of S.own_key S.signature_of) self.old.node self.old.seat self.new.seat }
         ensures count { result ≡ length self.new.seat.view.firm }
     {
         self.node.synced(&mut self.seat)

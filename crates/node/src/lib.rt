@@ -6,13 +6,15 @@ mod rounds;
 
 ghost use Rattle.std.specs.Prelude.{◌≡◌, ◌≢◌, ◌⊎◌, ◌<◌, [], false, Ok, IfOk, IfErr};
 ghost use Rattle.diskmodel.specs.Disk.{AtEachMoment};
-ghost use Rattle.journal.specs.Journal.{disk_of, IsAlive, IsClosedUp};
+ghost use Rattle.journal.specs.Journal.{disk_of, TellsFaultBack, IsAlive, IsClosedUp};
 ghost use Rattle.spec_model.specs.Admitting.{IsLegal};
 ghost use Rattle.spec_model.specs.Giving.{kept};
 ghost use Rattle.spec_world.specs.World.{Holds};
 ghost use Rattle.validator.specs.Setting.{node_of};
 ghost use Rattle.validator.specs.Standing.{AreAtSound};
+ghost use Rattle.opening.specs.Laws.{IsLeft, IsNoRefusal};
 ghost use Rattle.opening.specs.Told.{told, Tells, IsToldAsOneOf, KeepsRecords};
+ghost use Rattle.node_shared.specs.Calls.{HasNothing};
 ghost use Rattle.node_shared.specs.Home.{IsOf};
 ghost use Rattle.flusher.specs.Rounds.{journal_of, is_down, settled_in, taken_in, IsFlusherOf};
 
@@ -42,7 +44,7 @@ pub fn start<'a, S: Sign, D: Disk>(
     ensures setting { IfOk result (λ started. started.0.setting ≡ config.now) }
     ensures begins { IfOk result (λ started. told (node_of S.own_key S.signature_of config.now) (D.content disk) ≡ Ok started.0.start) }
     ensures seat { IfOk result (λ started. IsOf started.0 started.1) }
-    ensures nothing { IfOk result (λ started. (started.1.view.seen ≡ []) × (started.1.view.firm ≡ []) × (started.1.view.mine ≡ [])) }
+    ensures nothing { IfOk result (λ started. HasNothing started.1) }
     ensures flusher { IfOk result (λ started. IsFlusherOf (node_of S.own_key S.signature_of) D.content D.outcome started.0 started.2) }
     ensures up { IfOk result (λ started. is_down started.2 ≡ false) }
     ensures nothing_settled { IfOk result (λ started. (settled_in started.2 ≡ []) × (taken_in started.2 ≡ [])) }
@@ -52,9 +54,7 @@ pub fn start<'a, S: Sign, D: Disk>(
     ensures never_full { IfErr result (λ failed. failed.error ≢ JournalError.Full) }
 
     // It answers Device exactly where the disk has failed.
-    ensures device { IfErr result (λ failed. failed.error ≡ JournalError.Device → D.faults disk < D.faults failed.disk) }
-    ensures no_fault { IfOk result (λ started. D.faults (disk_of (journal_of started.2)) ≡ D.faults disk) }
-    ensures no_fault_err { IfErr result (λ failed. failed.error ≢ JournalError.Device → D.faults failed.disk ≡ D.faults disk) }
+    ensures cause { TellsFaultBack D.faults (λ started. disk_of (journal_of started.2)) JournalError.Device disk result }
 
     // Only a failure of the disk or of the memory leaves other bytes than there were, but for those behind the closed gate.
     ensures unchanged { IfErr result (λ failed. failed.error ≢ JournalError.Device → failed.error ≢ JournalError.Memory → (D.content failed.disk ≡ D.content disk) ⊎ IsClosedUp (D.content disk) (D.content failed.disk)) }
@@ -67,6 +67,9 @@ pub fn start<'a, S: Sign, D: Disk>(
     // What it leaves that stands for no records is an outcome from before it, byte for byte.
     ensures keeps { IfOk result (λ started. AtEachMoment D.clock D.outcome_since disk (disk_of (journal_of started.2)) (KeepsRecords (node_of S.own_key S.signature_of config.now) (D.outcome disk))) }
     ensures keeps_err { IfErr result (λ failed. AtEachMoment D.clock D.outcome_since disk failed.disk (KeepsRecords (node_of S.own_key S.signature_of config.now) (D.outcome disk))) }
+
+    // What a stop leaves in a world of this node is never refused.
+    ensures never_refused { IfErr result (λ failed. IsLeft (node_of S.own_key S.signature_of config.now) (D.content disk) → IsNoRefusal failed.error) }
 {
     let (validator, journal) = reopen(alloc, config, disk)?;
     begin::<Brand, S, D>(alloc, validator, journal)
@@ -79,13 +82,13 @@ fn begin<'a, H: Start, S: Sign, D: Disk>(
     journal: Journal<D>,
 ) -> Result<(Node<'a, S>, Seat, Flusher<D>), Failed<JournalError, D>>
     requires legal { IsLegal (node_of S.own_key S.signature_of validator.setting) H.history }
-    requires at { AreAtSound (node_of S.own_key S.signature_of validator.setting) validator.tables (kept (node_of S.own_key S.signature_of validator.setting) H.history) }
+    requires at { let node = node_of S.own_key S.signature_of validator.setting in AreAtSound node validator.tables (kept node H.history) }
     requires alive { IsAlive D.content D.outcome journal }
     requires holds { Holds (node_of S.own_key S.signature_of validator.setting) (D.content (disk_of journal)) H.history }
     ensures setting { IfOk result (λ started. started.0.setting ≡ validator.entry.setting) }
     ensures begins { IfOk result (λ started. started.0.start ≡ H.history) }
     ensures seat { IfOk result (λ started. IsOf started.0 started.1) }
-    ensures nothing { IfOk result (λ started. (started.1.view.seen ≡ []) × (started.1.view.firm ≡ []) × (started.1.view.mine ≡ [])) }
+    ensures nothing { IfOk result (λ started. HasNothing started.1) }
     ensures flusher { IfOk result (λ started. IsFlusherOf (node_of S.own_key S.signature_of) D.content D.outcome started.0 started.2) }
     ensures up { IfOk result (λ started. is_down started.2 ≡ false) }
     ensures nothing_settled { IfOk result (λ started. (settled_in started.2 ≡ []) × (taken_in started.2 ≡ [])) }

@@ -1,13 +1,13 @@
 //! What a thread flushes a node with.
 
-ghost use Rattle.std.specs.Prelude.{◌≡◌, ◌≢◌, ◌⊎◌, ◌↔◌, ◌+◌, ◌<◌, [], false, length, IsOk, IfOk, IfErr, IsErrOf, IsTrue, OnOk, OnErr};
-ghost use Rattle.diskmodel.specs.Disk.{AtEachMoment};
+ghost use Rattle.std.specs.Prelude.{◌≡◌, ◌⊎◌, IsOk, IfOk, IsErrOf};
+ghost use Rattle.diskmodel.specs.Disk.{AtEachMoment, TellsFault};
 ghost use Rattle.journal.specs.Journal.{disk_of};
-ghost use Rattle.spec_laws.specs.Laws.{Begins};
+ghost use Rattle.spec_model.specs.Histories.{Begins};
 ghost use Rattle.validator.specs.Setting.{node_of};
-ghost use Rattle.node_seats.specs.Views.{IsSame};
+ghost use Rattle.node_shared.specs.Calls.{IsBeside};
 ghost use Rattle.node_shared.specs.Home.{IsOf};
-ghost use Rattle.flusher.specs.Rounds.{journal_of, is_down, settled_in, taken_in, IsFlusherOf, TakesLongest, HoldsEither, HasNoRoom};
+ghost use Rattle.flusher.specs.Rounds.{journal_of, settled_in, taken_in, IsFlusherOf, HoldsEither, GoesDown, IsToldOf, TakesAndSettles, TellsRoom, StaysAsIs};
 
 use crate::caller::Caller;
 use diskmodel::Disk;
@@ -72,7 +72,7 @@ impl<'n, 'a, S: Sign, D: Disk> Rounds<'n, 'a, S, D> {
         ensures same { self.new ≡ self.old }
         ensures setting { IfOk result (λ caller. caller.setting ≡ config.now) }
         ensures node { IfOk result (λ caller. caller.node ≡ self.old.node) }
-        ensures knows { IfOk result (λ caller. (caller.seat.view.seen ≡ self.old.seat.view.seen) × (caller.seat.view.firm ≡ self.old.seat.view.firm) × (caller.seat.view.mine ≡ [])) }
+        ensures knows { IfOk result (λ caller. IsBeside self.old.node self.old.seat caller.seat) }
     {
         let seat = self.node.split(&mut self.seat)?;
         Ok(Caller::new(self.node, config, seat))
@@ -81,25 +81,26 @@ impl<'n, 'a, S: Sign, D: Disk> Rounds<'n, 'a, S, D> {
     /// One round, as the flusher's. Answers how many records were brought to the disk, 0 where all had been.
     pub fn round<R: Wait>(&mut self, rt: &R) -> Result<u64, FlushError>
         ensures node { self.new.node ≡ self.old.node }
-        ensures same { IsSame self.old.seat self.new.seat }
-        ensures more { Begins self.old.seat.view.seen self.new.seat.view.seen }
-        ensures more_firm { Begins self.old.seat.view.firm self.new.seat.view.firm }
-        ensures down { IsErrOf result FlushError.Down ↔ IsTrue (is_down self.old.flusher) }
-        ensures no_change { IsErrOf result FlushError.Down → self.new ≡ self.old }
-        ensures goes_down { IsTrue (is_down self.new.flusher) → (IsErrOf result FlushError.Device) ⊎ (IsErrOf result FlushError.Full) ⊎ (IsErrOf result FlushError.Down) }
-        ensures takes_down { (IsErrOf result FlushError.Device) ⊎ (IsErrOf result FlushError.Full) → IsTrue (is_down self.new.flusher) }
-        ensures takes { (IsErrOf result FlushError.Down) ⊎ (IsErrOf result FlushError.Memory) ⊎ TakesLongest self.old.seat.view.seen (settled_in self.old.flusher) (taken_in self.new.flusher) }
-        ensures memory { IsErrOf result FlushError.Memory → (journal_of self.new.flusher ≡ journal_of self.old.flusher) × (taken_in self.new.flusher ≡ settled_in self.old.flusher) }
+        ensures down { GoesDown self.old.flusher self.new.flusher result }
+        ensures told { IsToldOf self.old.seat self.new.seat result }
+        ensures settles { TakesAndSettles self.old.seat self.new.seat self.old.flusher self.new.flusher result }
+        ensures room { TellsRoom D.content self.old.flusher self.new.flusher result }
+        ensures cause { TellsFault FlushError.Device (D.faults (disk_of (journal_of self.old.flusher))) (D.faults (disk_of (journal_of self.new.flusher))) result }
         ensures any_moment { IsErrOf result FlushError.Down ⊎ AtEachMoment D.clock D.outcome_since (disk_of (journal_of self.old.flusher)) (disk_of (journal_of self.new.flusher)) (HoldsEither (node_of S.own_key S.signature_of) self.old.node (settled_in self.old.flusher) (taken_in self.new.flusher)) }
-        ensures settles { IfOk result (λ count. (length (taken_in self.new.flusher) ≡ length (settled_in self.old.flusher) + count) × (settled_in self.new.flusher ≡ taken_in self.new.flusher) × (self.new.seat.view.firm ≡ taken_in self.new.flusher)) }
-        ensures not_settled { OnErr result (settled_in self.new.flusher ≡ settled_in self.old.flusher) }
-        ensures full { is_down self.old.flusher ≡ false → IsErrOf result FlushError.Full ↔ HasNoRoom (D.content (disk_of (journal_of self.old.flusher))) (settled_in self.old.flusher) (taken_in self.new.flusher) }
-        ensures full_same { IsErrOf result FlushError.Full → journal_of self.new.flusher ≡ journal_of self.old.flusher }
-        ensures device { IsErrOf result FlushError.Device → D.faults (disk_of (journal_of self.old.flusher)) < D.faults (disk_of (journal_of self.new.flusher)) }
-        ensures no_fault { OnOk result (D.faults (disk_of (journal_of self.new.flusher)) ≡ D.faults (disk_of (journal_of self.old.flusher))) }
-        ensures no_fault_err { IfErr result (λ error. error ≢ FlushError.Device → D.faults (disk_of (journal_of self.new.flusher)) ≡ D.faults (disk_of (journal_of self.old.flusher))) }
     {
         self.flusher.round(rt, self.node, &mut self.seat)
+    }
+
+    /// A caller is then known to know as settled no more than is settled here, so that what it collected is in what a stop leaves.
+    pub fn cover<R: Wait>(&mut self, rt: &R, caller: &mut Caller<'n, 'a, S>)
+        requires node { caller.old.node ≡ self.old.node }
+        ensures node { self.new.node ≡ self.old.node }
+        ensures seat { self.new.seat ≡ self.old.seat }
+        ensures stays { StaysAsIs self.old.flusher self.new.flusher }
+        ensures caller { caller.new ≡ caller.old }
+        ensures covers { Begins caller.old.seat.view.firm (settled_in self.new.flusher) }
+    {
+        self.flusher.cover(rt, self.node, &mut caller.seat);
     }
 
     /// Gives the disk back.

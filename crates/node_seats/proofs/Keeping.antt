@@ -1,14 +1,13 @@
 -- That a step keeps the rule.
-use Rattle.std.proofs.Common.{◌≡◌, ◌≢◌, inl, inr, ⊎_elim, ℕ, zero, suc, ◌≤◌, ◌<◌, true, false, List, [], ◌∷◌, ◌++◌, length, take, set, refl, ap, sym, ◌∙◌, subst, arith}
+use Rattle.std.proofs.Common.{◌≡◌, ◌≢◌, inl, inr, ⊎_elim, Bool, ℕ, zero, suc, ◌≤◌, ◌<◌, true, false, List, [], ◌∷◌, ◌++◌, length, take, set, refl, ap, sym, ◌∙◌, subst, arith}
 use Rattle.std.proofs.lemmas.List.{length-set}
 use mathlib.Core.Option.{some, some-injective, some-ne-none}
 use lib.ListN.{get_elem?}
 use Rattle.atomic_table.proofs.Lists.{at_set}
-use Rattle.spec_laws.specs.Laws.{Begins}
-use Rattle.spec_model.specs.Histories.{History}
+use Rattle.spec_model.specs.Histories.{History, Begins}
 use Rattle.node_seats.specs.declared.view.Marked.{Marked}
 use Rattle.node_seats.specs.declared.view.View.{View}
-use Rattle.node_seats.specs.Views.{events, events_by, fresh_view}
+use Rattle.node_seats.specs.Views.{events, events_by, flag, fresh_view}
 use Rattle.node_seats.specs.Rule.{Fits, IsKept, Holds}
 use Rattle.node_seats.proofs.Beginnings.{begins_trans}
 
@@ -21,9 +20,9 @@ pub not_here : {X : Type 0} (xs : List X) (i : ℕ) (x : X) → length xs ≤ i 
 not_here xs i x past at = let inside = there xs i x at in omega (arith, past, inside)
 
 -- what a seat knows stays so where the lists grow and nothing of its own is added
-pub fits_longer : (start : History) (accepted settled longer firmer : List Marked) (number : ℕ) (view : View) → Fits start accepted settled number view
-    → Begins accepted longer → Begins settled firmer → events_by number longer ≡ events_by number accepted → Fits start longer firmer number view
-fits_longer start accepted settled longer firmer number view fits more firm same = record {
+pub fits_longer : (start : History) (accepted settled longer firmer : List Marked) (was down : Bool) (number : ℕ) (view : View) → Fits start accepted settled was number view
+    → Begins accepted longer → Begins settled firmer → (was ≡ true → down ≡ true) → events_by number longer ≡ events_by number accepted → Fits start longer firmer down number view
+fits_longer start accepted settled longer firmer was down number view fits more firm stays same = record {
   start_is = fits.start_is;
   number_is = fits.number_is;
   seen = begins_trans view.seen accepted longer fits.seen more;
@@ -32,6 +31,8 @@ fits_longer start accepted settled longer firmer number view fits more firm same
   told = begins_trans view.told accepted longer fits.told more;
   told_firm = begins_trans view.told_firm settled firmer fits.told_firm firm;
   mine = same ∙ fits.mine;
+  own = fits.own;
+  down_is = λ is. stays (fits.down_is is);
 }
 
 module _ (Legal : History → Type 0) (words : List ℕ) (views : List View) where
@@ -48,18 +49,19 @@ module _ (Legal : History → Type 0) (words : List ℕ) (views : List View) whe
       no_life (suc i) at = absurd (some-ne-none view (sym at))
 
   module _ (kept : IsKept Legal words views) (id : ℕ) (before later : View) (at : get_elem? views id ≡ some before) (begun : later.fresh ≡ false)
-      (accepted settled : List Marked)
-      (more : Begins kept.accepted accepted) (firmer : Begins kept.settled settled) (begins : Begins settled accepted)
+      (accepted settled : List Marked) (down : Bool)
+      (more : Begins kept.accepted accepted) (firmer : Begins kept.settled settled) (begins : Begins settled accepted) (stays : kept.down ≡ true → down ≡ true)
       (legal : (count : ℕ) → Legal (kept.start ++ events (take count accepted)))
       (others : (number : ℕ) → number ≢ id → events_by number accepted ≡ events_by number kept.accepted)
-      (mine : later.live ≡ true → Fits kept.start accepted settled id later)
+      (mine : later.live ≡ true → Fits kept.start accepted settled down id later)
     where
       -- a seat's step after which the lists are these, and it knows this
-      pub step_keeps : IsKept Legal (length accepted ∷ length settled ∷ []) (set views id later)
+      pub step_keeps : IsKept Legal (length accepted ∷ length settled ∷ flag down ∷ []) (set views id later)
       step_keeps = record {
         start = kept.start;
         accepted = accepted;
         settled = settled;
+        down = down;
         words_are = refl;
         begins = begins;
         legal = legal;
@@ -74,9 +76,9 @@ module _ (Legal : History → Type 0) (words : List ℕ) (views : List View) whe
         fits = λ number view here live.
             ⊎_elim
             (λ (t : (number ≡ id) × (later ≡ view)).
-            subst (λ (v : View). Fits kept.start accepted settled number v) t.1
-            (subst (λ (n : ℕ). Fits kept.start accepted settled n later) (sym t.0) (mine (subst (λ (v : View). v.live ≡ true) (sym t.1) live))))
+            subst (λ (v : View). Fits kept.start accepted settled down number v) t.1
+            (subst (λ (n : ℕ). Fits kept.start accepted settled down n later) (sym t.0) (mine (subst (λ (v : View). v.live ≡ true) (sym t.1) live))))
             (λ (t : (number ≢ id) × (get_elem? views number ≡ some view)).
-            fits_longer kept.start kept.accepted kept.settled accepted settled number view (kept.fits number view t.1 live) more firmer (others number t.0))
+            fits_longer kept.start kept.accepted kept.settled accepted settled kept.down down number view (kept.fits number view t.1 live) more firmer stays (others number t.0))
             (at_set views id number later view here);
       }

@@ -1,24 +1,23 @@
 -- Each kind of step keeps the rule, and tells what its play says.
-use Rattle.std.proofs.Common.{◌≡◌, ◌≢◌, ◌⊎◌, inl, inr, ⊎_elim, ℕ, zero, suc, ◌≤◌, ◌+◌, true, false, List, [], ◌∷◌, ◌++◌, length, take, min, set, refl, ap, sym, ◌∙◌, subst, arith, length-append, length-take}
-use Rattle.std.specs.Prelude.{slice_index, slice_set, ◌==◌}
-use Rattle.std.proofs.lemmas.List.{append-nil, take-append-le, take_all}
+use Rattle.std.proofs.Common.{◌≡◌, ◌≢◌, ◌⊎◌, inl, inr, ⊎_elim, Bool, ℕ, zero, suc, ◌≤◌, ◌+◌, true, false, List, [], ◌∷◌, ◌++◌, length, take, min, set, refl, ap, sym, ◌∙◌, subst, arith, length-append, length-take}
+use Rattle.std.specs.Prelude.{slice_index, slice_set, ◌==◌, ◌||◌}
+use Rattle.std.proofs.lemmas.List.{append-nil, take_at, take-append-le, take_all}
 use native.Mathlib.Decide.{dec_le}
 use mathlib.Core.Option.{some, some-injective, some-ne-none}
 use lib.ListN.{get_elem?}
 use prog.Atomic.{either}
 use Rattle.atomic_table.specs.Table.{State, Me, Act, keeps, Allows, Splits, Joins}
 use Rattle.atomic_table.proofs.Lists.{at_set, set_again, exchanged}
-use Rattle.spec_laws.specs.Laws.{Begins}
-use Rattle.spec_model.specs.Histories.{History}
+use Rattle.spec_model.specs.Histories.{History, Begins}
 use Rattle.spec_model.specs.Words.{Event}
 use Rattle.node_seats.specs.declared.view.Marked.{Marked}
 use Rattle.node_seats.specs.declared.view.View.{View}
-use Rattle.node_seats.specs.Views.{mark, events, events_by, fresh_view, first_view, newcomer, informed, spent}
+use Rattle.node_seats.specs.Views.{mark, events, events_by, flag, HasOwn, fresh_view, first_view, newcomer, informed, spent}
 use Rattle.node_seats.specs.Rule.{Fits, IsKept, IsFresh, Holds}
-use Rattle.node_seats.specs.Plays.{Looks, Reads, Accepts, Settles, with_event, with_firm}
+use Rattle.node_seats.specs.Plays.{Looks, Reads, ReadsDown, Accepts, Settles, with_event, with_firm, with_down}
 use Rattle.node_seats.proofs.Beginnings.{begins_same, begins_nothing, begins_trans, begins_whole, begins_more, shorter_begins, take_begins, begins_take}
 use Rattle.node_seats.proofs.Keeping.{there, kept_at, step_keeps}
-use Rattle.node_seats.proofs.Marks.{by_same, by_other, events_push}
+use Rattle.node_seats.proofs.Marks.{by_same, by_other, by_between, by_nobody, events_push}
 
 -- of two beginnings of a list a longer one, the first where they are alike
 pub record Longer (one other all : List Marked) : Type 0 where
@@ -49,10 +48,16 @@ at_end (z ∷ zs) x y zero at = inl at
 at_end (z ∷ zs) x y (suc j) at = ⊎_elim inl (λ (t : (j ≡ length zs) × (x ≡ y)). inr (ap suc t.0, t.1)) (at_end zs x y j at)
 
 -- a word that is written as it was
-same_words : (ws : List ℕ) (a b : ℕ) (word : ℕ) → ws ≡ a ∷ b ∷ [] → slice_set ws word (slice_index ws word) ≡ ws
-same_words ws a b zero is = rw is refl
-same_words ws a b (suc zero) is = rw is refl
-same_words ws a b (suc (suc k)) is = rw is refl
+same_words : (ws : List ℕ) (a b c : ℕ) (word : ℕ) → ws ≡ a ∷ b ∷ c ∷ [] → slice_set ws word (slice_index ws word) ≡ ws
+same_words ws a b c zero is = rw is refl
+same_words ws a b c (suc zero) is = rw is refl
+same_words ws a b c (suc (suc zero)) is = rw is refl
+same_words ws a b c (suc (suc (suc k))) is = rw is refl
+
+-- what two seats know of one flag, either tells
+either_is : (one other down : Bool) → (one ≡ true → down ≡ true) → (other ≡ true → down ≡ true) → one || other ≡ true → down ≡ true
+either_is true other down first second is = first refl
+either_is false other down first second is = second is
 
 module _ {S : Type 0} (Legal : History → Type 0) where
   abbrev pub Rule : State S View → Type 0
@@ -60,12 +65,12 @@ module _ {S : Type 0} (Legal : History → Type 0) where
 
   -- what a seat knows doesn't count where it isn't live
   module _ (state : State S View) (kept : IsKept Legal state.words state.views) (id : ℕ) (before later : View) (at : get_elem? state.views id ≡ some before) (begun : later.fresh ≡ false)
-      (mine : later.live ≡ true → Fits kept.start kept.accepted kept.settled id later)
+      (mine : later.live ≡ true → Fits kept.start kept.accepted kept.settled kept.down id later)
     where
       -- a step that changes no list
       pub stays : IsKept Legal state.words (set state.views id later)
       stays = subst (λ (ws : List ℕ). IsKept Legal ws (set state.views id later)) (sym kept.words_are)
-          (step_keeps Legal state.words state.views kept id before later at begun kept.accepted kept.settled (begins_same kept.accepted) (begins_same kept.settled) kept.begins kept.legal (λ number apart. refl) mine)
+          (step_keeps Legal state.words state.views kept id before later at begun kept.accepted kept.settled kept.down (begins_same kept.accepted) (begins_same kept.settled) kept.begins (λ is. is) kept.legal (λ number apart. refl) mine)
 
   first_count : (state : State S View) (kept : IsKept Legal state.words state.views) → length kept.accepted ≡ slice_index state.words 0
   first_count state kept = sym (ap (λ (ws : List ℕ). slice_index ws 0) kept.words_are)
@@ -73,9 +78,18 @@ module _ {S : Type 0} (Legal : History → Type 0) where
   second_count : (state : State S View) (kept : IsKept Legal state.words state.views) → length kept.settled ≡ slice_index state.words 1
   second_count state kept = sym (ap (λ (ws : List ℕ). slice_index ws 1) kept.words_are)
 
+  third_is : (state : State S View) (kept : IsKept Legal state.words state.views) → flag kept.down ≡ slice_index state.words 2
+  third_is state kept = sym (ap (λ (ws : List ℕ). slice_index ws 2) kept.words_are)
+
   -- what all of it being legal says of all that was accepted
   all_legal : (state : State S View) (kept : IsKept Legal state.words state.views) → Legal (kept.start ++ events kept.accepted)
   all_legal state kept = subst (λ (l : List Marked). Legal (kept.start ++ events l)) (take_all (length kept.accepted) kept.accepted (omega arith)) (kept.legal (length kept.accepted))
+
+  -- and of what is settled
+  settled_legal : (state : State S View) (kept : IsKept Legal state.words state.views) → Legal (kept.start ++ events kept.settled)
+  settled_legal state kept =
+      let is : take (length kept.settled) kept.accepted ≡ kept.settled = ap (take (length kept.settled)) kept.begins.parts ∙ take_at kept.settled kept.begins.rest (length kept.settled) refl in
+      subst (λ (l : List Marked). Legal (kept.start ++ events l)) is (kept.legal (length kept.settled))
 
   module _ (state : State S View) (id : ℕ) (me : Me S View) (Judged : History → Type 0) (live : me.0.live ≡ true) (holds : Rule state) (at : get_elem? state.views id ≡ some me.0) where
     pub looked : (judge : (history : History) → Legal history → Judged history)
@@ -94,21 +108,26 @@ module _ {S : Type 0} (Legal : History → Type 0) where
             told = fits.told;
             told_firm = fits.told_firm;
             mine = fits.mine;
+            own = fits.mine;
+            down_is = fits.down_is;
           }),
           record {
             rest = refl;
             seen = fits.seen;
             told = fits.told;
             count_is = first_count state kept;
+            own = λ numbered. subst (λ (n : ℕ). events_by n kept.accepted ≡ me.0.mine) (sym (fits.number_is numbered)) fits.mine;
             judged = judge (me.0.start ++ events kept.accepted) (subst (λ (h : History). Legal (h ++ events kept.accepted)) (sym fits.start_is) (all_legal state kept));
           },
         )
 
-    pub read : (w : View) × (IsKept Legal state.words (set state.views id w)) × Reads me.0 (slice_index state.words 1) w
-    read =
+    pub read : (judge : (history : History) → Legal history → Judged history)
+        → (w : View) × (IsKept Legal state.words (set state.views id w)) × Reads Judged me.0 (slice_index state.words 1) w
+    read judge =
         let kept = kept_at Legal state.words state.views id me.0 holds at live in
         let fits = kept.fits id me.0 at live in
         let more = longer me.0.seen kept.settled kept.accepted fits.seen kept.begins in
+        let own : events_by id more.list ≡ me.0.mine = by_between id me.0.seen more.list kept.accepted me.0.mine more.one_begins more.begins fits.own fits.mine in
         let w : View = record me.0 { seen = more.list; firm = kept.settled } in (
           w,
           stays state kept id me.0 w at (kept.begun id me.0 at) (λ _. record {
@@ -120,8 +139,20 @@ module _ {S : Type 0} (Legal : History → Type 0) where
             told = fits.told;
             told_firm = fits.told_firm;
             mine = fits.mine;
+            own = own;
+            down_is = fits.down_is;
           }),
-          record { rest = refl; firm = fits.firm; told = fits.told_firm; firm_seen = more.other_begins; seen = more.one_begins; same = more.same; count_is = second_count state kept },
+          record {
+            rest = refl;
+            firm = fits.firm;
+            told = fits.told_firm;
+            firm_seen = more.other_begins;
+            seen = more.one_begins;
+            same = more.same;
+            count_is = second_count state kept;
+            own = λ numbered. subst (λ (n : ℕ). events_by n more.list ≡ me.0.mine) (sym (fits.number_is numbered)) own;
+            judged = judge (me.0.start ++ events kept.settled) (subst (λ (h : History). Legal (h ++ events kept.settled)) (sym fits.start_is) (settled_legal state kept));
+          },
         )
 
   module _ (slots id : ℕ) (me : Me S View) where
@@ -130,15 +161,63 @@ module _ {S : Type 0} (Legal : History → Type 0) where
     looks Judged live judge state holds sizes at word =
         let kept = kept_at Legal state.words state.views id me.0 holds at live in
         let found = looked state id me Judged live holds at judge in
-        (found.0, keeps, tt, inr (subst (λ (ws : List ℕ). IsKept Legal ws (set state.views id found.0)) (sym (same_words state.words _ _ 0 kept.words_are)) found.1), (found.2, refl))
+        (found.0, keeps, tt, inr (subst (λ (ws : List ℕ). IsKept Legal ws (set state.views id found.0)) (sym (same_words state.words _ _ _ 0 kept.words_are)) found.1), (found.2, refl))
 
-    pub reads : me.0.live ≡ true → Allows Rule slots id me 1 (λ n. n) (λ n later. Reads me.0 n later.0 × (later.1 ≡ me.1))
-    reads live state holds sizes at word =
+    pub reads : (Judged : History → Type 0) → me.0.live ≡ true → ((history : History) → Legal history → Judged history)
+        → Allows Rule slots id me 1 (λ n. n) (λ n later. Reads Judged me.0 n later.0 × (later.1 ≡ me.1))
+    reads Judged live judge state holds sizes at word =
         let kept = kept_at Legal state.words state.views id me.0 holds at live in
-        let found = read state id me (λ h. Unit {0}) live holds at in
-        (found.0, keeps, tt, inr (subst (λ (ws : List ℕ). IsKept Legal ws (set state.views id found.0)) (sym (same_words state.words _ _ 1 kept.words_are)) found.1), (found.2, refl))
+        let found = read state id me Judged live holds at judge in
+        (found.0, keeps, tt, inr (subst (λ (ws : List ℕ). IsKept Legal ws (set state.views id found.0)) (sym (same_words state.words _ _ _ 1 kept.words_are)) found.1), (found.2, refl))
 
-    pub numbers : me.0.live ≡ true → Allows Rule slots id me 0 (λ n. n) (λ n later. later ≡ (record me.0 { numbered = true; number = later.0.number }, me.1))
+    -- the third word is read
+    pub reads_down : me.0.live ≡ true → Allows Rule slots id me 2 (λ n. n) (λ n later. ReadsDown me.0 n later.0 × (later.1 ≡ me.1))
+    reads_down live state holds sizes at word =
+        let kept = kept_at Legal state.words state.views id me.0 holds at live in
+        let fits = kept.fits id me.0 at live in
+        let w : View = record me.0 { down = kept.down } in
+        let after = stays state kept id me.0 w at (kept.begun id me.0 at) (λ _. record {
+          start_is = fits.start_is;
+          number_is = fits.number_is;
+          seen = fits.seen;
+          firm = fits.firm;
+          firm_seen = fits.firm_seen;
+          told = fits.told;
+          told_firm = fits.told_firm;
+          mine = fits.mine;
+          own = fits.own;
+          down_is = λ is. is;
+        }) in (
+          w,
+          keeps,
+          tt,
+          inr (subst (λ (ws : List ℕ). IsKept Legal ws (set state.views id w)) (sym (same_words state.words _ _ _ 2 kept.words_are)) after),
+          (record { rest = refl; stays = fits.down_is; count_is = third_is state kept }, refl),
+        )
+
+    -- and raised
+    pub downs : me.0.live ≡ true → Allows Rule slots id me 2 (λ _. 1) (λ _ later. later ≡ (with_down me.0, me.1))
+    downs live state holds sizes at word =
+        let kept = kept_at Legal state.words state.views id me.0 holds at live in
+        let fits = kept.fits id me.0 at live in
+        let w : View = with_down me.0 in
+        let after = step_keeps Legal state.words state.views kept id me.0 w at (kept.begun id me.0 at) kept.accepted kept.settled true (begins_same kept.accepted) (begins_same kept.settled) kept.begins (λ _. refl) kept.legal (λ number apart. refl)
+        (λ _. record {
+          start_is = fits.start_is;
+          number_is = fits.number_is;
+          seen = fits.seen;
+          firm = fits.firm;
+          firm_seen = fits.firm_seen;
+          told = fits.told;
+          told_firm = fits.told_firm;
+          mine = fits.mine;
+          own = fits.own;
+          down_is = λ _. refl;
+        }) in
+        let words : slice_set state.words 2 1 ≡ length kept.accepted ∷ length kept.settled ∷ 1 ∷ [] = ap (λ (ws : List ℕ). slice_set ws 2 1) kept.words_are in
+        (w, keeps, tt, inr (subst (λ (ws : List ℕ). IsKept Legal ws (set state.views id w)) (sym words) after), refl)
+
+    pub numbers : me.0.live ≡ true → Allows Rule slots id me 0 (λ n. n) (λ n later. (later ≡ (record me.0 { numbered = true; number = later.0.number }, me.1)) × HasOwn later.0)
     numbers live state holds sizes at word =
         let kept = kept_at Legal state.words state.views id me.0 holds at live in
         let fits = kept.fits id me.0 at live in
@@ -152,8 +231,10 @@ module _ {S : Type 0} (Legal : History → Type 0) where
           told = fits.told;
           told_firm = fits.told_firm;
           mine = fits.mine;
+          own = fits.own;
+          down_is = fits.down_is;
         }) in
-        (w, keeps, tt, inr (subst (λ (ws : List ℕ). IsKept Legal ws (set state.views id w)) (sym (same_words state.words _ _ 0 kept.words_are)) after), refl)
+        (w, keeps, tt, inr (subst (λ (ws : List ℕ). IsKept Legal ws (set state.views id w)) (sym (same_words state.words _ _ _ 0 kept.words_are)) after), (refl, fits.own))
 
     -- the first seat is told where the node begins
     pub opens : (start : History) → me.0 ≡ fresh_view → Legal start → Allows Rule slots id me 0 (λ n. n) (λ n later. later ≡ (first_view start, me.1))
@@ -169,7 +250,7 @@ module _ {S : Type 0} (Legal : History → Type 0) where
         started zero view here = (refl, some-injective _ _ here)
         started (suc n) view here = absurd (some-ne-none view (sym here))
 
-        first_fits : Fits start [] [] 0 (first_view start)
+        first_fits : Fits start [] [] false 0 (first_view start)
         first_fits = record {
           start_is = refl;
           number_is = λ _. refl;
@@ -179,17 +260,20 @@ module _ {S : Type 0} (Legal : History → Type 0) where
           told = begins_same [];
           told_firm = begins_same [];
           mine = refl;
+          own = refl;
+          down_is = λ bad. absurd cc;
         }
 
         nothing_taken : (count : ℕ) → start ++ events (take count []) ≡ start
         nothing_taken zero = append-nil start
         nothing_taken (suc count) = append-nil start
 
-        first_kept : IsKept Legal (0 ∷ 0 ∷ []) (first_view start ∷ [])
+        first_kept : IsKept Legal (0 ∷ 0 ∷ 0 ∷ []) (first_view start ∷ [])
         first_kept = record {
           start = start;
           accepted = [];
           settled = [];
+          down = false;
           words_are = refl;
           begins = begins_same [];
           legal = λ count. subst Legal (sym (nothing_taken count)) legal;
@@ -197,14 +281,14 @@ module _ {S : Type 0} (Legal : History → Type 0) where
           begun = λ number view here. subst (λ (v : View). v.fresh ≡ false) (started number view here).1 refl;
           fits = λ number view here live.
               let is = started number view here in
-              subst (λ (v : View). Fits start [] [] number v) is.1 (subst (λ (n : ℕ). Fits start [] [] n (first_view start)) (sym is.0) first_fits);
+              subst (λ (v : View). Fits start [] [] false number v) is.1 (subst (λ (n : ℕ). Fits start [] [] false n (first_view start)) (sym is.0) first_fits);
         }
 
         begun : Rule state → IsKept Legal (slice_set state.words 0 (slice_index state.words 0)) (set state.views id (first_view start))
         begun (inl is) =
             subst (λ (ws : List ℕ). IsKept Legal (slice_set ws 0 (slice_index ws 0)) (set state.views id (first_view start))) (sym is.0)
-            (subst (λ (vs : List View). IsKept Legal (0 ∷ 0 ∷ []) (set vs id (first_view start))) (sym is.1)
-            (subst (λ (n : ℕ). IsKept Legal (0 ∷ 0 ∷ []) (set (fresh_view ∷ []) n (first_view start))) (sym (only is)) first_kept))
+            (subst (λ (vs : List View). IsKept Legal (0 ∷ 0 ∷ 0 ∷ []) (set vs id (first_view start))) (sym is.1)
+            (subst (λ (n : ℕ). IsKept Legal (0 ∷ 0 ∷ 0 ∷ []) (set (fresh_view ∷ []) n (first_view start))) (sym (only is)) first_kept))
         begun (inr kept) = let bad : true ≡ false = kept.begun id fresh_view at_fresh in absurd cc
 
     -- an event is accepted, if the seat has seen all that was
@@ -216,7 +300,7 @@ module _ {S : Type 0} (Legal : History → Type 0) where
         kept : IsKept Legal state.words state.views
         kept = kept_at Legal state.words state.views id me.0 holds at live
 
-        fits : Fits kept.start kept.accepted kept.settled id me.0
+        fits : Fits kept.start kept.accepted kept.settled kept.down id me.0
         fits = kept.fits id me.0 at live
 
         After : ℕ → Type 0
@@ -229,7 +313,7 @@ module _ {S : Type 0} (Legal : History → Type 0) where
               found.0,
               keeps,
               tt,
-              inr (subst (λ (ws : List ℕ). IsKept Legal ws (set state.views id found.0)) (sym (same_words state.words _ _ 0 kept.words_are)) found.1),
+              inr (subst (λ (ws : List ℕ). IsKept Legal ws (set state.views id found.0)) (sym (same_words state.words _ _ _ 0 kept.words_are)) found.1),
               (record { won = λ same. absurd (apart same); lost = λ _. found.2 }, refl),
             )
 
@@ -253,7 +337,7 @@ module _ {S : Type 0} (Legal : History → Type 0) where
                   ∙ ap (λ (h : History). kept.start ++ h) (sym (events_push me.0.number event me.0.seen) ∙ ap events (seen ∙ sym whole)) in
                   subst Legal is (legal size)
             ] in
-            let after = step_keeps Legal state.words state.views kept id me.0 w at (kept.begun id me.0 at) more kept.settled grown (begins_same kept.settled) (begins_more kept.settled kept.accepted (mark me.0.number event ∷ []) kept.begins) through
+            let after = step_keeps Legal state.words state.views kept id me.0 w at (kept.begun id me.0 at) more kept.settled kept.down grown (begins_same kept.settled) (begins_more kept.settled kept.accepted (mark me.0.number event ∷ []) kept.begins) (λ is. is) through
             (λ number apart. by_other number me.0.number event kept.accepted (λ is. apart (is ∙ mine)))
             (λ _. record {
               start_is = fits.start_is;
@@ -264,9 +348,11 @@ module _ {S : Type 0} (Legal : History → Type 0) where
               told = begins_more me.0.told kept.accepted (mark me.0.number event ∷ []) fits.told;
               told_firm = fits.told_firm;
               mine = subst (λ (n : ℕ). events_by id (kept.accepted ++ mark n event ∷ []) ≡ me.0.mine ++ event ∷ []) (sym mine) (by_same id event kept.accepted ∙ ap (λ (h : History). h ++ event ∷ []) fits.mine);
+              own = subst (λ (n : ℕ). events_by id (me.0.seen ++ mark n event ∷ []) ≡ me.0.mine ++ event ∷ []) (sym mine) (by_same id event me.0.seen ∙ ap (λ (h : History). h ++ event ∷ []) fits.own);
+              down_is = fits.down_is;
             }) in
-            let words : slice_set state.words 0 (old + 1) ≡ length more ∷ length kept.settled ∷ [] =
-            ap (λ (ws : List ℕ). slice_set ws 0 (old + 1)) kept.words_are ∙ ap (λ (n : ℕ). n ∷ length kept.settled ∷ []) (omega (arith, count, length-append kept.accepted (mark me.0.number event ∷ []))) in
+            let words : slice_set state.words 0 (old + 1) ≡ length more ∷ length kept.settled ∷ flag kept.down ∷ [] =
+            ap (λ (ws : List ℕ). slice_set ws 0 (old + 1)) kept.words_are ∙ ap (λ (n : ℕ). n ∷ length kept.settled ∷ flag kept.down ∷ []) (omega (arith, count, length-append kept.accepted (mark me.0.number event ∷ []))) in
             (w, keeps, tt, inr (subst (λ (ws : List ℕ). IsKept Legal ws (set state.views id w)) (sym words) after), (record { won = λ _. (size, refl); lost = λ apart. absurd (apart same) }, refl))
 
     -- events are settled that the seat has seen
@@ -277,7 +363,7 @@ module _ {S : Type 0} (Legal : History → Type 0) where
         kept : IsKept Legal state.words state.views
         kept = kept_at Legal state.words state.views id me.0 holds at live
 
-        fits : Fits kept.start kept.accepted kept.settled id me.0
+        fits : Fits kept.start kept.accepted kept.settled kept.down id me.0
         fits = kept.fits id me.0 at live
 
         After : ℕ → Type 0
@@ -286,11 +372,11 @@ module _ {S : Type 0} (Legal : History → Type 0) where
 
         lost : slice_index state.words 1 ≢ old → After (slice_index state.words 1)
         lost apart =
-            let found = read state id me (λ h. Unit {0}) live holds at in (
+            let found = read state id me (λ h. Unit {0}) live holds at (λ h l. tt) in (
               found.0,
               keeps,
               tt,
-              inr (subst (λ (ws : List ℕ). IsKept Legal ws (set state.views id found.0)) (sym (same_words state.words _ _ 1 kept.words_are)) found.1),
+              inr (subst (λ (ws : List ℕ). IsKept Legal ws (set state.views id found.0)) (sym (same_words state.words _ _ _ 1 kept.words_are)) found.1),
               (record { won = λ same. absurd (apart same); lost = λ _. found.2 }, refl),
             )
 
@@ -304,7 +390,7 @@ module _ {S : Type 0} (Legal : History → Type 0) where
             let long : length firm ≡ new = let is : length firm ≡ min new (length me.0.seen) = length-take new me.0.seen in omega (arith, is, most) in
             let grown : Begins kept.settled firm = subst (λ (l : List Marked). Begins l firm) all (begins_take me.0.firm me.0.seen new fits.firm_seen (omega (arith, size, more))) in
             let within : Begins firm kept.accepted = begins_trans firm me.0.seen kept.accepted (take_begins new me.0.seen) fits.seen in
-            let after = step_keeps Legal state.words state.views kept id me.0 w at (kept.begun id me.0 at) kept.accepted firm (begins_same kept.accepted) grown within kept.legal (λ number apart. refl)
+            let after = step_keeps Legal state.words state.views kept id me.0 w at (kept.begun id me.0 at) kept.accepted firm kept.down (begins_same kept.accepted) grown within (λ is. is) kept.legal (λ number apart. refl)
             (λ _. record {
               start_is = fits.start_is;
               number_is = fits.number_is;
@@ -314,9 +400,11 @@ module _ {S : Type 0} (Legal : History → Type 0) where
               told = fits.told;
               told_firm = begins_trans me.0.told_firm kept.settled firm fits.told_firm grown;
               mine = fits.mine;
+              own = fits.own;
+              down_is = fits.down_is;
             }) in
-            let words : slice_set state.words 1 new ≡ length kept.accepted ∷ length firm ∷ [] =
-            ap (λ (ws : List ℕ). slice_set ws 1 new) kept.words_are ∙ ap (λ (n : ℕ). length kept.accepted ∷ n ∷ []) (sym long) in
+            let words : slice_set state.words 1 new ≡ length kept.accepted ∷ length firm ∷ flag kept.down ∷ [] =
+            ap (λ (ws : List ℕ). slice_set ws 1 new) kept.words_are ∙ ap (λ (n : ℕ). length kept.accepted ∷ n ∷ flag kept.down ∷ []) (sym long) in
             (w, keeps, tt, inr (subst (λ (ws : List ℕ). IsKept Legal ws (set state.views id w)) (sym words) after), (record { won = λ _. (size, refl); lost = λ apart. absurd (apart same) }, refl))
 
   -- ---- one seat made two, and two made one
@@ -327,10 +415,10 @@ module _ {S : Type 0} (Legal : History → Type 0) where
       kept : IsKept Legal state.words state.views
       kept = kept_at Legal state.words state.views id view holds at live
 
-      fits : Fits kept.start kept.accepted kept.settled id view
+      fits : Fits kept.start kept.accepted kept.settled kept.down id view
       fits = kept.fits id view at live
 
-      new_fits : (number : ℕ) → length state.views ≤ number → Fits kept.start kept.accepted kept.settled number (newcomer view)
+      new_fits : (number : ℕ) → length state.views ≤ number → Fits kept.start kept.accepted kept.settled kept.down number (newcomer view)
       new_fits number past = record {
         start_is = fits.start_is;
         number_is = λ bad. absurd cc;
@@ -340,6 +428,8 @@ module _ {S : Type 0} (Legal : History → Type 0) where
         told = begins_nothing kept.accepted;
         told_firm = begins_nothing kept.settled;
         mine = kept.nobody number past;
+        own = by_nobody number view.seen kept.accepted fits.seen (kept.nobody number past);
+        down_is = fits.down_is;
       }
 
       more : IsKept Legal state.words (state.views ++ newcomer view ∷ [])
@@ -347,6 +437,7 @@ module _ {S : Type 0} (Legal : History → Type 0) where
         start = kept.start;
         accepted = kept.accepted;
         settled = kept.settled;
+        down = kept.down;
         words_are = kept.words_are;
         begins = kept.begins;
         legal = kept.legal;
@@ -356,7 +447,7 @@ module _ {S : Type 0} (Legal : History → Type 0) where
             (at_end state.views (newcomer view) other number here);
         fits = λ number other here alive.
             ⊎_elim (λ was. kept.fits number other was alive)
-            (λ (t : (number ≡ length state.views) × (newcomer view ≡ other)). subst (λ (v : View). Fits kept.start kept.accepted kept.settled number v) t.1 (new_fits number (omega (arith, t.0))))
+            (λ (t : (number ≡ length state.views) × (newcomer view ≡ other)). subst (λ (v : View). Fits kept.start kept.accepted kept.settled kept.down number v) t.1 (new_fits number (omega (arith, t.0))))
             (at_end state.views (newcomer view) other number here);
       }
 
@@ -366,10 +457,10 @@ module _ {S : Type 0} (Legal : History → Type 0) where
       kept : IsKept Legal state.words state.views
       kept = kept_at Legal state.words state.views id view holds at live
 
-      fits : Fits kept.start kept.accepted kept.settled id view
+      fits : Fits kept.start kept.accepted kept.settled kept.down id view
       fits = kept.fits id view at live
 
-      theirs : Fits kept.start kept.accepted kept.settled other from
+      theirs : Fits kept.start kept.accepted kept.settled kept.down other from
       theirs =
           ⊎_elim (λ (t : (other ≡ id) × (informed view from ≡ from)). absurd (apart t.0))
           (λ (t : (other ≢ id) × (get_elem? state.views other ≡ some from)). kept.fits other from t.1 alive)
@@ -385,6 +476,8 @@ module _ {S : Type 0} (Legal : History → Type 0) where
         told = theirs.seen;
         told_firm = theirs.firm;
         mine = fits.mine;
+        own = fits.own;
+        down_is = either_is view.down from.down kept.down fits.down_is theirs.down_is;
       })
 
       between : State S View

@@ -1,6 +1,7 @@
 -- What stays of a seat over several steps.
-use Rattle.std.proofs.Common.{◌≡◌, ◌≤◌, length, sym, ap, ◌∙◌, arith}
-use Rattle.spec_laws.specs.Laws.{Begins}
+use Rattle.std.proofs.Common.{◌≡◌, ◌≤◌, Bool, true, false, refl, length, sym, ap, ◌∙◌, arith}
+use Rattle.std.specs.Prelude.{◌||◌}
+use Rattle.spec_model.specs.Histories.{Begins}
 use Rattle.node_seats.specs.Sights.{Sight}
 use Rattle.node_seats.specs.Views.{IsSame, informed}
 use Rattle.node_seats.specs.declared.view.View.{View}
@@ -16,6 +17,7 @@ same_then one two three first second = record {
   number = second.number ∙ first.number;
   start = second.start ∙ first.start;
   mine = second.mine ∙ first.mine;
+  down = λ is. second.down (first.down is);
 }
 
 -- a seat that has seen more, and knows more as settled, is the same
@@ -28,6 +30,7 @@ same_seat before later of rest = record {
   number = ap (λ v. v.number) rest;
   start = ap (λ v. v.start) rest;
   mine = ap (λ v. v.mine) rest;
+  down = λ is. ap (λ v. v.down) rest ∙ is;
 }
 
 -- and one that was told what another knows
@@ -40,6 +43,7 @@ same_told before later other told = record {
   number = ap (λ s. s.view.number) told;
   start = ap (λ s. s.view.start) told;
   mine = ap (λ s. s.view.mine) told;
+  down = λ is. ap (λ s. s.view.down) told ∙ ap (λ d. d || other.down) is;
 }
 
 -- a look changes nothing of what is known as settled
@@ -53,3 +57,8 @@ still_seen first before later seen firm so_far turn few =
     let more = begins_length before.firm later.firm firm in
     let longer = begins_length first.seen before.seen seen in
     turn (omega (arith, few, longer)) ∙ so_far (omega (arith, few, more))
+
+-- what the second knows, either does
+pub or_second : (one other : Bool) → other ≡ true → one || other ≡ true
+or_second true other is = refl
+or_second false other is = is

@@ -1,10 +1,9 @@
 -- What each kind of step tells the seat that makes it.
-use Rattle.std.specs.Prelude.{◌≡◌, ◌≢◌, ◌≤◌, ℕ, [], ◌∷◌, ◌++◌, length, take}
-use Rattle.spec_laws.specs.Laws.{Begins}
-use Rattle.spec_model.specs.Histories.{History}
+use Rattle.std.specs.Prelude.{◌≡◌, ◌≢◌, ◌≤◌, ℕ, true, [], ◌∷◌, ◌++◌, length, take}
+use Rattle.spec_model.specs.Histories.{History, Begins}
 use Rattle.spec_model.specs.Words.{Event}
 use Rattle.node_seats.specs.declared.view.View.{View}
-use Rattle.node_seats.specs.Views.{events, mark}
+use Rattle.node_seats.specs.Views.{events, mark, flag, HasOwn}
 
 -- the seat has now seen all that was accepted, which are so many events; nothing else that it knows has changed
 pub record Looks (Judged : History → Type 0) (before : View) (count : ℕ) (later : View) : Type 0 where
@@ -12,10 +11,11 @@ pub record Looks (Judged : History → Type 0) (before : View) (count : ℕ) (la
   pub seen : Begins before.seen later.seen
   pub told : Begins before.told later.seen
   pub count_is : length later.seen ≡ count
+  pub own : later.numbered ≡ true → HasOwn later
   pub judged : Judged (later.start ++ events later.seen)
 
 -- the seat knows now all that is settled, which are so many events, and has seen these
-pub record Reads (before : View) (count : ℕ) (later : View) : Type 0 where
+pub record Reads (Judged : History → Type 0) (before : View) (count : ℕ) (later : View) : Type 0 where
   pub rest : later ≡ record before { seen = later.seen; firm = later.firm }
   pub firm : Begins before.firm later.firm
   pub told : Begins before.told_firm later.firm
@@ -23,6 +23,8 @@ pub record Reads (before : View) (count : ℕ) (later : View) : Type 0 where
   pub seen : Begins before.seen later.seen
   pub same : length later.firm ≤ length before.seen → later.seen ≡ before.seen
   pub count_is : length later.firm ≡ count
+  pub own : later.numbered ≡ true → HasOwn later
+  pub judged : Judged (later.start ++ events later.firm)
 
 -- the event is accepted behind all that the seat has seen
 abbrev pub with_event : View → Event → View
@@ -41,4 +43,14 @@ with_firm view count = record view { firm = take count view.seen }
 -- that it knew as settled; else the seat has read
 pub record Settles (old new : ℕ) (before : View) (count : ℕ) (later : View) : Type 0 where
   pub won : count ≡ old → (length before.firm ≡ old) × (later ≡ with_firm before new)
-  pub lost : count ≢ old → Reads before count later
+  pub lost : count ≢ old → Reads (λ history. Unit {0}) before count later
+
+-- the seat knows now whether the node is down, which it stays
+pub record ReadsDown (before : View) (count : ℕ) (later : View) : Type 0 where
+  pub rest : later ≡ record before { down = later.down }
+  pub stays : before.down ≡ true → later.down ≡ true
+  pub count_is : flag later.down ≡ count
+
+-- the node is down
+abbrev pub with_down : View → View
+with_down view = record view { down = true }

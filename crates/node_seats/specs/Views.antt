@@ -1,5 +1,5 @@
 -- Events with the numbers of the seats that brought them, and what seats know of them.
-use Rattle.std.specs.Prelude.{◌≡◌, ℕ, true, false, ◌==◌, List, [], map}
+use Rattle.std.specs.Prelude.{◌≡◌, ℕ, Bool, true, false, ◌==◌, ◌||◌, if◌then◌else◌, List, [], map}
 use Rattle.std.specs.List.{filter}
 use Rattle.spec_model.specs.Histories.{History}
 use Rattle.spec_model.specs.Words.{Event}
@@ -20,25 +20,33 @@ events marked = map (λ one. one.event) marked
 abbrev pub events_by : ℕ → List Marked → History
 events_by number marked = map (λ one. one.event) (filter (λ one. one.by == number) marked)
 
+-- its own events are those of what it has seen that are marked with its number
+abbrev pub HasOwn : View → Type 0
+HasOwn view = events_by view.number view.seen ≡ view.mine
+
+-- the word of whether the node is down
+abbrev pub flag : Bool → ℕ
+flag down = if down then 1 else 0
+
 -- a seat before the history is named at which its node begins
 abbrev pub fresh_view : View
-fresh_view = record { live = false; fresh = true; numbered = false; number = 0; start = []; seen = []; firm = []; mine = []; told = []; told_firm = [] }
+fresh_view = record { live = false; fresh = true; numbered = false; number = 0; start = []; seen = []; firm = []; mine = []; down = false; told = []; told_firm = [] }
 
 -- the first seat of a node that begins at this history
 abbrev pub first_view : History → View
-first_view start = record { live = true; fresh = false; numbered = true; number = 0; start = start; seen = []; firm = []; mine = []; told = []; told_firm = [] }
+first_view start = record { live = true; fresh = false; numbered = true; number = 0; start = start; seen = []; firm = []; mine = []; down = false; told = []; told_firm = [] }
 
 -- a seat that knows what this one does and has brought nothing; it doesn't know its number yet
 abbrev pub newcomer : View → View
-newcomer view = record { live = view.live; fresh = view.fresh; numbered = false; number = 0; start = view.start; seen = view.seen; firm = view.firm; mine = []; told = []; told_firm = [] }
+newcomer view = record { live = view.live; fresh = view.fresh; numbered = false; number = 0; start = view.start; seen = view.seen; firm = view.firm; mine = []; down = view.down; told = []; told_firm = [] }
 
 -- a seat that was told what another one knows
 abbrev pub informed : View → View → View
-informed view other = record view { told = other.seen; told_firm = other.firm }
+informed view other = record view { down = view.down || other.down; told = other.seen; told_firm = other.firm }
 
 -- one that another seat took in
 abbrev pub spent : View
-spent = record { live = false; fresh = false; numbered = false; number = 0; start = []; seen = []; firm = []; mine = []; told = []; told_firm = [] }
+spent = record { live = false; fresh = false; numbered = false; number = 0; start = []; seen = []; firm = []; mine = []; down = false; told = []; told_firm = [] }
 
 -- an event, for where none is meant
 abbrev pub no_event : Event
@@ -46,7 +54,7 @@ no_event = record { sender = record { 0 = 0 }; message = message.Coin (record { 
 
 -- ---- what a step leaves of a seat
 
--- it is the same seat, at the same words, with the events that it brought
+-- it is the same seat, at the same words, with the events that it brought, and knows that the node is down if it did
 pub record IsSame (before later : Sight) : Type 0 where
   pub table : later.table ≡ before.table
   pub id : later.id ≡ before.id
@@ -55,3 +63,4 @@ pub record IsSame (before later : Sight) : Type 0 where
   pub number : later.view.number ≡ before.view.number
   pub start : later.view.start ≡ before.view.start
   pub mine : later.view.mine ≡ before.view.mine
+  pub down : before.view.down ≡ true → later.view.down ≡ true

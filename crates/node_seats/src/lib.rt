@@ -1,5 +1,5 @@
-//! What each thread at a node knows of the events that are accepted and settled: two words that count them, and a seat for
-//! each thread, under a rule that ties the words to the lists and the lists to the seats.
+//! What each thread at a node knows of the events that are accepted and settled, and of whether the node is down: words of
+//! that, and a seat for each thread, under a rule that ties the words to the lists and the lists to the seats.
 #![tactic(auto)]
 
 mod plays;

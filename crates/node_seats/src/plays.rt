@@ -18,7 +18,7 @@ pub trait Call {
     ghost event: { Event };
 }
 
-/// What holds of each legal history. Each call of `Words::look` picks it.
+/// What holds of each legal history. Each call that looks or reads picks it.
 pub trait Judge {
     ghost use Rattle.spec_model.specs.Histories.{History};
 
@@ -42,8 +42,9 @@ pub struct Numbers;
 
 impl Play<(), View> for Numbers {
     ghost use Rattle.std.specs.Prelude.{◌≡◌, true};
+    ghost use Rattle.node_seats.specs.Views.{HasOwn};
 
-    ghost then = { λ step before found later. later ≡ (record before.0 { numbered = true; number = later.0.number }, before.1) };
+    ghost then = { λ step before found later. (later ≡ (record before.0 { numbered = true; number = later.0.number }, before.1)) × HasOwn later.0 };
 }
 
 /// A seat sees all that was accepted.
@@ -59,13 +60,35 @@ impl<J: Judge> Play<(), View> for Looked<J> {
 }
 
 /// A seat knows all that is settled.
-pub struct Read;
+pub struct Read<J> {
+    judge: PhantomData<J>,
+}
 
-impl Play<(), View> for Read {
+impl<J: Judge> Play<(), View> for Read<J> {
     ghost use Rattle.std.specs.Prelude.{◌≡◌};
     ghost use Rattle.node_seats.specs.Plays.{Reads};
 
-    ghost then = { λ step before found later. Reads before.0 found later.0 × (later.1 ≡ before.1) };
+    ghost then = { λ step before found later. Reads J.judged before.0 found later.0 × (later.1 ≡ before.1) };
+}
+
+/// A seat knows whether the node is down.
+pub struct DownRead;
+
+impl Play<(), View> for DownRead {
+    ghost use Rattle.std.specs.Prelude.{◌≡◌};
+    ghost use Rattle.node_seats.specs.Plays.{ReadsDown};
+
+    ghost then = { λ step before found later. ReadsDown before.0 found later.0 × (later.1 ≡ before.1) };
+}
+
+/// The node goes down.
+pub struct Downed;
+
+impl Play<(), View> for Downed {
+    ghost use Rattle.std.specs.Prelude.{◌≡◌};
+    ghost use Rattle.node_seats.specs.Plays.{with_down};
+
+    ghost then = { λ step before found later. later ≡ (with_down before.0, before.1) };
 }
 
 /// An event is accepted, if no other was that the seat hasn't seen.

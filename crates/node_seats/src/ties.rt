@@ -1,9 +1,8 @@
 //! How two seats come to know the same.
 
 ghost use Rattle.std.specs.Prelude.{◌≡◌, ◌≤◌, ◌<◌, ◌+◌, ◌^◌, ◌++◌, ◌∷◌, [], true, length, take};
-ghost use Rattle.spec_model.specs.Histories.{History};
-ghost use Rattle.spec_laws.specs.Laws.{Begins};
-ghost use Rattle.node_seats.specs.Views.{events, mark, IsSame};
+ghost use Rattle.spec_model.specs.Histories.{History, Begins};
+ghost use Rattle.node_seats.specs.Views.{events, mark, HasOwn, IsSame};
 
 use crate::plays::{Anything, Call, Judge};
 use crate::rule::Law;
@@ -13,19 +12,22 @@ use std::sync::Wait;
 
 impl<K, L: Law<K>> Words<K, L> {
     /// Looks until the seat has seen exactly what another has, which are so many events.
-    pub fn catch_up<R: Wait>(&self, rt: &R, seat: &mut Seat, other: &mut Seat, count: u64)
+    pub fn catch_up<J: Judge, R: Wait>(&self, rt: &R, seat: &mut Seat, other: &mut Seat, count: u64)
         requires seat { (seat.old.table ≡ self.now.table) × (seat.old.view.live ≡ true) }
         requires other { (other.old.table ≡ self.now.table) × (other.old.view.live ≡ true) }
         requires count { length other.old.view.seen ≡ count }
+        requires judge { (history : History) → L.legal self.now.key history → J.judged history }
         ensures other { other.new ≡ other.old }
         ensures same { IsSame seat.old seat.new }
         ensures firm { seat.new.view.firm ≡ seat.old.view.firm }
         ensures seen { seat.new.view.seen ≡ other.old.view.seen }
         ensures more { Begins seat.old.view.seen seat.new.view.seen }
+        ensures own { seat.old.view.numbered ≡ true → HasOwn seat.new.view }
+        ensures judged { J.judged (seat.new.view.start ++ events seat.new.view.seen) }
     {
         for _ in rt.forever() {
             self.tell(other, seat);
-            if self.look::<Anything>(seat) == count {
+            if self.look::<J>(seat) == count {
                 return;
             }
         }
@@ -33,10 +35,17 @@ impl<K, L: Law<K>> Words<K, L> {
     }
 
     /// Reads until the seat knows exactly what another does as settled, which are so many events.
-    pub fn catch_up_firm<R: Wait>(&self, rt: &R, seat: &mut Seat, other: &mut Seat, count: u64)
+    pub fn catch_up_firm<J: Judge, R: Wait>(
+        &self,
+        rt: &R,
+        seat: &mut Seat,
+        other: &mut Seat,
+        count: u64,
+    )
         requires seat { (seat.old.table ≡ self.now.table) × (seat.old.view.live ≡ true) }
         requires other { (other.old.table ≡ self.now.table) × (other.old.view.live ≡ true) }
         requires count { length other.old.view.firm ≡ count }
+        requires judge { (history : History) → L.legal self.now.key history → J.judged history }
         ensures other { other.new ≡ other.old }
         ensures same { IsSame seat.old seat.new }
         ensures firm { seat.new.view.firm ≡ other.old.view.firm }
@@ -44,10 +53,34 @@ impl<K, L: Law<K>> Words<K, L> {
         ensures firm_seen { Begins seat.new.view.firm seat.new.view.seen }
         ensures seen { Begins seat.old.view.seen seat.new.view.seen }
         ensures stays { count ≤ length seat.old.view.seen → seat.new.view.seen ≡ seat.old.view.seen }
+        ensures own { seat.old.view.numbered ≡ true → HasOwn seat.new.view }
+        ensures judged { J.judged (seat.new.view.start ++ events seat.new.view.firm) }
     {
         for _ in rt.forever() {
             self.tell(other, seat);
-            if self.read(seat) == count {
+            if self.read::<J>(seat) == count {
+                return;
+            }
+        }
+        unreachable!()
+    }
+
+    /// Reads until no more events are settled than the seat knows, which are so many. What another one knows as settled is then
+    /// among them.
+    pub fn cover<R: Wait>(&self, rt: &R, seat: &mut Seat, other: &mut Seat, count: u64)
+        requires seat { (seat.old.table ≡ self.now.table) × (seat.old.view.live ≡ true) }
+        requires other { (other.old.table ≡ self.now.table) × (other.old.view.live ≡ true) }
+        requires count { length seat.old.view.firm ≡ count }
+        requires seen { count ≤ length seat.old.view.seen }
+        ensures other { other.new ≡ other.old }
+        ensures same { IsSame seat.old seat.new }
+        ensures firm { seat.new.view.firm ≡ seat.old.view.firm }
+        ensures seen { seat.new.view.seen ≡ seat.old.view.seen }
+        ensures covers { Begins other.old.view.firm seat.new.view.firm }
+    {
+        for _ in rt.forever() {
+            self.tell(other, seat);
+            if self.read::<Anything>(seat) == count {
                 return;
             }
         }
@@ -62,6 +95,7 @@ impl<K, L: Law<K>> Words<K, L> {
         requires room { from + 1 < 2 ^ 64 }
         requires legal { L.legal self.now.key (seat.old.view.start ++ (events seat.old.view.seen ++ C.event ∷ [])) }
         ensures same { (seat.new.table ≡ seat.old.table) × (seat.new.id ≡ seat.old.id) × (seat.new.view.live ≡ true) × (seat.new.view.numbered ≡ true) × (seat.new.view.number ≡ seat.old.view.number) × (seat.new.view.start ≡ seat.old.view.start) }
+        ensures down { seat.new.view.down ≡ seat.old.view.down }
         ensures firm { seat.new.view.firm ≡ seat.old.view.firm }
         ensures seen { seat.new.view.seen ≡ seat.old.view.seen ++ mark seat.old.view.number C.event ∷ [] }
         ensures mine { seat.new.view.mine ≡ seat.old.view.mine ++ C.event ∷ [] }
@@ -102,10 +136,14 @@ impl<K, L: Law<K>> Words<K, L> {
         ensures first { IsSame first.old first.new × Begins first.old.view.seen first.new.view.seen × (first.new.view.firm ≡ first.old.view.firm) }
         ensures second { IsSame second.old second.new × Begins second.old.view.seen second.new.view.seen × (second.new.view.firm ≡ second.old.view.firm) }
         ensures meets { Begins first.new.view.seen second.new.view.seen }
+        ensures down { first.old.view.down ≡ true → second.new.view.down ≡ true }
         ensures count { result ≡ length second.new.view.seen }
-        ensures judged { J.judged (second.new.view.start ++ events second.new.view.seen) }
+        ensures own_first { first.old.view.numbered ≡ true → HasOwn first.new.view }
+        ensures own_second { second.old.view.numbered ≡ true → HasOwn second.new.view }
+        ensures judged_first { J.judged (first.new.view.start ++ events first.new.view.seen) }
+        ensures judged_second { J.judged (second.new.view.start ++ events second.new.view.seen) }
     {
-        self.look::<Anything>(first);
+        self.look::<J>(first);
         self.tell(first, second);
         self.look::<J>(second)
     }

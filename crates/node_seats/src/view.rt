@@ -10,7 +10,7 @@ pub struct Marked {
 }
 
 /// What a seat knows: at which history its node began, what it has seen of what was accepted since, what of that it knows as
-/// settled, and its own events. No value of it is made.
+/// settled, its own events, and whether the node is down. No value of it is made.
 pub struct View {
     /// False of a seat that another took in.
     pub live: bool,
@@ -23,6 +23,8 @@ pub struct View {
     pub seen: LinkedList<Marked>,
     pub firm: LinkedList<Marked>,
     pub mine: LinkedList<Checked>,
+    /// Whether it knows that the node is down.
+    pub down: bool,
     /// What it was told by another seat, of what was accepted and of what is settled.
     pub told: LinkedList<Marked>,
     pub told_firm: LinkedList<Marked>,

@@ -1,12 +1,14 @@
-//! The two words.
+//! The words.
 
 ghost use Rattle.std.specs.Prelude.{◌≡◌, ◌+◌, ◌≤◌, ◌<◌, ◌^◌, ◌++◌, ◌∷◌, [], true, length, IfOk};
 ghost use Rattle.spec_model.specs.Histories.{History};
-ghost use Rattle.node_seats.specs.Views.{events, first_view, fresh_view, newcomer, informed};
-ghost use Rattle.node_seats.specs.Plays.{Looks, Reads, Accepts, Settles};
+ghost use Rattle.node_seats.specs.Views.{events, HasOwn, first_view, fresh_view, newcomer, informed};
+ghost use Rattle.node_seats.specs.Plays.{Looks, Reads, ReadsDown, Accepts, Settles, with_down};
 ghost use Rattle.node_seats.specs.Sights.{Sight};
 
-use crate::plays::{Accepted, Call, Judge, Looked, Numbers, Opens, Read, Settled, Start, Tells};
+use crate::plays::{
+    Accepted, Call, DownRead, Downed, Judge, Looked, Numbers, Opens, Read, Settled, Start, Tells,
+};
 use crate::rule::{Kept, Law};
 use crate::seat::Seat;
 use crate::view::View;
@@ -14,13 +16,15 @@ use atomic_table::Table;
 use std::alloc::{AllocError, Global};
 use std::marker::Model;
 
-// The words: how many events were accepted, and how many of these are settled.
+// The words: how many events were accepted, how many of these are settled, and 1 where the node is down, else 0.
 const ACCEPTED: usize = 0;
 
 const SYNCED: usize = 1;
 
-/// How many events were accepted, and how many of these are settled, since a node began. Each seat at them knows beginnings
-/// of the two lists, which no word of memory has.
+const DOWN: usize = 2;
+
+/// How many events were accepted, and how many of these are settled, since a node began, and whether it is down. Each seat at
+/// them knows beginnings of the two lists, which no word of memory has.
 pub struct Words<K, L: Law<K>> {
     table: Table<(), View, K, Kept<L>, Global>,
 }
@@ -39,18 +43,18 @@ impl<K, L: Law<K>> Model for Words<K, L> {
 
     ghost view = { λ w. record { table = w.table.shared.table_id; key = w.table.shared.key } };
 
-    ghost invariant = { λ w. w.table.shared.table_id.words ≡ 2 };
+    ghost invariant = { λ w. w.table.shared.table_id.words ≡ 3 };
 }
 
 impl<K, L: Law<K>> Words<K, L> {
-    /// Two words at 0, and the first seat at them. `AllocError` where a growth was refused.
+    /// The words at 0, and the first seat at them. `AllocError` where a growth was refused.
     pub fn new<H: Start>(alloc: Global, about: &K) -> Result<(Words<K, L>, Seat), AllocError>
         requires legal { L.legal about.now H.history }
         ensures key { IfOk result (λ made. made.0.key ≡ about.now) }
         ensures place { IfOk result (λ made. made.1.table ≡ made.0.table) }
         ensures view { IfOk result (λ made. made.1.view ≡ first_view H.history) }
     {
-        let (table, mut place) = Table::of_words(alloc, &[0, 0], about)?;
+        let (table, mut place) = Table::of_words(alloc, &[0, 0, 0], about)?;
         table.shared.load::<Opens<H>>(&mut place, ACCEPTED);
         Ok((Words { table }, Seat { place }))
     }
@@ -62,13 +66,14 @@ impl<K, L: Law<K>> Words<K, L> {
         ensures same { seat.new ≡ seat.old }
         ensures of { result.table ≡ self.now.table }
         ensures view { result.view ≡ record (newcomer seat.old.view) { numbered = true; number = result.view.number } }
+        ensures own { HasOwn result.view }
     {
         let mut place = self.table.shared.split_seat::<Tells>(&mut seat.place);
         self.table.shared.load::<Numbers>(&mut place, ACCEPTED);
         Seat { place }
     }
 
-    /// Tells a seat what another one knows. It takes it in at its next look.
+    /// Tells a seat what another one knows. Of the events it takes that in at its next look.
     pub fn tell(&self, from: &mut Seat, to: &mut Seat)
         requires from { (from.old.table ≡ self.now.table) × (from.old.view.live ≡ true) }
         requires to { (to.old.table ≡ self.now.table) × (to.old.view.live ≡ true) }
@@ -93,13 +98,33 @@ impl<K, L: Law<K>> Words<K, L> {
     }
 
     /// How many events are settled. The seat then knows these as settled, and has seen them.
-    pub fn read(&self, seat: &mut Seat) -> u64
+    pub fn read<J: Judge>(&self, seat: &mut Seat) -> u64
         requires of { seat.old.table ≡ self.now.table }
         requires live { seat.old.view.live ≡ true }
+        requires judge { (history : History) → L.legal self.now.key history → J.judged history }
         ensures of { (seat.new.table ≡ seat.old.table) × (seat.new.id ≡ seat.old.id) }
-        ensures reads { Reads seat.old.view result seat.new.view }
+        ensures reads { Reads J.judged seat.old.view result seat.new.view }
     {
-        self.table.shared.load::<Read>(&mut seat.place, SYNCED)
+        self.table.shared.load::<Read<J>>(&mut seat.place, SYNCED)
+    }
+
+    /// Whether the node is down, which the seat then knows.
+    pub fn read_down(&self, seat: &mut Seat) -> bool
+        requires of { seat.old.table ≡ self.now.table }
+        requires live { seat.old.view.live ≡ true }
+        ensures down { seat.new ≡ record seat.old { view = record seat.old.view { down = result } } }
+        ensures stays { seat.old.view.down ≡ true → result ≡ true }
+    {
+        self.table.shared.load::<DownRead>(&mut seat.place, DOWN) == 1
+    }
+
+    /// Takes the node down, which the seat then knows.
+    pub fn raise_down(&self, seat: &mut Seat)
+        requires of { seat.old.table ≡ self.now.table }
+        requires live { seat.old.view.live ≡ true }
+        ensures down { seat.new ≡ record seat.old { view = with_down seat.old.view } }
+    {
+        self.table.shared.store::<Downed>(&mut seat.place, DOWN, 1);
     }
 
     /// Where so many events were accepted, the call's event is accepted behind them, and the answer is that number. Else

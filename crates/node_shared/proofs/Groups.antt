@@ -1,8 +1,7 @@
 -- Groups that a flush seat takes and settles.
 use Rattle.std.proofs.Common.{◌≡◌, ℕ, ◌+◌, ◌-◌, ◌≤◌, List, [], length, map, take, drop, refl, sym, ap, ◌∙◌, subst, arith}
 use Rattle.std.proofs.lemmas.List.{take_at, take-append-le, take-map, take_all, length-map, length-drop}
-use Rattle.spec_laws.specs.Laws.{Begins}
-use Rattle.spec_model.specs.Histories.{History}
+use Rattle.spec_model.specs.Histories.{History, Begins}
 use Rattle.spec_model.specs.Nodes.{Node}
 use Rattle.spec_records.specs.Records.{record_of}
 use Rattle.validator.specs.Setting.{Setting}
@@ -65,7 +64,7 @@ module _ {S : Type 0} (shared : Shared S) (node_of : Setting S → Node) (seat :
     counted = ap (λ (b : Shown S). b.taken) is ∙ ap (λ (n : ℕ). n + length group) (tied.taken ∙ rests)
 
     pub home_taken : IsAtHome node_of shared seat later
-    home_taken = at_home shared node_of seat later (with_taken run (length group)) (ap (λ (b : Shown S). b.validator.setting) is ∙ home.setting) home.of_node behind refl refl refl
+    home_taken = at_home shared node_of seat later (with_taken run (length group)) (ap (λ (b : Shown S). b.validator.setting) is ∙ home.setting) home.of_node behind refl refl refl (λ down. home.down (sym (ap (λ (b : Shown S). b.down) is) ∙ down))
 
     within : later.taken ≤ length flush.seat.view.seen
     within =
@@ -118,11 +117,11 @@ module _ {S : Type 0} (shared : Shared S) (node_of : Setting S → Node) (seat :
         take_all (length run.settled + length synced) run.taken (omega (arith, less, count, left)) ∙ taken_is
 
     -- and the book is at home again once its seat knows it
-    pub home_settled : (later : Shown S) (behind : Sight) → later.validator.setting ≡ book.validator.setting
+    pub home_settled : (later : Shown S) (behind : Sight) → later.validator.setting ≡ book.validator.setting → later.down ≡ book.down
         → ((run : Run) → Stands (node_of book.validator.setting) run book → Begins synced (map record_of (drop (length run.settled) run.taken)) → Stands (node_of book.validator.setting) (with_settled run (length synced)) later)
         → IsSame seat behind → behind.view.seen ≡ seat.view.seen → behind.view.firm ≡ taken_by flush → IsAtHome node_of shared behind later
-    home_settled later behind setting stands same seen firm =
+    home_settled later behind setting down stands same seen firm =
         let there = subst (λ (s : Setting S). (r : Run) → Stands (node_of s) r book → Begins synced (map record_of (drop (length r.settled) r.taken)) → Stands (node_of s) (with_settled r (length synced)) later)
         home.setting stands run home.stands begins in
         at_home shared node_of behind later (with_settled run (length synced)) (setting ∙ home.setting) (of_same shared seat behind home.of_node same) there (sym same.start)
-        (ap events (sym seen)) (all_of_it ∙ ap events (sym firm))
+        (ap events (sym seen)) (all_of_it ∙ ap events (sym firm)) (λ is. same.down (home.down (sym down ∙ is)))

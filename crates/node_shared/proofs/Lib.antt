@@ -1,4 +1,5 @@
 pub mod Standing
+pub mod Called
 pub mod Groups
 pub mod Submitted
 pub mod Readings

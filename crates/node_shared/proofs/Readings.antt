@@ -1,6 +1,6 @@
 -- What is said of the run at which a book stands, said of what a seat has seen or knows as settled.
-use Rattle.std.proofs.Common.{◌≡◌, List, ◌++◌, length, take, sym, ap, ◌∙◌, subst, arith}
-use Rattle.std.specs.Prelude.{ℕ, Option, Some, None, IfSome, Result, Ok, Err, IfOk, drop}
+use Rattle.std.proofs.Common.{◌≡◌, Bool, true, List, ◌++◌, length, take, refl, sym, ap, ◌∙◌, subst, arith}
+use Rattle.std.specs.Prelude.{ℕ, Option, Some, None, IsNone, IfSome, Result, Ok, Err, IfOk, drop}
 use Rattle.std.proofs.lemmas.List.{length-map, take-map}
 use Rattle.spec_model.specs.Admitting.{IsLegal}
 use Rattle.spec_model.specs.Giving.{MayGive, kept}
@@ -17,7 +17,7 @@ use Rattle.node_seats.specs.declared.view.Marked.{Marked}
 use Rattle.node_seats.proofs.Beginnings.{begins_trans}
 use Rattle.spec_world.specs.Promise.{GoesOut}
 use Rattle.spec_world.specs.World.{put_out}
-use Rattle.book.specs.Book.{Shown, Run, Stands, history_in, history_to, settled_in, GoesOutSettled}
+use Rattle.book.specs.Book.{Shown, Run, Stands, history_in, history_to, settled_in, GoesOutSettled, releasable}
 use Rattle.node_shared.specs.Answers.{IsPutOutBy}
 use Rattle.node_shared.specs.Home.{Shared, IsAtHome, run_of, seen_by, firm_by}
 use Rattle.node_shared.proofs.Groups.{same_front}
@@ -86,3 +86,15 @@ module _ {S : Type 0} (shared : Shared S) (node_of : Setting S → Node) (seat m
       (λ (v : Standing S). (history : History) → IsLegal (node_of v.setting) history → AreAtSound (node_of v.setting) v.tables (kept (node_of v.setting) history) → found ≡ propose (node_of v.setting) history)
       is told in
       seen_of (λ node history. found ≡ propose node history) same (λ run stands. there (history_in run) stands.legal stands.at)
+
+-- what a book gives that is down just where this is so
+pub gives_next : {S : Type 0} (first book later : Shown S) (down : Bool) (given : Option Output) → book ≡ first → later ≡ record book { down = down } → given ≡ releasable later → given ≡ releasable (record first { down = down })
+gives_next {S} first book later down given same is gives =
+    let there : later ≡ record first { down = down } = is ∙ ap {A = Shown S} (λ (b : Shown S). record b { down = down }) same in
+    subst (λ (b : Shown S). given ≡ releasable b) there gives
+
+pub none_given : {S : Type 0} (book later : Shown S) (down : Bool) (given : Option Output) → later ≡ record book { down = down } → given ≡ releasable later → down ≡ true → IsNone given
+none_given {S} book later down given is gives so =
+    let there : later ≡ record book { down = true } = is ∙ ap {A = Bool} (λ (d : Bool). record book { down = d }) so in
+    let none : given ≡ None = subst (λ (b : Shown S). given ≡ releasable b) there gives in
+    subst (λ (o : Option Output). IsNone o) (sym none) refl

@@ -1,9 +1,9 @@
 -- An event that a seat submits.
 use Rattle.std.proofs.Common.{◌≡◌, inl, inr, ℕ, ◌+◌, ◌≤◌, true, false, List, [], ◌∷◌, ◌++◌, length, Ok, Err, sym, ap, ◌∙◌, subst, arith, length-append}
 use Rattle.std.proofs.lemmas.List.{length-map}
-use Rattle.spec_laws.specs.Laws.{Begins}
+use Rattle.std.specs.Prelude.{◌↔◌, Result, IsErrOf, IsTrue}
 use Rattle.spec_model.specs.Admitting.{admit, IsLegal}
-use Rattle.spec_model.specs.Histories.{History}
+use Rattle.spec_model.specs.Histories.{History, Begins}
 use Rattle.spec_model.specs.Nodes.{Node}
 use Rattle.spec_model.specs.Words.{Event}
 use Rattle.spec_model.specs.declared.refusal.Refusal.{Refusal}
@@ -37,11 +37,11 @@ module _ {S : Type 0} (shared : Shared S) (node_of : Setting S → Node) (seat :
         (subst (λ (l : List Marked). IsLegal (node_of shared.setting) (seat.view.start ++ (events l ++ event ∷ []))) (sym same) (here.stands run home.stands).legal)
 
     -- and the book is at home again once its seat has seen it
-    pub home_with : (behind : Sight) (by : ℕ) → later.validator.setting ≡ book.validator.setting → IsSame seat behind → behind.view.seen ≡ seat.view.seen ++ mark by event ∷ [] → behind.view.firm ≡ seat.view.firm
+    pub home_with : (behind : Sight) (by : ℕ) → later.validator.setting ≡ book.validator.setting → IsSame seat behind → behind.view.seen ≡ seat.view.seen ++ mark by event ∷ [] → behind.view.firm ≡ seat.view.firm → (later.down ≡ true → ⊥)
         → IsAtHome node_of shared behind later
-    home_with behind by setting same seen firm =
+    home_with behind by setting same seen firm up =
         at_home shared node_of behind later (with_accepted run event) (setting ∙ home.setting) (of_same shared seat behind home.of_node same) (here.stands run home.stands) (sym same.start)
-        (sym (events_push by event seat.view.seen) ∙ ap events (sym seen)) (ap events (sym firm))
+        (sym (events_push by event seat.view.seen) ∙ ap events (sym seen)) (ap events (sym firm)) (λ down. absurd (up down))
 
     -- the answer
     pub submits_new : (before behind : View) (receipt : Receipt) → before.start ≡ seat.view.start → Begins before.seen seat.view.seen → receipt.new ≡ true → receipt.ticket ≡ later.accepted → receipt.ticket ≤ MAX_ACCEPTED
@@ -76,7 +76,13 @@ module _ {S : Type 0} (shared : Shared S) (node_of : Setting S → Node) (seat :
     was = subst (λ (s : Setting S). TakesKnown (node_of s) book later event) home.setting takes
 
     pub home_known : IsAtHome node_of shared seat later
-    home_known = record { setting = ap (λ (b : Shown S). b.validator.setting) was.is ∙ home.setting; of_node = home.of_node; taken = home.taken; stands = was.stands run home.stands }
+    home_known = record {
+      setting = ap (λ (b : Shown S). b.validator.setting) was.is ∙ home.setting;
+      of_node = home.of_node;
+      taken = home.taken;
+      stands = was.stands run home.stands;
+      down = λ is. home.down (sym (ap (λ (b : Shown S). b.down) was.is) ∙ is);
+    }
 
     pub submits_known : (before behind : View) (receipt : Receipt) → before.start ≡ seat.view.start → Begins before.seen seat.view.seen → receipt.new ≡ false → receipt.ticket ≡ later.accepted
         → behind.seen ≡ seat.view.seen → behind.mine ≡ before.mine
@@ -135,3 +141,9 @@ module _ {S : Type 0} (shared : Shared S) (node_of : Setting S → Node) (seat :
         refused = subst (λ (h : History). MayRefuseAt (node_of shared.setting) (h ++ events seat.view.seen) (length seat.view.seen) event refusal) (sym began) (may_refuse refusal (there run home.stands));
         same = (seen, mine);
       }
+
+-- a book that answers anything but Down isn't down
+pub is_up : {S R : Type 0} (result : Result R Refusal) (receipt : R) → result ≡ Ok receipt → (book later : Shown S) → later.down ≡ book.down → IsErrOf result Down ↔ IsTrue book.down → later.down ≡ true → ⊥
+is_up result receipt is book later same exactly down =
+    let none = subst (λ r. IsErrOf r Down ↔ IsTrue book.down) is exactly in
+    let bad : Ok receipt ≡ Err Down = none.1 (sym same ∙ down) in absurd cc

@@ -1,8 +1,8 @@
 -- What a call of a shared node tells.
 use Rattle.std.specs.Prelude.{◌≡◌, ◌≤◌, ◌<◌, ◌⊎◌, ⊤, ℕ, true, false, List, [], ◌∷◌, ◌++◌, length, take, IsTrue, Result, IfOk, IfErr}
-use Rattle.spec_laws.specs.Laws.{Begins}
 use Rattle.spec_model.specs.Admitting.{admit, is_new}
-use Rattle.spec_model.specs.Histories.{History}
+use Rattle.spec_model.specs.Giving.{MayGive}
+use Rattle.spec_model.specs.Histories.{History, Begins}
 use Rattle.spec_model.specs.Nodes.{Node}
 use Rattle.spec_model.specs.Words.{Event, Output}
 use Rattle.spec_model.specs.declared.admission.Admission.TheVariants.{New, Known, Refused}
@@ -12,9 +12,11 @@ use Rattle.spec_world.specs.Promise.{GoesOut}
 use Rattle.spec_world.specs.World.{put_out}
 use Rattle.book.specs.declared.book.Receipt.{Receipt}
 use Rattle.book.specs.declared.book.TheConstants.{MAX_ACCEPTED}
+use Rattle.node_seats.specs.Sights.{Sight}
 use Rattle.node_seats.specs.declared.view.Marked.{Marked}
 use Rattle.node_seats.specs.declared.view.View.{View}
 use Rattle.node_seats.specs.Views.{events, mark}
+use Rattle.node_shared.specs.Home.{firm_by}
 
 -- an event is new there, below the limit of a run, and is the last that the seat has seen, marked with its number, and the last of
 -- its own
@@ -61,3 +63,8 @@ pub record IsPutOutBy (node : Node) (view : View) (output : Output) : Type 0 whe
   pub count : ℕ
   pub settled : count ≤ length view.firm
   pub goes_out : GoesOut node (view.start ++ events (take count view.firm)) (put_out output)
+
+-- an output may be given out behind what a seat knows as settled, of which an event put it out
+pub record Gives (node : Node) (seat : Sight) (output : Output) : Type 0 where
+  pub may : MayGive node (firm_by seat) output
+  pub put_out : IsPutOutBy node seat.view output

@@ -1,8 +1,7 @@
 -- A shared node, its seats, and the book under its lock.
 use Rattle.std.specs.Prelude.{◌≡◌, ◌≤◌, ℕ, ◌+◌, ◌++◌, List, length, map, take, drop, true}
 use Rattle.atomic_table.specs.Seated.{TableId}
-use Rattle.spec_laws.specs.Laws.{Begins}
-use Rattle.spec_model.specs.Histories.{History}
+use Rattle.spec_model.specs.Histories.{History, Begins}
 use Rattle.spec_model.specs.Nodes.{Node}
 use Rattle.spec_records.specs.Records.{record_of}
 use Rattle.validator.specs.Setting.{Setting}
@@ -61,13 +60,14 @@ pub record TakesNext (flush : FlushSeat) (group : List (List ℕ)) : Type 0 wher
 abbrev pub run_of : View → History → Run
 run_of view taken = record { began = view.start; accepted = events view.seen; taken = taken; settled = events view.firm }
 
--- A book is at home in a node: it is set up as the node is, its own seat is one of the node's, and it stands at exactly what that
--- seat has seen and knows as settled, for some list between that was taken.
+-- A book is at home in a node: it is set up as the node is, its own seat is one of the node's, which knows that the node is down if the
+-- book is, and it stands at exactly what that seat has seen and knows as settled, for some list between that was taken.
 pub record IsAtHome {S : Type 0} (node_of : Setting S → Node) (node : Shared S) (seat : Sight) (book : Shown S) : Type 0 where
   pub setting : book.validator.setting ≡ node.setting
   pub of_node : IsOf node seat
   pub taken : History
   pub stands : Stands (node_of node.setting) (run_of seat.view taken) book
+  pub down : book.down ≡ true → seat.view.down ≡ true
 
 -- A flush seat is tied to a book at home and its seat: it knows just what that one does, and counts as the book does.
 pub record IsTied {S : Type 0} (node : Shared S) (seat : Sight) (book : Shown S) (flush : FlushSeat) : Type 0 where

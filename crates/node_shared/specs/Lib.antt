@@ -1,2 +1,3 @@
 pub mod Home
+pub mod Calls
 pub mod Answers

@@ -1,11 +1,13 @@
 //! What a node hands over for its disk, and what it is told of that.
 
-ghost use Rattle.std.specs.Prelude.{◌≡◌, ◌≤◌, true, IsNone, IfOk, IfSome, OnErr};
-ghost use Rattle.spec_laws.specs.Laws.{Begins};
+ghost use Rattle.std.specs.Prelude.{◌≡◌, ◌≤◌, true};
+ghost use Rattle.spec_model.specs.Histories.{Begins};
 ghost use Rattle.spec_model.specs.Admitting.{IsLegal};
 ghost use Rattle.validator.specs.Setting.{node_of};
 ghost use Rattle.node_seats.specs.Views.{IsSame};
-ghost use Rattle.node_shared.specs.Home.{IsOf, IsAtHome, IsFlushOf, IsTied, TakesNext, taken_by, group_of, seen_by};
+ghost use Rattle.node_seats.specs.Plays.{with_down};
+ghost use Rattle.node_shared.specs.Calls.{Looked, Learned, Stays, Takes, SettlesTaken, CountsAs};
+ghost use Rattle.node_shared.specs.Home.{IsOf, IsAtHome, IsFlushOf, IsTied, group_of, seen_by};
 
 use crate::flush_seat::FlushSeat;
 use crate::home::Locked;
@@ -14,6 +16,7 @@ use journal::{Group, Synced};
 use node_seats::{Anything, Seat};
 use sigface::Sign;
 use std::alloc::AllocError;
+use std::marker::Brand;
 use std::sync::Wait;
 
 impl<'a, S: Sign> Node<'a, S> {
@@ -30,18 +33,14 @@ impl<'a, S: Sign> Node<'a, S> {
         requires of { IsOf self.now seat.old }
         ensures flush { IsFlushOf self.now flush.new }
         ensures flush_same { IsSame flush.old.seat flush.new.seat }
-        ensures flush_firm { (flush.new.seat.view.firm ≡ flush.old.seat.view.firm) × (flush.new.settled ≡ flush.old.settled) }
-        ensures of { IsOf self.now seat.new }
-        ensures same { IsSame seat.old seat.new }
-        ensures firm { seat.new.view.firm ≡ seat.old.view.firm }
-        ensures more { Begins seat.old.view.seen seat.new.view.seen }
+        ensures flush_firm { flush.new.seat.view.firm ≡ flush.old.seat.view.firm }
+        ensures flush_settled { flush.new.settled ≡ flush.old.settled }
+        ensures looked { Looked (node_of S.own_key S.signature_of) self.now seat.old seat.new }
         ensures seen { Begins seat.new.view.seen flush.new.seat.view.seen }
         ensures legal { IsLegal (node_of S.own_key S.signature_of self.now.setting) (seen_by flush.new.seat) }
-        ensures none { IfOk result (λ found. IsNone found → (flush.new.taken ≡ flush.old.taken) × (flush.new.seat.view.firm ≡ flush.new.seat.view.seen)) }
-        ensures group { IfOk result (λ found. IfSome found (λ group. TakesNext flush.new group)) }
-        ensures err { OnErr result (flush.new.taken ≡ flush.old.taken) }
+        ensures takes { Takes flush.old flush.new result }
     {
-        self.words.meet::<Anything>(seat, &mut flush.seat);
+        self.meet(seat, &mut flush.seat);
         for _ in rt.forever() {
             let (turn, mut home) = self.lock.acquire(rt);
             let locked = &mut *home;
@@ -59,10 +58,7 @@ impl<'a, S: Sign> Node<'a, S> {
     pub fn settle<R: Wait>(&self, rt: &R, flush: &mut FlushSeat, synced: Synced)
         requires flush { IsFlushOf self.now flush.old }
         requires synced { synced ≡ group_of flush.old }
-        ensures flush { IsFlushOf self.now flush.new }
-        ensures flush_same { IsSame flush.old.seat flush.new.seat }
-        ensures firm { flush.new.seat.view.firm ≡ taken_by flush.old }
-        ensures settled { (flush.new.settled ≡ flush.old.taken) × (flush.new.taken ≡ flush.old.taken) }
+        ensures settles { SettlesTaken self.now flush.old flush.new }
     {
         for _ in rt.forever() {
             let (turn, mut home) = self.lock.acquire(rt);
@@ -82,23 +78,35 @@ impl<'a, S: Sign> Node<'a, S> {
         requires flush { IsFlushOf self.now flush.old }
         requires of { IsOf self.now seat.old }
         ensures flush { flush.new ≡ flush.old }
-        ensures of { IsOf self.now seat.new }
-        ensures same { IsSame seat.old seat.new }
+        ensures learned { Learned (node_of S.own_key S.signature_of) self.now seat.old seat.new }
         ensures firm { seat.new.view.firm ≡ flush.old.seat.view.firm }
-        ensures more { Begins seat.old.view.firm seat.new.view.firm }
-        ensures seen { Begins seat.old.view.seen seat.new.view.seen }
-        ensures within { Begins seat.new.view.firm seat.new.view.seen }
     {
         let count = flush.settled;
-        self.words.catch_up_firm(rt, seat, &mut flush.seat, count);
+        self.words
+            .catch_up_firm::<Brand, R>(rt, seat, &mut flush.seat, count);
     }
 
-    /// Takes the node down, as where a device call failed or the journal is full. From now on nothing is accepted or given out.
-    pub fn fail<R: Wait>(&self, rt: &R) {
-        let (turn, mut home) = self.lock.acquire(rt);
-        let locked = &mut *home;
-        locked.book.fail();
-        self.lock.release(turn, home);
+    /// What the seat knows as settled is then known to be among what the flush seat does, which else stays as it was.
+    pub fn cover<R: Wait>(&self, rt: &R, flush: &mut FlushSeat, seat: &mut Seat)
+        requires flush { IsFlushOf self.now flush.old }
+        requires of { IsOf self.now seat.old }
+        ensures flush { IsFlushOf self.now flush.new }
+        ensures stays { Stays flush.old.seat flush.new.seat }
+        ensures counts { CountsAs flush.old flush.new }
+        ensures seat { seat.new ≡ seat.old }
+        ensures covers { Begins seat.old.view.firm flush.new.seat.view.firm }
+    {
+        let count = flush.settled;
+        self.words.cover(rt, &mut flush.seat, seat, count);
+    }
+
+    /// Takes the node down, as where a device call failed or the journal is full, which the seat then knows. From now on nothing is
+    /// accepted or given out. It waits for nobody.
+    pub fn fail(&self, seat: &mut Seat)
+        requires of { IsOf self.now seat.old }
+        ensures down { seat.new ≡ record seat.old { view = with_down seat.old.view } }
+    {
+        self.words.raise_down(seat);
     }
 
     // The flush seat then knows what the book's seat does. The answer is whether it counts as the book does, which it will at once
@@ -110,7 +118,7 @@ impl<'a, S: Sign> Node<'a, S> {
         ensures locked { locked.new ≡ locked.old }
         ensures of { IsOf self.now flush.new.seat }
         ensures same { IsSame flush.old.seat flush.new.seat }
-        ensures counts { (flush.new.settled ≡ flush.old.settled) × (flush.new.taken ≡ flush.old.taken) }
+        ensures counts { CountsAs flush.old flush.new }
         ensures firm { Begins flush.old.seat.view.firm flush.new.seat.view.firm }
         ensures seen { Begins flush.old.seat.view.seen flush.new.seat.view.seen }
         ensures legal { IsLegal (node_of S.own_key S.signature_of self.now.setting) (seen_by flush.new.seat) }
@@ -132,9 +140,7 @@ impl<'a, S: Sign> Node<'a, S> {
         ensures home { IsAtHome (node_of S.own_key S.signature_of) self.now locked.new.seat locked.new.book }
         ensures flush { IsFlushOf self.now flush.new }
         ensures same { (flush.new.seat ≡ flush.old.seat) × (flush.new.settled ≡ flush.old.settled) }
-        ensures none { IfOk result (λ found. IsNone found → (flush.new.taken ≡ flush.old.taken) × (flush.new.seat.view.firm ≡ flush.new.seat.view.seen)) }
-        ensures group { IfOk result (λ found. IfSome found (λ group. TakesNext flush.new group)) }
-        ensures err { OnErr result (flush.new.taken ≡ flush.old.taken) }
+        ensures takes { Takes flush.old flush.new result }
     {
         let Some(group) = locked.book.take()? else {
             return Ok(None);
@@ -154,17 +160,13 @@ impl<'a, S: Sign> Node<'a, S> {
         requires tied { IsTied self.now locked.old.seat locked.old.book flush.old }
         requires synced { synced ≡ group_of flush.old }
         ensures home { IsAtHome (node_of S.own_key S.signature_of) self.now locked.new.seat locked.new.book }
-        ensures flush { IsFlushOf self.now flush.new }
-        ensures same { IsSame flush.old.seat flush.new.seat }
-        ensures firm { flush.new.seat.view.firm ≡ taken_by flush.old }
-        ensures seen { flush.new.seat.view.seen ≡ flush.old.seat.view.seen }
-        ensures settled { (flush.new.settled ≡ flush.old.taken) × (flush.new.taken ≡ flush.old.taken) }
+        ensures settles { SettlesTaken self.now flush.old flush.new }
     {
         locked.book.settle(synced);
         self.words
             .raise_firm(rt, &mut flush.seat, flush.settled, flush.taken);
         self.words
-            .catch_up_firm(rt, &mut locked.seat, &mut flush.seat, flush.taken);
+            .catch_up_firm::<Anything, R>(rt, &mut locked.seat, &mut flush.seat, flush.taken);
         flush.settled = flush.taken;
     }
 }

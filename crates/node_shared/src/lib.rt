@@ -1,5 +1,5 @@
-//! The node that threads share: a book under a lock, two words that count what it accepted and settled, and seats, each of which
-//! knows what its thread was told of the two.
+//! The node that threads share: a book under a lock, words that count what it accepted and settled and say whether it is down, and
+//! seats, each of which knows what its thread was told of these.
 #![tactic(auto)]
 
 mod flush_seat;

@@ -1,11 +1,11 @@
 //! The node.
 
-ghost use Rattle.std.specs.Prelude.{◌≡◌, [], IsOk, IfOk};
+ghost use Rattle.std.specs.Prelude.{◌≡◌, IsOk, IfOk};
 ghost use Rattle.spec_model.specs.Admitting.{IsLegal};
 ghost use Rattle.spec_model.specs.Giving.{kept};
 ghost use Rattle.validator.specs.Setting.{node_of};
 ghost use Rattle.validator.specs.Standing.{AreAtSound};
-ghost use Rattle.node_seats.specs.Views.{newcomer};
+ghost use Rattle.node_shared.specs.Calls.{HasNothing, IsBeside};
 ghost use Rattle.node_shared.specs.Home.{IsOf, IsFlushOf};
 
 use crate::flush_seat::FlushSeat;
@@ -18,7 +18,7 @@ use std::alloc::{AllocError, Global};
 use std::marker::Model;
 use validator::Validator;
 
-/// A node that threads share: a book under a lock, and two words that count what it accepted and settled.
+/// A node that threads share: a book under a lock, and words that count what it accepted and settled and say whether it is down.
 pub struct Node<'a, S: Sign> {
     pub(crate) words: Counts<'a, S>,
     pub(crate) lock: Lock<Box<Locked<'a, S>>, Key<'a, S>, AtHome>,
@@ -49,13 +49,13 @@ impl<'a, S: Sign> Node<'a, S> {
         validator: Validator<'a, S>,
     ) -> Result<(Node<'a, S>, Seat, FlushSeat), AllocError>
         requires legal { IsLegal (node_of S.own_key S.signature_of validator.setting) H.history }
-        requires at { AreAtSound (node_of S.own_key S.signature_of validator.setting) validator.tables (kept (node_of S.own_key S.signature_of validator.setting) H.history) }
+        requires at { let node = node_of S.own_key S.signature_of validator.setting in AreAtSound node validator.tables (kept node H.history) }
         ensures setting { IfOk result (λ made. made.0.setting ≡ validator.entry.setting) }
         ensures start { IfOk result (λ made. made.0.start ≡ H.history) }
         ensures seat { IfOk result (λ made. IsOf made.0 made.1) }
-        ensures nothing { IfOk result (λ made. (made.1.view.seen ≡ []) × (made.1.view.firm ≡ []) × (made.1.view.mine ≡ [])) }
+        ensures nothing { IfOk result (λ made. HasNothing made.1) }
         ensures flush_seat { IfOk result (λ made. IsFlushOf made.0 made.2) }
-        ensures flush_nothing { IfOk result (λ made. (made.2.seat.view.seen ≡ []) × (made.2.seat.view.firm ≡ []) × (made.2.taken ≡ 0)) }
+        ensures flush_nothing { IfOk result (λ made. HasNothing made.2.seat × (made.2.taken ≡ 0)) }
     {
         let (words, mut first) = Words::new::<H>(alloc, &validator)?;
         let mut own = words.split(&mut first);
@@ -79,8 +79,7 @@ impl<'a, S: Sign> Node<'a, S> {
         requires of { IsOf self.now seat.old }
         ensures ok { IsOk result }
         ensures same { seat.new ≡ seat.old }
-        ensures seat { IfOk result (λ other. IsOf self.now other) }
-        ensures knows { IfOk result (λ other. (other.view.seen ≡ seat.old.view.seen) × (other.view.firm ≡ seat.old.view.firm) × (other.view.mine ≡ [])) }
+        ensures other { IfOk result (λ other. IsBeside self.now seat.old other) }
     {
         Ok(self.words.split(seat))
     }

@@ -1,17 +1,17 @@
 //! What a node tells, and what it gives out.
 
-ghost use Rattle.std.specs.Prelude.{◌≡◌, ◌⊎◌, None, not, drop, length, is_some, if◌then◌else◌, IfOk, IfErr, IfSome};
+ghost use Rattle.std.specs.Prelude.{◌≡◌, ◌⊎◌, ◌↔◌, true, None, not, drop, length, is_some, if◌then◌else◌, IsNone, IsTrue, IsErrOf, IfOk, IfErr, IfSome};
 ghost use Rattle.book.specs.Book.{releasable};
 ghost use Rattle.header.specs.Checks.{fault_of, accepts_all};
-ghost use Rattle.spec_laws.specs.Laws.{Begins};
+ghost use Rattle.spec_model.specs.Histories.{Begins};
 ghost use Rattle.spec_machine.specs.Machine.{is_missing_parents};
-ghost use Rattle.spec_model.specs.Admitting.{admit, IsLegal};
-ghost use Rattle.spec_model.specs.Giving.{MayGive, unless_low};
+ghost use Rattle.spec_model.specs.Admitting.{admit};
+ghost use Rattle.spec_model.specs.Giving.{unless_low};
 ghost use Rattle.spec_model.specs.Holdings.{order as order_of, round as round_of, floor as floor_of, voted_digest};
 ghost use Rattle.spec_model.specs.Proposing.{propose as propose_of};
 ghost use Rattle.validator.specs.Setting.{node_of};
-ghost use Rattle.node_seats.specs.Views.{IsSame};
-ghost use Rattle.node_shared.specs.Answers.{IsPutOutBy};
+ghost use Rattle.node_shared.specs.Answers.{Gives};
+ghost use Rattle.node_shared.specs.Calls.{Looked, Learned, Stays};
 ghost use Rattle.node_shared.specs.Home.{IsOf, IsAtHome, seen_by, firm_by};
 
 use crate::home::Locked;
@@ -30,12 +30,8 @@ impl<'a, S: Sign> Node<'a, S> {
     /// memory.
     pub fn accepted(&self, seat: &mut Seat) -> u64
         requires of { IsOf self.now seat.old }
-        ensures of { IsOf self.now seat.new }
-        ensures same { IsSame seat.old seat.new }
-        ensures firm { seat.new.view.firm ≡ seat.old.view.firm }
-        ensures more { Begins seat.old.view.seen seat.new.view.seen }
+        ensures looked { Looked (node_of S.own_key S.signature_of) self.now seat.old seat.new }
         ensures count { result ≡ length seat.new.view.seen }
-        ensures legal { IsLegal (node_of S.own_key S.signature_of self.now.setting) (seen_by seat.new) }
     {
         self.words.look::<Brand>(seat)
     }
@@ -43,32 +39,22 @@ impl<'a, S: Sign> Node<'a, S> {
     /// How many of these are settled, all of which the seat then knows as settled. It waits for nobody and takes no memory.
     pub fn synced(&self, seat: &mut Seat) -> u64
         requires of { IsOf self.now seat.old }
-        ensures of { IsOf self.now seat.new }
-        ensures same { IsSame seat.old seat.new }
-        ensures more { Begins seat.old.view.firm seat.new.view.firm }
-        ensures seen { Begins seat.old.view.seen seat.new.view.seen }
-        ensures within { Begins seat.new.view.firm seat.new.view.seen }
+        ensures learned { Learned (node_of S.own_key S.signature_of) self.now seat.old seat.new }
         ensures count { result ≡ length seat.new.view.firm }
     {
-        self.words.read(seat)
+        self.words.read::<Brand>(seat)
     }
 
-    /// Two looks, behind which the second seat has seen all that the first has. The answer is how many events the second has
-    /// seen. It waits for nobody and takes no memory.
+    /// Two looks, behind which the second seat has seen all that the first has, and knows that the node is down if the first does.
+    /// The answer is how many events the second has seen. It waits for nobody and takes no memory.
     pub fn meet(&self, first: &mut Seat, second: &mut Seat) -> u64
         requires first { IsOf self.now first.old }
         requires second { IsOf self.now second.old }
-        ensures first { IsOf self.now first.new }
-        ensures second { IsOf self.now second.new }
-        ensures same_first { IsSame first.old first.new }
-        ensures same_second { IsSame second.old second.new }
-        ensures firm_first { first.new.view.firm ≡ first.old.view.firm }
-        ensures firm_second { second.new.view.firm ≡ second.old.view.firm }
-        ensures more_first { Begins first.old.view.seen first.new.view.seen }
-        ensures more_second { Begins second.old.view.seen second.new.view.seen }
+        ensures first { Looked (node_of S.own_key S.signature_of) self.now first.old first.new }
+        ensures second { Looked (node_of S.own_key S.signature_of) self.now second.old second.new }
         ensures meets { Begins first.new.view.seen second.new.view.seen }
+        ensures down { first.old.view.down ≡ true → second.new.view.down ≡ true }
         ensures count { result ≡ length second.new.view.seen }
-        ensures legal { IsLegal (node_of S.own_key S.signature_of self.now.setting) (seen_by second.new) }
     {
         self.words.meet::<Brand>(first, second)
     }
@@ -78,14 +64,12 @@ impl<'a, S: Sign> Node<'a, S> {
         requires home { IsAtHome (node_of S.own_key S.signature_of) self.now locked.old.seat locked.old.book }
         requires of { IsOf self.now seat.old }
         ensures locked { locked.new ≡ locked.old }
-        ensures of { IsOf self.now seat.new }
-        ensures same { IsSame seat.old seat.new }
-        ensures firm { seat.new.view.firm ≡ seat.old.view.firm }
+        ensures looked { Looked (node_of S.own_key S.signature_of) self.now seat.old seat.new }
         ensures seen { seat.new.view.seen ≡ locked.old.seat.view.seen }
-        ensures more { Begins seat.old.view.seen seat.new.view.seen }
     {
         let count = locked.book.accepted();
-        self.words.catch_up(rt, seat, &mut locked.seat, count);
+        self.words
+            .catch_up::<Brand, R>(rt, seat, &mut locked.seat, count);
     }
 
     // The seat then knows as settled exactly what is.
@@ -93,28 +77,37 @@ impl<'a, S: Sign> Node<'a, S> {
         requires home { IsAtHome (node_of S.own_key S.signature_of) self.now locked.old.seat locked.old.book }
         requires of { IsOf self.now seat.old }
         ensures locked { locked.new ≡ locked.old }
-        ensures of { IsOf self.now seat.new }
-        ensures same { IsSame seat.old seat.new }
+        ensures learned { Learned (node_of S.own_key S.signature_of) self.now seat.old seat.new }
         ensures firm { seat.new.view.firm ≡ locked.old.seat.view.firm }
-        ensures more { Begins seat.old.view.firm seat.new.view.firm }
-        ensures seen { Begins seat.old.view.seen seat.new.view.seen }
-        ensures within { Begins seat.new.view.firm seat.new.view.seen }
     {
         let count = locked.book.settled();
-        self.words.catch_up_firm(rt, seat, &mut locked.seat, count);
+        self.words
+            .catch_up_firm::<Brand, R>(rt, seat, &mut locked.seat, count);
+    }
+
+    // The seat then knows whether the node is down, and the book is just where the seat knows that.
+    pub(crate) fn know_down(&self, locked: &mut Locked<'a, S>, seat: &mut Seat)
+        requires home { IsAtHome (node_of S.own_key S.signature_of) self.now locked.old.seat locked.old.book }
+        requires of { IsOf self.now seat.old }
+        ensures home { IsAtHome (node_of S.own_key S.signature_of) self.now locked.new.seat locked.new.book }
+        ensures book { locked.new.book ≡ record locked.old.book { down = seat.new.view.down } }
+        ensures stays_locked { Stays locked.old.seat locked.new.seat }
+        ensures stays { Stays seat.old seat.new }
+    {
+        self.words.tell(&mut locked.seat, seat);
+        if self.words.read_down(seat) {
+            self.words.tell(seat, &mut locked.seat);
+            locked.book.fail();
+        }
     }
 
     /// The next output that may go out, if there is one: all that it rests on is settled, which the seat then knows; an event put it
-    /// out there, and it may be given out. None where the node is down.
+    /// out there, and it may be given out. None where the node is down, which the seat then knows.
     pub fn collect<R: Wait>(&self, rt: &R, seat: &mut Seat) -> Option<Output>
         requires of { IsOf self.now seat.old }
-        ensures of { IsOf self.now seat.new }
-        ensures same { IsSame seat.old seat.new }
-        ensures more { Begins seat.old.view.firm seat.new.view.firm }
-        ensures seen { Begins seat.old.view.seen seat.new.view.seen }
-        ensures within { Begins seat.new.view.firm seat.new.view.seen }
-        ensures goes_out { IfSome result (λ output. MayGive (node_of S.own_key S.signature_of self.now.setting) (firm_by seat.new) output) }
-        ensures put_out { IfSome result (λ output. IsPutOutBy (node_of S.own_key S.signature_of self.now.setting) seat.new.view output) }
+        ensures learned { Learned (node_of S.own_key S.signature_of) self.now seat.old seat.new }
+        ensures down { IsTrue seat.new.view.down → IsNone result }
+        ensures gives { IfSome result (λ output. Gives (node_of S.own_key S.signature_of self.now.setting) seat.new output) }
     {
         let (turn, mut home) = self.lock.acquire(rt);
         let locked = &mut *home;
@@ -128,18 +121,15 @@ impl<'a, S: Sign> Node<'a, S> {
         requires home { IsAtHome (node_of S.own_key S.signature_of) self.now locked.old.seat locked.old.book }
         requires of { IsOf self.now seat.old }
         ensures home { IsAtHome (node_of S.own_key S.signature_of) self.now locked.new.seat locked.new.book }
-        ensures of { IsOf self.now seat.new }
-        ensures same { IsSame seat.old seat.new }
-        ensures more { Begins seat.old.view.firm seat.new.view.firm }
-        ensures seen { Begins seat.old.view.seen seat.new.view.seen }
-        ensures within { Begins seat.new.view.firm seat.new.view.seen }
-        ensures goes_out { IfSome result (λ output. MayGive (node_of S.own_key S.signature_of self.now.setting) (firm_by seat.new) output) }
-        ensures put_out { IfSome result (λ output. IsPutOutBy (node_of S.own_key S.signature_of self.now.setting) seat.new.view output) }
-        // It is the book's next one, which the book then lets go of.
-        ensures next { result ≡ releasable locked.old.book }
-        ensures queue { locked.new.book ≡ (if is_some result then record locked.old.book { queue = drop 1 locked.old.book.queue } else locked.old.book) }
+        ensures learned { Learned (node_of S.own_key S.signature_of) self.now seat.old seat.new }
+        ensures down { IsTrue seat.new.view.down → IsNone result }
+        ensures gives { IfSome result (λ output. Gives (node_of S.own_key S.signature_of self.now.setting) seat.new output) }
+        // Unless the node is down it is the book's next one, which the book then lets go of.
+        ensures next { result ≡ releasable (record locked.old.book { down = seat.new.view.down }) }
+        ensures queue { locked.new.book.queue ≡ (if is_some result then drop 1 locked.old.book.queue else locked.old.book.queue) }
     {
         self.know_all(rt, locked, seat);
+        self.know_down(locked, seat);
         locked.book.release()
     }
 
@@ -147,20 +137,18 @@ impl<'a, S: Sign> Node<'a, S> {
     /// are ordered. It is empty past its end.
     ///
     /// # Errors
-    /// `Down` where a device call failed, `Memory` where a growth was refused.
+    /// `Down` where the node is down, which the seat then knows, `Memory` where a growth was refused.
     pub fn order<R: Wait>(&self, rt: &R, seat: &mut Seat, from: u64) -> Result<Vec<Digest>, Refusal>
         requires of { IsOf self.now seat.old }
-        ensures of { IsOf self.now seat.new }
-        ensures same { IsSame seat.old seat.new }
-        ensures more { Begins seat.old.view.firm seat.new.view.firm }
-        ensures seen { Begins seat.old.view.seen seat.new.view.seen }
-        ensures within { Begins seat.new.view.firm seat.new.view.seen }
+        ensures learned { Learned (node_of S.own_key S.signature_of) self.now seat.old seat.new }
+        ensures down { IsErrOf result Refusal.Down ↔ IsTrue seat.new.view.down }
         ensures order { IfOk result (λ digests. digests.items ≡ drop from (order_of (node_of S.own_key S.signature_of self.now.setting) (firm_by seat.new))) }
         ensures errors { IfErr result (λ refusal. (refusal ≡ Refusal.Down) ⊎ (refusal ≡ Refusal.Memory)) }
     {
         let (turn, mut home) = self.lock.acquire(rt);
         let locked = &mut *home;
         self.know_all(rt, locked, seat);
+        self.know_down(locked, seat);
         let order = locked.book.order(from);
         self.lock.release(turn, home);
         order
@@ -176,10 +164,7 @@ impl<'a, S: Sign> Node<'a, S> {
         round: Round,
     ) -> Option<Digest>
         requires of { IsOf self.now seat.old }
-        ensures of { IsOf self.now seat.new }
-        ensures same { IsSame seat.old seat.new }
-        ensures firm { seat.new.view.firm ≡ seat.old.view.firm }
-        ensures more { Begins seat.old.view.seen seat.new.view.seen }
+        ensures looked { Looked (node_of S.own_key S.signature_of) self.now seat.old seat.new }
         ensures voted { result ≡ unless_low (floor_of (node_of S.own_key S.signature_of self.now.setting) (seen_by seat.new)) round (voted_digest (seen_by seat.new) round author.0) }
     {
         let (turn, mut home) = self.lock.acquire(rt);
@@ -193,10 +178,7 @@ impl<'a, S: Sign> Node<'a, S> {
     /// The validator's round, behind all that was accepted, which the seat has then seen.
     pub fn round_now<R: Wait>(&self, rt: &R, seat: &mut Seat) -> u64
         requires of { IsOf self.now seat.old }
-        ensures of { IsOf self.now seat.new }
-        ensures same { IsSame seat.old seat.new }
-        ensures firm { seat.new.view.firm ≡ seat.old.view.firm }
-        ensures more { Begins seat.old.view.seen seat.new.view.seen }
+        ensures looked { Looked (node_of S.own_key S.signature_of) self.now seat.old seat.new }
         ensures round { result ≡ round_of (node_of S.own_key S.signature_of self.now.setting) (seen_by seat.new) }
     {
         let (turn, mut home) = self.lock.acquire(rt);
@@ -212,10 +194,7 @@ impl<'a, S: Sign> Node<'a, S> {
     pub fn ready<R: Wait>(&self, rt: &R, seat: &mut Seat, event: &Checked) -> bool
         requires of { IsOf self.now seat.old }
         requires passed { fault_of self.now.setting.charter accepts_all event.now ≡ None }
-        ensures of { IsOf self.now seat.new }
-        ensures same { IsSame seat.old seat.new }
-        ensures firm { seat.new.view.firm ≡ seat.old.view.firm }
-        ensures more { Begins seat.old.view.seen seat.new.view.seen }
+        ensures looked { Looked (node_of S.own_key S.signature_of) self.now seat.old seat.new }
         ensures ready { result ≡ not (is_missing_parents (admit (node_of S.own_key S.signature_of self.now.setting) (seen_by seat.new) event.now)) }
     {
         let (turn, mut home) = self.lock.acquire(rt);
@@ -230,10 +209,7 @@ impl<'a, S: Sign> Node<'a, S> {
     /// proposes none. `AllocError` where a growth was refused.
     pub fn propose<R: Wait>(&self, rt: &R, seat: &mut Seat) -> Result<Option<Header>, AllocError>
         requires of { IsOf self.now seat.old }
-        ensures of { IsOf self.now seat.new }
-        ensures same { IsSame seat.old seat.new }
-        ensures firm { seat.new.view.firm ≡ seat.old.view.firm }
-        ensures more { Begins seat.old.view.seen seat.new.view.seen }
+        ensures looked { Looked (node_of S.own_key S.signature_of) self.now seat.old seat.new }
         ensures header { IfOk result (λ found. found ≡ propose_of (node_of S.own_key S.signature_of self.now.setting) (seen_by seat.new)) }
     {
         let (turn, mut home) = self.lock.acquire(rt);

@@ -1,24 +1,24 @@
 //! What a node takes.
 
-ghost use Rattle.std.specs.Prelude.{◌≡◌, None};
+ghost use Rattle.std.specs.Prelude.{◌≡◌, ◌↔◌, None, IsTrue, IsErrOf};
 ghost use Rattle.header.specs.Checks.{fault_of, accepts_all};
-ghost use Rattle.spec_laws.specs.Laws.{Begins};
 ghost use Rattle.validator.specs.Setting.{node_of};
 ghost use Rattle.node_shared.specs.Home.{IsOf, IsAtHome};
 ghost use Rattle.node_shared.specs.Answers.{Submits};
+ghost use Rattle.node_shared.specs.Calls.{Brought};
 
 use crate::home::Locked;
 use crate::node::Node;
 use book::{Receipt, Refusal};
 use header::Checked;
-use node_seats::{Call, Seat};
+use node_seats::{Anything, Call, Seat};
 use sigface::Sign;
 use std::marker::Brand;
 use std::sync::Wait;
 
 impl<'a, S: Sign> Node<'a, S> {
     /// Takes an event that passed the checks, behind all that was accepted. The seat has then seen all of that, and a new event is
-    /// one of its own.
+    /// one of its own. It answers Down exactly where the seat then knows that the node is down.
     pub fn submit<R: Wait>(
         &self,
         rt: &R,
@@ -27,10 +27,9 @@ impl<'a, S: Sign> Node<'a, S> {
     ) -> Result<Receipt, Refusal>
         requires of { IsOf self.now seat.old }
         requires passed { fault_of self.now.setting.charter accepts_all event ≡ None }
-        ensures of { IsOf self.now seat.new }
-        ensures same { (seat.new.id ≡ seat.old.id) × (seat.new.view.number ≡ seat.old.view.number) }
-        ensures firm { seat.new.view.firm ≡ seat.old.view.firm }
+        ensures brought { Brought (node_of S.own_key S.signature_of) self.now seat.old seat.new }
         ensures submits { Submits (node_of S.own_key S.signature_of self.now.setting) event seat.old.view seat.new.view result }
+        ensures down { IsErrOf result Refusal.Down ↔ IsTrue seat.new.view.down }
     {
         let (turn, mut home) = self.lock.acquire(rt);
         let locked = &mut *home;
@@ -52,13 +51,13 @@ impl<'a, S: Sign> Node<'a, S> {
         requires passed { fault_of self.now.setting.charter accepts_all event ≡ None }
         requires call { C.event ≡ event }
         ensures home { IsAtHome (node_of S.own_key S.signature_of) self.now locked.new.seat locked.new.book }
-        ensures of { IsOf self.now seat.new }
-        ensures same { (seat.new.id ≡ seat.old.id) × (seat.new.view.number ≡ seat.old.view.number) }
-        ensures firm { seat.new.view.firm ≡ seat.old.view.firm }
+        ensures brought { Brought (node_of S.own_key S.signature_of) self.now seat.old seat.new }
         ensures submits { Submits (node_of S.own_key S.signature_of self.now.setting) event seat.old.view seat.new.view result }
+        ensures down { IsErrOf result Refusal.Down ↔ IsTrue seat.new.view.down }
     {
+        self.see_all(rt, locked, seat);
+        self.know_down(locked, seat);
         let count = locked.book.accepted();
-        self.words.catch_up(rt, seat, &mut locked.seat, count);
         let receipt = match locked.book.accept(event) {
             Ok(receipt) => receipt,
             Err(refusal) => return Err(refusal),
@@ -66,7 +65,7 @@ impl<'a, S: Sign> Node<'a, S> {
         if receipt.new {
             self.words.raise::<C, R>(rt, seat, count);
             self.words
-                .catch_up(rt, &mut locked.seat, seat, receipt.ticket);
+                .catch_up::<Anything, R>(rt, &mut locked.seat, seat, receipt.ticket);
         }
         Ok(receipt)
     }

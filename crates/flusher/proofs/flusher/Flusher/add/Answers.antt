@@ -15,14 +15,14 @@ pub returns-in-Ok-clause-flusher : goal.returns-in-Ok-clause-flusher
 returns-in-Ok-clause-flusher g c =
     let node = node_of g.S.Sign.own_key g.S.Sign.signature_of c.args.node.now.setting in
     let flush = c.args.self.now.seat in
-    let of = c.requires.seat in
+    let of = c.requires.flush_seat in
     let file = g.D.Disk.content (disk_of c.args.self.now.journal) in
     let later = g.D.Disk.content (disk_of c.append.new.self) in
     record {
-      seat = c.settle.ensures.flush;
-      rests = λ up. c.settle.ensures.settled.1 ∙ sym c.settle.ensures.settled.0;
+      seat = c.settle.ensures.settles.flush_of;
+      rests = λ up. c.settle.ensures.settles.taken ∙ sym c.settle.ensures.settles.settled;
       alive = λ up. c.in-Ok.ensures.alive;
-      holds = λ up. subst (λ (l : List Marked). Holds node later (from_start c.args.node.now l)) (sym c.settle.ensures.firm)
+      holds = λ up. subst (λ (l : List Marked). Holds node later (from_start c.args.node.now l)) (sym c.settle.ensures.settles.firm)
           (holds_taken node c.args.node.now.start flush.seat.view.firm (taken_by flush) file c.requires.holds (settled_begins c.args.node.now flush of)
           (taken_events c.args.node.now flush of node c.requires.legal) later
           (subst (λ (group : List (List ℕ)). stands later ≡ stands_with file group) (c.requires.group ∙ group_behind c.args.node.now flush of) c.in-Ok.ensures.records));
@@ -32,7 +32,7 @@ pub returns-in-Ok-clause-any_moment : goal.returns-in-Ok-clause-any_moment
 returns-in-Ok-clause-any_moment g c =
     let node = node_of g.S.Sign.own_key g.S.Sign.signature_of c.args.node.now.setting in
     let flush = c.args.self.now.seat in
-    let of = c.requires.seat in
+    let of = c.requires.flush_seat in
     let file = g.D.Disk.content (disk_of c.args.self.now.journal) in
     weaker g.D.Disk.clock g.D.Disk.outcome_since (disk_of c.args.self.now.journal) (disk_of c.append.new.self)
     (HoldsEither (node_of g.S.Sign.own_key g.S.Sign.signature_of) c.args.node.now flush.seat.view.firm (taken_by flush)) (IsBeforeOrAfter file c.args.group) c.append.ensures.any_moment
@@ -42,7 +42,7 @@ returns-in-Ok-clause-any_moment g c =
 
 pub returns-in_default-clause-flusher : goal.returns-in_default-clause-flusher
 returns-in_default-clause-flusher g c = record {
-  seat = c.requires.seat;
+  seat = c.requires.flush_seat;
   rests = λ up. let bad : true ≡ false = up in absurd cc;
   alive = λ up. let bad : true ≡ false = up in absurd cc;
   holds = λ up. let bad : true ≡ false = up in absurd cc;
@@ -52,7 +52,7 @@ pub returns-in_default-clause-any_moment : goal.returns-in_default-clause-any_mo
 returns-in_default-clause-any_moment g c =
     let node = node_of g.S.Sign.own_key g.S.Sign.signature_of c.args.node.now.setting in
     let flush = c.args.self.now.seat in
-    let of = c.requires.seat in
+    let of = c.requires.flush_seat in
     let file = g.D.Disk.content (disk_of c.args.self.now.journal) in
     weaker g.D.Disk.clock g.D.Disk.outcome_since (disk_of c.args.self.now.journal) (disk_of c.append.new.self)
     (HoldsEither (node_of g.S.Sign.own_key g.S.Sign.signature_of) c.args.node.now flush.seat.view.firm (taken_by flush)) (IsBeforeOrAfter file c.args.group) c.append.ensures.any_moment

@@ -11,5 +11,6 @@ loop-preserved g c =
       tt,
       same_then c.args.seat.now c.loop.seat c.accept.new.seat until.2 (same_seat c.loop.seat c.accept.new.seat c.accept.ensures.of (looked c.loop.seat.view c.accept.new.seat.view looks.rest)),
       ap (λ v. v.firm) looks.rest ∙ until.3,
-      begins_trans c.args.seat.now.view.seen c.loop.seat.view.seen c.accept.new.seat.view.seen until.4 looks.seen,
+      ap (λ v. v.down) looks.rest ∙ until.4,
+      begins_trans c.args.seat.now.view.seen c.loop.seat.view.seen c.accept.new.seat.view.seen until.5 looks.seen,
     )

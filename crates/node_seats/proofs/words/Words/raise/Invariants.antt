@@ -1,5 +1,5 @@
 use Rattle.std.proofs.Common.{◌≡◌}
-use Rattle.spec_laws.specs.Laws.{Begins}
+use Rattle.spec_model.specs.Histories.{Begins}
 use Rattle.node_seats.specs.Views.{IsSame}
 use Rattle.node_seats.proofs.words.Words.raise.Given as goal
 
@@ -8,4 +8,5 @@ invariant-loop g l =
     (goal.iterator-loop g).can_next l.iterator' × (goal.iterator-loop g).is_finite l.iterator'
     × IsSame l.initial.seat l.seat
     × (l.seat.view.firm ≡ l.initial.seat.view.firm)
+    × (l.seat.view.down ≡ l.initial.seat.view.down)
     × Begins l.initial.seat.view.seen l.seat.view.seen

@@ -1,24 +1,37 @@
-use Rattle.std.proofs.Common.{rules}
+use Rattle.std.proofs.Common.{ap, sym, ◌∙◌}
+use Rattle.std.specs.Prelude.{drop, is_some, if◌then◌else◌}
 use Rattle.validator.specs.Setting.{node_of}
-use Rattle.node_shared.specs.Home.{IsAtHome}
-use Rattle.node_shared.proofs.Readings.{given, put_out_by}
-use Rattle.node_shared.proofs.Standing.{home_where, queue_setting}
+use Rattle.node_shared.proofs.Called.{learned_stays, gives_both}
+use Rattle.node_shared.proofs.Readings.{given, put_out_by, gives_next, none_given}
+use Rattle.node_shared.proofs.Standing.{home_where, queue_setting, queue_down, queue_left}
 use Rattle.node_shared.proofs.node.Node.give.Goals as goal
 
 pub returns-clause-home : goal.returns-clause-home
 returns-clause-home g c =
-    let now : IsAtHome (node_of g.S.Sign.own_key g.S.Sign.signature_of) c.args.self.now c.know_all.new.locked.seat c.know_all.new.locked.book = search rules in
-    home_where c.args.self.now (node_of g.S.Sign.own_key g.S.Sign.signature_of) c.know_all.new.locked.seat c.know_all.new.locked.book c.release.new.self now
-    (queue_setting _ _ _ _ c.release.ensures.queue) c.release.ensures.stands
+    home_where c.args.self.now (node_of g.S.Sign.own_key g.S.Sign.signature_of) c.know_down.new.locked.seat c.know_down.new.locked.book c.release.new.self c.know_down.ensures.home
+    (queue_setting c.know_down.new.locked.book c.release.new.self (drop 1 c.know_down.new.locked.book.queue) (is_some c.release.result) c.release.ensures.queue)
+    (λ down. sym (queue_down c.know_down.new.locked.book c.release.new.self (drop 1 c.know_down.new.locked.book.queue) (is_some c.release.result) c.release.ensures.queue) ∙ down) c.release.ensures.stands
 
-pub returns-clause-goes_out : goal.returns-clause-goes_out
-returns-clause-goes_out g c =
-    let now : IsAtHome (node_of g.S.Sign.own_key g.S.Sign.signature_of) c.args.self.now c.know_all.new.locked.seat c.know_all.new.locked.book = search rules in
-    given c.args.self.now (node_of g.S.Sign.own_key g.S.Sign.signature_of) c.know_all.new.locked.seat c.know_all.new.seat c.know_all.new.locked.book now c.know_all.ensures.of.start
-    (search rules) c.release.result c.release.ensures.goes_out
+pub returns-clause-learned : goal.returns-clause-learned
+returns-clause-learned g c =
+    learned_stays (node_of g.S.Sign.own_key g.S.Sign.signature_of) c.args.self.now c.args.seat.now c.know_all.new.seat c.know_down.new.seat c.know_all.ensures.learned c.know_down.ensures.stays
 
-pub returns-clause-put_out : goal.returns-clause-put_out
-returns-clause-put_out g c =
-    let now : IsAtHome (node_of g.S.Sign.own_key g.S.Sign.signature_of) c.args.self.now c.know_all.new.locked.seat c.know_all.new.locked.book = search rules in
-    put_out_by c.args.self.now (node_of g.S.Sign.own_key g.S.Sign.signature_of) c.know_all.new.locked.seat c.know_all.new.seat c.know_all.new.locked.book now c.know_all.ensures.of.start
-    (search rules) c.release.result c.release.ensures.goes_out
+pub returns-clause-gives : goal.returns-clause-gives
+returns-clause-gives g c =
+    let told = c.know_down.ensures in
+    let began = told.stays.same.start ∙ c.know_all.ensures.learned.of_node.start in
+    let firm = told.stays.firm ∙ c.know_all.ensures.firm ∙ ap (λ l. l.seat.view.firm) (sym c.know_all.ensures.locked) ∙ sym told.stays_locked.firm in
+    gives_both _ _ c.release.result
+    (given c.args.self.now (node_of g.S.Sign.own_key g.S.Sign.signature_of) c.know_down.new.locked.seat c.know_down.new.seat c.know_down.new.locked.book told.home began firm c.release.result c.release.ensures.goes_out)
+    (put_out_by c.args.self.now (node_of g.S.Sign.own_key g.S.Sign.signature_of) c.know_down.new.locked.seat c.know_down.new.seat c.know_down.new.locked.book told.home began firm c.release.result c.release.ensures.goes_out)
+
+pub returns-clause-next : goal.returns-clause-next
+returns-clause-next g c = gives_next c.args.locked.now.book c.know_all.new.locked.book c.know_down.new.locked.book _ c.release.result (ap (λ l. l.book) c.know_all.ensures.locked) c.know_down.ensures.book c.release.ensures.output
+
+pub returns-clause-down : goal.returns-clause-down
+returns-clause-down g c = none_given c.know_all.new.locked.book c.know_down.new.locked.book _ c.release.result c.know_down.ensures.book c.release.ensures.output
+
+pub returns-clause-queue : goal.returns-clause-queue
+returns-clause-queue g c =
+    queue_left c.know_down.new.locked.book c.release.new.self (drop 1 c.know_down.new.locked.book.queue) (is_some c.release.result) c.release.ensures.queue
+    ∙ ap (λ q. if is_some c.release.result then drop 1 q else q) (ap (λ b. b.queue) c.know_down.ensures.book ∙ ap (λ l. l.book.queue) c.know_all.ensures.locked)

@@ -1,4 +1,4 @@
-use Rattle.std.proofs.Common.{rules, ◌≡◌, sym, subst}
+use Rattle.std.proofs.Common.{rules, ◌≡◌, true, false, sym, ◌∙◌, subst}
 use borrow.Author.Rules.{in_lives}
 use Rattle.validator.specs.Setting.{node_of}
 use Rattle.validator.specs.Standing.{Standing}
@@ -15,7 +15,7 @@ new-requires-3 g c =
     (search rules) (record { table = search rules; live = search rules; numbered = search rules; start = search rules })
     (subst (λ (b : Shown g.row.S.Denot). Stands (node_of g.S.Sign.own_key g.S.Sign.signature_of c.in_ok-words.words.key.setting) (run_on g.H.Start.history) b) boxed
     (subst (λ (s : Standing g.row.S.Denot). Stands (node_of g.S.Sign.own_key g.S.Sign.signature_of s.setting) (run_on g.H.Start.history) c.new-book.result) (sym key) stands))
-    (search rules) (search rules) (search rules)
+    (search rules) (search rules) (search rules) (λ down. let bad : true ≡ false = sym down ∙ (search rules) in absurd cc)
 
 pub branch-words-requires : goal.branch-words-requires
 branch-words-requires g c κs = λ h. simp (in_lives, h) (search rules)

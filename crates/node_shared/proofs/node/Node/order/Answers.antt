@@ -1,16 +1,22 @@
-use Rattle.std.proofs.Common.{rules}
+use Rattle.std.proofs.Common.{rules, ap, sym, ◌∙◌}
 use borrow.Author.Rules.{in_lives}
 use Rattle.validator.specs.Setting.{node_of}
-use Rattle.node_shared.specs.Home.{IsAtHome}
+use Rattle.node_shared.proofs.Called.{learned_stays}
 use Rattle.node_shared.proofs.Readings.{ordered}
 use Rattle.node_shared.proofs.node.Node.order.Goals as goal
 
+pub returns-clause-learned : goal.returns-clause-learned
+returns-clause-learned g c =
+    learned_stays (node_of g.S.Sign.own_key g.S.Sign.signature_of) c.args.self.now c.args.seat.now c.know_all.new.seat c.know_down.new.seat c.know_all.ensures.learned c.know_down.ensures.stays
+
 pub returns-clause-order : goal.returns-clause-order
 returns-clause-order g c =
-    let home : IsAtHome (node_of g.S.Sign.own_key g.S.Sign.signature_of) c.args.self.now c.acquire-turn.result.1.value.seat c.acquire-turn.result.1.value.book = search rules in
-    let now : IsAtHome (node_of g.S.Sign.own_key g.S.Sign.signature_of) c.args.self.now c.know_all.new.locked.seat c.know_all.new.locked.book = search rules in
-    ordered c.args.self.now (node_of g.S.Sign.own_key g.S.Sign.signature_of) c.know_all.new.locked.seat c.know_all.new.seat c.know_all.new.locked.book now c.know_all.ensures.of.start
-    (search rules) _ c.args.from c.order-order.result c.order-order.ensures.order
+    let told = c.know_down.ensures in
+    ordered c.args.self.now (node_of g.S.Sign.own_key g.S.Sign.signature_of) c.know_down.new.locked.seat c.know_down.new.seat c.know_down.new.locked.book told.home (told.stays.same.start ∙ c.know_all.ensures.learned.of_node.start)
+    (told.stays.firm ∙ c.know_all.ensures.firm ∙ ap (λ l. l.seat.view.firm) (sym c.know_all.ensures.locked) ∙ sym told.stays_locked.firm) _ c.args.from c.order-order.result c.order-order.ensures.order
+
+pub release-requires-clause-fits : goal.release-requires-clause-fits
+release-requires-clause-fits g c = rw (c.self.invariant, c.self.view_is) c.know_down.ensures.home
 
 pub acquire-turn-requires : goal.acquire-turn-requires
 acquire-turn-requires g c κs = λ h. simp (in_lives, h.0, h.1.0, h.1.1.0, h.1.1.1) (search rules)

@@ -17,7 +17,7 @@ returns-clause-voted g c =
     let seen : c.see_all.new.seat.view.seen ≡ c.see_all.new.locked.seat.view.seen = search rules in
     let told = subst (λ (v : Standing g.row.S.Denot). (history : History) → AreAtSound (node_of g.S.Sign.own_key g.S.Sign.signature_of v.setting) v.tables (kept (node_of g.S.Sign.own_key g.S.Sign.signature_of v.setting) history)
     → c.voted-voted.result ≡ unless_low (floor_of (node_of g.S.Sign.own_key g.S.Sign.signature_of v.setting) history) c.args.round (voted_digest history c.args.round c.args.author.0)) c.validator.ensures c.voted-voted.ensures.history in
-    seen_of c.args.self.now (node_of g.S.Sign.own_key g.S.Sign.signature_of) c.see_all.new.locked.seat c.see_all.new.seat c.see_all.new.locked.book now c.see_all.ensures.of.start
+    seen_of c.args.self.now (node_of g.S.Sign.own_key g.S.Sign.signature_of) c.see_all.new.locked.seat c.see_all.new.seat c.see_all.new.locked.book now c.see_all.ensures.looked.of_node.start
     (λ node history. c.voted-voted.result ≡ unless_low (floor_of node history) c.args.round (voted_digest history c.args.round c.args.author.0)) seen (λ run stands. told (history_in run) stands.at)
 
 pub acquire-turn-requires : goal.acquire-turn-requires

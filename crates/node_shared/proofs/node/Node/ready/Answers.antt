@@ -20,7 +20,7 @@ returns-clause-ready g c =
     let told = subst (λ (v : Standing g.row.S.Denot). (history : History) → IsLegal (node_of g.S.Sign.own_key g.S.Sign.signature_of v.setting) history
     → AreAtSound (node_of g.S.Sign.own_key g.S.Sign.signature_of v.setting) v.tables (kept (node_of g.S.Sign.own_key g.S.Sign.signature_of v.setting) history)
     → c.ready-ready.result ≡ not (is_missing_parents (admit (node_of g.S.Sign.own_key g.S.Sign.signature_of v.setting) history c.args.event.now))) c.validator.ensures c.ready-ready.ensures.history in
-    seen_of c.args.self.now (node_of g.S.Sign.own_key g.S.Sign.signature_of) c.see_all.new.locked.seat c.see_all.new.seat c.see_all.new.locked.book now c.see_all.ensures.of.start
+    seen_of c.args.self.now (node_of g.S.Sign.own_key g.S.Sign.signature_of) c.see_all.new.locked.seat c.see_all.new.seat c.see_all.new.locked.book now c.see_all.ensures.looked.of_node.start
     (λ node history. c.ready-ready.result ≡ not (is_missing_parents (admit node history c.args.event.now))) seen (λ run stands. told (history_in run) stands.legal stands.at)
 
 pub acquire-turn-requires : goal.acquire-turn-requires

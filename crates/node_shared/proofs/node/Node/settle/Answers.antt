@@ -12,8 +12,8 @@ loop-preserved g c =
       tt,
       tt,
       same_then c.args.flush.now.seat c.loop.flush.seat c.tie.new.flush.seat until.2 tied.same,
-      tied.counts.0 ∙ until.3,
-      tied.counts.1 ∙ until.4,
+      tied.counts.settled ∙ until.3,
+      tied.counts.taken ∙ until.4,
       begins_trans c.args.flush.now.seat.view.firm c.loop.flush.seat.view.firm c.tie.new.flush.seat.view.firm until.5 tied.firm,
       begins_trans c.args.flush.now.seat.view.seen c.loop.flush.seat.view.seen c.tie.new.flush.seat.view.seen until.6 tied.seen,
     )

@@ -1,4 +1,4 @@
-use Rattle.std.proofs.Common.{rules}
+use Rattle.std.proofs.Common.{rules, ap}
 use Rattle.validator.specs.Setting.{node_of}
 use Rattle.node_shared.proofs.Groups.{settles_next, home_settled}
 use Rattle.node_shared.proofs.node.Node.settle_tied.Goals as goal
@@ -11,4 +11,4 @@ settle-requires g c =
 pub returns-clause-home : goal.returns-clause-home
 returns-clause-home g c =
     home_settled c.args.self.now (node_of g.S.Sign.own_key g.S.Sign.signature_of) c.args.locked.now.seat c.args.locked.now.book c.args.flush.now c.requires.home c.requires.tied
-    c.args.synced c.requires.synced c.settle.new.self _ (search rules) c.settle.ensures.stands (search rules) (search rules) (search rules)
+    c.args.synced c.requires.synced c.settle.new.self _ (search rules) (ap (λ b. b.down) c.settle.ensures.rest) c.settle.ensures.stands (search rules) (search rules) (search rules)

@@ -1,33 +1,28 @@
-use Rattle.std.proofs.Common.{rules, sym, ap, ◌∙◌, subst, refl}
+use Rattle.std.proofs.Common.{rules, sym, ◌∙◌, subst, refl}
 use borrow.Author.Rules.{in_lives}
 use Rattle.node_shared.specs.Home.{IsTied}
-use Rattle.spec_laws.specs.Laws.{Begins}
+use Rattle.spec_model.specs.Histories.{Begins}
 use Rattle.node_seats.specs.Views.{IsSame}
 use Rattle.node_seats.proofs.Beginnings.{begins_trans}
 use Rattle.node_seats.proofs.Same.{same_then}
 use Rattle.node_shared.proofs.Tied.{firm_same}
 use Rattle.node_shared.proofs.node.Node.take.Goals as goal
 
-pub meet-requires-clause-first : goal.meet-requires-clause-first
-meet-requires-clause-first g c = (c.requires.of.table ∙ sym (ap (λ n. n.table) c.self.view_is), c.requires.of.live)
-
 pub returns-then-tie-clause-flush_same : goal.returns-then-tie-clause-flush_same
 returns-then-tie-clause-flush_same g c =
     subst (λ s. IsSame c.args.flush.now.seat s) (sym c.take_tied-found.ensures.same.0)
     (same_then c.args.flush.now.seat c.loop.flush.seat c.tie.new.flush.seat
-    (same_then c.args.flush.now.seat c.meet.new.second c.loop.flush.seat c.meet.ensures.second.0 c.loop.invariant.3) c.tie.ensures.same)
+    (same_then c.args.flush.now.seat c.meet.new.second c.loop.flush.seat c.meet.ensures.second.same c.loop.invariant.3) c.tie.ensures.same)
 
 pub returns-then-tie-clause-flush_firm : goal.returns-then-tie-clause-flush_firm
 returns-then-tie-clause-flush_firm g c =
     let kept = c.take_tied-found.ensures.same in
-    let settled = kept.1 ∙ c.tie.ensures.counts.0 ∙ c.loop.invariant.4 in
-    let began = begins_trans c.meet.new.second.view.firm c.loop.flush.seat.view.firm c.tie.new.flush.seat.view.firm c.loop.invariant.6 c.tie.ensures.firm in (
-      firm_same c.args.flush.now.seat.view.firm c.take_tied-found.new.flush.seat.view.firm c.args.flush.now.settled
-          (subst (λ l. Begins l c.take_tied-found.new.flush.seat.view.firm) c.meet.ensures.second.2
-          (subst (λ s. Begins c.meet.new.second.view.firm s.view.firm) (sym kept.0) began))
-          c.requires.flush.settled (sym settled ∙ c.take_tied-found.ensures.flush.settled),
-      settled,
-    )
+    let settled = kept.1 ∙ c.tie.ensures.counts.settled ∙ c.loop.invariant.4 in
+    let began = begins_trans c.meet.new.second.view.firm c.loop.flush.seat.view.firm c.tie.new.flush.seat.view.firm c.loop.invariant.6 c.tie.ensures.firm in
+    firm_same c.args.flush.now.seat.view.firm c.take_tied-found.new.flush.seat.view.firm c.args.flush.now.settled
+    (subst (λ l. Begins l c.take_tied-found.new.flush.seat.view.firm) c.meet.ensures.second.firm
+    (subst (λ s. Begins c.meet.new.second.view.firm s.view.firm) (sym kept.0) began))
+    c.requires.flush.settled (sym settled ∙ c.take_tied-found.ensures.flush.settled)
 
 pub returns-then-tie-clause-seen : goal.returns-then-tie-clause-seen
 returns-then-tie-clause-seen g c =
@@ -43,8 +38,8 @@ loop-preserved g c =
       tt,
       refl,
       same_then c.meet.new.second c.loop.flush.seat c.tie.new.flush.seat until.3 tied.same,
-      tied.counts.0 ∙ until.4,
-      tied.counts.1 ∙ until.5,
+      tied.counts.settled ∙ until.4,
+      tied.counts.taken ∙ until.5,
       begins_trans c.meet.new.second.view.firm c.loop.flush.seat.view.firm c.tie.new.flush.seat.view.firm until.6 tied.firm,
       begins_trans c.meet.new.second.view.seen c.loop.flush.seat.view.seen c.tie.new.flush.seat.view.seen until.7 tied.seen,
     )

@@ -1,3 +1,4 @@
+use Rattle.std.proofs.Common.{rules}
 use Rattle.validator.specs.Setting.{node_of}
 use Rattle.book.proofs.Options.{of_some}
 use Rattle.node_shared.proofs.Groups.{home_taken, takes_next}
@@ -9,9 +10,13 @@ returns-clause-home g c =
     c.take.new.self c.in-Some.group c.requires.rests (of_some _ _ _ c.in-Some.is c.in_ok-group.ensures.group) (of_some _ _ _ c.in-Some.is c.in_ok-group.ensures.taken)
     (of_some _ _ _ c.in-Some.is c.in_ok-group.ensures.stands) (of_some _ _ _ c.in-Some.is c.in_ok-group.ensures.records)
 
-pub returns-clause-group : goal.returns-clause-group
-returns-clause-group g c =
-    rw c.taken-flush.ensures
-    (takes_next c.args.self.now (node_of g.S.Sign.own_key g.S.Sign.signature_of) c.args.locked.now.seat c.args.locked.now.book c.args.flush.now c.requires.home c.requires.tied
-    c.take.new.self c.in-Some.group c.requires.rests (of_some _ _ _ c.in-Some.is c.in_ok-group.ensures.group) (of_some _ _ _ c.in-Some.is c.in_ok-group.ensures.taken)
-    (of_some _ _ _ c.in-Some.is c.in_ok-group.ensures.stands) (of_some _ _ _ c.in-Some.is c.in_ok-group.ensures.records))
+pub returns-clause-takes : goal.returns-clause-takes
+returns-clause-takes g c = record {
+  none = search rules;
+  group =
+      rw c.taken-flush.ensures
+      (takes_next c.args.self.now (node_of g.S.Sign.own_key g.S.Sign.signature_of) c.args.locked.now.seat c.args.locked.now.book c.args.flush.now c.requires.home c.requires.tied
+      c.take.new.self c.in-Some.group c.requires.rests (of_some _ _ _ c.in-Some.is c.in_ok-group.ensures.group) (of_some _ _ _ c.in-Some.is c.in_ok-group.ensures.taken)
+      (of_some _ _ _ c.in-Some.is c.in_ok-group.ensures.stands) (of_some _ _ _ c.in-Some.is c.in_ok-group.ensures.records));
+  err = search rules;
+}

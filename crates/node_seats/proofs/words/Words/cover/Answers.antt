@@ -1,0 +1,23 @@
+use Rattle.std.proofs.Common.{◌≡◌, ◌≤◌, length, ap, ◌∙◌, subst}
+use Rattle.spec_model.specs.Histories.{Begins}
+use Rattle.node_seats.proofs.Beginnings.{begins_trans}
+use Rattle.node_seats.proofs.Same.{same_then, same_seat, same_told, still_seen}
+use Rattle.node_seats.proofs.words.Words.cover.Goals as goal
+
+pub loop-preserved : goal.loop-preserved
+loop-preserved g c =
+    let until = c.loop.invariant in
+    let told = c.tell.ensures.told in
+    let reads = c.read.ensures.reads in
+    let turn = same_then c.loop.seat c.tell.new.to c.read.new.seat (same_told c.loop.seat c.tell.new.to c.loop.other.view told)
+    (same_seat c.tell.new.to c.read.new.seat c.read.ensures.of reads.rest) in
+    let seen = ap (λ s. s.view.seen) told in
+    let firm = subst (λ l. Begins l c.read.new.seat.view.firm) (ap (λ s. s.view.firm) told) reads.firm in (
+      tt,
+      tt,
+      c.tell.ensures.same ∙ until.2,
+      same_then c.args.seat.now c.loop.seat c.read.new.seat until.3 turn,
+      begins_trans c.args.seat.now.view.firm c.loop.seat.view.firm c.read.new.seat.view.firm until.4 firm,
+      begins_trans c.args.seat.now.view.seen c.loop.seat.view.seen c.read.new.seat.view.seen until.5 (subst (λ l. Begins l c.read.new.seat.view.seen) seen reads.seen),
+      still_seen c.args.seat.now.view c.loop.seat.view c.read.new.seat.view until.5 firm until.6 (subst (λ l. length c.read.new.seat.view.firm ≤ length l → c.read.new.seat.view.seen ≡ l) seen reads.same),
+    )

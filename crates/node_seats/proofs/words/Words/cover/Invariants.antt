@@ -1,0 +1,13 @@
+use Rattle.std.proofs.Common.{◌≡◌, ◌≤◌, length}
+use Rattle.spec_model.specs.Histories.{Begins}
+use Rattle.node_seats.specs.Views.{IsSame}
+use Rattle.node_seats.proofs.words.Words.cover.Given as goal
+
+abbrev pub invariant-loop : goal.invariant-loop
+invariant-loop g l =
+    (goal.iterator-loop g).can_next l.iterator' × (goal.iterator-loop g).is_finite l.iterator'
+    × (l.other ≡ l.initial.other)
+    × IsSame l.initial.seat l.seat
+    × Begins l.initial.seat.view.firm l.seat.view.firm
+    × Begins l.initial.seat.view.seen l.seat.view.seen
+    × (length l.seat.view.firm ≤ length l.initial.seat.view.seen → l.seat.view.seen ≡ l.initial.seat.view.seen)
