@@ -1,12 +1,14 @@
 -- What there is left to bring to the disk behind a round, and what is told of all rounds.
-use Rattle.std.proofs.Common.{◌≡◌, ◌+◌, ◌<◌, ℕ, Bool, true, false, List, length, Option, Some, Result, Ok, refl, sym, subst, ◌∙◌, inl, inr, arith}
-use Rattle.std.specs.Prelude.{◌≢◌, ◌⊎◌, ◌↔◌, IfOk, OnOk, IsErrOf, IsSome, IsTrue}
+use Rattle.std.proofs.Common.{◌≡◌, ◌+◌, ◌<◌, ℕ, Bool, true, false, List, length, Option, Some, None, Result, Ok, refl, sym, subst, ◌∙◌, inl, inr, arith}
+use Rattle.std.specs.Prelude.{◌≢◌, ◌⊎◌, ◌↔◌, IfOk, IfSome, OnOk, IsErrOf, IsSome, IsTrue}
 use Rattle.flusher.specs.Rounds.{TakesLongest}
+use Rattle.node_io.specs.Endings.{first_of}
+use Rattle.node_run.specs.Ends.{TellsJournal}
 use Rattle.flusher.specs.declared.error.FlushError.{FlushError}
 use Rattle.flusher.specs.declared.error.FlushError.TheVariants as flush
 use Rattle.journal.specs.declared.error.JournalError.{JournalError}
 use Rattle.journal.specs.declared.error.JournalError.TheVariants as journal
-use Rattle.spec_laws.specs.Laws.{Begins}
+use Rattle.spec_model.specs.Histories.{Begins}
 use Rattle.node_seats.proofs.Beginnings.{begins_trans, begins_whole}
 use Rattle.node_seats.specs.declared.view.Marked.{Marked}
 
@@ -28,22 +30,29 @@ nothing_more first seen settled taken later more takes none is = record {
     there = subst (λ (l : List Marked). TakesLongest seen l l) (sym is) (subst (λ (l : List Marked). TakesLongest seen l taken) same takes)
 
 -- a round that ends well and brought nothing to the disk
-pub nothing_left : (first seen settled taken later firm : List Marked) (round : Result ℕ FlushError) → round ≡ Ok 0 → Begins first seen
+pub nothing_left : (first seen settled taken later : List Marked) (round : Result ℕ FlushError) → round ≡ Ok 0 → Begins first seen
     → IsErrOf round flush.Down ⊎ IsErrOf round flush.Memory ⊎ TakesLongest seen settled taken
-    → IfOk round (λ count. (length taken ≡ length settled + count) × (later ≡ taken) × (firm ≡ taken)) → TakesLongest first later later
-nothing_left first seen settled taken later firm round is more takes settles = by takes
+    → IfOk round (λ count. length taken ≡ length settled + count) → OnOk round (later ≡ taken) → TakesLongest first later later
+nothing_left first seen settled taken later round is more takes size settled_all = by takes
   where
-    ended : (length taken ≡ length settled + 0) × (later ≡ taken) × (firm ≡ taken)
-    ended = subst (λ (it : Result ℕ FlushError). IfOk it (λ count. (length taken ≡ length settled + count) × (later ≡ taken) × (firm ≡ taken))) is settles
+    none : length taken ≡ length settled + 0
+    none = subst (λ (it : Result ℕ FlushError). IfOk it (λ count. length taken ≡ length settled + count)) is size
+
+    whole : later ≡ taken
+    whole = subst (λ (it : Result ℕ FlushError). OnOk it (later ≡ taken)) is settled_all
 
     by : IsErrOf round flush.Down ⊎ IsErrOf round flush.Memory ⊎ TakesLongest seen settled taken → TakesLongest first later later
     by (inl down) = let bad : IsErrOf {T = ℕ} (Ok 0) flush.Down = sym is ∙ down in absurd cc
     by (inr (inl memory)) = let bad : IsErrOf {T = ℕ} (Ok 0) flush.Memory = sym is ∙ memory in absurd cc
-    by (inr (inr longest)) = nothing_more first seen settled taken later more longest ended.0 ended.1
+    by (inr (inr longest)) = nothing_more first seen settled taken later more longest none whole
 
 -- what holds of a round that ends well
 pub of_ok : {P : Type 0} (round : Result ℕ FlushError) (count : ℕ) → round ≡ Ok count → OnOk round P → P
 of_ok {P} round count is holds = subst (λ (it : Result ℕ FlushError). OnOk it P) is holds
+
+-- no such round is of a node that is down
+pub never_ok : (round : Result ℕ FlushError) (count : ℕ) (was : Bool) → round ≡ Ok count → IsErrOf round flush.Down ↔ IsTrue was → IsTrue was → ⊥
+never_ok round count was is fell down = let bad : IsErrOf {T = ℕ} (Ok count) flush.Down = sym is ∙ fell.1 down in cc
 
 -- such a round is of a node that is up, and leaves it so
 pub stays_up : (round : Result ℕ FlushError) (count : ℕ) (was down : Bool) → round ≡ Ok count → IsErrOf round flush.Down ↔ IsTrue was
@@ -57,8 +66,51 @@ stays_up round count false true is fell goes = absurd (never (goes refl))
     never (inr (inl full)) = let bad : IsErrOf {T = ℕ} (Ok count) flush.Full = sym is ∙ full in cc
     never (inr (inr down)) = let bad : IsErrOf {T = ℕ} (Ok count) flush.Down = sym is ∙ down in cc
 
--- what is told so far, where the disk had so many faults at first, and has so many now: its fault exactly where it has more
-pub record TellsFaults (first now : ℕ) (fault : Option JournalError) (down : Bool) : Type 0 where
-  pub fell : IsSome fault → IsTrue down
-  pub device : fault ≡ Some journal.Device → first < now
-  pub no_fault : fault ≢ Some journal.Device → now ≡ first
+-- nothing went wrong before
+pub nothing_told : (first : ℕ) (was : Bool) (Lacks : Type 0) → TellsJournal first first was was None Lacks
+nothing_told first was Lacks = record {
+  fell = λ some. absurd (cc);
+  told = λ up down. absurd (let bad : false ≡ true = sym up ∙ down in cc);
+  which = tt;
+  full = λ is. absurd (cc);
+  device = λ is. absurd (cc);
+  no_fault = λ other. refl;
+}
+
+none_more : (fault : Option JournalError) → first_of fault None ≡ fault
+none_more None = refl
+none_more (Some journal.Memory) = refl
+none_more (Some journal.Device) = refl
+none_more (Some (journal.Damaged place)) = refl
+none_more (Some journal.ConfigMismatch) = refl
+none_more (Some journal.Full) = refl
+
+-- more rounds: those of a node that is down tell nothing, and leave it so
+pub told_on : (first mid now : ℕ) (was down later : Bool) (fault more : Option JournalError) (Lacks More : Type 0) → TellsJournal first mid was down fault Lacks
+    → (more ≡ Some journal.Device → mid < now) → (more ≢ Some journal.Device → now ≡ mid) → (down ≡ false → IsSome more ↔ IsTrue later)
+    → (IsTrue down → (more ≡ None) × IsTrue later × (Lacks → More)) → IfSome more (λ error. (error ≡ journal.Device) ⊎ (error ≡ journal.Full)) → (down ≡ false → more ≡ Some journal.Full → More)
+    → TellsJournal first now was later (first_of fault more) More
+told_on first mid now was true later fault more Lacks More so_far device no_fault down_is stays which full =
+    let none = (stays refl).0 in
+    let same : now ≡ mid = no_fault (λ is. let bad : ◌≡◌ {A = Option JournalError} None (Some journal.Device) = sym none ∙ is in cc) in
+    subst (λ (m : Option JournalError). TellsJournal first now was later (first_of fault m) More) (sym none)
+    (subst (λ (f : Option JournalError). TellsJournal first now was later f More) (sym (none_more fault))
+    (record {
+      fell = λ some. (stays refl).1;
+      told = λ up down. so_far.told up refl;
+      which = so_far.which;
+      full = λ is. (stays refl).2 (so_far.full is);
+      device = λ is. subst (λ n. first < n) (sym same) (so_far.device is);
+      no_fault = λ other. same ∙ so_far.no_fault other;
+    }))
+told_on first mid now was false later (Some error) more Lacks More so_far device no_fault down_is stays which full = absurd (let bad : false ≡ true = so_far.fell refl in cc)
+told_on first mid now was false later None more Lacks More so_far device no_fault down_is stays which full =
+    let start : mid ≡ first = so_far.no_fault (λ is. let bad : ◌≡◌ {A = Option JournalError} None (Some journal.Device) = is in cc) in
+    record {
+      fell = (down_is refl).0;
+      told = λ up down. (down_is refl).1 down;
+      which = which;
+      full = full refl;
+      device = λ is. subst (λ n. n < now) start (device is);
+      no_fault = λ other. no_fault other ∙ start;
+    }

@@ -6,8 +6,8 @@ use Rattle.book.specs.declared.book.Receipt.{Receipt}
 use Rattle.committee.specs.Charter.{Charter}
 use Rattle.header.specs.Checks.{fault_of, accepts_all}
 use Rattle.header.specs.declared.error.CheckError.{CheckError}
-use Rattle.spec_laws.specs.Laws.{Begins, own_event}
-use Rattle.spec_model.specs.Histories.{History}
+use Rattle.spec_laws.specs.Laws.{own_event}
+use Rattle.spec_model.specs.Histories.{History, Begins}
 use Rattle.spec_model.specs.Nodes.{Node}
 use Rattle.spec_model.specs.Proposing.{propose}
 use Rattle.spec_model.specs.Words.{Author, Event, Header}

@@ -6,9 +6,8 @@ use Rattle.spec_machine.specs.Machine.{is_missing_parents}
 use Rattle.node_seats.specs.Views.{events, IsSame}
 use Rattle.node_shared.specs.Home.{seen_by}
 use Rattle.book.specs.declared.book.Receipt.{Receipt}
-use Rattle.spec_laws.specs.Laws.{Begins}
 use Rattle.spec_model.specs.Admitting.{admit}
-use Rattle.spec_model.specs.Histories.{History}
+use Rattle.spec_model.specs.Histories.{History, Begins}
 use Rattle.spec_model.specs.Nodes.{Node}
 use Rattle.spec_model.specs.Words.{Event}
 use Rattle.spec_model.specs.declared.refusal.Refusal.{Refusal}

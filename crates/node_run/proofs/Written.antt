@@ -4,10 +4,9 @@ use Rattle.std.specs.List.{flat_map}
 use Rattle.std.specs.Io.KnownBytes.{Keeps, Appends}
 use Rattle.std.proofs.KnownBytes.{Keeps-trans, Appends-trans, Appends-kept}
 use Rattle.std.proofs.lemmas.List.Concat.{flat_map-append}
-use Rattle.std.proofs.lemmas.List.Elements.{All-push, All-weaker}
-use Rattle.spec_laws.specs.Laws.{Begins}
+use Rattle.std.proofs.lemmas.List.Elements.{All-append, All-push, All-weaker}
 use Rattle.spec_model.specs.Giving.{MayGive}
-use Rattle.spec_model.specs.Histories.{History}
+use Rattle.spec_model.specs.Histories.{History, Begins}
 use Rattle.spec_model.specs.Nodes.{Node}
 use Rattle.spec_model.specs.Words.{Output}
 use Rattle.node_io.specs.declared.faults.Faults.{Faults}
@@ -79,6 +78,23 @@ one_more May output before mid later old cur new so_far may puts = behind later.
         others = others;
       }
     ]
+
+-- what went before, and what went then
+pub both_written : (May : Output → Type 0) (before mid later : Faults) (old cur new : Option (List ℕ))
+    → WritesOnly May before mid old cur → WritesOnly May mid later cur new → WritesOnly May before later old new
+both_written May before mid later old cur new first second = record {
+  broken = λ is. let one = first.broken is in let two = second.broken one.0 in (two.0, Keeps-trans old cur new one.1 two.1);
+  memory = λ is. second.memory (first.memory is);
+  outputs = first.outputs ++ second.outputs;
+  each = All-append May first.outputs second.outputs first.each second.each;
+  written = λ fine. subst (Appends old new) (sym (flat_map-append frame_of first.outputs second.outputs))
+      (Appends-trans old cur new (flat_map frame_of first.outputs) (flat_map frame_of second.outputs) (first.written (was mid.output refl fine)) (second.written fine));
+  others = others_yet before mid later first.others second.others;
+}
+  where
+    was : (b : Bool) → mid.output ≡ b → later.output ≡ false → mid.output ≡ false
+    was true is fine = let bad : true ≡ false = sym ((second.broken is).0) ∙ fine in absurd cc
+    was false is fine = is
 
 -- nothing more, but that the writer may have failed
 pub no_more : (May : Output → Type 0) (before mid later : Faults) (old cur new : Option (List ℕ))

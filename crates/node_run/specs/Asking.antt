@@ -1,11 +1,11 @@
 -- What an event leaves as it was, of what a node is asked behind it.
-use Rattle.std.specs.Prelude.{◌≡◌, ◌≢◌, Bool, true, false, ◌||◌, List, [], ◌∷◌, ◌++◌, Result, Ok}
+use Rattle.std.specs.Prelude.{◌≡◌, ◌≢◌, Bool, true, false, ◌||◌, [], ◌∷◌, ◌++◌, Result, Ok}
 use Rattle.spec_machine.specs.Machine.{is_missing_parents}
 use Rattle.spec_model.specs.Admitting.{admit}
 use Rattle.spec_model.specs.Histories.{History}
 use Rattle.spec_model.specs.Nodes.{Node}
 use Rattle.spec_model.specs.Proposing.{propose}
-use Rattle.spec_model.specs.Words.{Author, Certificate, Event, Message}
+use Rattle.spec_model.specs.Words.{Author, Certificate, Message}
 use Rattle.wire.specs.declared.message.Message.TheVariants as message
 use Rattle.node_io.specs.declared.told.Told.{Told}
 use Rattle.node_run.specs.declared.due.Due.{Due}

@@ -1,7 +1,8 @@
 -- What is told of a round that fails, and of a certificate that can't wait.
-use Rattle.std.specs.Prelude.{true, false, Some, None}
+use Rattle.std.specs.Prelude.{◌≡◌, ◌≢◌, ◌⊎◌, ◌<◌, ℕ, Bool, true, false, Option, Some, None, IsSome, IfSome, IsTrue}
 use Rattle.flusher.specs.declared.error.FlushError.{FlushError}
 use Rattle.flusher.specs.declared.error.FlushError.TheVariants as flush
+use Rattle.journal.specs.declared.error.JournalError.{JournalError}
 use Rattle.journal.specs.declared.error.JournalError.TheVariants as journal
 use Rattle.spec_model.specs.declared.refusal.Refusal.TheVariants as refusal
 use Rattle.node_io.specs.declared.faults.Faults.{Faults}
@@ -21,3 +22,13 @@ faults_behind flush.Down = record { journal = None; output = false; memory = fal
 abbrev pub told_of_wait : WaitRefusal → Told
 told_of_wait waiter.Memory = Refused refusal.Memory
 told_of_wait other = Refused refusal.MissingParents
+
+-- What is told of a journal by all rounds together, where its disk had so many faults at first, and has so many now. A fault is told exactly
+-- where a round took the node down: the disk's exactly where it counted one, or that a group has no place.
+pub record TellsJournal (first now : ℕ) (was_down is_down : Bool) (fault : Option JournalError) (HasNoPlace : Type 0) : Type 0 where
+  pub fell : IsSome fault → IsTrue is_down
+  pub told : was_down ≡ false → IsTrue is_down → IsSome fault
+  pub which : IfSome fault (λ error. (error ≡ journal.Device) ⊎ (error ≡ journal.Full))
+  pub full : fault ≡ Some journal.Full → HasNoPlace
+  pub device : fault ≡ Some journal.Device → first < now
+  pub no_fault : fault ≢ Some journal.Device → now ≡ first

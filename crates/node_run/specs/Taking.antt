@@ -4,7 +4,8 @@ use Rattle.book.specs.declared.book.Receipt.{Receipt}
 use Rattle.header.specs.Checks.{fault_of, accepts_all}
 use Rattle.header.specs.Digested.{certificate_digest_in}
 use Rattle.header.specs.declared.error.CheckError.{CheckError}
-use Rattle.spec_laws.specs.Laws.{Begins, own_event}
+use Rattle.spec_laws.specs.Laws.{own_event}
+use Rattle.spec_model.specs.Histories.{Begins}
 use Rattle.spec_machine.specs.Machine.{is_missing_parents}
 use Rattle.spec_model.specs.Admitting.{admit}
 use Rattle.spec_model.specs.Nodes.{Node}

@@ -1,8 +1,8 @@
 -- What goes to a node's writer.
-use Rattle.std.specs.Prelude.{◌≤◌, length, take, ◌≡◌, ◌⊎◌, ℕ, true, false, List, ◌++◌, Option, All}
+use Rattle.std.specs.Prelude.{◌≤◌, length, take, ◌≡◌, ◌⊎◌, ℕ, true, false, List, ◌++◌, Option, None, All}
 use Rattle.std.specs.List.{flat_map}
 use Rattle.std.specs.Io.KnownBytes.{Keeps, Appends}
-use Rattle.spec_laws.specs.Laws.{Begins}
+use Rattle.spec_model.specs.Histories.{Begins}
 use Rattle.spec_model.specs.Giving.{MayGive}
 use Rattle.spec_model.specs.Nodes.{Node}
 use Rattle.spec_model.specs.Words.{Output}
@@ -13,6 +13,10 @@ use Rattle.node_seats.specs.declared.view.View.{View}
 use Rattle.spec_world.specs.Promise.{GoesOut}
 use Rattle.spec_world.specs.Text.{frame_of}
 use Rattle.spec_world.specs.World.{put_out}
+
+-- nothing has gone wrong
+abbrev pub no_faults : Faults
+no_faults = record { journal = None; output = false; memory = false; input = false }
 
 -- Bytes were to go to a writer. Once it has failed nothing goes to it; else they stand behind what it has, unless it fails, or memory was
 -- refused for them. No other fault is told.

@@ -3,22 +3,22 @@
 ghost use Rattle.std.specs.Prelude.{◌≡◌, None, Err, true, false, IsSome, IfOk, IfSome, OnErr};
 ghost use Rattle.header.specs.Digested.{certificate_digest_in};
 ghost use Rattle.header.specs.Checks.{fault_of, accepts_all};
-ghost use Rattle.spec_laws.specs.Laws.{Begins};
+ghost use Rattle.spec_model.specs.Histories.{Begins};
 ghost use Rattle.spec_machine.specs.Machine.{is_missing_parents};
 ghost use Rattle.spec_model.specs.Admitting.{admit};
-ghost use Rattle.spec_model.specs.Giving.{MayGive};
 ghost use Rattle.node_seats.specs.Views.{IsSame};
 ghost use Rattle.node_io.specs.declared.told.Told.TheVariants.{Refused};
-ghost use Rattle.node_shared.specs.Answers.{IsPutOutBy};
-ghost use Rattle.node_shared.specs.Home.{seen_by, firm_by};
+ghost use Rattle.node_shared.specs.Answers.{Gives};
+ghost use Rattle.node_shared.specs.Calls.{Learned};
+ghost use Rattle.node_shared.specs.Home.{seen_by};
 ghost use Rattle.sigface.specs.Pair.{is_pair_signature};
 ghost use Rattle.node.specs.Callers.{StaysWith};
 ghost use Rattle.validator.specs.Setting.{node_of};
 ghost use Rattle.node_run.specs.Taking.{Handles, HandlesAgain, IsSubmitted, IsProposed, LacksParents, MayBeSubmitted, OnlyLooks, is_told_new};
 
-use header::{Checked, check, recheck};
+use header::{Checked, check, passes, recheck};
 use node::Refusal;
-use node_io::{Told, passes};
+use node_io::Told;
 use sigface::{HashVerify, Sign};
 use std::alloc::AllocError;
 use std::marker::Model;
@@ -159,10 +159,8 @@ impl<'n, 'a, S: Sign> Caller<'n, 'a, S> {
     /// The next output that may go out.
     pub(crate) fn collect<R: Wait>(&mut self, rt: &R) -> Option<Output>
         ensures stays { StaysWith self.old self.new }
-        ensures same { IsSame self.old.seat self.new.seat }
-        ensures more { Begins self.old.seat.view.firm self.new.seat.view.firm }
-        ensures goes_out { IfSome result (λ output. MayGive (node_of S.own_key S.signature_of self.old.node.setting) (firm_by self.new.seat) output) }
-        ensures put_out { IfSome result (λ output. IsPutOutBy (node_of S.own_key S.signature_of self.old.node.setting) self.new.seat.view output) }
+        ensures learned { Learned (node_of S.own_key S.signature_of) self.old.node self.old.seat self.new.seat }
+        ensures gives { IfSome result (λ output. Gives (node_of S.own_key S.signature_of self.old.node.setting) self.new.seat output) }
     {
         self.node.collect(rt)
     }

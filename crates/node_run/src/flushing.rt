@@ -3,7 +3,7 @@
 ghost use Rattle.std.specs.Prelude.{◌≡◌, ◌≢◌, ◌⊎◌, ◌↔◌, ◌<◌, true, false, Some, None, IsSome, IfSome, IsTrue};
 ghost use Rattle.journal.specs.Journal.{disk_of};
 ghost use Rattle.flusher.specs.Rounds.{journal_of, is_down, settled_in, taken_in, HasNoRoom, TakesLongest};
-ghost use Rattle.node_run.specs.Ends.{faults_behind};
+ghost use Rattle.node_run.specs.Ends.{faults_behind, TellsJournal};
 
 use crate::bell::Bell;
 use diskmodel::Disk;
@@ -13,38 +13,27 @@ use node_io::Faults;
 use sigface::Sign;
 use std::sync::Wait;
 
-/// What the thread leaves.
-#[derive(Drop)]
-pub(crate) struct Flushed<D: Disk> {
-    pub(crate) faults: Faults,
-    pub(crate) disk: D,
-}
-
 /// Brings all records to the disk each time that the first bell is rung, and then rings the second, until the first is closed and all
 /// records are there.
 pub(crate) fn flush_all<S: Sign, D: Disk, R: Wait>(
     rt: &R,
-    mut rounds: Rounds<'_, '_, S, D>,
+    rounds: &mut Rounds<'_, '_, S, D>,
     pending: &Bell,
     settled: &Bell,
-) -> Flushed<D>
-    ensures device { result.faults.journal ≡ Some JournalError.Device → D.faults (disk_of (journal_of rounds.entry.flusher)) < D.faults result.disk }
-    ensures no_fault { result.faults.journal ≢ Some JournalError.Device → D.faults result.disk ≡ D.faults (disk_of (journal_of rounds.entry.flusher)) }
-    ensures others { (result.faults.output ≡ false) × (result.faults.input ≡ false) }
+) -> Faults
+    ensures journal { TellsJournal (D.faults (disk_of (journal_of rounds.old.flusher))) (D.faults (disk_of (journal_of rounds.new.flusher))) (is_down rounds.old.flusher) (is_down rounds.new.flusher) result.journal (HasNoRoom (D.content (disk_of (journal_of rounds.new.flusher))) (settled_in rounds.new.flusher) (taken_in rounds.new.flusher)) }
+    ensures others { (result.output ≡ false) × (result.input ≡ false) }
 {
     let mut faults = Faults::none();
     for _ in rt.forever() {
         let may_go_on = pending.wait(rt);
-        faults = faults.and(flush_pending(rt, &mut rounds, settled));
+        faults = faults.and(flush_pending(rt, rounds, settled));
         if !may_go_on {
-            break;
+            settled.close(rt);
+            return faults;
         }
     }
-    settled.close(rt);
-    Flushed {
-        faults,
-        disk: rounds.into_disk(),
-    }
+    unreachable!()
 }
 
 // Rounds until all records are on the disk, or one fails.
@@ -58,7 +47,7 @@ fn flush_pending<S: Sign, D: Disk, R: Wait>(
 
     // A round that takes the node down is told as the journal's fault: the disk's, or that the group has no place.
     ensures down { is_down rounds.old.flusher ≡ false → IsSome result.journal ↔ IsTrue (is_down rounds.new.flusher) }
-    ensures stays { IsTrue (is_down rounds.old.flusher) → (result.journal ≡ None) × IsTrue (is_down rounds.new.flusher) }
+    ensures stays { IsTrue (is_down rounds.old.flusher) → (result.journal ≡ None) × (rounds.new.flusher ≡ rounds.old.flusher) }
     ensures which { IfSome result.journal (λ error. (error ≡ JournalError.Device) ⊎ (error ≡ JournalError.Full)) }
     ensures full { is_down rounds.old.flusher ≡ false → result.journal ≡ Some JournalError.Full → HasNoRoom (D.content (disk_of (journal_of rounds.new.flusher))) (settled_in rounds.new.flusher) (taken_in rounds.new.flusher) }
 

@@ -73,7 +73,9 @@ impl<'n, 'a, S: Sign> Intake<'n, 'a, S> {
     }
 
     /// Takes what a frame of this body brings, and writes a line for each refusal.
-    pub(crate) fn take<R: Wait, E: Write>(&mut self, rt: &R, body: &[u8], errors: &mut E) {
+    pub(crate) fn take<R: Wait, E: Write>(&mut self, rt: &R, body: &[u8], errors: &mut E)
+        ensures mark { self.old.was_refused_memory ≡ true → self.new.was_refused_memory ≡ true }
+    {
         match self.answer(rt, body) {
             Ok(true) => self.follow(rt, errors),
             Ok(false) => (),
@@ -85,6 +87,7 @@ impl<'n, 'a, S: Sign> Intake<'n, 'a, S> {
     /// there is one. It asks only what can be answered otherwise than when it was asked last, or what was refused for want of memory.
     pub(crate) fn follow<R: Wait, E: Write>(&mut self, rt: &R, errors: &mut E)
         ensures idle { self.old.due ≡ nothing_due → self.new ≡ self.old }
+        ensures mark { self.old.was_refused_memory ≡ true → self.new.was_refused_memory ≡ true }
     {
         if !self.due.is_nothing() {
             self.ask(rt, errors);
@@ -92,7 +95,9 @@ impl<'n, 'a, S: Sign> Intake<'n, 'a, S> {
     }
 
     // Asks for what is due, as long as that brings a certificate that is ready.
-    fn ask<R: Wait, E: Write>(&mut self, rt: &R, errors: &mut E) {
+    fn ask<R: Wait, E: Write>(&mut self, rt: &R, errors: &mut E)
+        ensures mark { self.old.was_refused_memory ≡ true → self.new.was_refused_memory ≡ true }
+    {
         for _ in 0..=MAX_WAITING {
             self.propose(rt);
             let Some(event) = self.next_ready(rt) else {
@@ -103,7 +108,9 @@ impl<'n, 'a, S: Sign> Intake<'n, 'a, S> {
     }
 
     // Takes a certificate that has waited.
-    fn take_ready<R: Wait, E: Write>(&mut self, rt: &R, event: Checked, errors: &mut E) {
+    fn take_ready<R: Wait, E: Write>(&mut self, rt: &R, event: Checked, errors: &mut E)
+        ensures mark { self.new.was_refused_memory ≡ self.old.was_refused_memory }
+    {
         match self.caller.take_waiting(rt, event) {
             Ok(taken) => {
                 if matches!(taken, Taken::New) {
@@ -116,7 +123,9 @@ impl<'n, 'a, S: Sign> Intake<'n, 'a, S> {
     }
 
     // Whether what a frame of this body brings is a new record.
-    fn answer<R: Wait>(&mut self, rt: &R, body: &[u8]) -> Result<bool, Told> {
+    fn answer<R: Wait>(&mut self, rt: &R, body: &[u8]) -> Result<bool, Told>
+        ensures mark { self.new.was_refused_memory ≡ self.old.was_refused_memory }
+    {
         match request_of(self.alloc, body)? {
             Request::Message { sender, message } => self.submit(rt, sender, message),
             Request::Transaction { worker, bytes } => {
@@ -226,6 +235,7 @@ impl<'n, 'a, S: Sign> Intake<'n, 'a, S> {
         ensures some { IfSome result (λ _. self.new.due ≡ self.old.due) }
         ensures none { IfNone result (self.new.waiter ≡ self.old.waiter) }
         ensures proposal { self.new.due.proposal ≡ self.old.due.proposal }
+        ensures mark { self.new.was_refused_memory ≡ self.old.was_refused_memory }
     {
         if !self.due.waiting {
             return None;

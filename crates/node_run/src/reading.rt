@@ -1,6 +1,8 @@
 //! The thread that reads frames and takes what they bring.
 
-ghost use Rattle.std.specs.Prelude.{◌≡◌, false, None};
+ghost use Rattle.std.specs.Prelude.{◌≡◌, true, Some};
+ghost use Rattle.node_io.specs.Endings.{behind_input};
+ghost use Rattle.node_io.specs.declared.input.End.{End};
 
 use crate::intake::Intake;
 use node_io::{Faults, Input};
@@ -8,24 +10,26 @@ use sigface::Sign;
 use std::io::{BufWriter, Read, Write};
 use std::sync::Wait;
 
-/// Takes what the frames bring, until they end. A line for each refusal is written before more is read.
+/// Takes what the frames bring, until they end. A line for each refusal is written before more is read. It tells how they ended, and
+/// whether memory was refused outside an event.
 pub(crate) fn read_all<S: Sign, I: Read + Drop, E: Write + Drop, R: Wait>(
     rt: &R,
-    mut input: Input<I>,
-    mut intake: Intake<'_, '_, S>,
+    input: &mut Input<I>,
+    intake: &mut Intake<'_, '_, S>,
     errors: &mut BufWriter<E>,
 ) -> Faults
-    ensures { (result.journal ≡ None) × (result.output ≡ false) }
+    ensures tells { (end : End) × (input.new.end ≡ Some end) × (result ≡ behind_input end intake.new.was_refused_memory) }
+    ensures mark { intake.old.was_refused_memory ≡ true → intake.new.was_refused_memory ≡ true }
 {
     intake.follow(rt, errors);
-    for _ in 0..u64::MAX {
+    for _ in rt.forever() {
         let _ = errors.flush();
         match input.next() {
-            Ok(bodies) => take_all(rt, &mut intake, &bodies, errors),
+            Ok(bodies) => take_all(rt, intake, &bodies, errors),
             Err(end) => return Faults::of_input(end, intake.was_refused_memory()),
         }
     }
-    Faults::none()
+    unreachable!()
 }
 
 fn take_all<S: Sign, E: Write, R: Wait>(
@@ -33,7 +37,9 @@ fn take_all<S: Sign, E: Write, R: Wait>(
     intake: &mut Intake<'_, '_, S>,
     bodies: &[Vec<u8>],
     errors: &mut E,
-) {
+)
+    ensures mark { intake.old.was_refused_memory ≡ true → intake.new.was_refused_memory ≡ true }
+{
     for body in bodies {
         intake.take(rt, body, errors);
     }

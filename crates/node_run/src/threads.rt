@@ -1,15 +1,18 @@
 //! The threads of a node.
 
-ghost use Rattle.std.specs.Prelude.{◌≡◌};
+ghost use Rattle.std.specs.Prelude.{◌≡◌, ◌≢◌, ◌<◌, false, Some};
 ghost use Rattle.std.specs.Thread.{IsSend, IsSync};
+ghost use Rattle.journal.specs.Journal.{disk_of};
+ghost use Rattle.flusher.specs.Rounds.{journal_of};
 
-use crate::bell::Bells;
+use crate::bell::{Bell, Bells};
 use crate::caller::Caller;
-use crate::flushing::{Flushed, flush_all};
+use crate::flushing::flush_all;
 use crate::intake::Intake;
 use crate::reading::read_all;
-use crate::writing::write_outputs;
+use crate::writing::{Sink, write_outputs};
 use diskmodel::Disk;
+use journal::JournalError;
 use node::Rounds;
 use node_io::{Faults, Input};
 use sigface::Sign;
@@ -82,28 +85,27 @@ where
     let Desks {
         alloc,
         bells,
-        input,
-        intake,
+        mut input,
+        mut intake,
         mut errors,
         caller,
         writer,
     } = desks;
     let Bells { pending, settled } = bells;
+    let sink = Sink::new(alloc, writer);
     thread::scope(
         thread::scope_env(),
         rt,
         move |scope| -> (Faults, Option<D>)
             requires { IsSync R.row × IsSend S.row × IsSync S.row × IsSend D.row × IsSend W.row }
         {
-            let flusher = match scope.spawn(move || flush_all(rt, rounds, pending, settled)) {
+            let flusher = match scope.spawn(move || flush(rt, rounds, pending, settled)) {
                 Ok(flusher) => flusher,
                 Err(_) => return (Faults::of_memory(), None),
             };
-            let written = match scope.spawn(move || write_outputs(
-                rt, alloc, caller, writer, settled,
-            )) {
+            let written = match scope.spawn(move || write(rt, caller, sink, settled)) {
                 Ok(writer) => {
-                    let read = read_all(rt, input, intake, &mut errors);
+                    let read = read_all(rt, &mut input, &mut intake, &mut errors);
                     pending.close(rt);
                     read.and(writer.join(rt))
                 }
@@ -112,8 +114,34 @@ where
                     Faults::of_memory()
                 }
             };
-            let Flushed { faults, disk } = flusher.join(rt);
+            let (faults, disk) = flusher.join(rt);
             (written.and(faults), Some(disk))
         },
     )
+}
+
+// What the thread does that flushes: it gives the disk back.
+fn flush<S: Sign, D: Disk, R: Wait>(
+    rt: &R,
+    mut rounds: Rounds<'_, '_, S, D>,
+    pending: &Bell,
+    settled: &Bell,
+) -> (Faults, D)
+    ensures device { result.0.journal ≡ Some JournalError.Device → D.faults (disk_of (journal_of rounds.entry.flusher)) < D.faults result.1 }
+    ensures no_fault { result.0.journal ≢ Some JournalError.Device → D.faults result.1 ≡ D.faults (disk_of (journal_of rounds.entry.flusher)) }
+    ensures others { (result.0.output ≡ false) × (result.0.input ≡ false) }
+{
+    let faults = flush_all(rt, &mut rounds, pending, settled);
+    (faults, rounds.into_disk())
+}
+
+// What the thread does that writes.
+fn write<S: Sign, W: Write + Drop, R: Wait>(
+    rt: &R,
+    mut caller: Caller<'_, '_, S>,
+    mut sink: Sink<W>,
+    settled: &Bell,
+) -> Faults {
+    write_outputs(rt, &mut caller, &mut sink, settled);
+    sink.faults()
 }

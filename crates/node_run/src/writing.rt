@@ -1,16 +1,16 @@
 //! The thread that writes what goes out.
 
-ghost use Rattle.std.specs.Prelude.{◌≡◌, ◌≤◌, ◌++◌, true, false, None, length, OnOk};
+ghost use Rattle.std.specs.Prelude.{◌≡◌, ◌≤◌, ◌++◌, true, false, length, OnOk};
 ghost use Rattle.std.specs.Int.{w32, to_be_bytes};
 ghost use Rattle.std.specs.Io.Buffered.{writer_contents};
 ghost use Rattle.std.specs.Io.KnownBytes.{Appends, Keeps};
-ghost use Rattle.spec_laws.specs.Laws.{Begins};
+ghost use Rattle.spec_model.specs.Histories.{Begins};
 ghost use Rattle.node_seats.specs.Views.{IsSame};
 ghost use Rattle.node.specs.Callers.{StaysWith};
 ghost use Rattle.validator.specs.Setting.{node_of};
 ghost use Rattle.wire.specs.declared.limits.TheConstants.{MAX_FRAME_BYTES};
 ghost use Rattle.spec_world.specs.Text.{frame_of};
-ghost use Rattle.node_run.specs.Writing.{Puts, MayGo, WritesNext, WritesOnly};
+ghost use Rattle.node_run.specs.Writing.{no_faults, Puts, MayGo, WritesNext, WritesOnly};
 
 use crate::bell::Bell;
 use crate::caller::Caller;
@@ -23,7 +23,7 @@ use wire::{Output, encode_output};
 
 /// Where outputs go. Where one can't be written none is from then on.
 #[derive(Drop)]
-struct Sink<W: Write + Drop> {
+pub(crate) struct Sink<W: Write + Drop> {
     alloc: Global,
     writer: BufWriter<W>,
     faults: Faults,
@@ -32,26 +32,23 @@ struct Sink<W: Write + Drop> {
 /// Writes a frame of each output that may go out, each time that the bell is rung, until it is closed and all are written.
 pub(crate) fn write_outputs<S: Sign, W: Write + Drop, R: Wait>(
     rt: &R,
-    alloc: Global,
-    mut caller: Caller<'_, '_, S>,
-    writer: BufWriter<W>,
+    caller: &mut Caller<'_, '_, S>,
+    sink: &mut Sink<W>,
     settled: &Bell,
-) -> Faults
-    ensures { (result.journal ≡ None) × (result.input ≡ false) }
+)
+    ensures stays { StaysWith caller.old caller.new }
+    ensures same { IsSame caller.old.seat caller.new.seat }
+    ensures more { Begins caller.old.seat.view.firm caller.new.seat.view.firm }
+    ensures only { WritesOnly (MayGo (node_of S.own_key S.signature_of caller.old.node.setting) caller.new.seat.view) sink.old.faults sink.new.faults (writer_contents W.contents sink.old.writer) (writer_contents W.contents sink.new.writer) }
 {
-    let mut sink = Sink {
-        alloc,
-        writer,
-        faults: Faults::none(),
-    };
     for _ in rt.forever() {
         let may_go_on = settled.wait(rt);
-        write_due(rt, &mut caller, &mut sink);
+        write_due(rt, caller, sink);
         if !may_go_on {
-            break;
+            return;
         }
     }
-    sink.faults
+    unreachable!()
 }
 
 // Writes what may go out now.
@@ -95,6 +92,25 @@ fn write_next<S: Sign, W: Write + Drop, R: Wait>(
 }
 
 impl<W: Write + Drop> Sink<W> {
+    /// Nothing has gone wrong yet.
+    pub(crate) fn new(alloc: Global, writer: BufWriter<W>) -> Sink<W>
+        ensures faults { result.faults ≡ no_faults }
+        ensures writer { result.writer ≡ writer }
+    {
+        Sink {
+            alloc,
+            writer,
+            faults: Faults::none(),
+        }
+    }
+
+    /// What went wrong.
+    pub(crate) fn faults(&self) -> Faults
+        ensures { result ≡ self.now.faults }
+    {
+        self.faults
+    }
+
     // Puts the frame of an output behind what was written, and lets go of it.
     fn put(&mut self, output: Output)
         ensures { Puts (frame_of output) self.old.faults self.new.faults (writer_contents W.contents self.old.writer) (writer_contents W.contents self.new.writer) }

@@ -1,6 +1,7 @@
 use Rattle.std.proofs.Common.{◌≡◌}
+use Rattle.std.specs.Prelude.{IsTrue}
 use Rattle.journal.specs.Journal.{disk_of}
-use Rattle.spec_laws.specs.Laws.{Begins}
+use Rattle.spec_model.specs.Histories.{Begins}
 use Rattle.flusher.specs.Rounds.{journal_of, is_down}
 use Rattle.node_run.proofs.flushing.flush_pending.Given as goal
 
@@ -10,3 +11,4 @@ invariant-loop g l =
     × (g.D.Disk.faults (disk_of (journal_of l.rounds.flusher)) ≡ g.D.Disk.faults (disk_of (journal_of l.initial.rounds.flusher)))
     × (is_down l.rounds.flusher ≡ is_down l.initial.rounds.flusher)
     × Begins l.initial.rounds.seat.view.seen l.rounds.seat.view.seen
+    × (IsTrue (is_down l.initial.rounds.flusher) → l.rounds.flusher ≡ l.initial.rounds.flusher)

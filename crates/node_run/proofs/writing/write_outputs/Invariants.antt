@@ -1,6 +1,15 @@
-use Rattle.std.proofs.Common.{◌≡◌, None, false}
+use Rattle.std.specs.Io.Buffered.{writer_contents}
+use Rattle.spec_model.specs.Histories.{Begins}
+use Rattle.node_seats.specs.Views.{IsSame}
+use Rattle.node.specs.Callers.{StaysWith}
+use Rattle.validator.specs.Setting.{node_of}
+use Rattle.node_run.specs.Writing.{MayGo, WritesOnly}
 use Rattle.node_run.proofs.writing.write_outputs.Given as goal
 
 abbrev pub invariant-loop : goal.invariant-loop
 invariant-loop g l =
-    (goal.iterator-loop g).can_next l.iterator' × (goal.iterator-loop g).is_finite l.iterator' × (l.sink.faults.journal ≡ None) × (l.sink.faults.input ≡ false)
+    (goal.iterator-loop g).can_next l.iterator' × (goal.iterator-loop g).is_finite l.iterator'
+    × StaysWith l.initial.caller l.caller
+    × IsSame l.initial.caller.seat l.caller.seat
+    × Begins l.initial.caller.seat.view.firm l.caller.seat.view.firm
+    × WritesOnly (MayGo (node_of g.S.Sign.own_key g.S.Sign.signature_of l.initial.caller.node.setting) l.caller.seat.view) l.initial.sink.faults l.sink.faults (writer_contents g.W.Write.contents l.initial.sink.writer) (writer_contents g.W.Write.contents l.sink.writer)

@@ -1,6 +1,6 @@
 use Rattle.std.proofs.Common.{◌≡◌, None, ap, subst, sym, ◌∙◌}
 use Rattle.header.specs.Checks.{fault_of, accepts_all}
-use Rattle.spec_laws.specs.Laws.{Begins}
+use Rattle.spec_model.specs.Histories.{Begins}
 use Rattle.spec_model.specs.Proposing.{propose}
 use Rattle.spec_model.specs.Words.{Author}
 use Rattle.node_shared.specs.Home.{seen_by}
@@ -17,8 +17,8 @@ returns-in_default-clause-proposed g c =
     let mid = c.propose.new.self in
     let node = node_of g.S.Sign.own_key g.S.Sign.signature_of before.node.setting in
     let found = subst (λ it. c.in_ok-header.field-0 ≡ propose (node_of g.S.Sign.own_key g.S.Sign.signature_of it.node.setting) (seen_by mid.seat)) c.self.view_is c.in_ok-header.ensures.header in
-    none_proposed node before mid (c.propose.ensures.same.mine ∙ ap (λ it. it.seat.view.mine) c.self.view_is) (c.propose.ensures.same.start ∙ ap (λ it. it.seat.view.start) c.self.view_is)
-    (subst (λ it. Begins it.seat.view.seen mid.seat.view.seen) c.self.view_is c.propose.ensures.more)
+    none_proposed node before mid (c.propose.ensures.looked.same.mine ∙ ap (λ it. it.seat.view.mine) c.self.view_is) (c.propose.ensures.looked.same.start ∙ ap (λ it. it.seat.view.start) c.self.view_is)
+    (subst (λ it. Begins it.seat.view.seen mid.seat.view.seen) c.self.view_is c.propose.ensures.looked.more)
     c.in_ok-header.field-0 found c.in_default.is
 
 pub returns-in_default-recheck-clause-proposed : goal.returns-in_default-recheck-clause-proposed
@@ -30,8 +30,8 @@ returns-in_default-recheck-clause-proposed g c =
     let at_node = ap (λ it. it.setting) (c.propose.ensures.stays.node ∙ ap (λ it. it.node) c.self.view_is) in
     let setting = c.config.ensures.config ∙ sym c.config.ensures.node ∙ at_node in
     let setting-2 = c.config-2.ensures.config ∙ sym c.config-2.ensures.node ∙ at_node in
-    never_passed node before mid (c.propose.ensures.same.mine ∙ ap (λ it. it.seat.view.mine) c.self.view_is) (c.propose.ensures.same.start ∙ ap (λ it. it.seat.view.start) c.self.view_is)
-    (subst (λ it. Begins it.seat.view.seen mid.seat.view.seen) c.self.view_is c.propose.ensures.more)
+    never_passed node before mid (c.propose.ensures.looked.same.mine ∙ ap (λ it. it.seat.view.mine) c.self.view_is) (c.propose.ensures.looked.same.start ∙ ap (λ it. it.seat.view.start) c.self.view_is)
+    (subst (λ it. Begins it.seat.view.seen mid.seat.view.seen) c.self.view_is c.propose.ensures.looked.more)
     c.in_ok-header.field-0 c.in-Some.header c.in_default-recheck.field-0 found c.in-Some.is
     (own_fault node c.committee-committee.result.now c.own-own.result c.in-Some.header _
     (c.committee-committee.ensures ∙ ap (λ it. it.charter) setting) (c.own-own.ensures ∙ ap (λ it. it.own) setting-2) c.in_default-recheck.ensures.refused)
@@ -43,10 +43,10 @@ returns-clause-proposed g c =
     let later = c.submit.new.node in
     let node = node_of g.S.Sign.own_key g.S.Sign.signature_of before.node.setting in
     let found = subst (λ it. c.in_ok-header.field-0 ≡ propose (node_of g.S.Sign.own_key g.S.Sign.signature_of it.node.setting) (seen_by mid.seat)) c.self.view_is c.in_ok-header.ensures.header in
-    let start = c.propose.ensures.same.start ∙ ap (λ it. it.seat.view.start) c.self.view_is in
-    let number = c.propose.ensures.same.number ∙ ap (λ it. it.seat.view.number) c.self.view_is in
-    let mine = c.propose.ensures.same.mine ∙ ap (λ it. it.seat.view.mine) c.self.view_is in
-    let more = subst (λ it. Begins it.seat.view.seen mid.seat.view.seen) c.self.view_is c.propose.ensures.more in
+    let start = c.propose.ensures.looked.same.start ∙ ap (λ it. it.seat.view.start) c.self.view_is in
+    let number = c.propose.ensures.looked.same.number ∙ ap (λ it. it.seat.view.number) c.self.view_is in
+    let mine = c.propose.ensures.looked.same.mine ∙ ap (λ it. it.seat.view.mine) c.self.view_is in
+    let more = subst (λ it. Begins it.seat.view.seen mid.seat.view.seen) c.self.view_is c.propose.ensures.looked.more in
     let at_node = ap (λ it. it.setting) (c.propose.ensures.stays.node ∙ ap (λ it. it.node) c.self.view_is) in
     let setting-2 = c.config-2.ensures.config ∙ sym c.config-2.ensures.node ∙ at_node in
     let setting = c.config.ensures.config ∙ sym c.config.ensures.node ∙ at_node in
@@ -59,4 +59,4 @@ returns-clause-proposed g c =
 pub returns-clause-memory : goal.returns-clause-memory
 returns-clause-memory g c =
     lacked_memory _ c.in-Ok.event c.args.self.now c.propose.new.self c.submit.new.node c.submit.result c.newness.result
-    (c.propose.ensures.same.mine ∙ ap (λ it. it.seat.view.mine) c.self.view_is) c.submit.ensures.submitted c.newness.ensures.err
+    (c.propose.ensures.looked.same.mine ∙ ap (λ it. it.seat.view.mine) c.self.view_is) c.submit.ensures.submitted c.newness.ensures.err

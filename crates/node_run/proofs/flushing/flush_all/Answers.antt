@@ -1,0 +1,41 @@
+use Rattle.std.proofs.Common.{rules, Option, false, sym, subst}
+use Rattle.std.specs.Prelude.{◌≡◌, IsTrue}
+use Rattle.journal.specs.Journal.{disk_of}
+use Rattle.journal.specs.declared.error.JournalError.{JournalError}
+use Rattle.flusher.specs.Rounds.{journal_of, is_down, settled_in, taken_in, HasNoRoom}
+use Rattle.flusher.specs.declared.flusher.Flusher.{Flusher}
+use Rattle.node_run.specs.Ends.{TellsJournal}
+use Rattle.node_run.proofs.Flushed.{told_on}
+use Rattle.node_run.proofs.flushing.flush_all.Goals as goal
+
+pub loop-preserved : goal.loop-preserved
+loop-preserved g c =
+    let first = c.args.rounds.now.flusher in
+    let mid = c.loop.rounds.flusher in
+    let now = c.flush_pending.new.rounds.flusher in
+    let lacks = λ (f : Flusher g.row.D.Denot). HasNoRoom (g.D.Disk.content (disk_of (journal_of f))) (settled_in f) (taken_in f) in
+    let faults = λ (f : Flusher g.row.D.Denot). g.D.Disk.faults (disk_of (journal_of f)) in
+    let done = c.flush_pending.ensures in
+    let told = subst (λ (j : Option JournalError). TellsJournal (faults first) (faults now) (is_down first) (is_down now) j (lacks now)) (sym c.and-faults.ensures.journal)
+    (told_on (faults first) (faults mid) (faults now) (is_down first) (is_down mid) (is_down now) c.loop.faults.journal c.flush_pending.result.journal (lacks mid) (lacks now) c.loop.invariant.4
+    done.device done.no_fault done.down
+    (λ down. let it = done.stays down in (it.0, subst (λ (f : Flusher g.row.D.Denot). IsTrue (is_down f)) (sym it.1) down, subst lacks (sym it.1)))
+    done.which done.full) in
+    let output : c.and-faults.result.output ≡ false = search rules in
+    let input : c.and-faults.result.input ≡ false = search rules in
+    (tt, tt, output, input, told)
+
+pub returns-then-not-may_go_on-clause-journal : goal.returns-then-not-may_go_on-clause-journal
+returns-then-not-may_go_on-clause-journal g c =
+    let first = c.args.rounds.now.flusher in
+    let mid = c.loop.rounds.flusher in
+    let now = c.flush_pending.new.rounds.flusher in
+    let lacks = λ (f : Flusher g.row.D.Denot). HasNoRoom (g.D.Disk.content (disk_of (journal_of f))) (settled_in f) (taken_in f) in
+    let faults = λ (f : Flusher g.row.D.Denot). g.D.Disk.faults (disk_of (journal_of f)) in
+    let done = c.flush_pending.ensures in
+    let told = subst (λ (j : Option JournalError). TellsJournal (faults first) (faults now) (is_down first) (is_down now) j (lacks now)) (sym c.and-faults.ensures.journal)
+    (told_on (faults first) (faults mid) (faults now) (is_down first) (is_down mid) (is_down now) c.loop.faults.journal c.flush_pending.result.journal (lacks mid) (lacks now) c.loop.invariant.4
+    done.device done.no_fault done.down
+    (λ down. let it = done.stays down in (it.0, subst (λ (f : Flusher g.row.D.Denot). IsTrue (is_down f)) (sym it.1) down, subst lacks (sym it.1)))
+    done.which done.full) in
+    told
