@@ -1,7 +1,6 @@
 //! The words of a line.
 
-ghost use Rattle.std.specs.Prelude.{◌<◌, IfSome};
-
+use hex::{FromHexError, decode, decode_to_slice};
 use std::alloc::{AllocError, Global};
 use wire::Author;
 
@@ -47,37 +46,29 @@ pub fn member(word: &str) -> Option<Author> {
 
 // One pair of the digits 0-9, a-f.
 pub fn hex_byte(word: &str) -> Option<u8> {
-    match word.as_bytes() {
-        [high, low] => pair(*high, *low),
-        _ => None,
+    let mut byte = [0];
+    if has_capitals(word) {
+        return None;
+    }
+    match decode_to_slice(word.as_bytes(), &mut byte) {
+        Ok(()) => Some(byte[0]),
+        Err(_) => None,
     }
 }
 
 // One or more such pairs.
 pub fn hex_bytes(alloc: Global, word: &str) -> Result<Option<Vec<u8>>, AllocError> {
-    let mut bytes = Vec::new(alloc);
-    if word.is_empty() || word.len() % 2 == 1 {
+    if word.is_empty() || has_capitals(word) {
         return Ok(None);
     }
-    for digits in word.as_bytes().chunks_exact(2) {
-        match pair(digits[0], digits[1]) {
-            Some(byte) => bytes.push(byte)?,
-            None => return Ok(None),
-        }
+    match decode(alloc, word.as_bytes()) {
+        Ok(bytes) => Ok(Some(bytes)),
+        Err(FromHexError::OutOfMemory) => Err(AllocError),
+        Err(_) => Ok(None),
     }
-    Ok(Some(bytes))
 }
 
-fn pair(high: u8, low: u8) -> Option<u8> {
-    Some(digit(high)? * 16 + digit(low)?)
-}
-
-fn digit(byte: u8) -> Option<u8>
-    ensures { IfSome result (λ digit. digit < 16) }
-{
-    match byte {
-        b'0'..=b'9' => Some(byte - b'0'),
-        b'a'..=b'f' => Some(byte - b'a' + 10),
-        _ => None,
-    }
+// Scripts have the small digits alone.
+fn has_capitals(word: &str) -> bool {
+    word.as_bytes().iter().any(|byte| byte.is_ascii_uppercase())
 }

@@ -2,12 +2,12 @@
 //! otherwise.
 #![tactic(auto)]
 
+mod digits;
 mod files;
-mod hex;
 mod playing;
 mod words;
 
+pub use digits::{bytes_of, write_hex};
 pub use files::names_of;
-pub use hex::{bytes_of, write_hex};
 pub use playing::{Ending, Player};
 pub use words::{Told, bad, put};

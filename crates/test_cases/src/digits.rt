@@ -1,0 +1,24 @@
+//! Bytes as hexadecimal digits.
+
+use hex::{FromHexError, decode};
+use std::alloc::{AllocError, Global};
+
+/// The bytes of pairs of the digits 0-9, a-f; nothing where another character stands there, or a digit is left over.
+pub fn bytes_of(alloc: Global, word: &str) -> Result<Option<Vec<u8>>, AllocError> {
+    if word.as_bytes().iter().any(|byte| byte.is_ascii_uppercase()) {
+        return Ok(None);
+    }
+    match decode(alloc, word.as_bytes()) {
+        Ok(bytes) => Ok(Some(bytes)),
+        Err(FromHexError::OutOfMemory) => Err(AllocError),
+        Err(_) => Ok(None),
+    }
+}
+
+/// Adds the digits of bytes to a text.
+pub fn write_hex(text: &mut String, bytes: &[u8]) -> Result<(), AllocError> {
+    for byte in bytes {
+        write!(text, "{byte:02x}")?;
+    }
+    Ok(())
+}
