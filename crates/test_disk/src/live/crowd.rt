@@ -1,6 +1,7 @@
 //! Three threads that submit to one node, while a fourth flushes.
 
 ghost use Rattle.std.specs.Prelude.{◌≡◌};
+ghost use Rattle.node_shared.specs.Home.{IsOf};
 
 use crate::committees::{FOUR, own_config};
 use crate::live::ending::Ending;
@@ -8,7 +9,7 @@ use crate::live::makers::batch_of;
 use crate::live::words::{put, put_count, put_number};
 use crate::memory::{disk_with, stopped};
 use diskmodel::MemDisk;
-use node::{Caller, Receipt, Rounds, start};
+use node::{Caller, Node, Receipt, Rounds, Seat, start};
 use sigface::HashSign;
 use std::alloc::{AllocError, Global};
 use std::sync::Wait;
@@ -62,9 +63,19 @@ where
     let mut second = node.split(&mut first)?;
     let rounds = Rounds::new(&node, seat, flusher);
     let disk = submit_beside(rt, alloc, config, rounds, answer)?;
-    let count = node.meet(&mut first, &mut second);
+    let count = look(&node, &mut first, &mut second);
     put_number(answer, "two seats meet at", count);
     Ok(disk)
+}
+
+// How many events two seats that meet have seen. No handle lets this function wait, so its types say that none of the calls does.
+fn look(node: &Node<'_, HashSign>, first: &mut Seat, second: &mut Seat) -> u64
+    requires first { IsOf node.now first.old }
+    requires second { IsOf node.now second.old }
+{
+    node.accepted(first);
+    node.synced(first);
+    node.meet(first, second)
 }
 
 // Each member submits its batches in a thread, while one more flushes.

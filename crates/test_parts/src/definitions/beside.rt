@@ -42,7 +42,11 @@ pub fn told(played: &Played, found: &Admission) -> Result<String, AllocError> {
 pub fn tell(played: &Played, found: &Admission, text: &mut String) -> Result<(), AllocError> {
     tell_kind(found, text)?;
     match found {
-        Admission::New(list) | Admission::Known(list) => outputs(played, list, text),
+        Admission::New(list) | Admission::Known(list) => outputs(
+            &played.labels,
+            list.as_slice(),
+            text,
+        ),
         Admission::Refused(_) => Ok(()),
     }
 }
@@ -137,7 +141,7 @@ fn decided<H: Held>(
     round: u64,
 ) -> Result<String, AllocError> {
     let mut text = format!(in played.alloc; "floor {floor}, round {round}, order")?;
-    order(played, &held.order(played.alloc)?, &mut text)?;
+    order(&played.labels, &held.order(played.alloc)?, &mut text)?;
     Ok(text)
 }
 
@@ -159,7 +163,7 @@ fn held_by<H: Held>(
 ) -> Result<String, AllocError> {
     let mut text = String::new(played.alloc);
     add_held(played, held, &mut text)?;
-    proposal_line(played, proposal, &mut text)?;
+    proposal_line(&played.labels, proposal, &mut text)?;
     Ok(text)
 }
 
@@ -187,9 +191,9 @@ fn batch_line<H: Held>(
     let digest = batch_digest(batch);
     let found = match held.batch(&digest) {
         None => "none",
-        Some(found) => batch_label(played, &batch_digest(found)),
+        Some(found) => batch_label(&played.labels, &batch_digest(found)),
     };
-    add("batch ", batch_label(played, &digest), text)?;
+    add("batch ", batch_label(&played.labels, &digest), text)?;
     add(", found ", found, text)?;
     whether(", named", held.was_named(&digest), text)?;
     ackers(played, held, &digest, text)

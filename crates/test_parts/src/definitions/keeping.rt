@@ -60,7 +60,7 @@ fn add_kept(played: &Played, kept: &Kept, text: &mut String) -> Result<(), Alloc
     digest_line(played, kept.vote, text)?;
     digest_line(played, kept.header, text)?;
     vote_line(played, kept.counted, text)?;
-    certificate_line(played, kept.certificate.as_ref(), text)
+    certificate_line(&played.labels, kept.certificate.as_ref(), text)
 }
 
 /// What is kept of a round, for an author or voter.

@@ -13,6 +13,7 @@ use ref_order::newer::{last_wave, newer};
 use ref_order::ordering::{chain, committed, floor_by, leader, order_by, top};
 use ref_order::slots::{has_path, is_parent, reaches, round_of, slot};
 use ref_order::{certificates as held, histories, holdings};
+use sim_script::Labels;
 use std::alloc::{AllocError, Global};
 use wire::{Certificate, Header};
 
@@ -40,7 +41,8 @@ fn seen(played: &Played) -> Result<View, AllocError> {
 
 impl View {
     fn find(&self, played: &Played, label: &str) -> Option<&Certificate> {
-        self.certificates.iter().find(|certificate| certificate_label(played, certificate) == label)
+        self.certificates.iter().find(|certificate| certificate_label(&played.labels, certificate)
+            == label)
     }
 }
 
@@ -112,7 +114,7 @@ fn look_around(played: &Played, name: &str, answer: &mut String) -> Result<(), A
         "propose" => proposal(played, answer),
         _ => {
             let given = given(played.alloc, &played.node, &played.history)?;
-            outputs(played, &given, answer)
+            outputs(&played.labels, given.as_slice(), answer)
         }
     }
 }
@@ -124,7 +126,7 @@ fn look_at(
     answer: &mut String,
 ) -> Result<(), AllocError> {
     match words {
-        [_] => certificates(played, "certificates", &view.certificates, answer),
+        [_] => certificates(&played.labels, "certificates", &view.certificates, answer),
         [name, round] => look_in(played, view, name, number(round), answer),
         [name, first, second] => look_for(played, view, name, first, second, answer),
         _ => line("bad case", answer),
@@ -217,7 +219,7 @@ fn of_round(
     answer: &mut String,
 ) -> Result<(), AllocError> {
     let found = round_of(played.alloc, played.node.size(), &view.certificates, round)?;
-    certificates(played, "of", &found, answer)
+    certificates(&played.labels, "of", &found, answer)
 }
 
 fn slot_line(
@@ -227,7 +229,11 @@ fn slot_line(
     author: u16,
     answer: &mut String,
 ) -> Result<(), AllocError> {
-    label_line(played, slot(&view.certificates, round, author), answer)
+    label_line(
+        &played.labels,
+        slot(&view.certificates, round, author),
+        answer,
+    )
 }
 
 /// Whether one certificate is a parent of another or reaches it.
@@ -274,7 +280,7 @@ fn leaders_now(
         "by" => by_ledger(played, ledger, answer),
         "committed" => {
             let found = committed(played.alloc, ledger)?;
-            certificates(played, name, &found, answer)
+            certificates(&played.labels, name, &found, answer)
         }
         _ => line("bad case", answer),
     }
@@ -289,12 +295,12 @@ fn leaders_of(
     answer: &mut String,
 ) -> Result<(), AllocError> {
     let found = match name {
-        "leader" => return label_line(played, leader(ledger, wave), answer),
+        "leader" => return label_line(&played.labels, leader(ledger, wave), answer),
         "chain" => chain(played.alloc, ledger, wave)?,
         "newer" => newer(played.alloc, ledger, wave)?,
         _ => return line("bad case", answer),
     };
-    certificates(played, name, &found, answer)
+    certificates(&played.labels, name, &found, answer)
 }
 
 fn tops(ledger: &Ledger, answer: &mut String) -> Result<(), AllocError> {
@@ -310,35 +316,35 @@ fn by_ledger(played: &Played, ledger: &Ledger, answer: &mut String) -> Result<()
     let floor = floor_by(ledger);
     write!(answer, "floor {floor}, order")?;
     let digests = order_by(played.alloc, ledger)?;
-    order(played, &digests, answer)
+    order(&played.labels, &digests, answer)
 }
 
 /// The header that the node proposes.
 fn proposal(played: &Played, answer: &mut String) -> Result<(), AllocError> {
     let found = propose(played.alloc, &played.node, &played.history)?;
-    proposal_line(played, found, answer)
+    proposal_line(&played.labels, found, answer)
 }
 
 /// A header that is proposed, or that none is.
 pub fn proposal_line(
-    played: &Played,
+    labels: &Labels,
     found: Option<Header>,
     answer: &mut String,
 ) -> Result<(), AllocError> {
     match found {
         None => line("proposes none", answer),
-        Some(header) => proposed(played, &header, answer),
+        Some(header) => proposed(labels, &header, answer),
     }
 }
 
 /// The round of a header, the labels of its parents, and of its batches.
-fn proposed(played: &Played, header: &Header, answer: &mut String) -> Result<(), AllocError> {
+fn proposed(labels: &Labels, header: &Header, answer: &mut String) -> Result<(), AllocError> {
     let round = header.body.round.number();
     write!(answer, "proposes {round}")?;
     let mut mark = " ";
     for parent in header.body.parents.as_slice() {
-        add(mark, label_of(played, &parent.certificate), answer)?;
+        add(mark, label_of(labels, &parent.certificate), answer)?;
         mark = ",";
     }
-    searching::named(played, header.body.batches.as_slice(), answer)
+    searching::named(labels, header.body.batches.as_slice(), answer)
 }

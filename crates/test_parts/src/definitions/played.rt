@@ -212,10 +212,10 @@ impl Played {
         answer: &mut String,
     ) -> Result<(), AllocError> {
         if self.tells {
-            return outputs(self, list, answer);
+            return outputs(&self.labels, list.as_slice(), answer);
         }
         let mut told = String::new(self.alloc);
-        outputs(self, list, &mut told)?;
+        outputs(&self.labels, list.as_slice(), &mut told)?;
         for text in told.lines() {
             let line = String::from_str(self.alloc, text)?;
             self.waiting.push(Waiting { ticket, line })?;
@@ -243,7 +243,7 @@ impl Played {
         let settled = self.history.as_slice().get(..self.settled).unwrap_or(&[]);
         let digests = ref_order::certificates::order(self.alloc, &self.node, settled)?;
         answer.push_str("order")?;
-        order(self, &digests, answer)
+        order(&self.labels, &digests, answer)
     }
 
     fn round(&self, answer: &mut String) -> Result<(), AllocError> {
@@ -254,7 +254,7 @@ impl Played {
     fn peek(&self, author: Author, round: u64, answer: &mut String) -> Result<(), AllocError> {
         let label = match voted_digest(&self.history, round, author.0) {
             None => "none",
-            Some(digest) => header_label(self, &digest),
+            Some(digest) => header_label(&self.labels, &digest),
         };
         writeln!(answer, "voted {label}")
     }

@@ -14,6 +14,7 @@ use ref_order::holdings::{
 };
 use ref_order::past::Past;
 use sigface::{HashSign, HashVerify};
+use sim_script::Labels;
 use std::alloc::AllocError;
 use wire::{
     Author, Batch, BatchReference, Digest, Header, Message, Vote, batch_digest, header_digest,
@@ -36,7 +37,7 @@ pub fn batches(played: &Played, words: &[&str], answer: &mut String) -> Result<(
 fn nameable_line(played: &Played, answer: &mut String) -> Result<(), AllocError> {
     let found = nameable(played.alloc, &played.node, &past(played))?;
     answer.push_str("nameable")?;
-    named(played, &found, answer)
+    named(&played.labels, &found, answer)
 }
 
 /// The history as what the node holds.
@@ -100,13 +101,13 @@ fn to_name_line(played: &Played, batch: &Batch, answer: &mut String) -> Result<(
 
 /// The labels of batches, parted by commas.
 pub fn named(
-    played: &Played,
+    labels: &Labels,
     list: &[BatchReference],
     answer: &mut String,
 ) -> Result<(), AllocError> {
     let mut mark = " ";
     for batch in list {
-        add(mark, batch_label(played, &batch.digest), answer)?;
+        add(mark, batch_label(labels, &batch.digest), answer)?;
         mark = ",";
     }
     if list.is_empty() {
@@ -185,7 +186,7 @@ pub fn digest_line(
 ) -> Result<(), AllocError> {
     match digest {
         None => line("none", answer),
-        Some(digest) => line(header_label(played, &digest), answer),
+        Some(digest) => line(header_label(&played.labels, &digest), answer),
     }
 }
 
@@ -197,7 +198,7 @@ pub fn vote_line(
     let Some(vote) = vote else {
         return line("none", answer);
     };
-    let (label, Author(voter)) = (header_label(played, &vote.header), vote.voter);
+    let (label, Author(voter)) = (header_label(&played.labels, &vote.header), vote.voter);
     writeln!(answer, "{label} {voter}")
 }
 
@@ -303,7 +304,7 @@ fn kept_slot_line(
     answer: &mut String,
 ) -> Result<(), AllocError> {
     let found = kept_slot(played.alloc, &played.node, &played.history, round, author)?;
-    label_line(played, found.as_ref(), answer)
+    label_line(&played.labels, found.as_ref(), answer)
 }
 
 /// Whether what the node proposes passes the checks, its signature too.

@@ -1,21 +1,20 @@
 //! Values as a case file has them.
 
-use crate::definitions::played::Played;
 use ref_order::slots::digest_of;
-use spec_model::Outputs;
+use sim_script::Labels;
 use std::alloc::AllocError;
 use wire::{
     Author, Certificate, Digest, Output, VoteEntry, batch_digest, genesis_digest, header_digest,
 };
 
 /// The label of a certificate's header.
-pub fn certificate_label<'a>(played: &'a Played, certificate: &Certificate) -> &'a str {
-    label_of(played, &digest_of(&certificate.header))
+pub fn certificate_label<'a>(labels: &'a Labels, certificate: &Certificate) -> &'a str {
+    label_of(labels, &digest_of(&certificate.header))
 }
 
 /// The label of the header whose certificate has this digest.
-pub fn label_of<'a>(played: &'a Played, certificate: &Digest) -> &'a str {
-    match played.labels.certificate_name(certificate) {
+pub fn label_of<'a>(labels: &'a Labels, certificate: &Digest) -> &'a str {
+    match labels.certificate_name(certificate) {
         Some(name) => name,
         None => genesis_label(certificate),
     }
@@ -31,13 +30,13 @@ fn genesis_label(certificate: &Digest) -> &'static str {
 }
 
 /// The label of a header.
-pub fn header_label<'a>(played: &'a Played, header: &Digest) -> &'a str {
-    played.labels.header_name(header).unwrap_or("-")
+pub fn header_label<'a>(labels: &'a Labels, header: &Digest) -> &'a str {
+    labels.header_name(header).unwrap_or("-")
 }
 
 /// The label of a batch.
-pub fn batch_label<'a>(played: &'a Played, batch: &Digest) -> &'a str {
-    played.labels.batch_name(batch).unwrap_or("-")
+pub fn batch_label<'a>(labels: &'a Labels, batch: &Digest) -> &'a str {
+    labels.batch_name(batch).unwrap_or("-")
 }
 
 pub fn yes_or_no(is_so: bool, answer: &mut String) -> Result<(), AllocError> {
@@ -57,22 +56,22 @@ pub fn add(mark: &str, word: &str, answer: &mut String) -> Result<(), AllocError
 
 /// A word, and then the labels of certificates.
 pub fn certificates(
-    played: &Played,
+    labels: &Labels,
     word: &str,
     list: &[Certificate],
     answer: &mut String,
 ) -> Result<(), AllocError> {
     answer.push_str(word)?;
     for certificate in list {
-        add(" ", certificate_label(played, certificate), answer)?;
+        add(" ", certificate_label(labels, certificate), answer)?;
     }
     answer.push_str("\n")
 }
 
 /// The labels of certificates of which these are the digests.
-pub fn order(played: &Played, digests: &[Digest], answer: &mut String) -> Result<(), AllocError> {
+pub fn order(labels: &Labels, digests: &[Digest], answer: &mut String) -> Result<(), AllocError> {
     for digest in digests {
-        add(" ", label_of(played, digest), answer)?;
+        add(" ", label_of(labels, digest), answer)?;
     }
     if digests.is_empty() {
         answer.push_str(" none")?;
@@ -93,66 +92,66 @@ fn voters(entries: &[VoteEntry], answer: &mut String) -> Result<(), AllocError> 
 
 /// The label of a certificate, or that there is none.
 pub fn label_line(
-    played: &Played,
+    labels: &Labels,
     certificate: Option<&Certificate>,
     answer: &mut String,
 ) -> Result<(), AllocError> {
     match certificate {
         None => line("none", answer),
-        Some(certificate) => line(certificate_label(played, certificate), answer),
+        Some(certificate) => line(certificate_label(labels, certificate), answer),
     }
 }
 
 /// The label of a certificate with its voters, or that there is none.
 pub fn certificate_line(
-    played: &Played,
+    labels: &Labels,
     certificate: Option<&Certificate>,
     answer: &mut String,
 ) -> Result<(), AllocError> {
     let Some(certificate) = certificate else {
         return line("none", answer);
     };
-    answer.push_str(certificate_label(played, certificate))?;
+    answer.push_str(certificate_label(labels, certificate))?;
     voters(certificate.votes.as_slice(), answer)
 }
 
 /// An output, as `collect` shows it.
-pub fn output(played: &Played, output: &Output, answer: &mut String) -> Result<(), AllocError> {
+fn output(labels: &Labels, output: &Output, answer: &mut String) -> Result<(), AllocError> {
     let (kind, label) = match output {
-        Output::Batch(batch) => ("batch", batch_label(played, &batch_digest(batch))),
-        Output::Ack { ack, .. } => ("ack", batch_label(played, &ack.batch)),
-        Output::Header(header) => ("header", header_label(played, &header_digest(&header.body))),
-        Output::Vote(vote) => ("vote", header_label(played, &vote.header)),
-        Output::Certificate(certificate) => return certified(played, certificate, answer),
+        Output::Batch(batch) => ("batch", batch_label(labels, &batch_digest(batch))),
+        Output::Ack { ack, .. } => ("ack", batch_label(labels, &ack.batch)),
+        Output::Header(header) => ("header", header_label(labels, &header_digest(&header.body))),
+        Output::Vote(vote) => ("vote", header_label(labels, &vote.header)),
+        Output::Certificate(certificate) => return certified(labels, certificate, answer),
         Output::Order { start, digests } => {
-            return ordered(played, *start, digests.as_slice(), answer);
+            return ordered(labels, *start, digests.as_slice(), answer);
         }
     };
     writeln!(answer, "out {kind} {label}")
 }
 
 fn certified(
-    played: &Played,
+    labels: &Labels,
     certificate: &Certificate,
     answer: &mut String,
 ) -> Result<(), AllocError> {
     answer.push_str("out certificate ")?;
-    certificate_line(played, Some(certificate), answer)
+    certificate_line(labels, Some(certificate), answer)
 }
 
 fn ordered(
-    played: &Played,
+    labels: &Labels,
     start: u64,
     digests: &[Digest],
     answer: &mut String,
 ) -> Result<(), AllocError> {
     write!(answer, "out order {start}")?;
-    order(played, digests, answer)
+    order(labels, digests, answer)
 }
 
-pub fn outputs(played: &Played, list: &Outputs, answer: &mut String) -> Result<(), AllocError> {
-    for one in list.as_slice() {
-        output(played, one, answer)?;
+pub fn outputs(labels: &Labels, list: &[Output], answer: &mut String) -> Result<(), AllocError> {
+    for one in list {
+        output(labels, one, answer)?;
     }
     Ok(())
 }

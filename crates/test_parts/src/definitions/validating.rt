@@ -1,5 +1,6 @@
 //! The lines of a case, which are played once all are there.
 
+mod asking;
 mod beside;
 mod bodies;
 mod playing;

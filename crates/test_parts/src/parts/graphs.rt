@@ -131,17 +131,12 @@ fn change(
             dag.commit_to(round_of(*round));
             Ok(())
         }
-        ("drop", [round]) => drop_below(dag, round_of(*round), answer),
+        ("drop", [round]) => {
+            dag.drop_below(round_of(*round));
+            Ok(())
+        }
         _ => look(dag, reads, name, numbers, answer),
     }
-}
-
-fn drop_below(dag: &mut Dag, round: Round, answer: &mut String) -> Told {
-    if round.number() >= dag.base().number() {
-        return answer.push_str("not below the base\n");
-    }
-    dag.drop_below(round);
-    Ok(())
 }
 
 // Adds certificates of four members for these rounds, each over the four below; how many rounds are then full.

@@ -124,9 +124,6 @@ fn parent(
     place: u64,
     answer: &mut String,
 ) -> Told {
-    if reads.number() >= 1000 {
-        return answer.push_str("too many\n");
-    }
     let (round, author) = (round_of(round), author_of(author));
     match dag.parent(round, author, place as usize, reads) {
         Some((parent, digest)) => {

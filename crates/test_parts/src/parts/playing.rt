@@ -157,9 +157,7 @@ impl<'a> Playing<'a> {
         self.last = self.coins.top(&self.dag);
         self.dag.commit_to(round);
         let floor = round_of(round.number().saturating_sub(self.committee.depth()));
-        if floor.number() < self.dag.base().number() {
-            self.dag.drop_below(floor);
-        }
+        self.dag.drop_below(floor);
     }
 
     // Whether each of these leaders orders, asked alone behind the one before it, what its beginning has behind that one's.

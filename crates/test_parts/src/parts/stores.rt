@@ -145,9 +145,6 @@ fn put(
 }
 
 fn ack(store: &mut BatchStore, digest: Digest, member: Author, answer: &mut String) -> Told {
-    if member.0 >= store.committee().size() {
-        return answer.push_str("no member\n");
-    }
     match store.ack(member, &digest) {
         Ok(acked) => writeln!(answer, "{acked:?}"),
         Err(refusal) => writeln!(answer, "{refusal}"),

@@ -1,6 +1,6 @@
 //! An assembly that is given votes one after the other.
 
-ghost use Rattle.std.specs.Prelude.{◌≡◌, ◌<◌, length};
+ghost use Rattle.std.specs.Prelude.{◌≡◌};
 ghost use Rattle.wire.specs.Digests.{header_digest_of};
 
 use crate::parts::words::{Told, member_in, parted};
@@ -77,42 +77,23 @@ pub fn assemble(alloc: Global, committee: &Committee, words: &str, answer: &mut 
     let header = header_of(alloc, own);
     let vote = vote_on(&header.body, own, 0);
     let mut assembly = Assembly::start(alloc, committee, header, vote)?;
-    give_each(committee, &mut assembly, votes, answer)?;
+    give_each(&mut assembly, votes, answer)?;
     tell_assembly(&assembly, committee.size(), answer)
 }
 
 // Gives an assembly the votes of these words, in a loop that owns nothing: what it owns costs the proof at each way out of it.
-fn give_each(
-    committee: &Committee,
-    assembly: &mut Assembly,
-    votes: &str,
-    answer: &mut String,
-) -> Told
-    requires { assembly.old.charter ≡ committee.now }
-{
+fn give_each(assembly: &mut Assembly, votes: &str, answer: &mut String) -> Told {
     let mut byte: u8 = 0;
     for word in votes.split_whitespace() {
         byte = byte.saturating_add(1);
         let vote = vote_of(&assembly.header().body, word, byte);
-        give(committee, assembly, vote, byte % 2 == 1, answer)?;
+        give(assembly, vote, byte % 2 == 1, answer)?;
     }
     Ok(())
 }
 
-// Gives an assembly a vote, at once or in two steps, unless no member has cast it.
-fn give(
-    committee: &Committee,
-    assembly: &mut Assembly,
-    vote: Vote,
-    at_once: bool,
-    answer: &mut String,
-) -> Told
-    requires { assembly.old.charter ≡ committee.now }
-    ensures { assembly.new.charter ≡ committee.now }
-{
-    if vote.voter.0 >= committee.size() {
-        return Ok(());
-    }
+// Gives an assembly a vote, at once or in two steps.
+fn give(assembly: &mut Assembly, vote: Vote, at_once: bool, answer: &mut String) -> Told {
     let added = match at_once {
         true => assembly.add(vote)?,
         false => {

@@ -3,16 +3,17 @@
 ghost use Rattle.std.specs.Prelude.{◌≡◌, None};
 ghost use Rattle.header.specs.Checks.{fault_of, accepts_all};
 
-use crate::definitions::looking::{number, words_of};
+use crate::definitions::looking::{number, proposal_line, words_of};
 use crate::definitions::played::coin;
+use crate::definitions::validating::asking::{Last, asked, tell_seen, tell_vote};
 use crate::definitions::validating::beside::Beside;
 use crate::definitions::validating::seen::seen_of;
 use crate::definitions::validating::sum::Sum;
 use crate::definitions::validating::tally::{Tally, counts};
 use crate::definitions::weighing::label_genesis;
-use crate::parts::list;
+use crate::parts::{list, parted};
 use committee::Committee;
-use header::{Checked, check};
+use header::{CheckError, Checked, check};
 use sigface::{HashSign, HashVerify};
 use sim_script::{
     Command, FormError, Labels, OWN, define_batch, define_header, message_of, parse, signer,
@@ -31,6 +32,7 @@ struct Playing<'c> {
     beside: Beside,
     sum: Sum,
     tally: Tally,
+    last: Option<Last>,
 }
 
 /// Plays these lines from the genesis on, the first events as many as `most` beside the plain program. It tells how often
@@ -69,6 +71,7 @@ impl<'c> Playing<'c> {
             beside,
             sum: Sum::new(),
             tally: Tally::new(),
+            last: None,
         })
     }
 
@@ -104,13 +107,14 @@ impl<'c> Playing<'c> {
         }
     }
 
-    /// A line of these tests alone: a coin that another member sends, or what the running sum has to be.
+    /// A line of these tests alone: a coin that another member sends, what the running sum has to be, an event that doesn't
+    /// pass the checks, or what the validator is asked.
     fn run_own(&mut self, line: &str) -> Result<Option<&'static str>, FormError> {
         let words = words_of(self.alloc, line)?;
-        self.run_words(&words)
+        self.run_words(line, &words)
     }
 
-    fn run_words(&mut self, words: &[&str]) -> Result<Option<&'static str>, FormError> {
+    fn run_words(&mut self, line: &str, words: &[&str]) -> Result<Option<&'static str>, FormError> {
         match words {
             ["coin-from", sender, wave, value] => {
                 let (sender, message) = coin(sender, wave, value)?;
@@ -120,7 +124,65 @@ impl<'c> Playing<'c> {
                 true => Ok(None),
                 false => Ok(Some("the sum")),
             },
-            _ => Err(FormError::BadCommand),
+            ["unchecked", ..] => self.refuse(line),
+            _ => match asked(words) {
+                None => Err(FormError::BadCommand),
+                Some(what) => self.ask(line, words, what),
+            },
+        }
+    }
+
+    /// `unchecked`, a number and name, and an event: it doesn't pass the checks, with this error.
+    fn refuse(&self, line: &str) -> Result<Option<&'static str>, FormError> {
+        let (sender, message) = self.event_in(line)?;
+        match check(self.validator.committee(), &HashVerify, sender, message) {
+            Ok(_) => Ok(Some("checked")),
+            Err(error) => Ok(same_error(self.alloc, line, error)?),
+        }
+    }
+
+    /// The event of a line, behind three words.
+    fn event_in(&self, line: &str) -> Result<(Author, Message), FormError> {
+        let mut rest = line;
+        for _ in 0..3 {
+            rest = parted(rest, ' ').1;
+        }
+        match parse(rest.as_bytes()) {
+            None => Err(FormError::BadCommand),
+            Some(command) => message_of(self.alloc, &self.labels, command),
+        }
+    }
+
+    /// Asks the validator, and says that this is otherwise where it tells another line.
+    fn ask(
+        &self,
+        line: &str,
+        words: &[&str],
+        what: &'static str,
+    ) -> Result<Option<&'static str>, FormError> {
+        let mut text = String::new(self.alloc);
+        self.tell_asked(words, &mut text)?;
+        Ok(as_told(text.as_str().trim_end() == line, what))
+    }
+
+    fn tell_asked(&self, words: &[&str], text: &mut String) -> Result<(), AllocError> {
+        match words {
+            ["voted", round, author, _] => {
+                tell_vote(&self.labels, &self.validator, round, author, text)
+            }
+            ["proposes", ..] => proposal_line(&self.labels, self.proposal()?, text),
+            [name, ..] => self.tell_named(name, text),
+            [] => Ok(()),
+        }
+    }
+
+    fn tell_named(&self, name: &str, text: &mut String) -> Result<(), AllocError> {
+        match (name, &self.last) {
+            ("floor" | "round" | "order", _) => {
+                tell_seen(&self.labels, &self.validator, name, text)
+            }
+            (_, Some(last)) => last.tell(self.alloc, &self.labels, name, text),
+            (_, None) => Ok(()),
         }
     }
 
@@ -159,7 +221,7 @@ impl<'c> Playing<'c> {
             return Err(FormError::Memory);
         }
         self.tally.count(&step);
-        Ok(self.compare(is_ready, &step, event)?)
+        Ok(self.compare(is_ready, step, event)?)
     }
 
     /// What the validator proposes. The contract of that call is long, so it stands alone, as in `seen_of`.
@@ -170,11 +232,13 @@ impl<'c> Playing<'c> {
     fn compare(
         &mut self,
         is_ready: bool,
-        step: &Result<Step, Refusal>,
+        step: Result<Step, Refusal>,
         event: Option<Event>,
     ) -> Result<Option<&'static str>, AllocError> {
         let proposal = self.proposal()?;
-        self.compare_with(is_ready, step, event.as_ref(), proposal.as_ref())
+        let differs = self.compare_with(is_ready, &step, event.as_ref(), proposal.as_ref())?;
+        self.last = Some(Last { is_ready, step });
+        Ok(differs)
     }
 
     fn compare_with(
@@ -210,6 +274,24 @@ impl<'c> Playing<'c> {
             &[self.beside.compared()],
             answer,
         )
+    }
+}
+
+/// Nothing where a line says that an event doesn't pass the checks with this error, and else what is otherwise.
+fn same_error(
+    alloc: Global,
+    line: &str,
+    error: CheckError,
+) -> Result<Option<&'static str>, AllocError> {
+    let begin = format!(in alloc; "unchecked {error} ")?;
+    Ok(as_told(line.strip_prefix(begin.as_str()).is_some(), "the error"))
+}
+
+/// Nothing where it is as it is told, and else what is otherwise.
+fn as_told(is_so: bool, what: &'static str) -> Option<&'static str> {
+    match is_so {
+        true => None,
+        false => Some(what),
     }
 }
 

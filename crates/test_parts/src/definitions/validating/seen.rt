@@ -1,9 +1,9 @@
-//! What a validator has ordered, and up to where. The contracts of these calls are long, and each statement of a function
+//! What a validator has ordered, up to where, and for what it voted. The contracts of these calls are long, and each statement of a function
 //! that makes them costs its proof the more; so one small function makes them.
 
 use sigface::HashSign;
 use validator::Validator;
-use wire::Digest;
+use wire::{Author, Digest, Round};
 
 /// The order, the floor and the round of a validator.
 #[derive(Clone, Copy)]
@@ -20,4 +20,10 @@ pub fn seen_of<'v>(validator: &'v Validator<'_, HashSign>) -> Seen<'v> {
         floor: validator.floor().number(),
         round: validator.round(),
     }
+}
+
+/// The header that has a validator's vote in a round.
+pub fn voted_by(validator: &Validator<'_, HashSign>, round: u64, author: u16) -> Option<Digest> {
+    let round = Round::new(round).unwrap_or(Round::genesis());
+    validator.voted(Author(author), round)
 }

@@ -1,0 +1,137 @@
+//! What a validator is asked while lines are played. A line that asks is what has to be told.
+
+use crate::definitions::looking::{member, number};
+use crate::definitions::showing::{add, header_label, line, order, outputs};
+use crate::definitions::validating::seen::{seen_of, voted_by};
+use crate::parts::{list, whether};
+use sigface::HashSign;
+use sim_script::Labels;
+use spec_model::Refusal;
+use std::alloc::{AllocError, Global};
+use validator::{Step, Validator};
+use wire::Output;
+
+/// What came of an event, and whether it was ready before.
+#[derive(Drop)]
+pub struct Last {
+    pub is_ready: bool,
+    pub step: Result<Step, Refusal>,
+}
+
+/// The first words of the lines that ask, and what is otherwise where another line is told.
+const ASKED: [(&str, &str); 8] = [
+    ("answered", "the answer"),
+    ("ready", "whether it was ready"),
+    ("out", "what was put out"),
+    ("floor", "the floor"),
+    ("round", "the round"),
+    ("order", "the order"),
+    ("voted", "the vote"),
+    ("proposes", "the proposal"),
+];
+
+/// What a line of these words asks; none where it doesn't ask.
+pub fn asked(words: &[&str]) -> Option<&'static str> {
+    let name = words.first()?;
+    for (word, what) in ASKED {
+        if word == *name {
+            return Some(what);
+        }
+    }
+    None
+}
+
+impl Last {
+    /// Tells `answered`, `ready` or `out` of the event.
+    pub fn tell(
+        &self,
+        alloc: Global,
+        labels: &Labels,
+        name: &str,
+        text: &mut String,
+    ) -> Result<(), AllocError> {
+        match name {
+            "answered" => self.tell_answer(text),
+            "ready" => whether(name, self.is_ready, text),
+            _ => self.tell_outputs(alloc, labels, text),
+        }
+    }
+
+    fn tell_answer(&self, text: &mut String) -> Result<(), AllocError> {
+        match &self.step {
+            Ok(Step::New(_)) => line("answered new", text),
+            Ok(Step::Known(_)) => line("answered known", text),
+            Err(refusal) => writeln!(text, "answered refused {refusal}"),
+        }
+    }
+
+    fn tell_outputs(
+        &self,
+        alloc: Global,
+        labels: &Labels,
+        text: &mut String,
+    ) -> Result<(), AllocError> {
+        match &self.step {
+            Ok(Step::New(list)) | Ok(Step::Known(list)) => tell_each(alloc, labels, list, text),
+            Err(_) => line("out none", text),
+        }
+    }
+}
+
+/// Outputs in a line, parted by semicolons.
+fn tell_each(
+    alloc: Global,
+    labels: &Labels,
+    list: &[Output],
+    text: &mut String,
+) -> Result<(), AllocError> {
+    if list.is_empty() {
+        return line("out none", text);
+    }
+    let mut told = String::new(alloc);
+    outputs(labels, list, &mut told)?;
+    in_one_line(told.as_str(), text)
+}
+
+/// Adds lines as one, parted by semicolons.
+fn in_one_line(lines: &str, text: &mut String) -> Result<(), AllocError> {
+    let mut is_first = true;
+    for one in lines.lines() {
+        add(if is_first { "" } else { "; " }, one, text)?;
+        is_first = false;
+    }
+    Ok(())
+}
+
+/// Tells the `floor`, the `round` or the `order` of a validator.
+pub fn tell_seen(
+    labels: &Labels,
+    validator: &Validator<'_, HashSign>,
+    name: &str,
+    text: &mut String,
+) -> Result<(), AllocError> {
+    let seen = seen_of(validator);
+    match name {
+        "floor" => list(name, &[seen.floor], text),
+        "round" => list(name, &[seen.round], text),
+        _ => {
+            text.push_str("order")?;
+            order(labels, seen.order, text)
+        }
+    }
+}
+
+/// Tells the vote of a validator for an author in a round.
+pub fn tell_vote(
+    labels: &Labels,
+    validator: &Validator<'_, HashSign>,
+    round: &str,
+    author: &str,
+    text: &mut String,
+) -> Result<(), AllocError> {
+    let label = match voted_by(validator, number(round), member(author)) {
+        None => "none",
+        Some(digest) => header_label(labels, &digest),
+    };
+    writeln!(text, "voted {round} {author} {label}")
+}
