@@ -221,7 +221,6 @@ vote_comes agree node state sender vote before step holds at =
     answered ∙ answered_is node assembled vote is.charter member is.on is.first
     ∙ added_is (is_too_few assembled vote) (certify.certificate_of assembled.header.body (with assembled vote).places) ∙ ap added_by (sym completed) in
     record {
-      member = subst (λ (c : Charter). vote.voter.0 < length c.keys) (sym at.charter) member;
       answer = by;
       counted = λ counted. was_counted (certificate_of node state m) (sym by ∙ counted);
       complete = λ certificate complete. was_completed (certificate_of node state m) certificate (sym by ∙ complete);

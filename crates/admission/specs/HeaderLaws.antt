@@ -1,5 +1,5 @@
 -- What ties a table of own headers to a node's state.
-use Rattle.std.specs.Prelude.{◌≡◌, ◌<◌, ℕ, Bool, true, false, not, length, Option, Some, None, is_some}
+use Rattle.std.specs.Prelude.{◌≡◌, ℕ, Bool, true, false, not, Option, Some, None, is_some}
 use Rattle.wire.specs.declared.message.Message.TheVariants as message
 use Rattle.certify.specs.Assembled.{is_on, started}
 use Rattle.certify.specs.declared.added.Added.{Added}
@@ -54,10 +54,9 @@ abbrev pub added_by : Option Certificate → Added
 added_by None = Counted
 added_by (Some certificate) = Complete certificate
 
--- a new vote: its voter is a member, it is counted, and completes a certificate exactly where the node's state has that with it;
+-- a new vote: it is counted, and completes a certificate exactly where the node's state has that with it;
 -- with the vote the table is that behind the event
 pub record VoteComesTo (node : Node) (state : State) (event : Event) (vote : Vote) (before : Headers) : Type 0 where
-  pub member : vote.voter.0 < length before.charter.keys
   pub answer : answer_in before vote ≡ added_by (certificate_of node state event.message)
   pub counted : answer_in before vote ≡ Counted → certificate_of node state event.message ≡ None
   pub complete : (certificate : Certificate) → answer_in before vote ≡ Complete certificate → certificate_of node state event.message ≡ Some certificate

@@ -3,7 +3,7 @@ use Rattle.std.proofs.Common.{◌≡◌, ◌≢◌, ◌⊎◌, ℕ, true, false,
 use Rattle.std.specs.Prelude.{◌<◌, length}
 use Rattle.std.proofs.lemmas.Bool.{cases_Bool, cases_eq, true≢false, eqb-true}
 use Rattle.committee.specs.Charter.{Charter, IsCharter}
-use Rattle.desk.proofs.Runs.{leads_join}
+use Rattle.spec_world.proofs.Scripts.{leads_join}
 use Rattle.desk.specs.Desk.{Shown}
 use Rattle.header.specs.Checks.{Accepts}
 use Rattle.spec_accord.specs.Accord.{Agree}

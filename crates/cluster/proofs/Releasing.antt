@@ -7,7 +7,7 @@ use Rattle.book.specs.Book.{Shown, releasable}
 use Rattle.book.specs.Queue.{settled_head}
 use Rattle.desk.specs.AtWorld.{IsAt, LeadsTo}
 use Rattle.desk.specs.Desk as desk
-use Rattle.desk.proofs.Runs.{leads_join}
+use Rattle.spec_world.proofs.Scripts.{leads_join}
 use Rattle.spec_model.specs.Holdings.{order}
 use Rattle.spec_model.specs.Nodes.{Node}
 use Rattle.spec_model.specs.Words.{Digest, Output}

@@ -1,7 +1,7 @@
 -- The group that a round takes: the longest beginning that fits.
 use Rattle.std.proofs.Common.{◌≡◌, ℕ, ◌+◌, ◌≤◌, Bool, true, false, cond, inl, inr, List, [], ◌∷◌, ◌++◌, length, take, map, refl, sym, ap, ◌∙◌, subst, arith, append_assoc, append-nil, length-append, length-take}
 use Rattle.std.specs.Prelude.{nat_le, get_or, drop}
-use Rattle.std.proofs.lemmas.Bool.{cases_Bool, and_parts, and_from, le-leb, leb-true}
+use Rattle.std.proofs.lemmas.Bool.{cases_Bool, and_from, le-leb}
 use Rattle.std.proofs.lemmas.List.{map-append, length-map}
 use Rattle.std.proofs.lemmas.List.Sums.{sum_by-append}
 use Rattle.book.specs.Pending.{IsLongestBeginning}
@@ -11,21 +11,12 @@ use Rattle.spec_model.specs.Histories.{History}
 use Rattle.spec_model.specs.Words.{Event}
 use Rattle.spec_records.specs.Records.{record_of}
 use Rattle.spec_world.specs.Text.{fits_group, filled, group_of}
+use Rattle.spec_world.proofs.Filling.{true_fits}
 
 fits_true : (records : List (List ℕ)) → FitsGroup records → fits_group records ≡ true
 fits_true records fits =
     and_from (nat_le 1 (length records)) _ (le-leb 1 (length records) fits.some)
     (and_from (nat_le (length records) MAX_GROUP_RECORDS) _ (le-leb (length records) MAX_GROUP_RECORDS fits.not_many) (le-leb (body_len records) MAX_GROUP_BYTES fits.not_long))
-
-true_fits : (records : List (List ℕ)) → fits_group records ≡ true → FitsGroup records
-true_fits records so =
-    let first = and_parts (nat_le 1 (length records)) _ so in
-    let second = and_parts (nat_le (length records) MAX_GROUP_RECORDS) _ first.1 in
-    record {
-      some = leb-true 1 (length records) first.0;
-      not_many = leb-true (length records) MAX_GROUP_RECORDS second.0;
-      not_long = leb-true (body_len records) MAX_GROUP_BYTES second.1;
-    }
 
 fits_false : (records : List (List ℕ)) → (FitsGroup records → ⊥) → fits_group records ≡ false
 fits_false records none = elim (cases_Bool (fits_group records)) [ inl so ↦ absurd (none (true_fits records so)) | inr off ↦ off ]

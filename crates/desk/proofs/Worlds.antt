@@ -27,7 +27,8 @@ use Rattle.spec_world.proofs.Groups.{taken_more}
 use Rattle.spec_world.proofs.Law.{nothing_taken_back}
 use Rattle.desk.specs.Desk.{Shown, IsUp, IsLeft, IsOf, IsOpened}
 use Rattle.desk.specs.AtWorld.{HasTaken, IsAt, LeadsTo, IsStop}
-use Rattle.desk.proofs.Runs.{leads_one, leads_join, run_more}
+use Rattle.desk.proofs.Runs.{leads_one}
+use Rattle.spec_world.proofs.Scripts.{leads_join, run_more}
 use Rattle.opening.proofs.Telling.{told_records, journal_nil}
 use Rattle.journal.proofs.Walks.{stands_short}
 use Rattle.desk.proofs.Standing.{told_with, configured_with, left_firm}

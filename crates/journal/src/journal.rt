@@ -152,8 +152,7 @@ fn write_group<D: Disk>(disk: &mut D, len: u64, group: &Group) -> Result<(), Jou
     ensures firm { OnOk result (LeavesOnly (D.content disk.new) (D.outcome disk.new)) }
     ensures any_moment { AtEachMoment D.clock D.outcome_since disk.old disk.new (IsBeforeOrAfter (D.content disk.old) group.now) }
     ensures errors { IfErr result (λ error. error ≡ JournalError.Device) }
-    ensures device { OnErr result (D.faults disk.old < D.faults disk.new) }
-    ensures no_fault { OnOk result (D.faults disk.new ≡ D.faults disk.old) }
+    ensures cause { TellsFault JournalError.Device (D.faults disk.old) (D.faults disk.new) result }
     ensures calls { OnOk result (D.calls disk.new ≡ D.calls disk.old ++ append_calls len group.now) }
     ensures calls_err { OnErr result (MadeSome (append_calls len group.now) (D.calls disk.old) (D.calls disk.new)) }
 {
@@ -216,8 +215,7 @@ fn close_end<D: Disk>(disk: &mut D, len: u64, gate: u64) -> Result<(), JournalEr
     ensures firm { OnOk result (LeavesOnly (D.content disk.new) (D.outcome disk.new)) }
     ensures any_moment { AtEachMoment D.clock D.outcome_since disk.old disk.new (λ left. stands left ≡ stands (D.content disk.old)) }
     ensures errors { IfErr result (λ error. error ≡ JournalError.Device) }
-    ensures device { OnErr result (D.faults disk.old < D.faults disk.new) }
-    ensures no_fault { OnOk result (D.faults disk.new ≡ D.faults disk.old) }
+    ensures cause { TellsFault JournalError.Device (D.faults disk.old) (D.faults disk.new) result }
 {
     if len < 2 {
         disk.write_at(0, &[CLOSED])?;

@@ -9,7 +9,7 @@ use Rattle.spec_model.specs.Words.{Event}
 use Rattle.spec_records.specs.Records.{record_of}
 use Rattle.spec_world.specs.Text.{fits_group, filled, group_of}
 
-true_fits : (records : List (List ℕ)) → fits_group records ≡ true → FitsGroup records
+pub true_fits : (records : List (List ℕ)) → fits_group records ≡ true → FitsGroup records
 true_fits records so =
     let first = and_parts (nat_le 1 (length records)) _ so in
     let second = and_parts (nat_le (length records) MAX_GROUP_RECORDS) _ first.1 in

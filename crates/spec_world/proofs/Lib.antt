@@ -12,5 +12,5 @@ pub mod Standing
 pub mod Groups
 pub mod Lasting
 mod Agreeing
-mod Filling
+pub mod Filling
 pub mod Scripts
