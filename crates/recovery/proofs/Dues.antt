@@ -14,8 +14,9 @@ use Rattle.spec_world.specs.Text.{Desk, due, without_due, frame_of, frames}
 use Rattle.book.specs.Queue.{settled_head, TicketsRise}
 use Rattle.book.specs.Book.{Shown, Run, Stands, releasable}
 use Rattle.recovery.specs.Script.{run_of, IsOf}
-use Rattle.recovery.specs.Writing.{AppendsLess, WritesFirst, WritesNone, WritesPartOfFirst}
-use Rattle.recovery.proofs.Appending.{part_behind, part_front}
+use Rattle.recovery.specs.Writing.{WritesFirst, WritesNone, WritesPartOfFirst}
+use Rattle.wire_write.proofs.Appending.{part_behind, part_front}
+use Rattle.wire_write.specs.Frames.{AppendsLess}
 
 -- what is ready at so many settled records, and what isn't
 abbrev pub ready : ℕ → List Waiting → List Waiting

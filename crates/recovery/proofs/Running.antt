@@ -18,7 +18,7 @@ use Rattle.recovery.specs.Writing.{AppendsPart}
 use Rattle.recovery.specs.declared.driving.Command.{Command}
 use Rattle.recovery.specs.declared.driving.Command.TheVariants.{Event, Flush, Stop}
 use Rattle.recovery.specs.declared.driving.DriveError.{DriveError}
-use Rattle.recovery.proofs.Appending.{keeps_appends}
+use Rattle.wire_write.proofs.Appending.{keeps_appends}
 use Rattle.recovery.proofs.Carrying.{IsCarriedOut}
 use Rattle.recovery.proofs.DeskOpening.{ok_is}
 use Rattle.recovery.proofs.Scripts.{text_push, text_nil, desk_nil}

@@ -5,15 +5,9 @@ use Rattle.spec_model.specs.Histories.{Begins}
 use Rattle.spec_model.specs.Words.{Output}
 use Rattle.spec_world.specs.Text.{frame_of}
 use Rattle.book.specs.Book.{Shown, releasable}
+use Rattle.wire_write.specs.Frames.{AppendsLess}
 use Rattle.recovery.specs.declared.driving.DriveError.{DriveError}
 use Rattle.recovery.specs.declared.driving.DriveError.TheVariants.{Device, Full, Output as WriterFailed}
-
--- a writer's known bytes grow by a beginning of these, not by all of them
-pub record AppendsLess (old new : Option (List ℕ)) (bytes : List ℕ) : Type 0 where
-  pub part : List ℕ
-  pub begins : Begins part bytes
-  pub less : length part < length bytes
-  pub appends : Appends old new part
 
 -- a command ended at the disk: it failed, or the journal is full
 abbrev pub EndsAtDisk : DriveError → Type 0

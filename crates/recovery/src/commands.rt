@@ -11,10 +11,10 @@ ghost use Rattle.validator.specs.Setting.{node_of};
 ghost use Rattle.spec_world.specs.Text.{take_in, flush as flush_it, stop as stop_it, frames, due, without_due, after, carried_out, Desk as ScriptDesk};
 ghost use Rattle.recovery.specs.Faults.{ended_by};
 ghost use Rattle.recovery.specs.Script.{said, Passes, IsOf, IsOpenedOf, IsNotOpened, Breaks};
-ghost use Rattle.recovery.specs.Writing.{AppendsLess, AppendsPart, WritesFirst, WritesNone, WritesPartOfFirst};
+ghost use Rattle.recovery.specs.Writing.{AppendsPart, WritesFirst, WritesNone, WritesPartOfFirst};
+ghost use Rattle.wire_write.specs.Frames.{AppendsLess};
 
 use crate::driving::{Command, DriveError};
-use crate::frames::write_output;
 use desk::{Desk, FlushError, Receipt};
 use diskmodel::{Disk, StopDisk};
 use header::Checked;
@@ -23,6 +23,7 @@ use sigface::Sign;
 use std::alloc::Global;
 use std::io::Write;
 use validator::{Config, Refusal};
+use wire_write::write_output;
 
 /// Opens a node on a disk, with a book that has accepted nothing.
 pub(crate) fn open<'a, S: Sign, D: StopDisk>(
@@ -244,7 +245,7 @@ fn write_next<S: Sign, D: StopDisk, W: Write>(
     let Some(output) = desk.release() else {
         return Ok(false);
     };
-    write_output(alloc, output, writer)?;
+    write_output(alloc, &output, writer)?;
     Ok(true)
 }
 

@@ -12,10 +12,11 @@ use diskmodel::StopDisk;
 use header::Checked;
 use journal::{Failed, JournalError};
 use sigface::Sign;
-use std::alloc::{AllocError, Global};
+use std::alloc::Global;
 use std::io::Write;
 use thiserror::Error;
 use validator::Config;
+use wire_write::WriteError;
 
 /// What a node is told.
 #[derive(Debug, Drop)]
@@ -68,14 +69,17 @@ impl From<JournalError> for DriveError {
     }
 }
 
-impl From<AllocError> for DriveError {
+impl From<WriteError> for DriveError {
     ghost use Rattle.std.specs.Prelude.{◌≡◌};
-    ghost use Rattle.recovery.specs.declared.driving.DriveError.TheVariants.{Memory};
+    ghost use Rattle.recovery.specs.Faults.{unwritten};
 
-    ghost from_gives = { λ _ fault. fault ≡ Memory };
+    ghost from_gives = { λ error fault. fault ≡ unwritten error };
 
-    fn from(_error: AllocError) -> DriveError {
-        DriveError::Memory
+    fn from(error: WriteError) -> DriveError {
+        match error {
+            WriteError::Memory => DriveError::Memory,
+            WriteError::Output => DriveError::Output,
+        }
     }
 }
 

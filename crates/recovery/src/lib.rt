@@ -3,7 +3,6 @@
 
 mod commands;
 mod driving;
-mod frames;
 
 pub use driving::{Command, DriveError, drive};
 pub use opening::{

@@ -5,7 +5,7 @@ use Rattle.journal.specs.declared.journal.Journal.{Journal}
 use Rattle.spec_world.specs.Text.{after, take_in}
 use Rattle.validator.specs.Setting.{node_of}
 use Rattle.recovery.specs.Script.{IsOf}
-use Rattle.recovery.proofs.Appending.{on_err_more}
+use Rattle.wire_write.proofs.Appending.{on_err_more}
 use Rattle.recovery.proofs.Desks.{accepted_is, count_is}
 use Rattle.recovery.proofs.commands.accept.Goals as goal
 

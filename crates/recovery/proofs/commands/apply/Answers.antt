@@ -7,7 +7,7 @@ use Rattle.validator.specs.Setting.{Setting, node_of}
 use Rattle.spec_world.specs.Text.{Desk, after, take_in, flush, Command as ScriptCommand}
 use Rattle.recovery.specs.Script.{said, Passes, IsOf, Breaks}
 use Rattle.recovery.specs.declared.driving.Command.{Command}
-use Rattle.opening.proofs.Telling.{ok_weaker, err_weaker}
+use Rattle.opening.proofs.Telling.{ok_weaker}
 use Rattle.recovery.proofs.commands.apply.Goals as goal
 
 pub with_event-requires-clause-stands : goal.with_event-requires-clause-stands

@@ -7,7 +7,7 @@ use Rattle.journal.specs.Journal.{disk_of}
 use Rattle.validator.specs.Setting.{Setting, node_of}
 use Rattle.spec_world.specs.Text.{Desk, after, due, without_due, frames}
 use Rattle.recovery.specs.Script.{said, IsOf}
-use Rattle.recovery.specs.Writing.{AppendsLess}
+use Rattle.wire_write.specs.Frames.{AppendsLess}
 use Rattle.recovery.proofs.Appending.{part_none, part_less, not_at_disk}
 use Rattle.recovery.proofs.Desks.{behind_breaks, breaks_at, not_device}
 use Rattle.recovery.proofs.commands.carry_out.Goals as goal

@@ -5,7 +5,7 @@ use Rattle.validator.specs.Setting.{Setting, node_of}
 use Rattle.spec_world.specs.Text.{due, without_due, frames}
 use Rattle.book.specs.Book.{Shown, Run, Stands}
 use Rattle.recovery.specs.Script.{IsOf}
-use Rattle.recovery.proofs.Appending.{on_err}
+use Rattle.wire_write.proofs.Appending.{on_err}
 use Rattle.recovery.proofs.Dues.{nothing_written, goes_on, queue_falls, all_written, none_due, part_written}
 use Rattle.recovery.proofs.commands.write_due.Goals as goal
 

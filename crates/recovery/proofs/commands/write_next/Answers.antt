@@ -1,7 +1,7 @@
 use Rattle.std.proofs.Common.{sym, ap}
 use Rattle.std.proofs.lemmas.Bool.{true≢false}
 use Rattle.book.specs.Book.{Shown}
-use Rattle.recovery.proofs.Appending.{on_err}
+use Rattle.wire_write.proofs.Appending.{on_err}
 use Rattle.recovery.proofs.Dues.{released_same, writes_none, writes_first, writes_part}
 use Rattle.recovery.proofs.commands.write_next.Goals as goal
 

@@ -5,9 +5,9 @@ use Rattle.std.specs.Int.{w32, to_be_bytes}
 use Rattle.std.proofs.lemmas.Result.{on_ok_weaker}
 use Rattle.wire.specs.Outputs.{output_bytes}
 use Rattle.spec_world.specs.Text.{frame_of}
-use Rattle.recovery.specs.Writing.{AppendsLess}
-use Rattle.recovery.proofs.Appending.{part_front, part_behind, less_none, on_err, on_err_more}
-use Rattle.recovery.proofs.frames.write_frame.Goals as goal
+use Rattle.wire_write.specs.Frames.{AppendsLess}
+use Rattle.wire_write.proofs.Appending.{part_front, part_behind, less_none, on_err, on_err_more}
+use Rattle.wire_write.proofs.frames.write_output.Goals as goal
 
 pub returns-in_err-body-clause-err : goal.returns-in_err-body-clause-err
 unfolding frame_of

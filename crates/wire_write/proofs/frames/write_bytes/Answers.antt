@@ -3,9 +3,9 @@ use Rattle.std.specs.Io.KnownBytes.{Keeps, Appends}
 use Rattle.std.proofs.KnownBytes.{Keeps-refl, Appends-trans, Appends-kept}
 use Rattle.std.proofs.lemmas.Bool.{eqb-true, eqb-false}
 use Rattle.std.proofs.lemmas.List.{nil_from_length}
-use Rattle.recovery.specs.Writing.{AppendsLess}
-use Rattle.recovery.proofs.Appending.{more_written, on_err}
-use Rattle.recovery.proofs.frames.write_bytes.Goals as goal
+use Rattle.wire_write.specs.Frames.{AppendsLess}
+use Rattle.wire_write.proofs.Appending.{more_written, on_err}
+use Rattle.wire_write.proofs.frames.write_bytes.Goals as goal
 
 -- where some are left, what was written is less than all
 less_written : (old mid new : Option (List ℕ)) (all written rest : List ℕ) → Appends old mid written → all ≡ written ++ rest → (length rest ≡ 0 → ⊥) → Keeps mid new → AppendsLess old new all

@@ -1,33 +1,50 @@
 //! Writing outputs as frames.
 
-ghost use Rattle.std.specs.Prelude.{◌≡◌, ◌⊎◌, ◌≤◌, length, take, drop, IfOk, IfErr, OnOk, OnErr};
+ghost use Rattle.std.specs.Prelude.{◌≡◌, ◌≤◌, length, take, drop, IfOk, IfErr, OnOk, OnErr, IsErrOf};
 ghost use Rattle.std.specs.Io.KnownBytes.{Keeps, Appends};
 ghost use Rattle.spec_world.specs.Text.{frame_of};
-ghost use Rattle.recovery.specs.Writing.{AppendsLess};
+ghost use Rattle.wire_write.specs.Frames.{AppendsLess};
 
-use crate::driving::DriveError;
-use std::alloc::Global;
+use std::alloc::{AllocError, Global};
 use std::io::{ErrorKind, Write};
+use thiserror::Error;
 use wire::{Output, encode_output};
 
-/// Writes an output as a frame, and lets go of it.
-pub(crate) fn write_output<W: Write>(
-    alloc: Global,
-    output: Output,
-    writer: &mut W,
-) -> Result<(), DriveError>
-    ensures ok { OnOk result (Appends (W.contents writer.old) (W.contents writer.new) (frame_of output)) }
-    ensures err { OnErr result (AppendsLess (W.contents writer.old) (W.contents writer.new) (frame_of output)) }
-    ensures errors { IfErr result (λ error. (error ≡ DriveError.Memory) ⊎ (error ≡ DriveError.Output)) }
-{
-    write_frame(alloc, &output, writer)
+/// Why an output wasn't written. Printed as its number and its name.
+#[derive(Clone, Copy, Debug, PartialEq, Eq, Error)]
+pub enum WriteError {
+    /// Memory was refused, and nothing was written.
+    #[error("1 Memory")]
+    Memory,
+    /// The writer failed. A beginning of the frame may have been written.
+    #[error("2 Output")]
+    Output,
 }
 
-// Writes an output as a frame: the length of its bytes in four, the highest first, and its bytes.
-fn write_frame<W: Write>(alloc: Global, output: &Output, writer: &mut W) -> Result<(), DriveError>
+impl From<AllocError> for WriteError {
+    ghost use Rattle.std.specs.Prelude.{◌≡◌};
+    ghost use Rattle.wire_write.specs.declared.frames.WriteError.TheVariants.{Memory};
+
+    ghost from_gives = { λ _ error. error ≡ Memory };
+
+    fn from(_error: AllocError) -> WriteError {
+        WriteError::Memory
+    }
+}
+
+/// Writes an output as a frame: the length of its bytes in four, the highest first, and its bytes. It makes as many calls of the writer
+/// as that takes, and makes one that was interrupted again.
+///
+/// # Errors
+/// `Memory` where a growth was refused, `Output` where the writer failed or took no more.
+pub fn write_output<W: Write>(
+    alloc: Global,
+    output: &Output,
+    writer: &mut W,
+) -> Result<(), WriteError>
     ensures ok { OnOk result (Appends (W.contents writer.old) (W.contents writer.new) (frame_of output.now)) }
     ensures err { OnErr result (AppendsLess (W.contents writer.old) (W.contents writer.new) (frame_of output.now)) }
-    ensures errors { IfErr result (λ error. (error ≡ DriveError.Memory) ⊎ (error ≡ DriveError.Output)) }
+    ensures memory { IsErrOf result WriteError.Memory → Keeps (W.contents writer.old) (W.contents writer.new) }
 {
     let body = encode_output(alloc, output)?;
     write_bytes(writer, &(body.len() as u32).to_be_bytes())?;
@@ -35,10 +52,10 @@ fn write_frame<W: Write>(alloc: Global, output: &Output, writer: &mut W) -> Resu
 }
 
 // Writes all of these bytes, in as many calls as it takes. At an error a beginning of them was written.
-fn write_bytes<W: Write>(writer: &mut W, bytes: &[u8]) -> Result<(), DriveError>
+fn write_bytes<W: Write>(writer: &mut W, bytes: &[u8]) -> Result<(), WriteError>
     ensures ok { OnOk result (Appends (W.contents writer.old) (W.contents writer.new) bytes.now) }
     ensures err { OnErr result (AppendsLess (W.contents writer.old) (W.contents writer.new) bytes.now) }
-    ensures errors { IfErr result (λ error. error ≡ DriveError.Output) }
+    ensures errors { IfErr result (λ error. error ≡ WriteError.Output) }
 {
     let mut rest = bytes;
     for _ in 0..u64::MAX {
@@ -50,7 +67,7 @@ fn write_bytes<W: Write>(writer: &mut W, bytes: &[u8]) -> Result<(), DriveError>
         rest = left;
     }
     if !rest.is_empty() {
-        return Err(DriveError::Output);
+        return Err(WriteError::Output);
     }
     Ok(())
 }
@@ -64,20 +81,20 @@ fn behind(bytes: &[u8], count: usize) -> &[u8]
 }
 
 // Writes a beginning of these bytes, and says how many they are: none where the call was interrupted, which is to be made again.
-fn write_some<W: Write>(writer: &mut W, bytes: &[u8]) -> Result<usize, DriveError>
+fn write_some<W: Write>(writer: &mut W, bytes: &[u8]) -> Result<usize, WriteError>
     ensures ok { IfOk result (λ count. Appends (W.contents writer.old) (W.contents writer.new) (take count bytes.now)) }
     ensures within { IfOk result (λ count. count ≤ length bytes.now) }
     ensures err { OnErr result (Keeps (W.contents writer.old) (W.contents writer.new)) }
-    ensures errors { IfErr result (λ error. error ≡ DriveError.Output) }
+    ensures errors { IfErr result (λ error. error ≡ WriteError.Output) }
 {
     match writer.write(bytes) {
-        Ok(0) => Err(DriveError::Output),
+        Ok(0) => Err(WriteError::Output),
         Ok(count) => Ok(count),
         Err(error) => {
             if error.kind() == ErrorKind::Interrupted {
                 Ok(0)
             } else {
-                Err(DriveError::Output)
+                Err(WriteError::Output)
             }
         }
     }
