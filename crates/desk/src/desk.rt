@@ -56,6 +56,8 @@ impl<'a, S: Sign, D: Disk> Desk<'a, S, D> {
     ghost use Rattle.spec_world.specs.Steps.{accept as accept_event, take_to, device_call, settle, read_order, release as release_output};
     ghost use Rattle.spec_world.specs.World.{World};
     ghost use Rattle.validator.specs.Setting.{node_of};
+    ghost use Rattle.opening.specs.Laws.{IsLeft, IsNoRefusal};
+    ghost use Rattle.opening.specs.Told.{IsToldAsOneOf, KeepsRecords};
     ghost use Rattle.desk.specs.Desk.{IsOf, IsOpened, IsNotOpened};
     ghost use Rattle.desk.specs.AtWorld.{IsAt, LeadsTo};
 
@@ -73,6 +75,13 @@ impl<'a, S: Sign, D: Disk> Desk<'a, S, D> {
         ensures err { IfErr result (λ failed. IsNotOpened (node_of S.own_key S.signature_of config.now) failed.error (D.content disk) (D.outcome disk) (D.outcome failed.disk)) }
         // It answers Device exactly where the disk has failed.
         ensures cause { TellsFaultBack D.faults (λ desk. disk_of desk.journal) JournalError.Device disk result }
+        // What a stop leaves in a world of this node is never refused.
+        ensures never_refused { IfErr result (λ failed. IsLeft (node_of S.own_key S.signature_of config.now) (D.content disk) → IsNoRefusal failed.error) }
+        // A stop at any moment of the call leaves what is told as one outcome from before it is, and the records, whoever's they are.
+        ensures any_moment { IfOk result (λ desk. AtEachMoment D.clock D.outcome_since disk (disk_of desk.journal) (IsToldAsOneOf (node_of S.own_key S.signature_of config.now) (D.outcome disk))) }
+        ensures any_moment_err { IfErr result (λ failed. AtEachMoment D.clock D.outcome_since disk failed.disk (IsToldAsOneOf (node_of S.own_key S.signature_of config.now) (D.outcome disk))) }
+        ensures keeps { IfOk result (λ desk. AtEachMoment D.clock D.outcome_since disk (disk_of desk.journal) (KeepsRecords (node_of S.own_key S.signature_of config.now) (D.outcome disk))) }
+        ensures keeps_err { IfErr result (λ failed. AtEachMoment D.clock D.outcome_since disk failed.disk (KeepsRecords (node_of S.own_key S.signature_of config.now) (D.outcome disk))) }
     {
         match reopen(alloc, config, disk) {
             Ok((validator, journal)) => Ok(Desk {
