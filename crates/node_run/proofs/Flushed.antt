@@ -1,9 +1,9 @@
 -- What there is left to bring to the disk behind a round, and what is told of all rounds.
 use Rattle.std.proofs.Common.{◌≡◌, ◌+◌, ◌<◌, ℕ, Bool, true, false, List, length, Option, Some, None, Result, Ok, refl, sym, subst, ◌∙◌, inl, inr, arith}
-use Rattle.std.specs.Prelude.{◌≢◌, ◌⊎◌, ◌↔◌, IfOk, IfSome, OnOk, IsErrOf, IsSome, IsTrue}
+use Rattle.std.specs.Prelude.{◌⊎◌, ◌↔◌, IfOk, OnOk, IsErrOf, IsSome, IsTrue}
 use Rattle.flusher.specs.Rounds.{TakesLongest}
 use Rattle.node_io.specs.Endings.{first_of}
-use Rattle.node_run.specs.Ends.{TellsJournal}
+use Rattle.node_run.specs.Ends.{TellsRounds, TellsJournal}
 use Rattle.flusher.specs.declared.error.FlushError.{FlushError}
 use Rattle.flusher.specs.declared.error.FlushError.TheVariants as flush
 use Rattle.journal.specs.declared.error.JournalError.{JournalError}
@@ -71,10 +71,8 @@ pub nothing_told : (first : ℕ) (was : Bool) (Lacks : Type 0) → TellsJournal 
 nothing_told first was Lacks = record {
   fell = λ some. absurd (cc);
   told = λ up down. absurd (let bad : false ≡ true = sym up ∙ down in cc);
-  which = tt;
   full = λ is. absurd (cc);
-  device = λ is. absurd (cc);
-  no_fault = λ other. refl;
+  rounds = record { disk = record { device = λ is. absurd (cc); no_fault = λ other. refl }; which = tt };
 }
 
 none_more : (fault : Option JournalError) → first_of fault None ≡ fault
@@ -87,30 +85,32 @@ none_more (Some journal.Full) = refl
 
 -- more rounds: those of a node that is down tell nothing, and leave it so
 pub told_on : (first mid now : ℕ) (was down later : Bool) (fault more : Option JournalError) (Lacks More : Type 0) → TellsJournal first mid was down fault Lacks
-    → (more ≡ Some journal.Device → mid < now) → (more ≢ Some journal.Device → now ≡ mid) → (down ≡ false → IsSome more ↔ IsTrue later)
-    → (IsTrue down → (more ≡ None) × IsTrue later × (Lacks → More)) → IfSome more (λ error. (error ≡ journal.Device) ⊎ (error ≡ journal.Full)) → (down ≡ false → more ≡ Some journal.Full → More)
+    → TellsRounds mid now more → (down ≡ false → IsSome more ↔ IsTrue later)
+    → (IsTrue down → (more ≡ None) × IsTrue later × (Lacks → More)) → (down ≡ false → more ≡ Some journal.Full → More)
     → TellsJournal first now was later (first_of fault more) More
-told_on first mid now was true later fault more Lacks More so_far device no_fault down_is stays which full =
+told_on first mid now was true later fault more Lacks More so_far tells down_is stays full =
     let none = (stays refl).0 in
-    let same : now ≡ mid = no_fault (λ is. let bad : ◌≡◌ {A = Option JournalError} None (Some journal.Device) = sym none ∙ is in cc) in
+    let same : now ≡ mid = tells.disk.no_fault (λ is. let bad : ◌≡◌ {A = Option JournalError} None (Some journal.Device) = sym none ∙ is in cc) in
     subst (λ (m : Option JournalError). TellsJournal first now was later (first_of fault m) More) (sym none)
     (subst (λ (f : Option JournalError). TellsJournal first now was later f More) (sym (none_more fault))
     (record {
       fell = λ some. (stays refl).1;
       told = λ up down. so_far.told up refl;
-      which = so_far.which;
       full = λ is. (stays refl).2 (so_far.full is);
-      device = λ is. subst (λ n. first < n) (sym same) (so_far.device is);
-      no_fault = λ other. same ∙ so_far.no_fault other;
+      rounds = record {
+        disk = record { device = λ is. subst (λ n. first < n) (sym same) (so_far.rounds.disk.device is); no_fault = λ other. same ∙ so_far.rounds.disk.no_fault other };
+        which = so_far.rounds.which;
+      };
     }))
-told_on first mid now was false later (Some error) more Lacks More so_far device no_fault down_is stays which full = absurd (let bad : false ≡ true = so_far.fell refl in cc)
-told_on first mid now was false later None more Lacks More so_far device no_fault down_is stays which full =
-    let start : mid ≡ first = so_far.no_fault (λ is. let bad : ◌≡◌ {A = Option JournalError} None (Some journal.Device) = is in cc) in
+told_on first mid now was false later (Some error) more Lacks More so_far tells down_is stays full = absurd (let bad : false ≡ true = so_far.fell refl in cc)
+told_on first mid now was false later None more Lacks More so_far tells down_is stays full =
+    let start : mid ≡ first = so_far.rounds.disk.no_fault (λ is. let bad : ◌≡◌ {A = Option JournalError} None (Some journal.Device) = is in cc) in
     record {
       fell = (down_is refl).0;
       told = λ up down. (down_is refl).1 down;
-      which = which;
       full = full refl;
-      device = λ is. subst (λ n. n < now) start (device is);
-      no_fault = λ other. no_fault other ∙ start;
+      rounds = record {
+        disk = record { device = λ is. subst (λ n. n < now) start (tells.disk.device is); no_fault = λ other. tells.disk.no_fault other ∙ start };
+        which = tells.which;
+      };
     }

@@ -5,3 +5,5 @@ mod Brought
 mod Flushed
 mod Opened
 mod Asking
+mod Moments
+mod Runs

@@ -1,10 +1,11 @@
 -- What goes to a node's writer, output by output.
-use Rattle.std.proofs.Common.{take, ◌≡◌, ℕ, Bool, true, false, List, [], ◌∷◌, ◌++◌, Option, refl, sym, ap, subst, ◌∙◌, append-nil, inl, inr}
+use Rattle.std.proofs.Common.{take, ◌≡◌, ℕ, Bool, true, false, List, [], ◌∷◌, ◌++◌, Option, refl, sym, ap, subst, ◌∙◌, append-nil, append_assoc, inl, inr}
 use Rattle.std.specs.List.{flat_map}
 use Rattle.std.specs.Io.KnownBytes.{Keeps, Appends}
-use Rattle.std.proofs.KnownBytes.{Keeps-trans, Appends-trans, Appends-kept}
+use Rattle.std.proofs.KnownBytes.{Keeps-refl, Keeps-trans, Appends-trans, Appends-kept}
 use Rattle.std.proofs.lemmas.List.Concat.{flat_map-append}
-use Rattle.std.proofs.lemmas.List.Elements.{All-append, All-push, All-weaker}
+use Rattle.std.proofs.lemmas.List.Elements.{All-nil, All-append, All-push, All-weaker}
+use Rattle.std.specs.Prelude.{All}
 use Rattle.spec_model.specs.Giving.{MayGive}
 use Rattle.spec_model.specs.Histories.{History, Begins}
 use Rattle.spec_model.specs.Nodes.{Node}
@@ -17,7 +18,9 @@ use Rattle.node_shared.specs.Answers.{IsPutOutBy}
 use Rattle.spec_world.specs.Promise.{GoesOut}
 use Rattle.spec_world.specs.Text.{frame_of}
 use Rattle.spec_world.specs.World.{put_out}
-use Rattle.node_run.specs.Writing.{Puts, MayGo, WritesOnly}
+use Rattle.node_run.specs.Writing.{AppendsSome, Puts, MayGo, WritesOnly}
+use Rattle.wire_write.proofs.Appending.{keeps_appends}
+use Rattle.wire_write.specs.Frames.{AppendsLess}
 
 -- the other faults are as before
 others_yet : (before mid later : Faults) → mid ≡ record before { output = mid.output; memory = mid.memory } → later ≡ record mid { output = later.output; memory = later.memory }
@@ -32,16 +35,105 @@ weaker May Wider before later old new wider so_far = record {
   outputs = so_far.outputs;
   each = All-weaker May Wider wider so_far.outputs so_far.each;
   written = so_far.written;
+  some = so_far.some;
   others = so_far.others;
 }
+
+-- some that aren't all
+some_of_less : (old new : Option (List ℕ)) (bytes : List ℕ) → AppendsLess old new bytes → AppendsSome old new bytes
+some_of_less old new bytes less = record { part = less.part; begins = less.begins; appends = less.appends }
+
+-- none are a beginning, and all of them are
+none_some : (old new : Option (List ℕ)) (bytes : List ℕ) → Keeps old new → AppendsSome old new bytes
+none_some old new bytes keeps = record {
+  part = [];
+  begins = record { rest = bytes; parts = refl };
+  appends = keeps_appends old new keeps;
+}
+
+all_some : (old new : Option (List ℕ)) (bytes : List ℕ) → Appends old new bytes → AppendsSome old new bytes
+all_some old new bytes appends = record {
+  part = bytes;
+  begins = record { rest = []; parts = sym (append-nil bytes) };
+  appends = appends;
+}
+
+some_kept : (old mid new : Option (List ℕ)) (bytes : List ℕ) → AppendsSome old mid bytes → Keeps mid new → AppendsSome old new bytes
+some_kept old mid new bytes some keeps = record {
+  part = some.part;
+  begins = some.begins;
+  appends = Appends-kept old mid new some.part some.appends keeps;
+}
+
+-- all of the first, and some of the second
+some_behind : (old mid new : Option (List ℕ)) (first second : List ℕ) → Appends old mid first → AppendsSome mid new second → AppendsSome old new (first ++ second)
+some_behind old mid new first second one some = record {
+  part = first ++ some.part;
+  begins = record { rest = some.begins.rest; parts = ap (λ (l : List ℕ). first ++ l) some.begins.parts ∙ sym (append_assoc first some.part some.begins.rest) };
+  appends = Appends-trans old mid new first some.part one some.appends;
+}
+
+-- nothing yet
+pub none_yet : (May : Output → Type 0) (faults : Faults) (at : Option (List ℕ)) → WritesOnly May faults faults at at
+none_yet May faults at = record {
+  broken = λ is. (is, Keeps-refl at);
+  memory = λ is. is;
+  outputs = [];
+  each = All-nil May;
+  written = λ fine. keeps_appends at at (Keeps-refl at);
+  some = all_some at at [] (keeps_appends at at (Keeps-refl at));
+  others = refl;
+}
+
+-- more went to a writer that had not failed
+more_of : (May : Output → Type 0) (before mid later : Faults) (old cur new : Option (List ℕ)) (more : List Output) → WritesOnly May before mid old cur → All May more
+    → mid.output ≡ false → (before.memory ≡ true → later.memory ≡ true) → later ≡ record before { output = later.output; memory = later.memory }
+    → (later.output ≡ false → Appends cur new (flat_map frame_of more)) → AppendsSome cur new (flat_map frame_of more) → WritesOnly May before later old new
+more_of May before mid later old cur new more so_far each fine memory others written some = record {
+  broken = λ is. absurd (let bad : true ≡ false = sym ((so_far.broken is).0) ∙ fine in cc);
+  memory = memory;
+  outputs = so_far.outputs ++ more;
+  each = All-append May so_far.outputs more so_far.each each;
+  written = λ yet. subst (Appends old new) whole
+      (Appends-trans old cur new (flat_map frame_of so_far.outputs) (flat_map frame_of more) (so_far.written fine) (written yet));
+  some = subst (AppendsSome old new) whole (some_behind old cur new (flat_map frame_of so_far.outputs) (flat_map frame_of more) (so_far.written fine) some);
+  others = others;
+}
+  where
+    whole : flat_map frame_of so_far.outputs ++ flat_map frame_of more ≡ flat_map frame_of (so_far.outputs ++ more)
+    whole = sym (flat_map-append frame_of so_far.outputs more)
+
+-- nothing more went to it
+none_more_of : (May : Output → Type 0) (before mid later : Faults) (old cur new : Option (List ℕ)) → WritesOnly May before mid old cur
+    → (mid.output ≡ true → later.output ≡ true) → (before.memory ≡ true → later.memory ≡ true) → later ≡ record before { output = later.output; memory = later.memory }
+    → Keeps cur new → WritesOnly May before later old new
+none_more_of May before mid later old cur new so_far stays memory others keeps = record {
+  broken = λ is. let first = so_far.broken is in (stays first.0, Keeps-trans old cur new first.1 keeps);
+  memory = memory;
+  outputs = so_far.outputs;
+  each = so_far.each;
+  written = λ yet. Appends-kept old cur new (flat_map frame_of so_far.outputs) (so_far.written (was mid.output refl yet)) keeps;
+  some = some_kept old cur new (flat_map frame_of so_far.outputs) so_far.some keeps;
+  others = others;
+}
+  where
+    was : (b : Bool) → mid.output ≡ b → later.output ≡ false → mid.output ≡ false
+    was true is yet = let bad : true ≡ false = sym (stays is) ∙ yet in absurd cc
+    was false is yet = is
 
 -- one output more
 pub one_more : (May : Output → Type 0) (output : Output) (before mid later : Faults) (old cur new : Option (List ℕ))
     → WritesOnly May before mid old cur → May output → Puts (frame_of output) mid later cur new → WritesOnly May before later old new
-one_more May output before mid later old cur new so_far may puts = behind later.output refl
+one_more May output before mid later old cur new so_far may puts = behind mid.output later.output refl refl
   where
-    broken : before.output ≡ true → (later.output ≡ true) × Keeps old new
-    broken is = let first = so_far.broken is in let second = puts.broken first.0 in (second.0, Keeps-trans old cur new first.1 second.1)
+    one : List Output
+    one = output ∷ []
+
+    whole : frame_of output ≡ flat_map frame_of one
+    whole = sym (append-nil (frame_of output))
+
+    one_may : All May one
+    one_may = All-push May [] output (All-nil May) may
 
     memory : before.memory ≡ true → later.memory ≡ true
     memory is = puts.memory (so_far.memory is)
@@ -49,71 +141,85 @@ one_more May output before mid later old cur new so_far may puts = behind later.
     others : later ≡ record before { output = later.output; memory = later.memory }
     others = others_yet before mid later so_far.others puts.others
 
-    behind : (b : Bool) → later.output ≡ b → WritesOnly May before later old new
-    behind true is = record {
-      broken = broken;
-      memory = memory;
-      outputs = so_far.outputs;
-      each = so_far.each;
-      written = λ fine. let bad : true ≡ false = sym is ∙ fine in absurd cc;
-      others = others;
-    }
-    behind false is = elim (puts.fine is) [
-      | inl all ↦ record {
-        broken = broken;
-        memory = memory;
-        outputs = so_far.outputs ++ output ∷ [];
-        each = All-push May so_far.outputs output so_far.each may;
-        written = λ _. subst (Appends old new)
-            (ap (λ (l : List ℕ). flat_map frame_of so_far.outputs ++ l) (sym (append-nil (frame_of output))) ∙ sym (flat_map-append frame_of so_far.outputs (output ∷ [])))
-            (Appends-trans old cur new (flat_map frame_of so_far.outputs) (frame_of output) (so_far.written (sym (ap (λ f. f.output) all.0) ∙ is)) all.1);
-        others = others;
-      }
-      | inr none ↦ record {
-        broken = broken;
-        memory = memory;
-        outputs = so_far.outputs;
-        each = so_far.each;
-        written = λ _. Appends-kept old cur new (flat_map frame_of so_far.outputs) (so_far.written (sym (ap (λ f. f.output) none.0) ∙ is)) none.1;
-        others = others;
-      }
+    some : AppendsSome cur new (flat_map frame_of one)
+    some = subst (AppendsSome cur new) whole puts.some
+
+    -- the writer had failed; it fails now; it doesn't
+    behind : (was now : Bool) → mid.output ≡ was → later.output ≡ now → WritesOnly May before later old new
+    behind true now is then = none_more_of May before mid later old cur new so_far (λ broken. (puts.broken broken).0) memory others (puts.broken is).1
+    behind false true is then =
+        more_of May before mid later old cur new one so_far one_may is memory others (λ fine. absurd (let bad : true ≡ false = sym then ∙ fine in cc)) some
+    behind false false is then = elim (puts.fine then) [
+      | inl all ↦ more_of May before mid later old cur new one so_far one_may is memory others (λ fine. subst (Appends cur new) whole all.1) some
+      | inr none ↦ none_more_of May before mid later old cur new so_far (λ broken. absurd (let bad : true ≡ false = sym broken ∙ is in cc)) memory others none.1
     ]
 
 -- what went before, and what went then
 pub both_written : (May : Output → Type 0) (before mid later : Faults) (old cur new : Option (List ℕ))
     → WritesOnly May before mid old cur → WritesOnly May mid later cur new → WritesOnly May before later old new
-both_written May before mid later old cur new first second = record {
-  broken = λ is. let one = first.broken is in let two = second.broken one.0 in (two.0, Keeps-trans old cur new one.1 two.1);
-  memory = λ is. second.memory (first.memory is);
-  outputs = first.outputs ++ second.outputs;
-  each = All-append May first.outputs second.outputs first.each second.each;
-  written = λ fine. subst (Appends old new) (sym (flat_map-append frame_of first.outputs second.outputs))
-      (Appends-trans old cur new (flat_map frame_of first.outputs) (flat_map frame_of second.outputs) (first.written (was mid.output refl fine)) (second.written fine));
-  others = others_yet before mid later first.others second.others;
-}
+both_written May before mid later old cur new first second = behind mid.output refl
   where
-    was : (b : Bool) → mid.output ≡ b → later.output ≡ false → mid.output ≡ false
-    was true is fine = let bad : true ≡ false = sym ((second.broken is).0) ∙ fine in absurd cc
-    was false is fine = is
+    memory : before.memory ≡ true → later.memory ≡ true
+    memory is = second.memory (first.memory is)
+
+    others : later ≡ record before { output = later.output; memory = later.memory }
+    others = others_yet before mid later first.others second.others
+
+    behind : (was : Bool) → mid.output ≡ was → WritesOnly May before later old new
+    behind true is = none_more_of May before mid later old cur new first (λ broken. (second.broken broken).0) memory others (second.broken is).1
+    behind false is = more_of May before mid later old cur new second.outputs first second.each is memory others second.written second.some
 
 -- nothing more, but that the writer may have failed
 pub no_more : (May : Output → Type 0) (before mid later : Faults) (old cur new : Option (List ℕ))
     → WritesOnly May before mid old cur → (mid.output ≡ true → later.output ≡ true) → later ≡ record mid { output = later.output } → Keeps cur new → WritesOnly May before later old new
-no_more May before mid later old cur new so_far stays same keeps = record {
-  broken = λ is. let first = so_far.broken is in (stays first.0, Keeps-trans old cur new first.1 keeps);
-  memory = λ is. memory ∙ so_far.memory is;
-  outputs = so_far.outputs;
-  each = so_far.each;
-  written = λ fine. Appends-kept old cur new (flat_map frame_of so_far.outputs) (so_far.written (was mid.output refl fine)) keeps;
-  others = others_yet before mid later so_far.others (same ∙ ap (λ (it : Bool). record mid { output = later.output; memory = it }) (sym memory));
-}
+no_more May before mid later old cur new so_far stays same keeps = none_more_of May before mid later old cur new so_far stays (λ is. memory ∙ so_far.memory is) others keeps
   where
     memory : later.memory ≡ mid.memory
     memory = ap (λ (faults : Faults). faults.memory) same
 
-    was : (b : Bool) → mid.output ≡ b → later.output ≡ false → mid.output ≡ false
-    was true is fine = let bad : true ≡ false = sym (stays is) ∙ fine in absurd cc
-    was false is fine = is
+    others : later ≡ record before { output = later.output; memory = later.memory }
+    others = others_yet before mid later so_far.others (same ∙ ap (λ (it : Bool). record mid { output = later.output; memory = it }) (sym memory))
+
+-- ---- a frame that was to be put
+
+-- the writer had failed
+pub puts_none : (bytes : List ℕ) (faults : Faults) (old : Option (List ℕ)) → faults.output ≡ true → Puts bytes faults faults old old
+puts_none bytes faults old broken = record {
+  broken = λ is. (is, Keeps-refl old);
+  memory = λ is. is;
+  fine = λ fine. absurd (let bad : true ≡ false = sym broken ∙ fine in cc);
+  some = none_some old old bytes (Keeps-refl old);
+  others = refl;
+}
+
+pub puts_all : (bytes : List ℕ) (faults : Faults) (old new : Option (List ℕ)) → faults.output ≡ false → Appends old new bytes → Puts bytes faults faults old new
+puts_all bytes faults old new up appends = record {
+  broken = λ is. absurd (let bad : true ≡ false = sym is ∙ up in cc);
+  memory = λ is. is;
+  fine = λ fine. inl (refl, appends);
+  some = all_some old new bytes appends;
+  others = refl;
+}
+
+-- memory was refused
+pub puts_no_memory : (bytes : List ℕ) (faults : Faults) (old new : Option (List ℕ)) → faults.output ≡ false → Keeps old new → Puts bytes faults (record faults { memory = true }) old new
+puts_no_memory bytes faults old new up keeps = record {
+  broken = λ is. absurd (let bad : true ≡ false = sym is ∙ up in cc);
+  memory = λ is. refl;
+  fine = λ fine. inr (refl, keeps);
+  some = none_some old new bytes keeps;
+  others = refl;
+}
+
+-- the writer fails
+pub puts_some : (bytes : List ℕ) (faults : Faults) (old new : Option (List ℕ)) → faults.output ≡ false → AppendsLess old new bytes → Puts bytes faults (record faults { output = true }) old new
+puts_some bytes faults old new up less = record {
+  broken = λ is. absurd (let bad : true ≡ false = sym is ∙ up in cc);
+  memory = λ is. is;
+  fine = λ fine. absurd (cc);
+  some = some_of_less old new bytes less;
+  others = refl;
+}
 
 -- what might go before may go yet
 pub may_go_yet : (node : Node) (before later : View) → later.start ≡ before.start → Begins before.firm later.firm

@@ -23,12 +23,20 @@ abbrev pub told_of_wait : WaitRefusal → Told
 told_of_wait waiter.Memory = Refused refusal.Memory
 told_of_wait other = Refused refusal.MissingParents
 
--- What is told of a journal by all rounds together, where its disk had so many faults at first, and has so many now. A fault is told exactly
--- where a round took the node down: the disk's exactly where it counted one, or that a group has no place.
+-- the fault of a journal is the disk's exactly where the disk, which had so many faults at first and has so many now, counted one
+pub record TellsDisk (first now : ℕ) (fault : Option JournalError) : Type 0 where
+  pub device : fault ≡ Some journal.Device → first < now
+  pub no_fault : fault ≢ Some journal.Device → now ≡ first
+
+-- what rounds tell of a journal: nothing, the disk's fault, or that a group has no place
+pub record TellsRounds (first now : ℕ) (fault : Option JournalError) : Type 0 where
+  pub disk : TellsDisk first now fault
+  pub which : IfSome fault (λ error. (error ≡ journal.Device) ⊎ (error ≡ journal.Full))
+
+-- What is told of a journal by all rounds together. A fault is told exactly where a round took the node down: the disk's, or that a group
+-- has no place.
 pub record TellsJournal (first now : ℕ) (was_down is_down : Bool) (fault : Option JournalError) (HasNoPlace : Type 0) : Type 0 where
   pub fell : IsSome fault → IsTrue is_down
   pub told : was_down ≡ false → IsTrue is_down → IsSome fault
-  pub which : IfSome fault (λ error. (error ≡ journal.Device) ⊎ (error ≡ journal.Full))
   pub full : fault ≡ Some journal.Full → HasNoPlace
-  pub device : fault ≡ Some journal.Device → first < now
-  pub no_fault : fault ≢ Some journal.Device → now ≡ first
+  pub rounds : TellsRounds first now fault

@@ -4,3 +4,4 @@ pub mod Ends
 pub mod Members
 pub mod Taking
 pub mod Writing
+pub mod Runs

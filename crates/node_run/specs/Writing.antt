@@ -18,13 +18,24 @@ use Rattle.spec_world.specs.World.{put_out}
 abbrev pub no_faults : Faults
 no_faults = record { journal = None; output = false; memory = false; input = false }
 
+-- memory was refused
+abbrev pub no_memory : Faults
+no_memory = record { journal = None; output = false; memory = true; input = false }
+
+-- a writer's known bytes grow by a beginning of these
+pub record AppendsSome (old new : Option (List ℕ)) (bytes : List ℕ) : Type 0 where
+  pub part : List ℕ
+  pub begins : Begins part bytes
+  pub appends : Appends old new part
+
 -- Bytes were to go to a writer. Once it has failed nothing goes to it; else they stand behind what it has, unless it fails, or memory was
--- refused for them. No other fault is told.
+-- refused for them. Where it fails some of them may. No other fault is told.
 pub record Puts (bytes : List ℕ) (before later : Faults) (old new : Option (List ℕ)) : Type 0 where
   pub broken : before.output ≡ true → (later.output ≡ true) × Keeps old new
   pub memory : before.memory ≡ true → later.memory ≡ true
   pub fine : later.output ≡ false
       → ((later ≡ before) × Appends old new bytes) ⊎ ((later ≡ record before { memory = true }) × Keeps old new)
+  pub some : AppendsSome old new bytes
   pub others : later ≡ record before { output = later.output; memory = later.memory }
 
 -- an output was put out at what a seat knows as settled, or knew of it before, and may be given out there
@@ -42,11 +53,13 @@ pub record WritesNext (May : Output → Type 0) (before later : Faults) (old new
   pub may : May output
   pub puts : Puts (frame_of output) before later old new
 
--- All that went to the writer, unless it failed, are frames of outputs that might go. No fault is told but the writer's and want of memory.
+-- All that went to the writer are frames of outputs that might go. Only where it failed they may be cut short. No fault is told but the
+-- writer's and want of memory.
 pub record WritesOnly (May : Output → Type 0) (before later : Faults) (old new : Option (List ℕ)) : Type 0 where
   pub broken : before.output ≡ true → (later.output ≡ true) × Keeps old new
   pub memory : before.memory ≡ true → later.memory ≡ true
   pub outputs : List Output
   pub each : All May outputs
   pub written : later.output ≡ false → Appends old new (flat_map frame_of outputs)
+  pub some : AppendsSome old new (flat_map frame_of outputs)
   pub others : later ≡ record before { output = later.output; memory = later.memory }

@@ -1,9 +1,13 @@
 //! The thread that brings records to the disk.
 
-ghost use Rattle.std.specs.Prelude.{◌≡◌, ◌≢◌, ◌⊎◌, ◌↔◌, ◌<◌, true, false, Some, None, IsSome, IfSome, IsTrue};
+ghost use Rattle.std.specs.Prelude.{◌≡◌, ◌↔◌, true, false, Some, None, IsSome, IsTrue};
+ghost use Rattle.diskmodel.specs.Disk.{AtEachMoment};
 ghost use Rattle.journal.specs.Journal.{disk_of};
+ghost use Rattle.spec_model.specs.Histories.{Begins};
+ghost use Rattle.validator.specs.Setting.{node_of};
 ghost use Rattle.flusher.specs.Rounds.{journal_of, is_down, settled_in, taken_in, HasNoRoom, TakesLongest};
-ghost use Rattle.node_run.specs.Ends.{faults_behind, TellsJournal};
+ghost use Rattle.node_run.specs.Ends.{faults_behind, TellsRounds, TellsJournal};
+ghost use Rattle.node_run.specs.Runs.{HoldsMore};
 
 use crate::bell::Bell;
 use diskmodel::Disk;
@@ -23,6 +27,9 @@ pub(crate) fn flush_all<S: Sign, D: Disk, R: Wait>(
 ) -> Faults
     ensures journal { TellsJournal (D.faults (disk_of (journal_of rounds.old.flusher))) (D.faults (disk_of (journal_of rounds.new.flusher))) (is_down rounds.old.flusher) (is_down rounds.new.flusher) result.journal (HasNoRoom (D.content (disk_of (journal_of rounds.new.flusher))) (settled_in rounds.new.flusher) (taken_in rounds.new.flusher)) }
     ensures others { (result.output ≡ false) × (result.input ≡ false) }
+    ensures node { rounds.new.node ≡ rounds.old.node }
+    // A stop at any moment leaves what was settled, and perhaps more behind it.
+    ensures any_moment { is_down rounds.old.flusher ≡ false → AtEachMoment D.clock D.outcome_since (disk_of (journal_of rounds.old.flusher)) (disk_of (journal_of rounds.new.flusher)) (HoldsMore (node_of S.own_key S.signature_of) rounds.old.node (settled_in rounds.old.flusher)) }
 {
     let mut faults = Faults::none();
     for _ in rt.forever() {
@@ -42,13 +49,11 @@ fn flush_pending<S: Sign, D: Disk, R: Wait>(
     rounds: &mut Rounds<'_, '_, S, D>,
     settled: &Bell,
 ) -> Faults
-    ensures device { result.journal ≡ Some JournalError.Device → D.faults (disk_of (journal_of rounds.old.flusher)) < D.faults (disk_of (journal_of rounds.new.flusher)) }
-    ensures no_fault { result.journal ≢ Some JournalError.Device → D.faults (disk_of (journal_of rounds.new.flusher)) ≡ D.faults (disk_of (journal_of rounds.old.flusher)) }
+    ensures rounds { TellsRounds (D.faults (disk_of (journal_of rounds.old.flusher))) (D.faults (disk_of (journal_of rounds.new.flusher))) result.journal }
 
     // A round that takes the node down is told as the journal's fault: the disk's, or that the group has no place.
     ensures down { is_down rounds.old.flusher ≡ false → IsSome result.journal ↔ IsTrue (is_down rounds.new.flusher) }
     ensures stays { IsTrue (is_down rounds.old.flusher) → (result.journal ≡ None) × (rounds.new.flusher ≡ rounds.old.flusher) }
-    ensures which { IfSome result.journal (λ error. (error ≡ JournalError.Device) ⊎ (error ≡ JournalError.Full)) }
     ensures full { is_down rounds.old.flusher ≡ false → result.journal ≡ Some JournalError.Full → HasNoRoom (D.content (disk_of (journal_of rounds.new.flusher))) (settled_in rounds.new.flusher) (taken_in rounds.new.flusher) }
 
     // Unless the node is down or memory was refused, of some list of what was accepted, with all of it that the seat had seen before,
@@ -57,6 +62,9 @@ fn flush_pending<S: Sign, D: Disk, R: Wait>(
     // Behind want of memory nothing is taken that isn't settled.
     ensures memory { result.memory ≡ true → taken_in rounds.new.flusher ≡ settled_in rounds.new.flusher }
     ensures others { (result.output ≡ false) × (result.input ≡ false) }
+    ensures node { rounds.new.node ≡ rounds.old.node }
+    ensures more { Begins (settled_in rounds.old.flusher) (settled_in rounds.new.flusher) }
+    ensures any_moment { is_down rounds.old.flusher ≡ false → AtEachMoment D.clock D.outcome_since (disk_of (journal_of rounds.old.flusher)) (disk_of (journal_of rounds.new.flusher)) (HoldsMore (node_of S.own_key S.signature_of) rounds.old.node (settled_in rounds.old.flusher)) }
 {
     for _ in rt.forever() {
         let round = rounds.round(rt);

@@ -3,6 +3,7 @@
 #![tactic(auto)]
 
 mod bell;
+mod beside;
 mod caller;
 mod due;
 mod flushing;

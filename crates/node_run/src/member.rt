@@ -1,5 +1,8 @@
 //! A member's node over its disk.
 
+ghost use Rattle.validator.specs.Setting.{node_of};
+ghost use Rattle.node_run.specs.Runs.{RunsOver};
+
 use crate::bell::Bells;
 use crate::threads::{Desks, run_threads};
 use diskmodel::Disk;
@@ -31,6 +34,7 @@ where
     I: Read + Drop,
     W: Write + Drop + Send,
     E: Write,
+    ensures { RunsOver (node_of S.own_key S.signature_of config.now) D.content D.outcome D.clock D.outcome_since D.faults disk result.0 result.1 }
 {
     let (node, seat, flusher) = match start(alloc, config, disk) {
         Ok(started) => started,

@@ -1,14 +1,12 @@
 //! The thread that writes what goes out.
 
-ghost use Rattle.std.specs.Prelude.{◌≡◌, ◌≤◌, ◌++◌, true, false, length, OnOk};
-ghost use Rattle.std.specs.Int.{w32, to_be_bytes};
+ghost use Rattle.std.specs.Prelude.{◌≡◌, true, false};
 ghost use Rattle.std.specs.Io.Buffered.{writer_contents};
-ghost use Rattle.std.specs.Io.KnownBytes.{Appends, Keeps};
+ghost use Rattle.std.specs.Io.KnownBytes.{Keeps};
 ghost use Rattle.spec_model.specs.Histories.{Begins};
 ghost use Rattle.node_seats.specs.Views.{IsSame};
 ghost use Rattle.node.specs.Callers.{StaysWith};
 ghost use Rattle.validator.specs.Setting.{node_of};
-ghost use Rattle.wire.specs.declared.limits.TheConstants.{MAX_FRAME_BYTES};
 ghost use Rattle.spec_world.specs.Text.{frame_of};
 ghost use Rattle.node_run.specs.Writing.{no_faults, Puts, MayGo, WritesNext, WritesOnly};
 
@@ -16,10 +14,11 @@ use crate::bell::Bell;
 use crate::caller::Caller;
 use node_io::Faults;
 use sigface::Sign;
-use std::alloc::{AllocError, Global};
-use std::io::{self, BufWriter, Write};
+use std::alloc::Global;
+use std::io::{BufWriter, Write};
 use std::sync::Wait;
-use wire::{Output, encode_output};
+use wire::Output;
+use wire_write::{WriteError, write_output};
 
 /// Where outputs go. Where one can't be written none is from then on.
 #[derive(Drop)]
@@ -121,19 +120,13 @@ impl<W: Write + Drop> Sink<W> {
     fn put_output(&mut self, output: &Output)
         ensures { Puts (frame_of output.now) self.old.faults self.new.faults (writer_contents W.contents self.old.writer) (writer_contents W.contents self.new.writer) }
     {
-        match encode_output(self.alloc, output) {
-            Ok(bytes) => self.put_frame(&bytes),
-            Err(AllocError) => self.faults.memory = true,
+        if self.faults.output {
+            return;
         }
-    }
-
-    fn put_frame(&mut self, bytes: &[u8])
-        requires { length bytes.now ≤ MAX_FRAME_BYTES }
-        ensures { Puts (to_be_bytes w32 (length bytes.now) ++ bytes.now) self.old.faults self.new.faults (writer_contents W.contents self.old.writer) (writer_contents W.contents self.new.writer) }
-    {
-        if !self.faults.output {
-            let written = write_frame(&mut self.writer, bytes);
-            self.faults.output = written.is_err();
+        match write_output(self.alloc, output, &mut self.writer) {
+            Ok(()) => {}
+            Err(WriteError::Memory) => self.faults.memory = true,
+            Err(WriteError::Output) => self.faults.output = true,
         }
     }
 
@@ -146,13 +139,4 @@ impl<W: Write + Drop> Sink<W> {
             self.faults.output = self.writer.flush().is_err();
         }
     }
-}
-
-// A frame is a length in four bytes, and so many bytes.
-fn write_frame<W: Write>(writer: &mut W, bytes: &[u8]) -> io::Result<()>
-    requires { length bytes.now ≤ MAX_FRAME_BYTES }
-    ensures { OnOk result (Appends (W.contents writer.old) (W.contents writer.new) (to_be_bytes w32 (length bytes.now) ++ bytes.now)) }
-{
-    writer.write_all(&(bytes.len() as u32).to_be_bytes())?;
-    writer.write_all(bytes)
 }

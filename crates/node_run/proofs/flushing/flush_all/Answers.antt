@@ -1,4 +1,4 @@
-use Rattle.std.proofs.Common.{rules, Option, false, sym, subst}
+use Rattle.std.proofs.Common.{rules, Option, false, sym, subst, ◌∙◌, inr}
 use Rattle.std.specs.Prelude.{◌≡◌, IsTrue}
 use Rattle.journal.specs.Journal.{disk_of}
 use Rattle.journal.specs.declared.error.JournalError.{JournalError}
@@ -6,6 +6,9 @@ use Rattle.flusher.specs.Rounds.{journal_of, is_down, settled_in, taken_in, HasN
 use Rattle.flusher.specs.declared.flusher.Flusher.{Flusher}
 use Rattle.node_run.specs.Ends.{TellsJournal}
 use Rattle.node_run.proofs.Flushed.{told_on}
+use Rattle.node_run.proofs.Moments.{all_on}
+use Rattle.node_seats.proofs.Beginnings.{begins_trans}
+use Rattle.validator.specs.Setting.{node_of}
 use Rattle.node_run.proofs.flushing.flush_all.Goals as goal
 
 pub loop-preserved : goal.loop-preserved
@@ -18,12 +21,14 @@ loop-preserved g c =
     let done = c.flush_pending.ensures in
     let told = subst (λ (j : Option JournalError). TellsJournal (faults first) (faults now) (is_down first) (is_down now) j (lacks now)) (sym c.and-faults.ensures.journal)
     (told_on (faults first) (faults mid) (faults now) (is_down first) (is_down mid) (is_down now) c.loop.faults.journal c.flush_pending.result.journal (lacks mid) (lacks now) c.loop.invariant.4
-    done.device done.no_fault done.down
+    done.rounds done.down
     (λ down. let it = done.stays down in (it.0, subst (λ (f : Flusher g.row.D.Denot). IsTrue (is_down f)) (sym it.1) down, subst lacks (sym it.1)))
-    done.which done.full) in
+    done.full) in
     let output : c.and-faults.result.output ≡ false = search rules in
     let input : c.and-faults.result.input ≡ false = search rules in
-    (tt, tt, output, input, told)
+    let leaves = all_on (node_of g.S.Sign.own_key g.S.Sign.signature_of) g.D.Disk.clock g.D.Disk.outcome_since c.args.rounds.now.node c.loop.rounds.node first mid now c.loop.invariant.5 c.loop.invariant.6 c.loop.invariant.7
+    (λ down. (done.stays down).1) done.any_moment in
+    (tt, tt, output, input, told, done.node ∙ c.loop.invariant.5, begins_trans (settled_in first) (settled_in mid) (settled_in now) c.loop.invariant.6 done.more, inr leaves)
 
 pub returns-then-not-may_go_on-clause-journal : goal.returns-then-not-may_go_on-clause-journal
 returns-then-not-may_go_on-clause-journal g c =
@@ -35,7 +40,13 @@ returns-then-not-may_go_on-clause-journal g c =
     let done = c.flush_pending.ensures in
     let told = subst (λ (j : Option JournalError). TellsJournal (faults first) (faults now) (is_down first) (is_down now) j (lacks now)) (sym c.and-faults.ensures.journal)
     (told_on (faults first) (faults mid) (faults now) (is_down first) (is_down mid) (is_down now) c.loop.faults.journal c.flush_pending.result.journal (lacks mid) (lacks now) c.loop.invariant.4
-    done.device done.no_fault done.down
+    done.rounds done.down
     (λ down. let it = done.stays down in (it.0, subst (λ (f : Flusher g.row.D.Denot). IsTrue (is_down f)) (sym it.1) down, subst lacks (sym it.1)))
-    done.which done.full) in
+    done.full) in
     told
+
+pub returns-then-not-may_go_on-clause-any_moment : goal.returns-then-not-may_go_on-clause-any_moment
+returns-then-not-may_go_on-clause-any_moment g c =
+    let done = c.flush_pending.ensures in
+    all_on (node_of g.S.Sign.own_key g.S.Sign.signature_of) g.D.Disk.clock g.D.Disk.outcome_since c.args.rounds.now.node c.loop.rounds.node c.args.rounds.now.flusher c.loop.rounds.flusher c.flush_pending.new.rounds.flusher
+    c.loop.invariant.5 c.loop.invariant.6 c.loop.invariant.7 (λ down. (done.stays down).1) done.any_moment

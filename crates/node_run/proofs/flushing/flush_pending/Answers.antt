@@ -1,18 +1,33 @@
-use Rattle.std.proofs.Common.{Ok, ap, sym, subst, ◌∙◌}
+use Rattle.std.proofs.Common.{Ok, ap, sym, subst, ◌∙◌, inr}
+use Rattle.std.specs.Prelude.{IsErrOf, IsTrue}
+use Rattle.flusher.specs.Rounds.{settled_in, taken_in}
+use Rattle.flusher.specs.declared.error.FlushError.TheVariants as flush
 use Rattle.node_seats.proofs.Beginnings.{begins_trans}
-use Rattle.std.specs.Prelude.{IsTrue}
+use Rattle.spec_model.specs.Histories.{Begins}
+use Rattle.validator.specs.Setting.{node_of}
+use Rattle.node_run.proofs.Moments.{begins_taken, ok_is_up, up_is_up, round_on}
 use Rattle.node_run.proofs.Flushed.{nothing_left, of_ok, never_ok, stays_up}
 use Rattle.node_run.proofs.flushing.flush_pending.Goals as goal
 
 pub loop-preserved : goal.loop-preserved
 loop-preserved g c =
-    let round = c.round-round in (
+    let round = c.round-round in
+    let first = c.args.rounds.now.flusher in
+    let now = c.loop.rounds.flusher in
+    let later = round.new.self.flusher in
+    let up = ok_is_up round.result c.in-Ok.field-0 c.in-Ok.is in
+    let takes = begins_taken _ (settled_in now) (taken_in later) round.result up round.ensures.settles.takes (λ none. (round.ensures.settles.memory none).1) in
+    let leaves = round_on (node_of g.S.Sign.own_key g.S.Sign.signature_of) g.D.Disk.clock g.D.Disk.outcome_since c.args.rounds.now.node c.loop.rounds.node _ first now later round.result
+    c.loop.invariant.6 up c.loop.invariant.7 round.ensures.settles.takes round.ensures.settles.memory round.ensures.any_moment c.loop.invariant.8 in (
       tt,
       tt,
       of_ok round.result c.in-Ok.field-0 c.in-Ok.is round.ensures.cause.0 ∙ c.loop.invariant.2,
       stays_up round.result c.in-Ok.field-0 _ _ c.in-Ok.is round.ensures.down.down round.ensures.down.nothing_else ∙ c.loop.invariant.3,
       begins_trans _ _ _ c.loop.invariant.4 round.ensures.told.more,
       λ down. absurd (never_ok round.result c.in-Ok.field-0 _ c.in-Ok.is round.ensures.down.down (subst IsTrue (sym c.loop.invariant.3) down)),
+      round.ensures.node ∙ c.loop.invariant.6,
+      begins_trans (settled_in first) (settled_in now) (settled_in later) c.loop.invariant.7 (subst (Begins (settled_in now)) (sym (of_ok round.result c.in-Ok.field-0 c.in-Ok.is round.ensures.settles.settled)) takes),
+      inr leaves,
     )
 
 pub returns-in-Ok-eq0-clause-all : goal.returns-in-Ok-eq0-clause-all
@@ -24,3 +39,26 @@ pub returns-in-Ok-eq0-clause-stays : goal.returns-in-Ok-eq0-clause-stays
 returns-in-Ok-eq0-clause-stays g c = λ down.
     let round = c.round-round in
     absurd (never_ok round.result 0 _ (c.in-Ok-eq0.is ∙ ap Ok (sym c.in-Ok-eq0.field-0-is ∙ c.in-Ok-eq0.field-0-test)) round.ensures.down.down (subst IsTrue (sym c.loop.invariant.3) down))
+
+pub returns-in-Ok-eq0-clause-more : goal.returns-in-Ok-eq0-clause-more
+returns-in-Ok-eq0-clause-more g c =
+    let round = c.round-round in
+    let ok = c.in-Ok-eq0.is ∙ ap Ok (sym c.in-Ok-eq0.field-0-is ∙ c.in-Ok-eq0.field-0-test) in
+    let now = c.loop.rounds.flusher in
+    let later = round.new.self.flusher in
+    let takes = begins_taken _ (settled_in now) (taken_in later) round.result (ok_is_up round.result 0 ok) round.ensures.settles.takes (λ none. (round.ensures.settles.memory none).1) in
+    begins_trans (settled_in c.args.rounds.now.flusher) (settled_in now) (settled_in later) c.loop.invariant.7 (subst (Begins (settled_in now)) (sym (of_ok round.result 0 ok round.ensures.settles.settled)) takes)
+
+pub returns-in-Ok-eq0-clause-any_moment : goal.returns-in-Ok-eq0-clause-any_moment
+returns-in-Ok-eq0-clause-any_moment g c = λ was_up.
+    let round = c.round-round in
+    let ok = c.in-Ok-eq0.is ∙ ap Ok (sym c.in-Ok-eq0.field-0-is ∙ c.in-Ok-eq0.field-0-test) in
+    round_on (node_of g.S.Sign.own_key g.S.Sign.signature_of) g.D.Disk.clock g.D.Disk.outcome_since c.args.rounds.now.node c.loop.rounds.node _ c.args.rounds.now.flusher c.loop.rounds.flusher round.new.self.flusher round.result
+    c.loop.invariant.6 (ok_is_up round.result 0 ok) c.loop.invariant.7 round.ensures.settles.takes round.ensures.settles.memory round.ensures.any_moment c.loop.invariant.8
+
+pub returns-in-Err-clause-any_moment : goal.returns-in-Err-clause-any_moment
+returns-in-Err-clause-any_moment g c = λ was_up.
+    let round = c.round-round in
+    let up = up_is_up (IsErrOf round.result flush.Down) _ _ c.loop.invariant.3 was_up round.ensures.down.down.0 in
+    round_on (node_of g.S.Sign.own_key g.S.Sign.signature_of) g.D.Disk.clock g.D.Disk.outcome_since c.args.rounds.now.node c.loop.rounds.node _ c.args.rounds.now.flusher c.loop.rounds.flusher round.new.self.flusher round.result
+    c.loop.invariant.6 up c.loop.invariant.7 round.ensures.settles.takes round.ensures.settles.memory round.ensures.any_moment c.loop.invariant.8

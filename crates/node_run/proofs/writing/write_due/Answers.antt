@@ -1,12 +1,25 @@
 use Rattle.std.proofs.Common.{rules, subst, sym}
 use Rattle.std.specs.Io.Buffered.{writer_contents}
-use Rattle.node_seats.proofs.Beginnings.{begins_trans}
+use Rattle.node_seats.proofs.Beginnings.{begins_same, begins_trans}
 use Rattle.node_seats.specs.Views.{IsSame}
 use Rattle.node.specs.Callers.{StaysWith}
 use Rattle.validator.specs.Setting.{node_of}
 use Rattle.node_run.specs.Writing.{MayGo, WritesOnly}
-use Rattle.node_run.proofs.Written.{weaker, one_more, no_more, may_go_yet}
+use Rattle.node_run.proofs.Written.{none_yet, weaker, one_more, no_more, may_go_yet}
 use Rattle.node_run.proofs.writing.write_due.Goals as goal
+
+pub loop-init : goal.loop-init
+loop-init g c =
+    let node = node_of g.S.Sign.own_key g.S.Sign.signature_of c.args.caller.now.node.setting in
+    let stays : StaysWith c.args.caller.now c.args.caller.now = search rules in
+    let same : IsSame c.args.caller.now.seat c.args.caller.now.seat = search rules in (
+      tt,
+      tt,
+      stays,
+      same,
+      begins_same c.args.caller.now.seat.view.firm,
+      none_yet (MayGo node c.args.caller.now.seat.view) c.args.sink.now.faults (writer_contents g.W.Write.contents c.args.sink.now.writer),
+    )
 
 pub loop-preserved : goal.loop-preserved
 loop-preserved g c =

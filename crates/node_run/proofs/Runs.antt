@@ -1,0 +1,171 @@
+-- How a node's run over a disk ends.
+use Rattle.std.proofs.Common.{◌≡◌, ◌<◌, ℕ, Bool, true, false, List, [], Option, Some, None, refl, sym, ap, subst, ◌∙◌, inl, inr}
+use Rattle.std.proofs.lemmas.Option.{none-some}
+use Rattle.std.specs.Option.{option_map_or}
+use Rattle.std.specs.Prelude.{◌≢◌, ◌⊎◌, Ok, IfSome, if◌then◌else◌}
+use Rattle.diskmodel.proofs.Clock.{weaker, joins}
+use Rattle.diskmodel.specs.Disk.{AtEachMoment}
+use Rattle.flusher.specs.Rounds.{from_start}
+use Rattle.journal.specs.declared.error.JournalError.{JournalError}
+use Rattle.journal.specs.declared.error.JournalError.TheVariants as journal
+use Rattle.node_io.specs.Endings.{of_journal, ending_of, unless_journal, lacks_memory}
+use Rattle.node_io.specs.declared.ending.Ending.{Ending}
+use Rattle.node_io.specs.declared.ending.Ending.TheVariants as ends
+use Rattle.node_io.specs.declared.faults.Faults.{Faults}
+use Rattle.node_seats.specs.Views.{events}
+use Rattle.node_shared.specs.Home.{Shared}
+use Rattle.opening.specs.Laws.{IsLeft, IsNoRefusal}
+use Rattle.opening.specs.Told.{told, Tells, IsToldAsOneOf}
+use Rattle.spec_model.specs.Nodes.{Node}
+use Rattle.spec_world.specs.World.{Holds}
+use Rattle.validator.specs.Setting.{Setting}
+use Rattle.node_run.specs.Ends.{TellsRounds}
+use Rattle.wire.specs.declared.keys.Key.{Key}
+use Rattle.node_run.specs.Members.{IsConfigOf, RefusesOpening}
+use Rattle.node_run.specs.Runs.{HoldsMore, GoesOn, RunsOver, RunsAs}
+use Rattle.node_run.specs.Writing.{no_memory}
+
+-- ---- endings
+
+abbrev fault_in : Ending → Option JournalError
+fault_in (ends.Journal error) = Some error
+fault_in other = None
+
+-- an ending that isn't the journal's
+other_none : (output memory input : Bool) (error : JournalError) → (if output then ends.Output else if memory then ends.Memory else if input then ends.Input else ends.Done) ≡ ends.Journal error → ⊥
+other_none true memory input error is = let bad : None ≡ Some error = ap fault_in is in cc
+other_none false true input error is = let bad : None ≡ Some error = ap fault_in is in cc
+other_none false false true error is = let bad : None ≡ Some error = ap fault_in is in cc
+other_none false false false error is = let bad : None ≡ Some error = ap fault_in is in cc
+
+told_unless : (fault : Option JournalError) (other : Ending) (error : JournalError) → (other ≡ ends.Journal error → ⊥) → unless_journal fault other ≡ ends.Journal error → fault ≡ Some error
+told_unless None other error none is = absurd (none is)
+told_unless (Some journal.Memory) other error none is = absurd (none is)
+told_unless (Some journal.Device) other error none is = ap fault_in is
+told_unless (Some (journal.Damaged place)) other error none is = ap fault_in is
+told_unless (Some journal.ConfigMismatch) other error none is = ap fault_in is
+told_unless (Some journal.Full) other error none is = ap fault_in is
+
+-- a run ends with a fault of the journal only where that was told
+told_of_journal : (faults : Faults) (error : JournalError) → ending_of faults ≡ ends.Journal error → faults.journal ≡ Some error
+told_of_journal faults error is = told_unless faults.journal _ error (other_none faults.output (lacks_memory faults) faults.input error) is
+
+-- and where its disk's fault was told, so it ends
+ends_with_device : (fault : Option JournalError) (other : Ending) → fault ≡ Some journal.Device → unless_journal fault other ≡ ends.Journal journal.Device
+ends_with_device fault other is = ap (λ (f : Option JournalError). unless_journal f other) is
+
+some_same : (one other : JournalError) → Some one ≡ Some other → one ≡ other
+some_same one other is = ap (λ (o : Option JournalError). option_map_or (λ (e : JournalError). e) o one) is
+
+-- one that the opening answered
+opening_told : (error named : JournalError) → of_journal error ≡ ends.Journal named → error ≡ named
+opening_told journal.Memory named is = absurd (none-some named (ap fault_in is))
+opening_told journal.Device named is = some_same journal.Device named (ap fault_in is)
+opening_told (journal.Damaged place) named is = some_same (journal.Damaged place) named (ap fault_in is)
+opening_told journal.ConfigMismatch named is = some_same journal.ConfigMismatch named (ap fault_in is)
+opening_told journal.Full named is = some_same journal.Full named (ap fault_in is)
+
+abbrev IsOfRun : Node → List ℕ → JournalError → Type 0
+IsOfRun node before error = (error ≡ journal.Device) ⊎ (error ≡ journal.Full) ⊎ Tells error (told node before)
+
+kind_of : (node : Node) (before : List ℕ) (error : JournalError) → (error ≢ journal.Device → Tells error (told node before)) → IsOfRun node before error
+kind_of node before journal.Memory tells = inr (inr (tells (λ is. let bad : journal.Memory ≡ journal.Device = is in cc)))
+kind_of node before journal.Device tells = inl refl
+kind_of node before (journal.Damaged place) tells = inr (inr (tells (λ is. let bad : journal.Damaged place ≡ journal.Device = is in cc)))
+kind_of node before journal.ConfigMismatch tells = inr (inr (tells (λ is. let bad : journal.ConfigMismatch ≡ journal.Device = is in cc)))
+kind_of node before journal.Full tells = inr (inl refl)
+
+not_refused : (error named : JournalError) → of_journal error ≡ ends.Journal named → IsNoRefusal error → (named ≡ journal.Device) ⊎ (named ≡ journal.Full)
+not_refused error named is (inl device) = inl (sym (opening_told error named is) ∙ device)
+not_refused error named is (inr memory) = absurd (none-some named (ap fault_in (ap of_journal (sym memory) ∙ is)))
+
+module _ {S D : Type 0} (node_of : Setting S → Node) (content : D → List ℕ) (outcome : D → List ℕ → Type 0) (clock : D → ℕ) (since : D → ℕ → List ℕ → Type 0) (faults : D → ℕ) where
+  -- what a stop may leave
+  abbrev May : Node → D → List ℕ → Type 0
+  May node disk bytes = IsToldAsOneOf node (outcome disk) bytes ⊎ GoesOn node (content disk) bytes
+
+  from_opening : (node : Node) (disk later : D) → AtEachMoment clock since disk later (IsToldAsOneOf node (outcome disk)) → AtEachMoment clock since disk later (May node disk)
+  from_opening node disk later leaves = weaker clock since disk later (May node disk) (IsToldAsOneOf node (outcome disk)) leaves (λ bytes it. inl it)
+
+  some_left : (later : D) (ending : Ending) → Some later ≡ None → ending ≡ ends.Memory
+  some_left later ending none = absurd (none-some later (sym none))
+
+  -- the node wasn't opened
+  pub not_opened : (node : Node) (disk later : D) (error : JournalError) → (error ≢ journal.Device → Tells error (told node (content disk)))
+      → (error ≡ journal.Device → faults disk < faults later) × (error ≢ journal.Device → faults later ≡ faults disk)
+      → AtEachMoment clock since disk later (IsToldAsOneOf node (outcome disk)) → (IsLeft node (content disk) → IsNoRefusal error)
+      → RunsOver node content outcome clock since faults disk (of_journal error) (Some later)
+  not_opened node disk later error tells cause leaves never_refused = record {
+    device = λ is. cause.0 (opening_told error journal.Device is);
+    no_fault = λ other. cause.1 (λ is. other (ap of_journal is));
+    told_as = λ named is. subst (IsOfRun node (content disk)) (opening_told error named is) (kind_of node (content disk) error tells);
+    never_refused = λ left named is. not_refused error named is (never_refused left);
+    lost = some_left later (of_journal error);
+    any_moment = from_opening node disk later leaves;
+  }
+
+  -- it was opened, and memory was refused then
+  pub not_run : (node : Node) (disk now : D) → faults now ≡ faults disk → AtEachMoment clock since disk now (IsToldAsOneOf node (outcome disk))
+      → RunsOver node content outcome clock since faults disk ends.Memory (Some now)
+  not_run node disk now same leaves = record {
+    device = λ is. absurd (none-some journal.Device (ap fault_in is));
+    no_fault = λ other. same;
+    told_as = λ named is. absurd (none-some named (ap fault_in is));
+    never_refused = λ left named is. absurd (none-some named (ap fault_in is));
+    lost = λ none. refl;
+    any_moment = from_opening node disk now leaves;
+  }
+
+  -- the disk was lost
+  run_lost : (node : Node) (disk : D) (told_of : Faults) → told_of ≡ no_memory → RunsOver node content outcome clock since faults disk (ending_of told_of) None
+  run_lost node disk told_of is = record {
+    device = λ device. tt;
+    no_fault = λ other. tt;
+    told_as = λ named so. absurd (none-some named (ap fault_in (sym ends_so ∙ so)));
+    never_refused = λ left named so. absurd (none-some named (ap fault_in (sym ends_so ∙ so)));
+    lost = λ none. ends_so;
+    any_moment = tt;
+  }
+    where
+      ends_so : ending_of told_of ≡ ends.Memory
+      ends_so = ap ending_of is
+
+  -- it ran
+  has_run : (shared : Shared S) (node : Node) (disk now later : D) (told_of : Faults) → node_of shared.setting ≡ node → told node (content disk) ≡ Ok shared.start → faults now ≡ faults disk
+      → TellsRounds (faults now) (faults later) told_of.journal → AtEachMoment clock since disk now (IsToldAsOneOf node (outcome disk))
+      → AtEachMoment clock since now later (HoldsMore node_of shared []) → RunsOver node content outcome clock since faults disk (ending_of told_of) (Some later)
+  has_run shared node disk now later told_of of_node begins same tells opening leaves = record {
+    device = λ is. subst (λ n. n < faults later) same (tells.disk.device (told_of_journal told_of journal.Device is));
+    no_fault = λ other. tells.disk.no_fault (λ is. other (ends_with_device told_of.journal _ is)) ∙ same;
+    told_as = λ named is. elim (which named is) [ inl device ↦ inl device | inr full ↦ inr (inl full) ];
+    never_refused = λ left. which;
+    lost = some_left later (ending_of told_of);
+    any_moment = joins clock since disk now later (May node disk) (HoldsMore node_of shared []) (from_opening node disk now opening) leaves more;
+  }
+    where
+      which : (named : JournalError) → ending_of told_of ≡ ends.Journal named → (named ≡ journal.Device) ⊎ (named ≡ journal.Full)
+      which named is = subst (λ (f : Option JournalError). IfSome f (λ error. (error ≡ journal.Device) ⊎ (error ≡ journal.Full))) (told_of_journal told_of named is) tells.which
+
+      more : (bytes : List ℕ) → HoldsMore node_of shared [] bytes → May node disk bytes
+      more bytes it = inr (record {
+        history = shared.start;
+        is_told = begins;
+        more = events it.more;
+        holds = subst (λ (n : Node). Holds n bytes (from_start shared it.more)) of_node it.holds;
+      })
+
+  -- its threads have ended
+  pub ended : (shared : Shared S) (node : Node) (disk now : D) (told_of : Faults) (left : Option D) → node_of shared.setting ≡ node → told node (content disk) ≡ Ok shared.start → faults now ≡ faults disk
+      → IfSome left (λ later. TellsRounds (faults now) (faults later) told_of.journal) → (left ≡ None → told_of ≡ no_memory) → AtEachMoment clock since disk now (IsToldAsOneOf node (outcome disk))
+      → IfSome left (λ later. AtEachMoment clock since now later (HoldsMore node_of shared [])) → RunsOver node content outcome clock since faults disk (ending_of told_of) left
+  ended shared node disk now told_of None of_node begins same tells lost opening leaves = run_lost node disk told_of (lost refl)
+  ended shared node disk now told_of (Some later) of_node begins same tells lost opening leaves = has_run shared node disk now later told_of of_node begins same tells opening leaves
+
+-- a member whom a number names ran
+pub run_as : {O D : Type 0} (node_in : Setting Key → Node) (content : D → List ℕ) (outcome : D → List ℕ → Type 0) (clock : D → ℕ) (since : D → ℕ → List ℕ → Type 0) (faults : D → ℕ)
+    (named : Option O) (bytes_of : O → List ℕ) (config : Setting Key) (disk : D) (ending : Ending) (left : Option D) → (text : List ℕ) → IfSome named (λ own. IsConfigOf text (bytes_of own) config)
+    → RunsOver (node_in config) content outcome clock since faults disk ending left
+    → IfSome named (λ own. RefusesOpening (bytes_of own) ending ⊎ RunsAs node_in content outcome clock since faults (bytes_of own) ending)
+run_as node_in content outcome clock since faults None bytes_of config disk ending left text is_of ran = tt
+run_as node_in content outcome clock since faults (Some own) bytes_of config disk ending left text is_of ran =
+    inr (record { text = text; config = config; is_of = is_of; disk = disk; left = left; ran = ran })
