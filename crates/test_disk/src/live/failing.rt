@@ -113,6 +113,7 @@ fn play_with<'a, R: Wait>(
     requires { rounds.old.node.setting ≡ config.now }
 {
     let mut caller = rounds.caller(config)?;
+    rounds.cover(rt, &mut caller);
     play(rt, alloc, switch, rounds, &mut caller, plan, answer)?;
     Ok(caller.synced() == 1)
 }

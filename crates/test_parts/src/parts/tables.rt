@@ -6,7 +6,7 @@ use crate::parts::members::{add_members, check_both, read_committee, show_key, s
 use crate::parts::messages::{beginnings, fill, message, order, spelled_again, written};
 use crate::parts::numbers::{genesis, laws, vote, voted};
 use crate::parts::stakes::{is_among, is_in_both, show_stake, show_total, weigh};
-use crate::parts::waiters::{Waiting, next, offer, offer_header, offer_rounds, open};
+use crate::parts::waiters::{Waiting, next, offer, offer_header, offer_rounds, open, pass};
 use crate::parts::words::{
     Names, Told, author_of, bad, joined, numbers_of, parted, round_of, show, tell,
 };
@@ -117,6 +117,14 @@ impl Tables {
             "key" => show_key(&self.committee, number, answer),
             "stake" => show_stake(&self.committee, number, answer),
             "check" => check_both(self.alloc, &self.committee, number, bytes, answer),
+            "pass" => pass(
+                self.alloc,
+                &self.committee,
+                &self.waiting,
+                number,
+                bytes,
+                answer,
+            ),
             "forget" => Ok(self.book.forget_to(round_of(number))),
             "header" => offer_header(self.alloc, &mut self.waiting, number, answer),
             "next" => next(&mut self.waiting, Some(number), answer),

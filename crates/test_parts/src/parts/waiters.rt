@@ -1,9 +1,9 @@
 //! The waiter, over certificates of a committee of four.
 
 use crate::parts::members::add_members;
-use crate::parts::words::{Told, bad, list};
+use crate::parts::words::{Told, author_of, bad, list};
 use committee::Committee;
-use header::{Checked, recheck};
+use header::{Checked, passes, recheck};
 use seed::TableSeed;
 use sigface::HashSign;
 use std::alloc::{AllocError, Global};
@@ -94,6 +94,28 @@ pub fn next(waiting: &mut Option<Waiting>, author: Option<u64>, answer: &mut Str
     match &ready {
         Some(checked) => tell_slot(checked.message(), answer),
         None => answer.push_str("none\n"),
+    }
+}
+
+/// Tells whether a message from this sender, which passes under a committee, is a certificate that passes under the waiter's.
+pub fn pass(
+    alloc: Global,
+    committee: &Option<Committee>,
+    waiting: &Option<Waiting>,
+    sender: u64,
+    bytes: &[u8],
+    answer: &mut String,
+) -> Told {
+    let (Some(committee), Some(waiting), Ok(message)) = (committee, waiting, decode(alloc, bytes))
+    else {
+        return bad(answer);
+    };
+    match recheck(committee, author_of(sender), message) {
+        Ok(event) => {
+            let is_passed = passes(&waiting.committee, &event);
+            list("passes", &[is_passed as u64], answer)
+        }
+        Err(error) => writeln!(answer, "{error}"),
     }
 }
 
