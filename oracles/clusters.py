@@ -480,7 +480,7 @@ class TwoFaced(Drawn):
 
 
 def main():
-    print('# crates: cluster desk')
+    print('# crates: cluster desk spec_cluster')
     print('# Nodes, moved by a list of moves. `oracles/clusters.py` wrote the moves, and computes what each is answered.')
     by_rounds('four nodes come to one order', lambda moves: None)
     by_rounds('four nodes that stop by turns come to the same order', Stops())

@@ -803,7 +803,7 @@ def main():
     assert len(EMPTY) == 168 and len(FIRST_VOTE) == 361 and len(EVENT) == 184 and EMPTY[1:5] == bytes.fromhex('000000a2')
     assert len(OLD_EMPTY) == 152 and len(OLD_VOTE) == 345 and OLD_EMPTY[1:5] == bytes.fromhex('00000092')
     cases = Cases()
-    print("""# crates: recovery ref_script spec_records
+    print("""# crates: recovery ref_script spec_records opening wire_write
 # Openings of a node on hand-made journals, and scripts of commands. `oracles/recoveries.py` writes these cases.
 # A case that begins with `node` or `file` is one of a node, whose `open`, `flush`, `stop` and `changes` are others than those
 # of the disk, the journal and the book.""")

@@ -228,7 +228,7 @@ def main(count, steps, start):
 
     def told(names):
         return ', '.join(f'{name} {counts[name]}' for name in names)
-    print("""# crates: spec_world diskmodel journal book recovery
+    print("""# crates: spec_world diskmodel journal book recovery opening
 # Lists of random steps and stops. `oracles/worlds.py` computes what they come to.
 
 == lists of steps and stops
