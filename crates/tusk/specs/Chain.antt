@@ -35,7 +35,7 @@ pub record IsBased (graph : Graph) (coins : List ℕ) : Type 0 where
   pub odd : graph.base ≡ 2 * ((graph.base + 1) / 2) - 1
   pub committed : 1 < graph.base → is_directly_committed (ledger_in graph coins) ((graph.base + 1) / 2) ≡ true
 
--- the greatest committed wave behind leaders of these slots
+-- the greatest committed wave after leaders of these slots
 abbrev pub raised_to : Option ℕ → List (ℕ × Author) → Option ℕ
 raised_to last [] = last
 raised_to last (slot ∷ slots) = raised_to (Some ((slot.0 + 1) / 2)) slots

@@ -1,6 +1,6 @@
 //! The coins, and the leaders that they choose.
 
-ghost use Rattle.std.specs.Prelude.{◌≡◌, ℕ, ◌+◌, ◌-◌, ◌*◌, ◌^◌, ◌<◌, ◌≤◌, ◌++◌, [], ◌∷◌, true, length, map, Ok, Some, option_map, IfSome, IfOk, OnOk, OnErr};
+ghost use Rattle.std.specs.Prelude.{◌≡◌, ℕ, ◌+◌, ◌-◌, ◌*◌, ◌^◌, ◌<◌, ◌≤◌, ◌++◌, [], ◌∷◌, true, false, length, map, Ok, Some, option_map, IfSome, IfOk, OnOk, OnErr};
 ghost use Rattle.spec_model.specs.Ordering.{leader, is_directly_committed, top, newer, newer_to, newer_at};
 ghost use Rattle.spec_model.specs.Words.{Certificate};
 ghost use Rattle.dag.specs.Answer.{answer};
@@ -45,7 +45,7 @@ impl Coins {
         }
     }
 
-    /// Adds the coin of the next wave. `AllocError` where a growth was refused.
+    /// Adds the coin of the next wave. `AllocError` where an allocation failed.
     pub fn push(&mut self, value: u64) -> Result<(), AllocError>
         ensures ok { OnOk result (self.new ≡ self.old ++ value ∷ []) }
         ensures err { OnErr result (self.new ≡ self.old) }
@@ -147,6 +147,27 @@ impl Coins {
         Ok(chain)
     }
 
+    // The slots that `newer_to` has where the leader has support, and none where it hasn't.
+    fn newer_if_supported(
+        &self,
+        alloc: Global,
+        dag: &Dag,
+        last: u64,
+        wave: u64,
+        leader: (Round, Author),
+        supported: bool,
+    ) -> Result<Vec<(Round, Author)>, AllocError>
+        requires above { last < wave }
+        requires round { leader.0 ≡ 2 * wave - 1 }
+        ensures some { IfOk result (λ chain. supported ≡ true → (c : Certificate) → slots_in dag.now leader.0 leader.1.0 ≡ Some c → chain.items ≡ map slot_of (newer_to (ledger_in dag.now self.now) last (wave - 1) c)) }
+        ensures none { IfOk result (λ chain. supported ≡ false → chain.items ≡ []) }
+    {
+        if !supported {
+            return Ok(Vec::new(alloc));
+        }
+        self.newer_to(alloc, dag, last, wave, leader)
+    }
+
     // The slots of the leaders of the waves above `last` that are committed with that of a wave, the oldest first.
     fn newer_at(
         &self,
@@ -210,11 +231,9 @@ impl Coins {
         match self.leader(dag, wave) {
             Some(leader) => {
                 let (first, author) = leader;
-                if is_enough(dag, &supporters_with(dag, (first, author), certificate)) {
-                    self.newer_to(alloc, dag, base, wave, (first, author))
-                } else {
-                    Ok(Vec::new(alloc))
-                }
+                let supporters = supporters_with(dag, (first, author), certificate);
+                let supported = is_enough(dag, &supporters);
+                self.newer_if_supported(alloc, dag, base, wave, (first, author), supported)
             }
             None => Ok(Vec::new(alloc)),
         }
@@ -240,11 +259,8 @@ impl Coins {
         match chosen(dag, wave, value) {
             Some(leader) => {
                 let (first, author) = leader;
-                if is_supported(dag, (first, author)) {
-                    self.newer_to(alloc, dag, base, wave, (first, author))
-                } else {
-                    Ok(Vec::new(alloc))
-                }
+                let supported = is_supported(dag, (first, author));
+                self.newer_if_supported(alloc, dag, base, wave, (first, author), supported)
             }
             None => Ok(Vec::new(alloc)),
         }
