@@ -1,4 +1,4 @@
--- What a DAG is behind a change.
+-- What a DAG is after a change.
 use Rattle.std.specs.Prelude.{◌≡◌, ◌≤◌, ℕ, ◌+◌, ◌==◌, ◌&&◌, ◌||◌, nat_lt, max, Bool, false, [], ◌∷◌, is_some, None, if◌then◌else◌}
 use Rattle.std.specs.Option.{option_or}
 use Rattle.spec_model.specs.Slots.{slots_of}

@@ -42,7 +42,7 @@ slots_in graph round author = option_map (λ placed. placed.certificate) (placed
 abbrev pub marked_in : Graph → ℕ → ℕ → Bool
 marked_in graph round author = option_map_or (λ placed. placed.marked) (placed_at graph round author) false
 
--- the round behind the last that has a row
+-- the round after the last that has a row
 abbrev pub end_in : Graph → ℕ
 end_in graph = graph.floor + length graph.rounds
 

@@ -13,6 +13,7 @@ ghost use Rattle.spec_model.specs.Admitting.{same_header};
 ghost use Rattle.dag.specs.Answer.{held_answer, answer};
 ghost use Rattle.dag.specs.Changes.{IsWith, IsMarked, IsDropped};
 ghost use Rattle.dag.specs.Graph.{IsGraph, Graph, slots_in, marked_in, end_in, count_in, stake_in, digest_in, parent_in, has_parent_in, reaches_in, is_parent_of, references_at, references_of};
+ghost use Rattle.dag.specs.declared.reads.TheConstants.{MAX_ROUND_REFERENCES};
 ghost use Rattle.wire.specs.declared.limits.TheConstants.{MAX_PARENTS};
 ghost use Rattle.wire.specs.declared.round.TheConstants.Round.{MAX};
 
@@ -150,7 +151,7 @@ fn first_row(alloc: Global, size: u16) -> Result<Row, AllocError>
 }
 
 impl<'a> Dag<'a> {
-    /// A DAG with the certificates of the genesis. `AllocError` where a growth was refused.
+    /// A DAG with the certificates of the genesis. `AllocError` where an allocation failed.
     pub fn new(alloc: Global, committee: &'a Committee) -> Result<Dag<'a>, AllocError>
         ensures charter { IfOk result (λ dag. dag.charter ≡ committee.now) }
         ensures floor { IfOk result (λ dag. dag.floor ≡ 0) }
@@ -190,7 +191,7 @@ impl<'a> Dag<'a> {
     /// Holds a certificate of this digest from now on, if it is a new one. It is a member's, and names a parent.
     ///
     /// # Errors
-    /// What `answer` answers; or `Memory` in place of New, where a growth was refused. They change nothing.
+    /// What `answer` answers; or `Memory` in place of New, where an allocation failed. They change nothing.
     pub fn add_digested(
         &mut self,
         certificate: Certificate,
@@ -259,7 +260,7 @@ impl<'a> Dag<'a> {
             || rows::are_there(&self.rows, self.floor, below, header.parents.as_slice())
     }
 
-    /// Holds a certificate of this digest, which is new, from now on. `AllocError` where a growth was refused: nothing has
+    /// Holds a certificate of this digest, which is new, from now on. `AllocError` where an allocation failed: nothing has
     /// changed then.
     pub fn hold(&mut self, certificate: Certificate, digest: Digest) -> Result<(), AllocError>
         requires member { certificate.header.author.0 < length self.old.charter.keys }
@@ -349,7 +350,7 @@ impl<'a> Dag<'a> {
         }
     }
 
-    /// The round behind the last that has a row: no certificate of it or of a later one is held.
+    /// The round after the last that has a row: no certificate of it or of a later one is held.
     pub fn end(&self) -> u64
         ensures { result ≡ end_in self.now }
     {
@@ -447,10 +448,10 @@ impl<'a> Dag<'a> {
     /// The authors whose certificates are parents of what slots of a round hold, of these authors. All references in those
     /// count as read. This is one step down.
     pub fn parents_of(&self, round: Round, authors: &MemberSet, reads: &mut Reads) -> MemberSet
-        requires { reads.old + 1000 < 2 ^ 64 }
+        requires { reads.old + MAX_ROUND_REFERENCES < 2 ^ 64 }
         ensures parents { (other : ℕ) → has result other ≡ is_parent_of self.now round (round - 1) (has authors.now) other }
         ensures reads { reads.new ≡ reads.old + references_of self.now round (has authors.now) }
-        ensures few { reads.new ≤ reads.old + 1000 }
+        ensures few { reads.new ≤ reads.old + MAX_ROUND_REFERENCES }
     {
         let mut parents = MemberSet::none();
         for author in 0..self.committee.size() {

@@ -14,5 +14,5 @@ mod rows;
 pub use answers::Added;
 pub use dag::Dag;
 pub use facts::{answers_as_admission, reach_stays, reach_stays_above};
-pub use reads::Reads;
+pub use reads::{MAX_ROUND_REFERENCES, Reads};
 pub use refusal::DagRefusal;

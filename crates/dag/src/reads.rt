@@ -2,7 +2,12 @@
 
 ghost use Rattle.std.specs.Prelude.{◌≡◌, ◌+◌, ◌-◌, ◌<◌, ◌^◌, min};
 
+use committee::MAX_MEMBERS;
 use std::marker::Model;
+use wire::MAX_PARENTS;
+
+/// The references to parents, in number, that the certificates of a round have at most: each member has one certificate there.
+pub const MAX_ROUND_REFERENCES: u64 = MAX_MEMBERS as u64 * MAX_PARENTS as u64;
 
 /// How many references to parents were read. Contracts see it as that number.
 #[derive(Debug, Drop, PartialEq, Eq)]

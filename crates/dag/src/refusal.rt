@@ -9,7 +9,7 @@ use thiserror::Error;
 /// Why a DAG refuses a certificate. Printed as its number and its name.
 #[derive(Clone, Copy, Debug, PartialEq, Eq, Error)]
 pub enum DagRefusal {
-    /// A growth was refused.
+    /// An allocation failed.
     #[error("1 Memory")]
     Memory,
     /// Its round is the genesis', or at or below a floor above 0.

@@ -11,7 +11,7 @@ use dag::Dag;
 use std::alloc::AllocError;
 use wire::{Author, Digest, Round};
 
-// Puts the digests of what slots of a round hold behind others, by these authors.
+// Puts the digests of what slots of a round hold after others, by these authors.
 fn put_round(
     dag: &Dag,
     round: Round,
@@ -30,7 +30,7 @@ fn put_round(
     Ok(())
 }
 
-/// Puts the digests of what a leader orders behind others, by round and then author. The sets are of the leader's round and
+/// Puts the digests of what a leader orders after others, by round and then author. The sets are of the leader's round and
 /// of those below it, downwards. The genesis isn't ordered.
 pub(crate) fn put_digests(
     dag: &Dag,

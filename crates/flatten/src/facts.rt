@@ -7,7 +7,7 @@ pub fn made_stays()
     ensures { MadeStays }
 {}
 
-/// For each of leaders that are linked `segment` gives the definition's segment behind the one before it, where exactly the
+/// For each of leaders that are linked `segment` gives the definition's segment after the one before it, where exactly the
 /// history of the one before the first of them is marked.
 pub fn each_follows()
     ensures { EachFollows }

@@ -51,7 +51,7 @@ impl Lengthening {
     /// last one that was committed, which reaches what is marked.
     ///
     /// # Errors
-    /// `AllocError` where a growth was refused.
+    /// `AllocError` where an allocation failed.
     pub fn new(
         alloc: Global,
         dag: &Dag,

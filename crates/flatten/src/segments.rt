@@ -5,9 +5,11 @@ ghost use Rattle.std.specs.List.{range_with_len};
 ghost use Rattle.flatten.specs.Sets.{lowest_in, is_free, orders_in, is_past_in, AreUnordered, IsTakenFrom, Leads, HasAllOf};
 ghost use Rattle.spec_model.specs.Ordering.{segment};
 ghost use Rattle.spec_model.specs.Words.{Author, Certificate};
+ghost use Rattle.committee.specs.declared.limits.TheConstants.{MAX_DEPTH};
 ghost use Rattle.dag.specs.Graph.{slots_in, references_of};
 ghost use Rattle.tusk.specs.Chain.{ledger_in};
 ghost use Rattle.flatten.specs.Segments.{leader_held, references_in, read_references_in, unmarked_references_in, digests_of, IsMarkedPast, IsMarkedBefore};
+ghost use Rattle.flatten.specs.declared.walks.TheConstants.{MAX_WALK_REFERENCES};
 
 use crate::digests::put_digests;
 use crate::walks::walk;
@@ -26,7 +28,7 @@ pub(crate) fn lowest(dag: &Dag, round: Round) -> u64
         .max(round.number().saturating_sub(depth))
 }
 
-/// Puts the digests of what a leader orders behind others, and the leader's sets into those of what was ordered so far, which
+/// Puts the digests of what a leader orders after others, and the leader's sets into those of what was ordered so far, which
 /// go down from a round. Gives how many references to parents were read. A leader that isn't held, or lies above that round,
 /// orders nothing.
 pub(crate) fn order(
@@ -45,7 +47,7 @@ pub(crate) fn order(
         → AreUnordered dag.now (Some c) (lowest_in dag.now leader.0) top (is_free dag.now top taken.new.items)) }
     ensures none { OnOk result (slots_in dag.now leader.0 leader.1.0 ≡ None → digests.new.items ≡ digests.old.items) }
     ensures none_read { IfOk result (λ reads. slots_in dag.now leader.0 leader.1.0 ≡ None → reads ≡ 0) }
-    ensures most { IfOk result (λ reads. reads ≤ 1000000) }
+    ensures most { IfOk result (λ reads. reads ≤ MAX_WALK_REFERENCES) }
 {
     dag.limits_hold();
     let (round, author) = leader;
@@ -68,7 +70,7 @@ fn take_past(
     top: Round,
     taken: &mut Vec<MemberSet>,
 ) -> Result<u64, AllocError>
-    requires { top ≤ low + 1000 }
+    requires { top ≤ low + MAX_DEPTH }
     ensures sets { OnOk result (IsTakenFrom dag.now previous low top (is_free dag.now top taken.old.items)
         → (round author : ℕ) → low ≤ round → round ≤ top → is_free dag.now top taken.new.items round author ≡ (is_free dag.now top taken.old.items round author && not (is_past_in dag.now previous round author))) }
     ensures reads { IfOk result (λ reads. (before : ℕ × Author) → IsTakenFrom dag.now previous low top (is_free dag.now top taken.old.items) → previous ≡ Some before → is_some (slots_in dag.now before.0 before.1.0) ≡ true
@@ -76,7 +78,7 @@ fn take_past(
     ensures same { OnOk result (IfSome previous (λ before. top < before.0) → taken.new.items ≡ taken.old.items) }
     ensures none { IfOk result (λ reads. IfSome previous (λ before. top < before.0) → reads ≡ 0) }
     ensures unheld { IfOk result (λ reads. leader_held dag.now previous ≡ None → reads ≡ 0) }
-    ensures most { IfOk result (λ reads. reads ≤ 1000000) }
+    ensures most { IfOk result (λ reads. reads ≤ MAX_WALK_REFERENCES) }
 {
     dag.limits_hold();
     let Some(before) = previous else {
@@ -94,14 +96,14 @@ fn take_past(
 /// it reaches and the one before doesn't, at most the depth below it, by round and then author. Also how many references to
 /// parents were read for it. A leader that isn't held orders nothing.
 ///
-/// What is marked the leader before reaches. Where it reaches more, as in a chain of leaders behind the last committed one,
+/// What is marked the leader before reaches. Where it reaches more, as in a chain of leaders after the last committed one,
 /// that is looked up too; `each_follows` says that what is asked of the marks holds for each leader of such a chain. Each walk
 /// ends at the first round of which it reaches nobody who isn't marked. To read whom a certificate has as parents is to read
 /// all its references: that is done of each certificate that is ordered, but for those of the lowest round that a leader
 /// orders of.
 ///
 /// # Errors
-/// `AllocError` where a growth was refused.
+/// `AllocError` where an allocation failed.
 pub fn segment_counted(
     alloc: Global,
     dag: &Dag,
@@ -141,7 +143,7 @@ pub fn segment_counted(
 /// What a leader orders, as `segment_counted` has it.
 ///
 /// # Errors
-/// `AllocError` where a growth was refused.
+/// `AllocError` where an allocation failed.
 pub fn segment(
     alloc: Global,
     dag: &Dag,

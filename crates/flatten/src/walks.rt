@@ -7,10 +7,14 @@ ghost use Rattle.flatten.specs.Sets.{is_in, is_free, orders_in, AreClosed};
 
 use crate::orders::ordered;
 use crate::sets::put;
-use committee::MemberSet;
-use dag::{Dag, Reads};
+use committee::{MAX_DEPTH, MemberSet};
+use dag::{Dag, MAX_ROUND_REFERENCES, Reads};
 use std::alloc::{AllocError, Global};
 use wire::{Author, Round};
+
+/// The references to parents, in number, that are read for one leader at most: those of the rounds above the lowest that it
+/// orders of, which lies at most the depth below it.
+pub(crate) const MAX_WALK_REFERENCES: u64 = MAX_DEPTH * MAX_ROUND_REFERENCES;
 
 /// Whom a leader reaches of those who are free, in sets from its round downwards, to a lower one at most; these are put into
 /// the sets of what was ordered so far, which go down from a round no lower than the leader's. Also how many references to
@@ -25,13 +29,13 @@ pub(crate) fn walk(
 ) -> Result<(Vec<MemberSet>, u64), AllocError>
     requires low { bottom ≤ leader.0 }
     requires high { leader.0 ≤ top }
-    requires near { leader.0 ≤ bottom + 1000 }
+    requires near { leader.0 ≤ bottom + MAX_DEPTH }
     ensures length { IfOk result (λ walked. length walked.0.items ≤ leader.0 + 1 - bottom) }
     ensures sets { IfOk result (λ walked. AreClosed dag.now bottom leader.0 (is_free dag.now top taken.old.items)
         → (place other : ℕ) → place < leader.0 + 1 - bottom → is_in walked.0.items place other ≡ orders_in dag.now leader.0 leader.1.0 (is_free dag.now top taken.old.items) (leader.0 - place) other) }
     ensures reads { IfOk result (λ walked. AreClosed dag.now bottom leader.0 (is_free dag.now top taken.old.items)
         → walked.1 ≡ sum_by (λ r. references_of dag.now r (orders_in dag.now leader.0 leader.1.0 (is_free dag.now top taken.old.items) r)) (range_with_len (bottom + 1) (leader.0 - bottom))) }
-    ensures most { IfOk result (λ walked. walked.1 ≤ 1000000) }
+    ensures most { IfOk result (λ walked. walked.1 ≤ MAX_WALK_REFERENCES) }
     ensures taken { OnOk result (AreClosed dag.now bottom leader.0 (is_free dag.now top taken.old.items)
         → (round other : ℕ) → bottom ≤ round → round ≤ top → is_free dag.now top taken.new.items round other ≡ (is_free dag.now top taken.old.items round other && not (reaches_in dag.now leader.0 leader.1.0 round other))) }
 {
