@@ -4,3 +4,4 @@ pub mod Among
 pub mod Listing
 pub mod Steps
 pub mod Keyed
+pub mod Answering

@@ -1,5 +1,5 @@
 -- What a store answers, and what it has then.
-use Rattle.std.specs.Prelude.{ℕ, ◌==◌, ◌&&◌, ◌++◌, ◌^◌, not, nat_lt, nat_le, Bool, true, false, List, [], ◌∷◌, length, map, is_none, if◌then◌else◌}
+use Rattle.std.specs.Prelude.{ℕ, ◌==◌, ◌&&◌, ◌++◌, ◌^◌, not, nat_lt, nat_le, Bool, true, false, List, [], ◌∷◌, length, map, is_none, Option, Some, None, Result, Ok, Err, if◌then◌else◌}
 use Rattle.std.specs.Prelude.{bit_or}
 use Rattle.std.specs.List.{list_any}
 use Rattle.std.specs.Option.{option_map_or}
@@ -8,8 +8,10 @@ use Rattle.wire.specs.Batches.{Contents, batch_body}
 use Rattle.wire.specs.declared.keys.Digest.{Digest}
 use Rattle.wire.specs.declared.references.BatchReference.{BatchReference}
 use Rattle.committee.specs.declared.sets.MemberSet.{MemberSet}
-use Rattle.batchstore.specs.Stock.{Stock, digest_of, held_at}
+use Rattle.batchstore.specs.Stock.{Stock, digest_of, held_at, batch_in}
 use Rattle.batchstore.specs.declared.held.Held.{Held}
+use Rattle.batchstore.specs.declared.refusal.StoreRefusal.{StoreRefusal}
+use Rattle.batchstore.specs.declared.refusal.StoreRefusal.TheVariants.{DigestClash, Full}
 
 -- ---- a batch comes in
 
@@ -28,6 +30,18 @@ is_new stock batch = is_none (held_at stock (digest_of batch))
 -- no more batches can be held
 abbrev pub is_full : Stock → Bool
 is_full stock = nat_le stock.charter.batches (length stock.held)
+
+-- what it is answered where this batch is held under its digest
+abbrev pub held_answer : Contents → Contents → Result (Option Contents) StoreRefusal
+held_answer held batch = if bytes_eq (batch_body held) (batch_body batch) then Ok (Some held) else Err DigestClash
+
+-- what it is answered where none is
+abbrev pub free_answer : Stock → Result (Option Contents) StoreRefusal
+free_answer stock = if is_full stock then Err Full else Ok None
+
+-- what it is answered: the batch that is held already, or none where it is new and there is room for it
+abbrev pub answer : Stock → Contents → Result (Option Contents) StoreRefusal
+answer stock batch = option_map_or (λ held. held_answer held batch) (batch_in stock (digest_of batch)) (free_answer stock)
 
 -- the set of no member
 abbrev pub no_members : MemberSet
@@ -67,6 +81,6 @@ abbrev pub named_by : ℕ → List BatchReference → Held → Held
 named_by own references held =
     if (held.batch.author.0 == own) && is_named_in references held.batch then record held { named = true } else held
 
--- the store behind an own header with these batches
+-- the store after an own header with these batches
 abbrev pub with_names : Stock → List BatchReference → Stock
 with_names stock references = record stock { held = map (named_by stock.own references) stock.held }

@@ -10,7 +10,7 @@ use Rattle.batchstore.specs.declared.held.Held.{Held}
 
 -- how two digests compare
 abbrev pub compared : Digest → Digest → Ordering
-compared one other = slice_cmp nat_cmp one.0 other.0
+compared left right = slice_cmp nat_cmp left.0 right.0
 
 -- a batch is kept under its digest
 abbrev pub IsUnderItsDigest : Digest × Held → Type 0

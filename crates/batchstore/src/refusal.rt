@@ -9,7 +9,7 @@ use thiserror::Error;
 /// Why a store refuses a batch or an acknowledgement. Printed as its number and its name.
 #[derive(Clone, Copy, Debug, PartialEq, Eq, Error)]
 pub enum StoreRefusal {
-    /// A growth was refused.
+    /// An allocation failed.
     #[error("1 Memory")]
     Memory,
     /// Another batch is held under the same digest.

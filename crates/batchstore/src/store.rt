@@ -8,7 +8,7 @@ ghost use Rattle.committee.specs.declared.members.TheConstants.{MAX_MEMBERS};
 ghost use Rattle.batchstore.specs.declared.held.Held.{Held};
 ghost use Rattle.batchstore.specs.Kept.{reference_of};
 ghost use Rattle.batchstore.specs.Stock.{is_quorate, Stock, IsStock, digest_of, held_at, batch_in, has_with, has_own, holds, is_available, was_named, nameable};
-ghost use Rattle.batchstore.specs.Answer.{is_member, is_known, is_clash, is_new, is_full, with_batch, with_ack, with_names};
+ghost use Rattle.batchstore.specs.Answer.{is_member, is_known, is_clash, is_new, is_full, answer, with_batch, with_ack, with_names};
 
 use crate::answers::{Acked, Put};
 use crate::held::Held;
@@ -132,8 +132,7 @@ impl<'a> BatchStore<'a> {
     /// Holds a batch of this digest from now on, if it is a new one.
     ///
     /// # Errors
-    /// `DigestClash` where another batch is held under its digest, `Full` where it is new and as many are held as the
-    /// committee allows, `Memory` where a growth was refused. They change nothing.
+    /// What `answer` answers, or `Memory` where an allocation failed. They change nothing.
     pub fn put_digested(&mut self, digest: Digest, batch: Batch) -> Result<Put, StoreRefusal>
         requires { digest ≡ digest_of batch }
         ensures known { (result ≡ Ok Put.Known) ↔ IsTrue (is_known self.old batch) }
@@ -144,38 +143,56 @@ impl<'a> BatchStore<'a> {
         ensures ours { ¬ IsErrOf result StoreRefusal.NotOurs }
         ensures err { OnErr result (self.new ≡ self.old) }
     {
-        match self.at(&digest) {
+        match self.answer(&digest, &batch) {
+            Ok(Some(_)) => Ok(Put::Known),
+            Ok(None) => {
+                self.hold(digest, batch)?;
+                Ok(Put::New)
+            }
+            Err(refusal) => Err(refusal),
+        }
+    }
+
+    /// What comes of a batch of this digest: the batch that is held already, or none where it is new.
+    ///
+    /// # Errors
+    /// `DigestClash` where another batch is held under its digest, `Full` where none is and as many are held as the committee
+    /// allows.
+    pub fn answer(&self, digest: &Digest, batch: &Batch) -> Result<Option<&Batch>, StoreRefusal>
+        requires { digest.now ≡ digest_of batch.now }
+        ensures ok { IfOk result (λ held. answer self.now batch.now ≡ Ok (option_copied held)) }
+        ensures err { IfErr result (λ refusal. answer self.now batch.now ≡ Err refusal) }
+    {
+        match self.get(digest) {
             Some(held) => {
-                if held.batch.body() == batch.body() {
-                    Ok(Put::Known)
-                } else {
-                    Err(StoreRefusal::DigestClash)
+                if held.body() != batch.body() {
+                    return Err(StoreRefusal::DigestClash);
                 }
+                Ok(Some(held))
             }
             None => {
                 if self.is_full() {
                     return Err(StoreRefusal::Full);
                 }
-                self.append(digest, batch)?;
-                Ok(Put::New)
+                Ok(None)
             }
         }
     }
 
-    fn is_full(&self) -> bool
+    /// Whether as many batches are held as the committee allows.
+    pub fn is_full(&self) -> bool
         ensures { result ≡ is_full self.now }
     {
         self.held.len() >= self.committee.batches() as usize
     }
 
-    // Holds a new batch behind the others.
-    fn append(&mut self, digest: Digest, batch: Batch) -> Result<(), StoreRefusal>
+    /// Holds a batch of this digest, which is new, from now on. `AllocError` where an allocation failed: nothing has changed
+    /// then.
+    pub fn hold(&mut self, digest: Digest, batch: Batch) -> Result<(), AllocError>
         requires digested { digest ≡ digest_of batch }
-        requires new { held_at self.old digest ≡ None }
-        requires room { is_full self.old ≡ false }
+        requires new { answer self.old batch ≡ Ok None }
         ensures ok { OnOk result (self.new ≡ with_batch self.old batch) }
         ensures err { OnErr result (self.new ≡ self.old) }
-        ensures memory { IfErr result (λ error. error ≡ StoreRefusal.Memory) }
     {
         let held = Held {
             batch,
@@ -227,8 +244,8 @@ impl<'a> BatchStore<'a> {
     /// Counts that a member holds the own batch of this digest.
     ///
     /// # Errors
-    /// `NotOurs` where the author is no member or no own batch of the digest is held, `Memory` where a growth was refused.
-    /// They change nothing.
+    /// `NotOurs` where the author is no member or no own batch of the digest is held, `Memory` where an allocation
+    /// failed. They change nothing.
     pub fn ack(&mut self, author: Author, digest: &Digest) -> Result<Acked, StoreRefusal>
         ensures not_ours { IsErrOf result StoreRefusal.NotOurs ↔ IsTrue (not (is_member self.old author.0 && has_own self.old digest.now)) }
         ensures known { (result ≡ Ok Acked.Known) ↔ IsTrue (has_own self.old digest.now && holds self.old digest.now author.0) }
@@ -240,11 +257,11 @@ impl<'a> BatchStore<'a> {
         if author.0 >= self.committee.size() {
             return Err(StoreRefusal::NotOurs);
         }
-        match self.acked(author, digest) {
+        match self.acked_at(author, digest) {
             None => Err(StoreRefusal::NotOurs),
-            Some(true) => Ok(Acked::Known),
-            Some(false) => {
-                self.count(author, digest)?;
+            Some((_, true)) => Ok(Acked::Known),
+            Some((place, false)) => {
+                self.count(author, digest, place)?;
                 Ok(Acked::New)
             }
         }
@@ -254,23 +271,36 @@ impl<'a> BatchStore<'a> {
     pub fn acked(&self, author: Author, digest: &Digest) -> Option<bool>
         ensures { result ≡ (if has_own self.now digest.now then Some (holds self.now digest.now author.0) else None) }
     {
-        let held = self.at(digest)?;
+        match self.acked_at(author, digest) {
+            Some((_, acked)) => Some(acked),
+            None => None,
+        }
+    }
+
+    // The same, with the place of the batch.
+    fn acked_at(&self, author: Author, digest: &Digest) -> Option<(usize, bool)>
+        ensures acked { option_map (λ found. found.1) result ≡ (if has_own self.now digest.now then Some (holds self.now digest.now author.0) else None) }
+        ensures place { IfSome result (λ found. slice_get self.now.held found.0 ≡ held_at self.now digest.now) }
+    {
+        let (place, held) = self.find(digest)?;
         if held.batch.author() != self.own {
             return None;
         }
-        Some(author == self.own || held.acknowledged.contains(author))
+        let acked = author == self.own || held.acknowledged.contains(author);
+        Some((place, acked))
     }
 
-    // Counts a member more that holds the own batch of this digest.
-    fn count(&mut self, author: Author, digest: &Digest) -> Result<(), StoreRefusal>
+    // Counts a member more that holds the own batch of this digest, which is at this place.
+    fn count(&mut self, author: Author, digest: &Digest, place: usize) -> Result<(), StoreRefusal>
         requires member { author.0 < length self.old.charter.keys }
         requires ours { IsTrue (has_own self.old digest.now) }
         requires other { holds self.old digest.now author.0 ≡ false }
+        requires place { slice_get self.old.held place ≡ held_at self.old digest.now }
         ensures ok { OnOk result (self.new ≡ with_ack self.old digest.now author.0) }
         ensures err { OnErr result (self.new ≡ self.old) }
         ensures memory { IfErr result (λ error. error ≡ StoreRefusal.Memory) }
     {
-        let Some((place, held)) = self.find(digest) else {
+        let Some(held) = self.held.at(place) else {
             return Ok(());
         };
         let worker = held.batch.worker();
@@ -330,8 +360,8 @@ impl<'a> BatchStore<'a> {
         }
     }
 
-    /// The batches that a header may name, rising by digest: the first `MAX_BATCHES` of them. `AllocError` where a
-    /// growth was refused.
+    /// The batches that a header may name, rising by digest: the first `MAX_BATCHES` of them. `AllocError` where an
+    /// allocation failed.
     pub fn least_nameable(&self, alloc: Global) -> Result<Vec<BatchReference>, AllocError>
         ensures { IfOk result (λ batches. batches.items ≡ take MAX_BATCHES (nameable self.now)) }
     {

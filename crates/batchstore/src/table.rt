@@ -87,7 +87,7 @@ impl Table {
         }
     }
 
-    // Holds a batch behind the others, whose digest none of them has.
+    // Holds a batch after the others, whose digest none of them has.
     pub(crate) fn push(&mut self, digest: Digest, held: Held) -> Result<(), AllocError>
         requires digested { digest ≡ digest_of held.batch }
         requires new { found digest self.old ≡ None }

@@ -12,13 +12,14 @@ pub invariant_of-self-2 : goal.invariant_of-self-2
 invariant_of-self-2 c =
     let inside = c.self.inside in
     let batches = inside.held in
-    let place = c.in-Some.place in
+    let place = c.args.place in
     let old = c.in-Some.held.now in
     let members = c.insert.new.self in
     let digest = c.args.digest.now in
-    let now_at : held_at c.args.self.now digest ≡ Some old = sym c.in-Some.ensures.held in
+    let at : slice_get batches place ≡ Some old = sym c.in-Some.ensures in
+    let now_at : held_at c.args.self.now digest ≡ Some old =
+    sym c.requires.place ∙ ap (λ (s : Stock). slice_get s.held place) (sym c.self.view_is) ∙ at in
     let found : find (is_of digest) batches ≡ Some old = rw (← c.self.view_is) at now_at in
-    let at : slice_get batches place ≡ Some old = rw (← c.self.view_is) at c.in-Some.ensures.place in
     let there : Stands batches digest place old = stands batches digest place old c.self.invariant.valid.distinct found at in
     let ours : old.batch.author.0 ≡ inside.own.0 = own_of c.args.self.now digest old now_at c.requires.ours ∙ ap (λ (s : Stock). s.own) (sym c.self.view_is) in
     let other : c.args.author.0 ≢ inside.own.0 = λ e. other_than c.args.self.now digest c.args.author.0 c.requires.other (e ∙ ap (λ (s : Stock). s.own) c.self.view_is) in
@@ -30,27 +31,30 @@ invariant_of-self-2 c =
           let set : c.set_members.new.self ≡ slice_set batches place (with_acks old members) =
           c.set_members.ensures old at_inside ∙ ap (λ (l : List Held). slice_set l place (with_acks old members)) same in
           rw (w.self-inside-is, set, w.in_ok-insert.ensures.entries, c.worker-worker.ensures)
-          (acked_new inside.committee.now inside.own.0 batches inside.nameable.entries digest place old c.args.author.0 members c.self.invariant there ours within other c.insert.ensures (sym c.becomes_nameable.ensures ∙ w.if-becomes_nameable.true))
+          (acked_new inside.committee.now inside.own.0 batches inside.nameable.entries digest place old c.args.author.0 members
+          c.self.invariant there ours within other c.insert.ensures (sym c.becomes_nameable.ensures ∙ w.if-becomes_nameable.true))
       | else-becomes_nameable w ↦
           let same : c.if-becomes_nameable.self-inside.held ≡ batches = rw w.self-inside-is refl in
           let at_inside : slice_get c.if-becomes_nameable.self-inside.held place ≡ Some old = rw same at in
           let set : c.set_members.new.self ≡ slice_set batches place (with_acks old members) =
           c.set_members.ensures old at_inside ∙ ap (λ (l : List Held). slice_set l place (with_acks old members)) same in
           rw (w.self-inside-is, set)
-          (acked_same inside.committee.now inside.own.0 batches inside.nameable.entries digest place old c.args.author.0 members c.self.invariant there ours within other c.insert.ensures (sym c.becomes_nameable.ensures ∙ w.if-becomes_nameable.false))
+          (acked_same inside.committee.now inside.own.0 batches inside.nameable.entries digest place old c.args.author.0 members
+          c.self.invariant there ours within other c.insert.ensures (sym c.becomes_nameable.ensures ∙ w.if-becomes_nameable.false))
     ]
 
 pub returns-clause-ok : goal.returns-clause-ok
 returns-clause-ok c =
     let inside = c.self.inside in
     let batches = inside.held in
-    let place = c.in-Some.place in
+    let place = c.args.place in
     let old = c.in-Some.held.now in
     let members = c.insert.new.self in
     let digest = c.args.digest.now in
-    let now_at : held_at c.args.self.now digest ≡ Some old = sym c.in-Some.ensures.held in
+    let at : slice_get batches place ≡ Some old = sym c.in-Some.ensures in
+    let now_at : held_at c.args.self.now digest ≡ Some old =
+    sym c.requires.place ∙ ap (λ (s : Stock). slice_get s.held place) (sym c.self.view_is) ∙ at in
     let found : find (is_of digest) batches ≡ Some old = rw (← c.self.view_is) at now_at in
-    let at : slice_get batches place ≡ Some old = rw (← c.self.view_is) at c.in-Some.ensures.place in
     let there : Stands batches digest place old = stands batches digest place old c.self.invariant.valid.distinct found at in
     let store : List Held → Stock = λ l. record { charter = inside.committee.now; own = inside.own.0; held = l } in
     elim c.if-becomes_nameable.branch [
