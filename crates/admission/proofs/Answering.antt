@@ -14,17 +14,17 @@ use Rattle.spec_model.specs.Nodes.{Node}
 use Rattle.spec_model.specs.Slots.{same_digest}
 use Rattle.spec_model.specs.States as states
 use Rattle.spec_model.specs.States.{State, has_own_batch}
-use Rattle.spec_model.specs.Words.{Author, BatchAck, BatchReference, Contents, Digest, Event, Header, Message}
-use Rattle.spec_model.specs.declared.admission.Admission.TheVariants.{New, Known, Refused}
-use Rattle.spec_model.specs.declared.refusal.Refusal.TheVariants.{NotOurs, StoreFull, DigestClash}
-use Rattle.spec_model.specs.declared.refusal.Refusal.{Refusal}
+use Rattle.spec_model.specs.Words.{Author, BatchAck, BatchReference, BatchView, Digest, Event, Header, Message}
+use Rattle.header.specs.declared.admission.Admission.TheVariants.{New, Known, Refused}
+use Rattle.header.specs.declared.refusal.Refusal.TheVariants.{NotOurs, StoreFull, DigestClash}
+use Rattle.header.specs.declared.refusal.Refusal.{Refusal}
 use Rattle.std.proofs.lemmas.Option.{same_Some, none-some}
 use Rattle.spec_laws.proofs.Lists.{given_or_none}
 use Rattle.spec_laws.proofs.Closed.{all_to}
 use Rattle.spec_laws.proofs.Meeting.{any_to}
 use Rattle.spec_machine.specs.Machine.{answered, after}
 use Rattle.batchstore.specs.Answer.{is_full}
-use Rattle.batchstore.specs.Stock.{Stock, digest_of, held_at, batch_in, has_own, holds, is_available}
+use Rattle.batchstore.specs.Stock.{BatchStoreView, digest_of, held_at, batch_in, has_own, holds, is_available}
 use Rattle.batchstore.proofs.Among.{one_digest, found_is}
 use Rattle.admission.specs.Batches.{HasBatches, may_name_by}
 use Rattle.admission.proofs.Reading.{batch_of, batch_read, own_read, holds_read, available_read, with_read}
@@ -38,19 +38,19 @@ pub after_as : (P : State → Type 0) (node : Node) (state : State) (event : Eve
 after_as P node state event m is holds = subst (λ (x : Message). P (after node state (record { sender = event.sender; message = x }))) (sym is) holds
 
 -- the store is the node's
-pub the_own : (node : Node) (state : State) (stock : Stock) (own : Author) → HasBatches node state stock → own.0 ≡ stock.own → node.own ≡ own
+pub the_own : (node : Node) (state : State) (stock : BatchStoreView) (own : Author) → HasBatches node state stock → own.0 ≡ stock.own → node.own ≡ own
 the_own node state stock own has is = ap (λ (n : ℕ). record { 0 = n }) (sym (is ∙ has.own))
 
 -- ---- batches
 
-pub answer_held : (node : Node) (state : State) (stock : Stock) (batch : Contents) (held : Contents) → HasBatches node state stock
+pub answer_held : (node : Node) (state : State) (stock : BatchStoreView) (batch : BatchView) (held : BatchView) → HasBatches node state stock
     → option_map batch_of (held_at stock (digest_of batch)) ≡ Some held → batch_answer node state batch ≡ held_batch_answer node held batch
 answer_held node state stock batch held has is =
-    ap (λ (o : Option Contents). when o gives (λ h. held_batch_answer node h batch) else if nat_le node.charter.batches (length state.batches) then Refused StoreFull else New (batch_outputs node batch))
+    ap (λ (o : Option BatchView). when o gives (λ h. held_batch_answer node h batch) else if nat_le node.charter.batches (length state.batches) then Refused StoreFull else New (batch_outputs node batch))
     (batch_read node state stock has (digest_of batch) ∙ is)
 
 -- what is found under a digest has it
-pub digest_found : (stock : Stock) (digest : Digest) (batch : Contents) → Some batch ≡ batch_in stock digest → digest ≡ digest_of batch
+pub digest_found : (stock : BatchStoreView) (digest : Digest) (batch : BatchView) → Some batch ≡ batch_in stock digest → digest ≡ digest_of batch
 digest_found stock digest batch is =
     elim (given_or_none (held_at stock digest)) [
       | inl found ↦
@@ -59,38 +59,38 @@ digest_found stock digest batch is =
       | inr none ↦ absurd (none-some batch (sym (is ∙ ap (option_map batch_of) none)))
     ]
 
-pub none_under : (stock : Stock) (digest : Digest) → None ≡ batch_in stock digest → held_at stock digest ≡ None
+pub none_under : (stock : BatchStoreView) (digest : Digest) → None ≡ batch_in stock digest → held_at stock digest ≡ None
 none_under stock digest is =
     elim (given_or_none (held_at stock digest)) [
       | inl found ↦ absurd (none-some found.0.batch (is ∙ ap (option_map batch_of) found.1))
       | inr none ↦ none
     ]
 
-same_room : (node : Node) (state : State) (stock : Stock) → HasBatches node state stock → nat_le node.charter.batches (length state.batches) ≡ is_full stock
+same_room : (node : Node) (state : State) (stock : BatchStoreView) → HasBatches node state stock → nat_le node.charter.batches (length state.batches) ≡ is_full stock
 same_room node state stock has =
-    ap (λ (l : List Contents). nat_le node.charter.batches (length l)) (sym has.batches) ∙ ap (nat_le node.charter.batches) (length-map stock.held batch_of)
+    ap (λ (l : List BatchView). nat_le node.charter.batches (length l)) (sym has.batches) ∙ ap (nat_le node.charter.batches) (length-map stock.held batch_of)
     ∙ ap (λ c. nat_le c.batches (length stock.held)) (sym has.charter)
 
-pub answer_free : (node : Node) (state : State) (stock : Stock) (batch : Contents) → HasBatches node state stock → held_at stock (digest_of batch) ≡ None
+pub answer_free : (node : Node) (state : State) (stock : BatchStoreView) (batch : BatchView) → HasBatches node state stock → held_at stock (digest_of batch) ≡ None
     → batch_answer node state batch ≡ (if is_full stock then Refused StoreFull else New (batch_outputs node batch))
 answer_free node state stock batch has is =
-    ap (λ (o : Option Contents). when o gives (λ h. held_batch_answer node h batch) else if nat_le node.charter.batches (length state.batches) then Refused StoreFull else New (batch_outputs node batch))
+    ap (λ (o : Option BatchView). when o gives (λ h. held_batch_answer node h batch) else if nat_le node.charter.batches (length state.batches) then Refused StoreFull else New (batch_outputs node batch))
     (batch_read node state stock has (digest_of batch) ∙ ap (option_map batch_of) is)
     ∙ ap (λ b. if b then Refused StoreFull else New (batch_outputs node batch)) (same_room node state stock has)
 
 -- ---- acknowledgements
 
-pub answer_ack : (node : Node) (state : State) (stock : Stock) (ack : BatchAck) → HasBatches node state stock
+pub answer_ack : (node : Node) (state : State) (stock : BatchStoreView) (ack : BatchAck) → HasBatches node state stock
     → ack_answer node state ack ≡ (if not (has_own stock ack.batch) then Refused NotOurs else if holds stock ack.batch ack.author.0 then Known [] else New [])
 answer_ack node state stock ack has =
     ap (λ b. if not b then Refused NotOurs else if states.holds node state ack.batch ack.author.0 then Known [] else New []) (sym (own_read node state stock has ack.batch))
     ∙ ap (λ b. if not (has_own stock ack.batch) then Refused NotOurs else if b then Known [] else New []) (sym (holds_read node state stock has ack.batch ack.author.0))
 
-pub ack_not_ours : (node : Node) (state : State) (stock : Stock) (ack : BatchAck) → HasBatches node state stock → has_own stock ack.batch ≡ false → ack_answer node state ack ≡ Refused NotOurs
+pub ack_not_ours : (node : Node) (state : State) (stock : BatchStoreView) (ack : BatchAck) → HasBatches node state stock → has_own stock ack.batch ≡ false → ack_answer node state ack ≡ Refused NotOurs
 ack_not_ours node state stock ack has own =
     answer_ack node state stock ack has ∙ ap (λ b. if not b then Refused NotOurs else if holds stock ack.batch ack.author.0 then Known [] else New []) own
 
-pub ack_ours : (node : Node) (state : State) (stock : Stock) (ack : BatchAck) → HasBatches node state stock → has_own stock ack.batch ≡ true
+pub ack_ours : (node : Node) (state : State) (stock : BatchStoreView) (ack : BatchAck) → HasBatches node state stock → has_own stock ack.batch ≡ true
     → ack_answer node state ack ≡ (if holds stock ack.batch ack.author.0 then Known [] else New [])
 ack_ours node state stock ack has own =
     answer_ack node state stock ack has ∙ ap (λ b. if not b then Refused NotOurs else if holds stock ack.batch ack.author.0 then Known [] else New []) own
@@ -101,18 +101,18 @@ not_refused false refusal is = cc
 
 -- ---- what is new
 
-held_not_new : (node : Node) (held batch : Contents) → is_new (held_batch_answer node held batch) ≡ false
+held_not_new : (node : Node) (held batch : BatchView) → is_new (held_batch_answer node held batch) ≡ false
 held_not_new node held batch = same_not_new (bytes_eq (batch_body held) (batch_body batch))
   where
     same_not_new : (same : Bool) → is_new (if same then Known (batch_outputs node held) else Refused DigestClash) ≡ false
     same_not_new true = refl
     same_not_new false = refl
 
-pub held_is_known : (node : Node) (state : State) (stock : Stock) (batch held : Contents) → HasBatches node state stock → Some held ≡ batch_in stock (digest_of batch)
+pub held_is_known : (node : Node) (state : State) (stock : BatchStoreView) (batch held : BatchView) → HasBatches node state stock → Some held ≡ batch_in stock (digest_of batch)
     → is_new (batch_answer node state batch) ≡ false
 held_is_known node state stock batch held has is = ap is_new (answer_held node state stock batch held has (sym is)) ∙ held_not_new node held batch
 
-pub new_if_room : (node : Node) (state : State) (stock : Stock) (batch : Contents) → HasBatches node state stock → None ≡ batch_in stock (digest_of batch)
+pub new_if_room : (node : Node) (state : State) (stock : BatchStoreView) (batch : BatchView) → HasBatches node state stock → None ≡ batch_in stock (digest_of batch)
     → is_new (batch_answer node state batch) ≡ not (is_full stock)
 new_if_room node state stock batch has is =
     ap is_new (answer_free node state stock batch has (none_under stock (digest_of batch) is)) ∙ in_room (is_full stock)
@@ -121,7 +121,7 @@ new_if_room node state stock batch has is =
     in_room true = refl
     in_room false = refl
 
-pub new_if_uncounted : (node : Node) (state : State) (stock : Stock) (ack : BatchAck) → HasBatches node state stock
+pub new_if_uncounted : (node : Node) (state : State) (stock : BatchStoreView) (ack : BatchAck) → HasBatches node state stock
     → is_new (ack_answer node state ack) ≡ (has_own stock ack.batch && not (holds stock ack.batch ack.author.0))
 new_if_uncounted node state stock ack has = ap is_new (answer_ack node state stock ack has) ∙ uncounted (has_own stock ack.batch) (holds stock ack.batch ack.author.0)
   where
@@ -132,7 +132,7 @@ new_if_uncounted node state stock ack has = ap is_new (answer_ack node state sto
 
 -- ---- headers
 
-pub may_name_alike : (node : Node) (state : State) (stock : Stock) (header : Header) (named : BatchReference) → HasBatches node state stock
+pub may_name_alike : (node : Node) (state : State) (stock : BatchStoreView) (header : Header) (named : BatchReference) → HasBatches node state stock
     → may_name_by stock header.body.author named ≡ may_name node state header named
 may_name_alike node state stock header named has =
     ap (λ b. b && (not (header.body.author.0 == stock.own) || is_available stock named.digest)) (with_read node state stock has named.digest named.worker)
@@ -140,9 +140,9 @@ may_name_alike node state stock header named has =
     ∙ ap (λ b. worker && (not (is_own node header.body.author) || b)) (available_read node state stock has named.digest)
   where
     worker : Bool
-    worker = option_map_or (λ (batch : Contents). batch.worker == named.worker) (states.batch_in state named.digest) false
+    worker = option_map_or (λ (batch : BatchView). batch.worker == named.worker) (states.batch_in state named.digest) false
 
-pub may_name_all_alike : (node : Node) (state : State) (stock : Stock) (header : Header) → HasBatches node state stock
+pub may_name_all_alike : (node : Node) (state : State) (stock : BatchStoreView) (header : Header) → HasBatches node state stock
     → list_all (may_name_by stock header.body.author) header.body.batches ≡ list_all (may_name node state header) header.body.batches
 may_name_all_alike node state stock header has =
     ap (λ (f : BatchReference → Bool). list_all f header.body.batches) (fun_ext (λ named. may_name_alike node state stock header named has))
@@ -155,12 +155,12 @@ but_for true other holds is = is
 but_for false other holds is = absurd (true≢false (sym holds))
 
 -- what a new own header names is an own batch
-pub named_own : (node : Node) (state : State) (stock : Stock) (header : Header) → HasBatches node state stock → is_own node header.body.author ≡ true
+pub named_own : (node : Node) (state : State) (stock : BatchStoreView) (header : Header) → HasBatches node state stock → is_own node header.body.author ≡ true
     → is_new (header_answer node state header) ≡ true → (digest : Digest) → list_any (λ named. same_digest named.digest digest) header.body.batches ≡ true → has_own stock digest ≡ true
 named_own node state stock header has mine new digest is =
     let named = any_to (λ (named : BatchReference). same_digest named.digest digest) header.body.batches is in
     let may = all_to (may_name node state header) header.body.batches named.0 (header_named node state header new) named.1 in
-    let available = (and_parts (option_map_or (λ (batch : Contents). batch.worker == named.0.worker) (states.batch_in state named.0.digest) false)
+    let available = (and_parts (option_map_or (λ (batch : BatchView). batch.worker == named.0.worker) (states.batch_in state named.0.digest) false)
     (not (is_own node header.body.author) || states.is_available node state named.0.digest) may).1 in
     let it = but_for (is_own node header.body.author) (states.is_available node state named.0.digest) mine available in
     own_read node state stock has digest ∙ ap (has_own_batch node state) (sym (one_digest named.0.digest digest named.2)) ∙ (and_parts (has_own_batch node state named.0.digest) _ it).0

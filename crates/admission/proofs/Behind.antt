@@ -17,11 +17,11 @@ use Rattle.spec_model.specs.Histories.{as_batch}
 use Rattle.spec_model.specs.Nodes.{Node}
 use Rattle.spec_model.specs.Slots.{same_digest}
 use Rattle.spec_model.specs.States.{State}
-use Rattle.spec_model.specs.Words.{BatchAck, BatchReference, Contents, Digest, Header, Message}
+use Rattle.spec_model.specs.Words.{BatchAck, BatchReference, BatchView, Digest, Header, Message}
 use Rattle.spec_laws.proofs.Lists.{given_or_none}
 use Rattle.spec_machine.specs.Machine.{acknowledges, names, grown}
 use Rattle.batchstore.specs.Answer.{no_members, with_member, with_batch, acked_by, with_ack, is_named_in, named_by, with_names}
-use Rattle.batchstore.specs.Stock.{Stock, digest_of, held_at, has_own, has_acked, was_named}
+use Rattle.batchstore.specs.Stock.{BatchStoreView, digest_of, held_at, has_own, has_acked, was_named}
 use Rattle.batchstore.specs.declared.held.Held.{Held}
 use Rattle.batchstore.proofs.Among.{digest_in, is_of, one_digest, found_is}
 use Rattle.batchstore.proofs.Members.{has-with_member}
@@ -45,7 +45,7 @@ nothing_more test (Some y) passes x fails = refl
 nothing_more test None true x fails = fails
 nothing_more test None false x fails = refl
 
-pub batch_comes : (node : Node) (state : State) (stock : Stock) (batch : Contents) → HasBatches node state stock → HasBatches node (behind node state (message.Batch batch)) (with_batch stock batch)
+pub batch_comes : (node : Node) (state : State) (stock : BatchStoreView) (batch : BatchView) → HasBatches node state stock → HasBatches node (behind node state (message.Batch batch)) (with_batch stock batch)
 batch_comes node state stock batch has =
     let new : Held = record { batch = batch; acknowledged = no_members; named = false } in
     let said : (test : Held → Bool) (digest : Digest) → test new ≡ false
@@ -55,7 +55,7 @@ batch_comes node state stock batch has =
     record {
       charter = has.charter;
       own = has.own;
-      batches = map-append batch_of stock.held (new ∷ []) ∙ ap (λ (l : List Contents). l ++ batch ∷ []) has.batches;
+      batches = map-append batch_of stock.held (new ∷ []) ∙ ap (λ (l : List BatchView). l ++ batch ∷ []) has.batches;
       acked = λ digest member. said (λ h. is_in h.acknowledged member) digest (nobody member) ∙ has.acked digest member ∙ sym (or-false (state.acked digest member));
       named = λ digest. said (λ h. h.named) digest refl ∙ has.named digest ∙ sym (or-false (state.named digest));
     }
@@ -68,13 +68,13 @@ kept_batch false new old same = refl
 
 same_batches : (change : Held → Held) → ((h : Held) → (change h).batch ≡ h.batch) → (held : List Held) → map batch_of (map change held) ≡ map batch_of held
 same_batches change same [] = refl
-same_batches change same (h ∷ rest) = ap (λ (b : Contents). b ∷ map batch_of (map change rest)) (same h) ∙ ap (λ l. h.batch ∷ l) (same_batches change same rest)
+same_batches change same (h ∷ rest) = ap (λ (b : BatchView). b ∷ map batch_of (map change rest)) (same h) ∙ ap (λ l. h.batch ∷ l) (same_batches change same rest)
 
 found_changed : (change : Held → Held) → ((h : Held) → (change h).batch ≡ h.batch) → (digest : Digest) (held : List Held)
     → find (is_of digest) (map change held) ≡ option_map change (find (is_of digest) held)
 found_changed change same digest [] = refl
 found_changed change same digest (h ∷ rest) =
-    ap (λ (b : Contents). cond (bytes_eq digest.0 (digest_of b).0) (Some (change h)) (find (is_of digest) (map change rest))) (same h)
+    ap (λ (b : BatchView). cond (bytes_eq digest.0 (digest_of b).0) (Some (change h)) (find (is_of digest) (map change rest))) (same h)
     ∙ ap (cond (is_of digest h) (Some (change h))) (found_changed change same digest rest)
     ∙ first_made change (is_of digest h) h (find (is_of digest) rest)
 
@@ -107,10 +107,10 @@ one_acked true h member other =
 one_acked false h member other = sym (or-false (is_in h.acknowledged other))
 
 -- of what isn't held nothing is said
-nothing_own : (stock : Stock) (digest : Digest) → held_at stock digest ≡ None → has_own stock digest ≡ true → ⊥
+nothing_own : (stock : BatchStoreView) (digest : Digest) → held_at stock digest ≡ None → has_own stock digest ≡ true → ⊥
 nothing_own stock digest none own = true≢false (sym own ∙ ap (λ o. option_map_or (λ (h : Held). h.batch.author.0 == stock.own) o false) none)
 
-acked_behind : (stock : Stock) (digest : Digest) (member : ℕ) → has_own stock digest ≡ true → (other : Digest) (voter : ℕ)
+acked_behind : (stock : BatchStoreView) (digest : Digest) (member : ℕ) → has_own stock digest ≡ true → (other : Digest) (voter : ℕ)
     → has_acked (with_ack stock digest member) other voter ≡ (has_acked stock other voter || ((same_digest digest other && (member == voter)) || false))
 acked_behind stock digest member own other voter =
     let test : Held → Bool = λ h. is_in h.acknowledged voter in
@@ -130,7 +130,7 @@ acked_behind stock digest member own other voter =
           ∙ sym (ap (λ o. option_map_or test o false || ((same_digest digest other && (member == voter)) || false)) none ∙ ap (λ b. (b && (member == voter)) || false) apart)
     ]
 
-pub ack_comes : (node : Node) (state : State) (stock : Stock) (ack : BatchAck) → has_own stock ack.batch ≡ true → HasBatches node state stock
+pub ack_comes : (node : Node) (state : State) (stock : BatchStoreView) (ack : BatchAck) → has_own stock ack.batch ≡ true → HasBatches node state stock
     → HasBatches node (behind node state (message.BatchAck ack)) (with_ack stock ack.batch ack.author.0)
 ack_comes node state stock ack own has =
     let change : Held → Held = acked_by ack.batch ack.author.0 in
@@ -173,7 +173,7 @@ implied false false then = refl
 abbrev among : List BatchReference → Digest → Bool
 among references digest = list_any (λ (named : BatchReference). same_digest named.digest digest) references
 
-named_behind : (stock : Stock) (references : List BatchReference) (digest : Digest) → (among references digest ≡ true → has_own stock digest ≡ true)
+named_behind : (stock : BatchStoreView) (references : List BatchReference) (digest : Digest) → (among references digest ≡ true → has_own stock digest ≡ true)
     → was_named (with_names stock references) digest ≡ (was_named stock digest || among references digest)
 named_behind stock references digest ours =
     let change : Held → Held = named_by stock.own references in
@@ -193,7 +193,7 @@ named_behind stock references digest ours =
           ∙ sym (ap (λ o. option_map_or (λ (x : Held). x.named) o false || among references digest) none ∙ apart)
     ]
 
-pub names_come : (node : Node) (state : State) (stock : Stock) (header : Header) → is_own node header.body.author ≡ true
+pub names_come : (node : Node) (state : State) (stock : BatchStoreView) (header : Header) → is_own node header.body.author ≡ true
     → ((digest : Digest) → list_any (λ named. same_digest named.digest digest) header.body.batches ≡ true → has_own stock digest ≡ true)
     → HasBatches node state stock → HasBatches node (behind node state (message.Header header)) (with_names stock header.body.batches)
 names_come node state stock header mine ours has =

@@ -11,8 +11,8 @@ use Rattle.spec_machine.specs.Laws.{LowIsToTheFloor}
 use Rattle.spec_machine.specs.Machine.{after}
 use Rattle.spec_machine.specs.Sound.{IsSound}
 use Rattle.votebook.specs.Votes.{Votes, ForgetsTo}
-use Rattle.certify.specs.Assembled.{Assembled}
-use Rattle.admission.specs.Headers.{Headers, assembly_at, header_in, IsWith, IsForgotten}
+use Rattle.certify.specs.Assembled.{AssemblyView}
+use Rattle.admission.specs.Headers.{AssembliesView, assembly_at, header_in, IsWith, IsForgotten}
 use Rattle.admission.specs.Headers as headers
 use Rattle.admission.specs.HeaderLaws.{OthersCome}
 use Rattle.sequencer.specs.Laws.{SequenceStays}
@@ -46,16 +46,16 @@ votes_are_high low_is node state votes sound has slot =
         ]
 
 -- so are the own headers
-headers_are_high : LowIsToTheFloor → (node : Node) (state : State) (held : Headers) → IsSound node state → headers.IsAt node state held → IsForgotten held held (floor_in node state)
+headers_are_high : LowIsToTheFloor → (node : Node) (state : State) (held : AssembliesView) → IsSound node state → headers.IsAt node state held → IsForgotten held held (floor_in node state)
 headers_are_high low_is node state held sound at = record {
   charter = refl;
   own = refl;
   rounds = λ round. unless_held (nat_le round (floor_in node state)) (assembly_at held round) (high round);
 }
   where
-    high : (round : ℕ) (a : Assembled) → assembly_at held round ≡ Some a → nat_le round (floor_in node state) ≡ false
+    high : (round : ℕ) (a : AssemblyView) → assembly_at held round ≡ Some a → nat_le round (floor_in node state) ≡ false
     high round a is =
-        let own : state.own_headers round ≡ Some a.header = sym (at.held round) ∙ ap (option_map (λ (x : Assembled). x.header)) is in
+        let own : state.own_headers round ≡ Some a.header = sym (at.held round) ∙ ap (option_map (λ (x : AssemblyView). x.header)) is in
         sym (low_is (floor_in node state) round) ∙ (sound.votes.headers round a.header own).high
 
 nothing_is_low : LowIsToTheFloor → (node : Node) (state : State) (tables : Tables) → IsSound node state → AreAt node state tables → NothingIsLow node state tables

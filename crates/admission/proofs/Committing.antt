@@ -8,18 +8,18 @@ use Rattle.spec_model.specs.Admitting.{is_new}
 use Rattle.spec_model.specs.Nodes.{Node}
 use Rattle.spec_model.specs.States.{State}
 use Rattle.spec_model.specs.Words.{Event, Message, Output}
-use Rattle.spec_model.specs.declared.admission.Admission.{Admission}
-use Rattle.spec_model.specs.declared.admission.Admission.TheVariants as admission
-use Rattle.spec_model.specs.declared.refusal.Refusal.{Refusal}
-use Rattle.spec_model.specs.declared.refusal.Refusal.TheVariants.{Memory, NotOurs, TooOld}
+use Rattle.header.specs.declared.admission.Admission.{Admission}
+use Rattle.header.specs.declared.admission.Admission.TheVariants as admission
+use Rattle.header.specs.declared.refusal.Refusal.{Refusal}
+use Rattle.header.specs.declared.refusal.Refusal.TheVariants.{Memory, NotOurs, TooOld}
 use Rattle.spec_machine.specs.Laws.{Comes}
 use Rattle.spec_machine.specs.Machine.{answered, after}
 use Rattle.votebook.specs.Votes.{ForgetsTo}
-use Rattle.admission.specs.Headers.{Headers, assembly_at, IsWith, IsForgotten}
+use Rattle.admission.specs.Headers.{AssembliesView, assembly_at, IsWith, IsForgotten}
 use Rattle.admission.specs.Headers as headers
 use Rattle.admission.specs.HeaderLaws.{is_other}
-use Rattle.certify.specs.Assembled.{Assembled}
-use Rattle.sequencer.specs.Sequence.{ComesTo, Sequence}
+use Rattle.certify.specs.Assembled.{AssemblyView}
+use Rattle.sequencer.specs.Sequence.{ComesTo, SequencerView}
 use Rattle.sequencer.specs.Sequence as sequence
 use Rattle.admission.specs.Answers.{IsAnswer}
 use Rattle.admission.specs.Batches.{HasBatches, changes_batches}
@@ -36,7 +36,7 @@ pub comes_to : (node : Node) (state : State) (event : Event) (tables : Tables) �
 comes_to node state event tables comes at = record { comes = comes; at = at.sequence }
 
 -- own headers of which none is low with one more of a round that isn't
-pub with_high : (before held : Headers) (floor round : ℕ) (new : Option Assembled) → IsForgotten before before floor → IsWith before held round new → nat_le round floor ≡ false
+pub with_high : (before held : AssembliesView) (floor round : ℕ) (new : Option AssemblyView) → IsForgotten before before floor → IsWith before held round new → nat_le round floor ≡ false
     → IsForgotten held held floor
 with_high before held floor round new forgotten with high = record {
   charter = refl;
@@ -44,7 +44,7 @@ with_high before held floor round new forgotten with high = record {
   rounds = λ other. unless_held (nat_le other floor) (assembly_at held other) (is_high other);
 }
   where
-    is_high : (other : ℕ) (a : Assembled) → assembly_at held other ≡ Some a → nat_le other floor ≡ false
+    is_high : (other : ℕ) (a : AssemblyView) → assembly_at held other ≡ Some a → nat_le other floor ≡ false
     is_high other a is =
         elim (cases_Bool (other == round)) [
           | inl here ↦ ap (λ (n : ℕ). nat_le n floor) (eqb-true other round here) ∙ high
@@ -53,12 +53,12 @@ with_high before held floor round new forgotten with high = record {
               not_low (nat_le other floor) a (sym there ∙ forgotten.rounds other)
         ]
       where
-        not_low : (low : Bool) (x : Assembled) → Some x ≡ (if low then None else assembly_at before other) → low ≡ false
+        not_low : (low : Bool) (x : AssemblyView) → Some x ≡ (if low then None else assembly_at before other) → low ≡ false
         not_low true x same = absurd cc
         not_low false x same = refl
 
 -- behind such an event, with votes and headers without what fell low
-pub after_commit : (others : OthersStay) (node : Node) (state : State) (event : Event) (tables later : Tables) (made : Sequence) (before : ℕ) → Comes node state event → AreAt node state tables
+pub after_commit : (others : OthersStay) (node : Node) (state : State) (event : Event) (tables later : Tables) (made : SequencerView) (before : ℕ) → Comes node state event → AreAt node state tables
     → changes_batches node event.message ≡ false → is_peers_header node event.message ≡ false
     → later.own ≡ tables.own → later.batches ≡ tables.batches
     → sequence.IsAt node (after node state event) made → later.sequencer ≡ made
@@ -75,11 +75,11 @@ after_commit others node state event tables later made before comes at no_batch 
           (subst (λ (f : ℕ). ForgetsTo f tables.votes later.votes) at_made.floor
           (forgets (subst (λ (f : ℕ). ForgetsTo f tables.votes tables.votes) (sym (floor ∙ at.sequence.floor)) low.votes)));
       headers = headers;
-      sequence = subst (λ (s : Sequence). sequence.IsAt node (after node state event) s) (sym is_made) at_made;
+      sequence = subst (λ (s : SequencerView). sequence.IsAt node (after node state event) s) (sym is_made) at_made;
     }
 
 -- own headers where the event is neither one nor a vote
-pub headers_after : (others : OthersStay) (node : Node) (state : State) (event : Event) (tables later : Tables) (made : Sequence) (before : ℕ) → Comes node state event → AreAt node state tables
+pub headers_after : (others : OthersStay) (node : Node) (state : State) (event : Event) (tables later : Tables) (made : SequencerView) (before : ℕ) → Comes node state event → AreAt node state tables
     → is_other node event.message ≡ true → sequence.IsAt node (after node state event) made → before ≡ tables.sequencer.graph.floor
     → (IsForgotten tables.headers tables.headers before → IsForgotten tables.headers later.headers made.graph.floor)
     → headers.IsAt node (after node state event) later.headers

@@ -14,10 +14,10 @@ use Rattle.spec_model.specs.Nodes.{Node}
 use Rattle.spec_model.specs.Slots.{Slots, same_digest, header_digest, certificate_digest}
 use Rattle.spec_model.specs.States.{State, floor_in}
 use Rattle.spec_model.specs.Words.{Author, Certificate, Coin, Digest, Header, Output, Signature, Vote}
-use Rattle.spec_model.specs.declared.admission.Admission.{Admission}
-use Rattle.spec_model.specs.declared.admission.Admission.TheVariants as admission
-use Rattle.spec_model.specs.declared.refusal.Refusal.{Refusal}
-use Rattle.spec_model.specs.declared.refusal.Refusal.TheVariants.{TooOld, MissingParents, MissingBatch, Equivocation, CertConflict, DigestClash, AlreadyProposed, NotOurs, CoinOutOfTurn, CoinEarly, CoinConflict}
+use Rattle.header.specs.declared.admission.Admission.{Admission}
+use Rattle.header.specs.declared.admission.Admission.TheVariants as admission
+use Rattle.header.specs.declared.refusal.Refusal.{Refusal}
+use Rattle.header.specs.declared.refusal.Refusal.TheVariants.{TooOld, MissingParents, MissingBatch, Equivocation, CertConflict, DigestClash, AlreadyProposed, NotOurs, CoinOutOfTurn, CoinEarly, CoinConflict}
 use Rattle.spec_machine.specs.Sound.{IsSound}
 use Rattle.dag.specs.Answer.{answer}
 use Rattle.dag.specs.Answer as dag

@@ -9,7 +9,7 @@ use Rattle.std.proofs.lemmas.Slice.Eq.{bytes_eq-Decides}
 use Rattle.wire.specs.Digests.{header_digest_of}
 use Rattle.wire.specs.declared.message.Message.TheVariants as message
 use Rattle.committee.specs.Charter.{Charter}
-use Rattle.certify.specs.Assembled.{Assembled, is_on, started}
+use Rattle.certify.specs.Assembled.{AssemblyView, is_on, started}
 use Rattle.spec_laws.proofs.Lists.{given_or_none}
 use Rattle.spec_laws.proofs.Meeting.{same_number}
 use Rattle.spec_laws.proofs.SlotsGrow.{or_none}
@@ -20,7 +20,7 @@ use Rattle.spec_model.specs.States.{State}
 use Rattle.spec_model.specs.Words.{Author, Event, Header, HeaderBody, Message, Vote}
 use Rattle.spec_machine.specs.Machine.{header_at, vote_at, grown}
 use Rattle.spec_machine.specs.Sound.{IsSound}
-use Rattle.admission.specs.Headers.{Headers, assembly_at, vote_in, IsWith, IsAt}
+use Rattle.admission.specs.Headers.{AssembliesView, assembly_at, vote_in, IsWith, IsAt}
 use Rattle.spec_machine.specs.Laws.{FloorsAgree, Comes}
 use Rattle.admission.specs.HeaderLaws.{HeaderComesTo}
 use Rattle.admission.proofs.HeadersBehind.{behind}
@@ -39,11 +39,11 @@ uncounted node state sound round voter free =
     ]
 
 -- a table at a state has nothing where the state has no own header
-free_there : (node : Node) (state : State) (before : Headers) (round : ℕ) → IsAt node state before → state.own_headers round ≡ None → assembly_at before round ≡ None
+free_there : (node : Node) (state : State) (before : AssembliesView) (round : ℕ) → IsAt node state before → state.own_headers round ≡ None → assembly_at before round ≡ None
 free_there node state before round at free =
     elim (given_or_none (assembly_at before round)) [
       | inr none ↦ none
-      | inl found ↦ absurd (none-some found.0.header (sym free ∙ sym (at.held round) ∙ ap (option_map (λ (a : Assembled). a.header)) found.1))
+      | inl found ↦ absurd (none-some found.0.header (sym free ∙ sym (at.held round) ∙ ap (option_map (λ (a : AssemblyView). a.header)) found.1))
     ]
 
 -- the node's own vote for a header is on it
@@ -57,7 +57,7 @@ none_or : {X : Type 0} (one other : Option X) → one ≡ None → option_or one
 none_or one other none = ap (λ o. option_or o other) none
 
 -- with the header and the vote a table is at the state with all that they add
-header_grown : (node : Node) (state : State) (header : Header) (before held : Headers) → IsSound node state → node.own.0 < length node.charter.keys → IsAt node state before
+header_grown : (node : Node) (state : State) (header : Header) (before held : AssembliesView) → IsSound node state → node.own.0 < length node.charter.keys → IsAt node state before
     → is_own node header.body.author ≡ true → state.own_headers header.body.round ≡ None
     → IsWith before held header.body.round (Some (started before.charter header (own_vote node header.body))) → IsAt node (grown node state (message.Header header)) held
 header_grown node state header before held sound member at own free with =
@@ -72,7 +72,7 @@ header_grown node state header before held sound member at own free with =
       charter = with.charter ∙ at.charter;
       own = with.own ∙ at.own;
       held = λ r.
-          let look : Option Assembled → Option Header = option_map (λ a. a.header) in
+          let look : Option AssemblyView → Option Header = option_map (λ a. a.header) in
           elim (cases_Bool (r == round)) [
             | inl same ↦
                 ap look (with.rounds r ∙ ap (λ b. if b then Some new else assembly_at before r) same)
@@ -82,7 +82,7 @@ header_grown node state header before held sound member at own free with =
                 ∙ sym (ap (λ b. option_or (state.own_headers r) (if b then Some header else None)) (here r ∙ apart) ∙ or_none (state.own_headers r))
           ];
       counted = λ r voter.
-          let look : Option Assembled → Option Vote = option_and_then (λ a. vote_in a voter) in
+          let look : Option AssemblyView → Option Vote = option_and_then (λ a. vote_in a voter) in
           elim (cases_Bool (r == round)) [
             | inl same ↦
                 ap look (with.rounds r ∙ ap (λ b. if b then Some new else assembly_at before r) same)
@@ -99,7 +99,7 @@ header_grown node state header before held sound member at own free with =
     and_true true = refl
     and_true false = refl
 
-pub header_comes : FloorsAgree → (node : Node) (state : State) (sender : Author) (header : Header) (before : Headers) → Comes node state (record { sender = sender; message = message.Header header })
+pub header_comes : FloorsAgree → (node : Node) (state : State) (sender : Author) (header : Header) (before : AssembliesView) → Comes node state (record { sender = sender; message = message.Header header })
     → IsAt node state before → is_own node header.body.author ≡ true → HeaderComesTo node state (record { sender = sender; message = message.Header header }) header before
 header_comes agree node state sender header before step at own =
     let event : Event = record { sender = sender; message = message.Header header } in

@@ -13,7 +13,7 @@ use Rattle.wire.specs.declared.votes.VoteEntry.{VoteEntry}
 use Rattle.committee.specs.Charter.{Charter, numbers, weight}
 use Rattle.committee.proofs.Weights.{weight-same}
 use Rattle.certify.specs.Answer.{certificate_of}
-use Rattle.certify.specs.Assembled.{Assembled, is_on, has_voted, with_vote, started, votes_in, votes_weight, entry_of}
+use Rattle.certify.specs.Assembled.{AssemblyView, is_on, has_voted, with_vote, started, votes_in, votes_weight, entry_of}
 use Rattle.spec_model.specs.Holdings.{certificate_by, votes_by}
 use Rattle.spec_model.specs.Holdings as holdings
 use Rattle.spec_model.specs.Nodes.{Node, size_of, quorum}
@@ -21,7 +21,7 @@ use Rattle.spec_model.specs.Words.{Certificate, Header, HeaderBody, Vote}
 use Rattle.admission.specs.Headers.{vote_in}
 
 -- an assembly with one vote more
-abbrev pub with : Assembled → Vote → Assembled
+abbrev pub with : AssemblyView → Vote → AssemblyView
 with assembled vote = record assembled { places = with_vote assembled.places vote }
 
 -- the vote of a member with a signature
@@ -44,7 +44,7 @@ on_is body vote on =
     ap (λ d. make d body.round body.author.0) (sym digest) ∙ ap (λ r. make vote.header.0 r body.author.0) (sym (eqb-true _ _ slot.0)) ∙ ap (make vote.header.0 vote.round) (sym (eqb-true _ _ slot.1))
 
 -- behind a vote its voter has it, and each other member what it had
-pub vote_with : (assembled : Assembled) (vote : Vote) (voter : ℕ) → vote.voter.0 < length assembled.places → is_on assembled.header.body vote ≡ true
+pub vote_with : (assembled : AssemblyView) (vote : Vote) (voter : ℕ) → vote.voter.0 < length assembled.places → is_on assembled.header.body vote ≡ true
     → vote_in (with assembled vote) voter ≡ (if voter == vote.voter.0 then Some vote else vote_in assembled voter)
 vote_with assembled vote voter within on =
     let body = assembled.header.body in
@@ -74,7 +74,7 @@ pub vote_started : (charter : Charter) (header : Header) (own : Vote) (voter : �
 vote_started charter header own voter member on =
     let n = length charter.keys in
     let unvoted : Option Signature = None in
-    let bare : Assembled = record { charter = charter; header = header; places = replicate n unvoted; complete = false } in
+    let bare : AssemblyView = record { charter = charter; header = header; places = replicate n unvoted; complete = false } in
     let long : length (replicate n unvoted) ≡ n = length-replicate n unvoted in
     vote_with bare own voter (omega (arith, long, member)) on
     ∙ ap (λ (o : Option Signature). if voter == own.voter.0 then Some own else option_map (vote_by header.body voter) o) (none_there n voter unvoted refl)
@@ -86,7 +86,7 @@ is_mapped f (Some x) = refl
 is_mapped f None = refl
 
 -- a member has voted where its vote is there
-pub voted_is : (assembled : Assembled) (voter : ℕ) → is_some (vote_in assembled voter) ≡ has_voted assembled.places voter
+pub voted_is : (assembled : AssemblyView) (voter : ℕ) → is_some (vote_in assembled voter) ≡ has_voted assembled.places voter
 voted_is assembled voter = is_mapped (vote_by assembled.header.body voter) (slice_index_or assembled.places voter None)
 
 entry_mapped : (body : HeaderBody) (voter : ℕ) (o : Option Signature)
@@ -95,7 +95,7 @@ entry_mapped body voter (Some signature) = refl
 entry_mapped body voter None = refl
 
 -- the votes of an assembly as a certificate has them
-pub votes_are : (node : Node) (assembled : Assembled) → length assembled.places ≡ size_of node → votes_by node (vote_in assembled) ≡ votes_in assembled.places
+pub votes_are : (node : Node) (assembled : AssemblyView) → length assembled.places ≡ size_of node → votes_by node (vote_in assembled) ≡ votes_in assembled.places
 votes_are node assembled long =
     ap (λ (f : ℕ → Option VoteEntry). filter_map f (numbers (size_of node))) (fun_ext (λ voter. entry_mapped assembled.header.body voter (slice_index_or assembled.places voter None)))
     ∙ ap (λ n. filter_map (entry_of assembled.places) (numbers n)) (sym long)
@@ -104,7 +104,7 @@ not_low : (weighs quorum : ℕ) → nat_le quorum weighs ≡ not (nat_lt weighs 
 not_low weighs quorum = grind arith
 
 -- what an own header's votes make, if they are a quorum
-pub certified : (node : Node) (assembled : Assembled) → (assembled.header.body.author.0 == node.own.0) ≡ true → length assembled.places ≡ size_of node
+pub certified : (node : Node) (assembled : AssemblyView) → (assembled.header.body.author.0 == node.own.0) ≡ true → length assembled.places ≡ size_of node
     → certificate_by node (vote_in assembled) assembled.header
     ≡ (if nat_lt (votes_weight node.charter assembled.places) (quorum node) then None else Some (certificate_of assembled.header.body assembled.places))
 certified node assembled own long =

@@ -4,7 +4,7 @@ use Rattle.std.specs.Prelude.{◌==◌, ◌&&◌, not, nat_le, option_map, optio
 use Rattle.std.specs.Option.{option_or}
 use Rattle.std.proofs.lemmas.Grind.{common_steps}
 use Rattle.wire.specs.declared.message.Message.TheVariants as message
-use Rattle.certify.specs.Assembled.{Assembled}
+use Rattle.certify.specs.Assembled.{AssemblyView}
 use Rattle.spec_laws.proofs.SlotsGrow.{or_none}
 use Rattle.spec_model.specs.Admitting.{is_own}
 use Rattle.spec_model.specs.Giving.{collected}
@@ -13,7 +13,7 @@ use Rattle.spec_model.specs.Nodes.{Node}
 use Rattle.spec_model.specs.States.{State, floor_in}
 use Rattle.spec_model.specs.Words.{Event, Header, Message, Vote}
 use Rattle.spec_machine.specs.Machine.{header_at, vote_at, grown, after}
-use Rattle.admission.specs.Headers.{Headers, assembly_at, vote_in, IsForgotten, IsAt}
+use Rattle.admission.specs.Headers.{AssembliesView, assembly_at, vote_in, IsForgotten, IsAt}
 use Rattle.spec_machine.specs.Laws.{FloorsAgree, Comes}
 use Rattle.admission.specs.HeaderLaws.{IsBehind, is_other}
 
@@ -26,7 +26,7 @@ unless look true o none = none
 unless look false o none = refl
 
 -- a table at a state is at what is kept of it once the rounds up to its floor are forgotten
-forgotten_at : (node : Node) (state : State) (headers later : Headers) (floor : ℕ) → floor_in node state ≡ floor → IsAt node state headers → IsForgotten headers later floor
+forgotten_at : (node : Node) (state : State) (headers later : AssembliesView) (floor : ℕ) → floor_in node state ≡ floor → IsAt node state headers → IsForgotten headers later floor
     → IsAt node (collected node state) later
 forgotten_at node state headers later floor floors at less =
     let low : (round : ℕ) → nat_le round floor ≡ is_low (floor_in node state) round = λ round. sym (low_is (floor_in node state) round ∙ ap (nat_le round) floors) in
@@ -34,19 +34,19 @@ forgotten_at node state headers later floor floors at less =
       charter = less.charter ∙ at.charter;
       own = less.own ∙ at.own;
       held = λ round.
-          let look : Option Assembled → Option Header = option_map (λ a. a.header) in
+          let look : Option AssemblyView → Option Header = option_map (λ a. a.header) in
           ap look (less.rounds round) ∙ unless look (nat_le round floor) (assembly_at headers round) refl
           ∙ ap (λ o. if nat_le round floor then None else o) (at.held round)
           ∙ ap (λ b. if b then None else state.own_headers round) (low round);
       counted = λ round voter.
-          let look : Option Assembled → Option Vote = option_and_then (λ a. vote_in a voter) in
+          let look : Option AssemblyView → Option Vote = option_and_then (λ a. vote_in a voter) in
           ap look (less.rounds round) ∙ unless look (nat_le round floor) (assembly_at headers round) refl
           ∙ ap (λ o. if nat_le round floor then None else o) (at.counted round voter)
           ∙ ap (λ b. if b then None else state.counted round voter) (low round);
     }
 
 -- so one at a state with all that an event adds is that behind the event
-pub behind : FloorsAgree → (node : Node) (state : State) (event : Event) (headers : Headers) → Comes node state event → IsAt node (grown node state event.message) headers
+pub behind : FloorsAgree → (node : Node) (state : State) (event : Event) (headers : AssembliesView) → Comes node state event → IsAt node (grown node state event.message) headers
     → IsBehind node state event headers
 behind agree node state event headers step at later less =
     forgotten_at node (grown node state event.message) headers later (floor_in node (after node state event)) (agree node state event step) at less
@@ -73,7 +73,7 @@ no_vote node (message.Certificate certificate) round voter other = refl
 no_vote node (message.Coin coin) round voter other = refl
 
 -- where a message is neither a vote nor an own header a table is at the state with it as it was before
-pub others_at : (node : Node) (state : State) (m : Message) (headers : Headers) → is_other node m ≡ true → IsAt node state headers → IsAt node (grown node state m) headers
+pub others_at : (node : Node) (state : State) (m : Message) (headers : AssembliesView) → is_other node m ≡ true → IsAt node state headers → IsAt node (grown node state m) headers
 others_at node state m headers other at = record {
   charter = at.charter;
   own = at.own;

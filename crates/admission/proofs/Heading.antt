@@ -14,8 +14,8 @@ use Rattle.spec_model.specs.Nodes.{Node}
 use Rattle.spec_model.specs.Slots.{same_digest, header_digest}
 use Rattle.spec_model.specs.States.{State, floor_in}
 use Rattle.spec_model.specs.Words.{Digest, Event, Header}
-use Rattle.spec_model.specs.declared.refusal.Refusal.{Refusal}
-use Rattle.spec_model.specs.declared.refusal.Refusal.TheVariants.{TooOld, AlreadyProposed, Equivocation}
+use Rattle.header.specs.declared.refusal.Refusal.{Refusal}
+use Rattle.header.specs.declared.refusal.Refusal.TheVariants.{TooOld, AlreadyProposed, Equivocation}
 use Rattle.spec_machine.specs.Laws.{LowIsToTheFloor}
 use Rattle.spec_machine.specs.Machine.{answered}
 use Rattle.votebook.specs.Slot.{slot_of, slot_cmp}

@@ -11,7 +11,7 @@ use Rattle.spec_model.specs.Proposing as proposing
 use Rattle.spec_model.specs.Proposing.{is_nameable}
 use Rattle.spec_model.specs.States as states
 use Rattle.spec_model.specs.States.{State}
-use Rattle.batchstore.specs.Stock.{Stock, held_at, is_available, was_named, may_be_named, as_reference, to_name}
+use Rattle.batchstore.specs.Stock.{BatchStoreView, held_at, is_available, was_named, may_be_named, as_reference, to_name}
 use Rattle.batchstore.specs.declared.held.Held.{Held}
 use Rattle.batchstore.proofs.Among.{digest_in, is_of, Distinct, found, others}
 use Rattle.admission.specs.Batches.{HasBatches}
@@ -24,14 +24,14 @@ asked_twice true second third = refl
 asked_twice false second third = refl
 
 -- a batch may be named, by what is held of it
-abbrev may_be : Stock → Held → Option Held → Bool
+abbrev may_be : BatchStoreView → Held → Option Held → Bool
 may_be stock h o =
     (h.batch.author.0 == stock.own)
     && ((option_map_or (λ (x : Held). x.batch.author.0 == stock.own) o false
     && nat_le (quorum_of stock.charter) (weight stock.charter (λ member. (member == stock.own) || option_map_or (λ (x : Held). is_in x.acknowledged member) o false)))
     && not (option_map_or (λ (x : Held). x.named) o false))
 
-same_may : (node : Node) (state : State) (stock : Stock) → HasBatches node state stock → (h : Held) → held_at stock (digest_in h) ≡ Some h → may_be_named stock.charter stock.own h ≡ is_nameable node state h.batch
+same_may : (node : Node) (state : State) (stock : BatchStoreView) → HasBatches node state stock → (h : Held) → held_at stock (digest_in h) ≡ Some h → may_be_named stock.charter stock.own h ≡ is_nameable node state h.batch
 same_may node state stock has h there =
     asked_twice (h.batch.author.0 == stock.own) (nat_le (quorum_of stock.charter) (weight stock.charter (λ member. (member == stock.own) || is_in h.acknowledged member))) (not h.named)
     ∙ ap (may_be stock h) (sym there)
@@ -39,11 +39,11 @@ same_may node state stock has h there =
     ∙ ap (λ b. (h.batch.author.0 == node.own.0) && (b && not (was_named stock (digest_in h)))) (available_read node state stock has (digest_in h))
     ∙ ap (λ b. (h.batch.author.0 == node.own.0) && (states.is_available node state (digest_in h) && not b)) (has.named (digest_in h))
 
-same_name : (node : Node) (state : State) (stock : Stock) → HasBatches node state stock → (h : Held) → held_at stock (digest_in h) ≡ Some h
+same_name : (node : Node) (state : State) (stock : BatchStoreView) → HasBatches node state stock → (h : Held) → held_at stock (digest_in h) ≡ Some h
     → to_name stock.charter stock.own h ≡ proposing.to_name node state h.batch
 same_name node state stock has h there = ap (λ b. cond b (Some (as_reference h.batch)) None) (same_may node state stock has h there)
 
-listed : (node : Node) (state : State) (stock : Stock) → HasBatches node state stock → Distinct stock.held → (front back : List Held) → stock.held ≡ front ++ back
+listed : (node : Node) (state : State) (stock : BatchStoreView) → HasBatches node state stock → Distinct stock.held → (front back : List Held) → stock.held ≡ front ++ back
     → filter_map (to_name stock.charter stock.own) back ≡ filter_map (proposing.to_name node state) (map batch_of back)
 listed node state stock has distinct front [] is = refl
 listed node state stock has distinct front (h ∷ rest) is =

@@ -13,16 +13,16 @@ use Rattle.std.proofs.lemmas.Option.{none-some}
 use Rattle.wire.specs.declared.header.Vote.{Vote}
 use Rattle.committee.specs.Charter.{Charter, IsCharter}
 use Rattle.certify.specs.Answer.{answer}
-use Rattle.certify.specs.Assembled.{Assembled}
+use Rattle.certify.specs.Assembled.{AssemblyView}
 use Rattle.certify.specs.declared.added.Added.TheVariants.{NotOurs}
-use Rattle.admission.specs.Headers.{Headers, assembly_at, answer_in, IsEntry, IsHeaders, IsWith, IsForgotten}
+use Rattle.admission.specs.Headers.{AssembliesView, assembly_at, answer_in, IsEntry, IsHeaders, IsWith, IsForgotten}
 
 -- two numbers compare alike where they are one
 pub is_at-same : (one other : ℕ) → is_at (nat_cmp one) other ≡ (other == one)
 is_at-same one other = grind (arith, common_steps)
 
 -- what a tree's look-up finds is what the table has
-pub found : (entries : List (ℕ × Assembled)) (round : ℕ) → lookup (is_at (nat_cmp round)) entries ≡ option_map (λ entry. entry.1) (find (λ entry. entry.0 == round) entries)
+pub found : (entries : List (ℕ × AssemblyView)) (round : ℕ) → lookup (is_at (nat_cmp round)) entries ≡ option_map (λ entry. entry.1) (find (λ entry. entry.0 == round) entries)
 found [] round = refl
 found (e ∷ es) round =
     elim (cases_Bool (e.0 == round)) [
@@ -31,14 +31,14 @@ found (e ∷ es) round =
     ]
 
 -- so where a table is these entries, at a number that is the round
-pub looked : (inside headers : Headers) (number round : ℕ) (o : Option Assembled) → o ≡ lookup (is_at (nat_cmp number)) inside.rounds → number ≡ round → inside ≡ headers → assembly_at headers round ≡ o
+pub looked : (inside headers : AssembliesView) (number round : ℕ) (o : Option AssemblyView) → o ≡ lookup (is_at (nat_cmp number)) inside.rounds → number ≡ round → inside ≡ headers → assembly_at headers round ≡ o
 looked inside headers number round o is same view =
     ap (λ h. assembly_at h round) (sym view) ∙ ap (assembly_at inside) (sym same) ∙ sym (found inside.rounds number) ∙ sym is
 
 -- ---- changes
 
 -- entries of which those of a key are others
-pub updated : (old new : List (ℕ × Assembled)) (key : ℕ) (held : Option Assembled)
+pub updated : (old new : List (ℕ × AssemblyView)) (key : ℕ) (held : Option AssemblyView)
     → ((other : ℕ) → lookup (is_at (nat_cmp other)) new ≡ cond (is_at (nat_cmp key) other) held (lookup (is_at (nat_cmp other)) old))
     → (charter : Charter) (own : ℕ) → IsWith (record { charter = charter; own = own; rounds = old }) (record { charter = charter; own = own; rounds = new }) key held
 updated old new key held more charter own = record {
@@ -49,7 +49,7 @@ updated old new key held more charter own = record {
       ∙ ap (cond (other == key) held) (found old other);
 }
 
-above : (last round : ℕ) (o : Option Assembled) → cond (nat_lt last round) o None ≡ (if nat_le round last then None else o)
+above : (last round : ℕ) (o : Option AssemblyView) → cond (nat_lt last round) o None ≡ (if nat_le round last then None else o)
 above last round o =
     elim (cases_lt last round) [
       | inl less ↦ grind (arith, less, common_steps)
@@ -60,7 +60,7 @@ key_is : (round key last : ℕ) → is_at (nat_cmp round) key ≡ true → nat_l
 key_is round key last at = ap (nat_lt last) (eqb-true key round (sym (is_at-same round key) ∙ at))
 
 -- entries without those of the keys up to one
-pub dropped : (old new : List (ℕ × Assembled)) (last : ℕ) → new ≡ filter (λ e. nat_lt last e.0) old
+pub dropped : (old new : List (ℕ × AssemblyView)) (last : ℕ) → new ≡ filter (λ e. nat_lt last e.0) old
     → (charter : Charter) (own : ℕ) → IsForgotten (record { charter = charter; own = own; rounds = old }) (record { charter = charter; own = own; rounds = new }) last
 dropped old new last is charter own = record {
   charter = refl;
@@ -74,13 +74,13 @@ dropped old new last is charter own = record {
 
 -- ---- what holds of each table
 
-entry_stays : (old new : Headers) (round : ℕ) (assembled : Assembled) → new.charter ≡ old.charter → new.own ≡ old.own → IsEntry old round assembled → IsEntry new round assembled
+entry_stays : (old new : AssembliesView) (round : ℕ) (assembled : AssemblyView) → new.charter ≡ old.charter → new.own ≡ old.own → IsEntry old round assembled → IsEntry new round assembled
 entry_stays old new round assembled charter own was =
     record { charter = was.charter ∙ sym charter; place = was.place; author = was.author ∙ sym own; assembly = was.assembly }
 
 -- of one with another entry of its committee for a round
-pub holds_with : (old new : Headers) (round : ℕ) (held : Option Assembled) → IsHeaders old → IsWith old new round held → IsStrictlySortedBy nat_cmp (map (λ entry. entry.0) new.rounds)
-    → ((assembled : Assembled) → held ≡ Some assembled → IsEntry old round assembled) → IsHeaders new
+pub holds_with : (old new : AssembliesView) (round : ℕ) (held : Option AssemblyView) → IsHeaders old → IsWith old new round held → IsStrictlySortedBy nat_cmp (map (λ entry. entry.0) new.rounds)
+    → ((assembled : AssemblyView) → held ≡ Some assembled → IsEntry old round assembled) → IsHeaders new
 holds_with old new round held was with rise entry = record {
   charter = subst IsCharter (sym with.charter) was.charter;
   member = subst (λ (c : Charter). new.own < length c.keys) (sym with.charter) (subst (λ n. n < length old.charter.keys) (sym with.own) was.member);
@@ -96,7 +96,7 @@ holds_with old new round held was with rise entry = record {
 }
 
 -- of one that has forgotten some rounds
-pub holds_without : (old new : Headers) (last : ℕ) → IsHeaders old → IsForgotten old new last → IsStrictlySortedBy nat_cmp (map (λ entry. entry.0) new.rounds) → IsHeaders new
+pub holds_without : (old new : AssembliesView) (last : ℕ) → IsHeaders old → IsForgotten old new last → IsStrictlySortedBy nat_cmp (map (λ entry. entry.0) new.rounds) → IsHeaders new
 holds_without old new last was less rise = record {
   charter = subst IsCharter (sym less.charter) was.charter;
   member = subst (λ (c : Charter). new.own < length c.keys) (sym less.charter) (subst (λ n. n < length old.charter.keys) (sym less.own) was.member);
@@ -110,11 +110,11 @@ holds_without old new last was less rise = record {
 }
 
 -- what a vote is answered by what its round has
-pub answer_of : (headers : Headers) (vote : Vote) (o : Option Assembled) → assembly_at headers vote.round ≡ o → answer_in headers vote ≡ option_map_or (λ assembled. answer assembled vote) o NotOurs
+pub answer_of : (headers : AssembliesView) (vote : Vote) (o : Option AssemblyView) → assembly_at headers vote.round ≡ o → answer_in headers vote ≡ option_map_or (λ assembled. answer assembled vote) o NotOurs
 answer_of headers vote o is = ap (λ o. option_map_or (λ assembled. answer assembled vote) o NotOurs) is
 
 -- a tree with another value at a key that has one
-pub written : (old new : BTreeMap ℕ Assembled) (key : ℕ) (before later : Assembled) → Some before ≡ lookup (is_at (nat_cmp key)) old.entries → WritesThrough nat_cmp (nat_cmp key) old later new
+pub written : (old new : BTreeMap ℕ AssemblyView) (key : ℕ) (before later : AssemblyView) → Some before ≡ lookup (is_at (nat_cmp key)) old.entries → WritesThrough nat_cmp (nat_cmp key) old later new
     → (charter : Charter) (own : ℕ) → IsWith (record { charter = charter; own = own; rounds = old.entries }) (record { charter = charter; own = own; rounds = new.entries }) key (Some later)
     × IsStrictlySortedBy nat_cmp (map (λ entry. entry.0) new.entries)
 written old new key before later is writes charter own =
@@ -122,7 +122,7 @@ written old new key before later is writes charter own =
     (updated old.entries new.entries key (Some later) (writes.3 there).0 charter own, writes.4)
 
 -- nothing where there is nothing changes nothing
-pub unchanged : (headers : Headers) (round : ℕ) → assembly_at headers round ≡ None → IsWith headers headers round None
+pub unchanged : (headers : AssembliesView) (round : ℕ) → assembly_at headers round ≡ None → IsWith headers headers round None
 unchanged headers round none = record {
   charter = refl;
   own = refl;

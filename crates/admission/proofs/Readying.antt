@@ -9,10 +9,10 @@ use Rattle.spec_model.specs.Holdings.{batch_digest, is_low, is_full}
 use Rattle.spec_model.specs.Nodes.{Node}
 use Rattle.spec_model.specs.Slots.{same_digest, header_digest}
 use Rattle.spec_model.specs.States.{State, batch_in, has_own_batch, floor_in}
-use Rattle.spec_model.specs.Words.{Author, Certificate, Coin, Contents, Event, Header, Message, Output, Vote}
-use Rattle.spec_model.specs.declared.admission.Admission.TheVariants.{New, Known, Refused}
-use Rattle.spec_model.specs.declared.refusal.Refusal.{Refusal}
-use Rattle.spec_model.specs.declared.refusal.Refusal.TheVariants as refusal
+use Rattle.spec_model.specs.Words.{Author, Certificate, Coin, BatchView, Event, Header, Message, Output, Vote}
+use Rattle.header.specs.declared.admission.Admission.TheVariants.{New, Known, Refused}
+use Rattle.header.specs.declared.refusal.Refusal.{Refusal}
+use Rattle.header.specs.declared.refusal.Refusal.TheVariants as refusal
 use Rattle.spec_machine.specs.Machine.{answered, grown, is_missing_parents, is_ready}
 use Rattle.admission.specs.Decisions.{told, lacks_parents}
 use Rattle.admission.specs.Standing.{has_parents, OthersAreReady}
@@ -49,7 +49,7 @@ same_batch : (new known : List Output) (same : Bool) → is_missing_parents (if 
 same_batch new known true = refl
 same_batch new known false = refl
 
-batch_case : (node : Node) (batch : Contents) (held : Option Contents) (full : Bool)
+batch_case : (node : Node) (batch : BatchView) (held : Option BatchView) (full : Bool)
     → is_missing_parents (when held gives (λ h. held_batch_answer node h batch) else if full then Refused refusal.StoreFull else New (batch_outputs node batch)) ≡ false
 batch_case node batch (Some h) full = same_batch (batch_outputs node h) (batch_outputs node h) (bytes_eq (batch_body h) (batch_body batch))
 batch_case node batch None true = refl

@@ -14,7 +14,7 @@ use Rattle.committee.specs.Charter.{Charter, quorum_of}
 use Rattle.committee.proofs.Weights.{weight-same}
 use Rattle.certify.specs.Answer.{is_ours, is_too_few, is_again, answer, after}
 use Rattle.certify.specs.Answer as certify
-use Rattle.certify.specs.Assembled.{Assembled, is_on, has_voted, votes_weight}
+use Rattle.certify.specs.Assembled.{AssemblyView, is_on, has_voted, votes_weight}
 use Rattle.certify.specs.declared.added.Added.{Added}
 use Rattle.certify.specs.declared.added.Added.TheVariants.{Counted, Complete, Again, NotOurs}
 use Rattle.spec_laws.proofs.Lists.{given_or_none}
@@ -26,7 +26,7 @@ use Rattle.spec_model.specs.States.{State}
 use Rattle.spec_model.specs.Words.{Author, Certificate, Event, Header, Message, Vote}
 use Rattle.spec_machine.specs.Machine.{counted_with, certificate_of, vote_at, grown}
 use Rattle.spec_machine.specs.Sound.{IsSound, counts}
-use Rattle.admission.specs.Headers.{Headers, assembly_at, vote_in, answer_in, counted_in, IsEntry, IsHeaders, IsWith, IsAt}
+use Rattle.admission.specs.Headers.{AssembliesView, assembly_at, vote_in, answer_in, counted_in, IsEntry, IsHeaders, IsWith, IsAt}
 use Rattle.spec_machine.specs.Laws.{FloorsAgree, Comes}
 use Rattle.admission.specs.HeaderLaws.{added_by, VoteComesTo}
 use Rattle.admission.proofs.HeadersBehind.{behind}
@@ -37,7 +37,7 @@ use Rattle.admission.proofs.HeaderVotes.{with, vote_with, voted_is, certified}
 -- ---- the assembly of a new vote's round
 
 -- it is of the node's committee and its own header, the vote is on that, and it isn't counted nor are the votes complete
-record IsMet (node : Node) (state : State) (vote : Vote) (before : Headers) (assembled : Assembled) : Type 0 where
+record IsMet (node : Node) (state : State) (vote : Vote) (before : AssembliesView) (assembled : AssemblyView) : Type 0 where
   held : assembly_at before vote.round ≡ Some assembled
   header : state.own_headers vote.round ≡ Some assembled.header
   charter : assembled.charter ≡ node.charter
@@ -55,13 +55,13 @@ neither : (one other : Bool) → one ≡ false → other ≡ false → (one || o
 neither one other not_one not_other = ap (λ b. b || other) not_one ∙ not_other
 
 -- who counts has voted
-counts_is : (node : Node) (state : State) (before : Headers) (round voter : ℕ) (assembled : Assembled) → IsAt node state before → assembly_at before round ≡ Some assembled
+counts_is : (node : Node) (state : State) (before : AssembliesView) (round voter : ℕ) (assembled : AssemblyView) → IsAt node state before → assembly_at before round ≡ Some assembled
     → counts state round voter ≡ has_voted assembled.places voter
 counts_is node state before round voter assembled at held =
-    ap is_some (sym (at.counted round voter) ∙ ap (option_and_then (λ (a : Assembled). vote_in a voter)) held) ∙ voted_is assembled voter
+    ap is_some (sym (at.counted round voter) ∙ ap (option_and_then (λ (a : AssemblyView). vote_in a voter)) held) ∙ voted_is assembled voter
 
 -- votes whose slot is free aren't complete
-incomplete : (node : Node) (state : State) (before : Headers) (round : ℕ) (assembled : Assembled) → IsSound node state → IsAt node state before → IsEntry before round assembled
+incomplete : (node : Node) (state : State) (before : AssembliesView) (round : ℕ) (assembled : AssemblyView) → IsSound node state → IsAt node state before → IsEntry before round assembled
     → assembly_at before round ≡ Some assembled → state.own_headers round ≡ Some assembled.header → state.slots round node.own.0 ≡ None → assembled.complete ≡ false
 incomplete node state before round assembled sound at entry held header free =
     elim (cases_Bool assembled.complete) [
@@ -73,12 +73,12 @@ incomplete node state before round assembled sound at entry held header free =
           absurd (none-some completed.certificate (sym free ∙ completed.held))
     ]
 
-met : (node : Node) (state : State) (vote : Vote) (before : Headers) (assembled : Assembled) → IsSound node state → IsHeaders before → IsAt node state before → IsNewVote node state vote
+met : (node : Node) (state : State) (vote : Vote) (before : AssembliesView) (assembled : AssemblyView) → IsSound node state → IsHeaders before → IsAt node state before → IsNewVote node state vote
     → assembly_at before vote.round ≡ Some assembled → IsMet node state vote before assembled
 met node state vote before assembled sound holds at new held =
     let entry = holds.entries vote.round assembled held in
     let body = assembled.header.body in
-    let header : state.own_headers vote.round ≡ Some assembled.header = sym (at.held vote.round) ∙ ap (option_map (λ (a : Assembled). a.header)) held in
+    let header : state.own_headers vote.round ≡ Some assembled.header = sym (at.held vote.round) ∙ ap (option_map (λ (a : AssemblyView). a.header)) held in
     let author : body.author.0 ≡ node.own.0 = entry.author ∙ at.own in
     let same : new.header ≡ assembled.header = same_Some new.header assembled.header (sym new.held ∙ header) in
     let digest : header_digest_of body ≡ vote.header.0 = ap (λ (h : Header). header_digest_of h.body) (sym same) ∙ (bytes_eq-Decides (header_digest_of new.header.body) vote.header.0).0 new.same in
@@ -100,7 +100,7 @@ met node state vote before assembled sound holds at new held =
 -- ---- the answer
 
 -- the vote is counted, or completes the certificate
-answered_is : (node : Node) (assembled : Assembled) (vote : Vote) → assembled.charter ≡ node.charter → vote.voter.0 < size_of node → is_on assembled.header.body vote ≡ true → is_again assembled vote ≡ false
+answered_is : (node : Node) (assembled : AssemblyView) (vote : Vote) → assembled.charter ≡ node.charter → vote.voter.0 < size_of node → is_on assembled.header.body vote ≡ true → is_again assembled vote ≡ false
     → answer assembled vote ≡ (if is_too_few assembled vote then Counted else Complete (certify.certificate_of assembled.header.body (with assembled vote).places))
 answered_is node assembled vote charter member on first =
     let here = lt-ltb vote.voter.0 (length assembled.charter.keys) (subst (λ (c : Charter). vote.voter.0 < length c.keys) (sym charter) member) in
@@ -110,11 +110,11 @@ answered_is node assembled vote charter member on first =
     ∙ ap (λ b. if b then Again else if is_too_few assembled vote then Counted else made) first
 
 -- the votes that count with it are those of the assembly with it
-counted_is : (node : Node) (state : State) (vote : Vote) (before : Headers) (assembled : Assembled) → IsAt node state before → IsMet node state vote before assembled → vote.voter.0 < size_of node → (voter : ℕ)
+counted_is : (node : Node) (state : State) (vote : Vote) (before : AssembliesView) (assembled : AssemblyView) → IsAt node state before → IsMet node state vote before assembled → vote.voter.0 < size_of node → (voter : ℕ)
     → counted_with node state (message.Vote vote) vote.round voter ≡ vote_in (with assembled vote) voter
 counted_is node state vote before assembled at is member voter =
     let voted = vote_with assembled vote voter (omega (arith, member, is.long)) is.on in
-    let was : state.counted vote.round voter ≡ vote_in assembled voter = sym (at.counted vote.round voter) ∙ ap (option_and_then (λ (a : Assembled). vote_in a voter)) is.held in
+    let was : state.counted vote.round voter ≡ vote_in assembled voter = sym (at.counted vote.round voter) ∙ ap (option_and_then (λ (a : AssemblyView). vote_in a voter)) is.held in
     let here : vote_at node (message.Vote vote) vote.round voter ≡ (if voter == vote.voter.0 then Some vote else None) =
     ap (λ b. if b && (vote.voter.0 == voter) then Some vote else None) (same_number vote.round) ∙ ap (λ b. if b then Some vote else None) (turned vote.voter.0 voter) in
     ap (option_or (state.counted vote.round voter)) here
@@ -126,7 +126,7 @@ counted_is node state vote before assembled at is member voter =
     joined false o none = or_none o
 
 -- the certificate that the vote completes at the state is that of the assembly with it
-completed_is : (node : Node) (state : State) (vote : Vote) (before : Headers) (assembled : Assembled) → IsAt node state before → IsMet node state vote before assembled → vote.voter.0 < size_of node
+completed_is : (node : Node) (state : State) (vote : Vote) (before : AssembliesView) (assembled : AssemblyView) → IsAt node state before → IsMet node state vote before assembled → vote.voter.0 < size_of node
     → certificate_of node state (message.Vote vote)
     ≡ (if is_too_few assembled vote then None else Some (certify.certificate_of assembled.header.body (with assembled vote).places))
 completed_is node state vote before assembled at is member =
@@ -143,19 +143,19 @@ added_is true certificate = refl
 added_is false certificate = refl
 
 -- what is counted behind either answer
-vote_after : (few : Bool) (certificate : Certificate) (assembled : Assembled) (vote : Vote) (voter : ℕ) → vote_in (after (if few then Counted else Complete certificate) assembled vote) voter ≡ vote_in (with assembled vote) voter
+vote_after : (few : Bool) (certificate : Certificate) (assembled : AssemblyView) (vote : Vote) (voter : ℕ) → vote_in (after (if few then Counted else Complete certificate) assembled vote) voter ≡ vote_in (with assembled vote) voter
 vote_after true certificate assembled vote voter = refl
 vote_after false certificate assembled vote voter = refl
 
 -- with the vote a table is at the state with all that it adds
-vote_grown : (node : Node) (state : State) (vote : Vote) (before later : Headers) (assembled : Assembled) → IsAt node state before → IsMet node state vote before assembled → vote.voter.0 < size_of node
+vote_grown : (node : Node) (state : State) (vote : Vote) (before later : AssembliesView) (assembled : AssemblyView) → IsAt node state before → IsMet node state vote before assembled → vote.voter.0 < size_of node
     → IsWith before later vote.round (counted_in (answer assembled vote) before vote) → IsAt node (grown node state (message.Vote vote)) later
 vote_grown node state vote before later assembled at is member with' =
     let m : Message = message.Vote vote in
     let round = vote.round in
     let added = answer assembled vote in
     let held = counted_in added before vote in
-    let held_is : held ≡ Some (after added assembled vote) = ap (option_map (λ (a : Assembled). after added a vote)) is.held in
+    let held_is : held ≡ Some (after added assembled vote) = ap (option_map (λ (a : AssemblyView). after added a vote)) is.held in
     let few = is_too_few assembled vote in
     let certificate = certify.certificate_of assembled.header.body (with assembled vote).places in
     let added_is' : added ≡ (if few then Counted else Complete certificate) = answered_is node assembled vote is.charter member is.on is.first in
@@ -163,7 +163,7 @@ vote_grown node state vote before later assembled at is member with' =
       charter = with'.charter ∙ at.charter;
       own = with'.own ∙ at.own;
       held = λ r.
-          let look : Option Assembled → Option Header = option_map (λ a. a.header) in
+          let look : Option AssemblyView → Option Header = option_map (λ a. a.header) in
           elim (cases_Bool (r == round)) [
             | inl same ↦
                 ap look (with'.rounds r ∙ ap (λ b. if b then held else assembly_at before r) same ∙ held_is)
@@ -171,7 +171,7 @@ vote_grown node state vote before later assembled at is member with' =
             | inr apart ↦ ap look (with'.rounds r ∙ ap (λ b. if b then held else assembly_at before r) apart) ∙ at.held r ∙ sym (or_none (state.own_headers r))
           ];
       counted = λ r voter.
-          let look : Option Assembled → Option Vote = option_and_then (λ a. vote_in a voter) in
+          let look : Option AssemblyView → Option Vote = option_and_then (λ a. vote_in a voter) in
           elim (cases_Bool (r == round)) [
             | inl same ↦
                 ap look (with'.rounds r ∙ ap (λ b. if b then held else assembly_at before r) same ∙ held_is)
@@ -198,14 +198,14 @@ was_completed None certificate is = absurd cc
 was_completed (Some made) certificate is = ap certificate_in is
 
 -- a table that is at a state has an assembly where the state has an own header
-there : (node : Node) (state : State) (before : Headers) (round : ℕ) (header : Header) → IsAt node state before → state.own_headers round ≡ Some header → (a : Assembled) × (assembly_at before round ≡ Some a)
+there : (node : Node) (state : State) (before : AssembliesView) (round : ℕ) (header : Header) → IsAt node state before → state.own_headers round ≡ Some header → (a : AssemblyView) × (assembly_at before round ≡ Some a)
 there node state before round header at held =
     elim (given_or_none (assembly_at before round)) [
       | inl found ↦ found
-      | inr none ↦ absurd (none-some header (sym (ap (option_map (λ (a : Assembled). a.header)) none) ∙ at.held round ∙ held))
+      | inr none ↦ absurd (none-some header (sym (ap (option_map (λ (a : AssemblyView). a.header)) none) ∙ at.held round ∙ held))
     ]
 
-pub vote_comes : FloorsAgree → (node : Node) (state : State) (sender : Author) (vote : Vote) (before : Headers) → Comes node state (record { sender = sender; message = message.Vote vote })
+pub vote_comes : FloorsAgree → (node : Node) (state : State) (sender : Author) (vote : Vote) (before : AssembliesView) → Comes node state (record { sender = sender; message = message.Vote vote })
     → IsHeaders before → IsAt node state before → VoteComesTo node state (record { sender = sender; message = message.Vote vote }) vote before
 vote_comes agree node state sender vote before step holds at =
     let m : Message = message.Vote vote in
@@ -216,7 +216,7 @@ vote_comes agree node state sender vote before step holds at =
     let is = met node state vote before assembled step.sound holds at new found.1 in
     let member = voter_is_member node sender vote step.taken in
     let completed = completed_is node state vote before assembled at is member in
-    let answered : answer_in before vote ≡ answer assembled vote = ap (λ o. option_map_or (λ (a : Assembled). answer a vote) o NotOurs) is.held in
+    let answered : answer_in before vote ≡ answer assembled vote = ap (λ o. option_map_or (λ (a : AssemblyView). answer a vote) o NotOurs) is.held in
     let by : answer_in before vote ≡ added_by (certificate_of node state m) =
     answered ∙ answered_is node assembled vote is.charter member is.on is.first
     ∙ added_is (is_too_few assembled vote) (certify.certificate_of assembled.header.body (with assembled vote).places) ∙ ap added_by (sym completed) in

@@ -10,7 +10,7 @@ use Rattle.wire.specs.Digests.{header_digest_of, certificate_digest_of}
 use Rattle.wire.specs.declared.output.Output.TheVariants as output
 use Rattle.wire.specs.declared.message.Message.TheVariants as message
 use Rattle.certify.specs.Answer.{answer, is_ours, is_again, is_too_few}
-use Rattle.certify.specs.Assembled.{Assembled, is_on}
+use Rattle.certify.specs.Assembled.{AssemblyView, is_on}
 use Rattle.certify.specs.declared.added.Added.TheVariants.{Counted, Complete, Again, NotOurs}
 use Rattle.spec_laws.proofs.Lists.{given_or_none}
 use Rattle.spec_model.specs.Admitting.{is_new, is_own, vote_outputs, order_outputs, pieces}
@@ -21,7 +21,7 @@ use Rattle.spec_model.specs.States.{State, floor_in}
 use Rattle.spec_model.specs.Words.{Certificate, Digest, Event, Vote}
 use Rattle.spec_machine.specs.Laws.{LowIsToTheFloor}
 use Rattle.spec_machine.specs.Machine.{answered, grown, certificate_of}
-use Rattle.admission.specs.Headers.{Headers, assembly_at, answer_in}
+use Rattle.admission.specs.Headers.{AssembliesView, assembly_at, answer_in}
 use Rattle.admission.specs.HeaderLaws.{VoteComesTo, added_by}
 use Rattle.admission.proofs.Answering.{answered_as}
 use Rattle.admission.specs.Standing.{Meets}
@@ -36,14 +36,14 @@ vote_high low_is node state event tables vote meets new =
     ∙ vote_is_high (is_own node vote.author) (is_low (floor_in node state) vote.round) _ (ap is_new (sym (answered_as node state event (message.Vote vote) meets.message)) ∙ new)
 
 -- the certificate that it completes is of its header
-same_body : (assembled : Assembled) (vote : Vote) (certificate : Certificate) (ours again few : Bool) (made : Certificate)
+same_body : (assembled : AssemblyView) (vote : Vote) (certificate : Certificate) (ours again few : Bool) (made : Certificate)
     → (if not ours then NotOurs else if again then Again else if few then Counted else Complete made) ≡ Complete certificate → (ours ≡ true) × (made ≡ certificate)
 same_body assembled vote certificate false again few made is = absurd cc
 same_body assembled vote certificate true true few made is = absurd cc
 same_body assembled vote certificate true false true made is = absurd cc
 same_body assembled vote certificate true false false made is = (refl, cc)
 
-digest_by : (assembled : Assembled) (vote : Vote) (certificate : Certificate) → answer assembled vote ≡ Complete certificate
+digest_by : (assembled : AssemblyView) (vote : Vote) (certificate : Certificate) → answer assembled vote ≡ Complete certificate
     → ◌≡◌ {A = Digest} (record { 0 = certificate_digest_of vote.header.0 vote.round vote.author.0 }) (certificate_digest certificate.header)
 digest_by assembled vote certificate is =
     let parts = same_body assembled vote certificate (is_ours assembled vote) (is_again assembled vote) (is_too_few assembled vote) _ is in
@@ -57,7 +57,7 @@ digest_by assembled vote certificate is =
     ∙ ap (λ (a : ℕ). record { 0 = certificate_digest_of (header_digest_of body) body.round a }) (eqb-true vote.author.0 body.author.0 place.1)
     ∙ ap (λ (x : Certificate). certificate_digest x.header) parts.1
 
-pub completed_digest : (headers : Headers) (vote : Vote) (certificate : Certificate) → Complete certificate ≡ answer_in headers vote
+pub completed_digest : (headers : AssembliesView) (vote : Vote) (certificate : Certificate) → Complete certificate ≡ answer_in headers vote
     → ◌≡◌ {A = Digest} (record { 0 = certificate_digest_of vote.header.0 vote.round vote.author.0 }) (certificate_digest certificate.header)
 completed_digest headers vote certificate is =
     elim (given_or_none (assembly_at headers vote.round)) [
@@ -69,7 +69,7 @@ completed_digest headers vote certificate is =
     apart same = cc
 
 -- what it gives out
-pub outputs_with : (node : Node) (state : State) (event : Event) (vote : Vote) (before : Headers) (certificate : Certificate) → event.message ≡ message.Vote vote
+pub outputs_with : (node : Node) (state : State) (event : Event) (vote : Vote) (before : AssembliesView) (certificate : Certificate) → event.message ≡ message.Vote vote
     → VoteComesTo node state event vote before → certificate_of node state event.message ≡ Some certificate
     → vote_outputs node state (grown node state (message.Vote vote)) vote.round ≡ (output.Certificate certificate ∷ []) ++ order_outputs state (grown node state event.message)
 outputs_with node state event vote before certificate came comes is =
@@ -82,7 +82,7 @@ nothing_ordered state later same =
     ap (λ (order : List Digest). pieces (length state.order) (drop (length state.order) order)) same
     ∙ ap (pieces (length state.order)) (drop-length state.order)
 
-pub outputs_without : (node : Node) (state : State) (event : Event) (vote : Vote) (before : Headers) → event.message ≡ message.Vote vote
+pub outputs_without : (node : Node) (state : State) (event : Event) (vote : Vote) (before : AssembliesView) → event.message ≡ message.Vote vote
     → VoteComesTo node state event vote before → certificate_of node state event.message ≡ None → (grown node state event.message).order ≡ state.order
     → vote_outputs node state (grown node state (message.Vote vote)) vote.round ≡ []
 outputs_without node state event vote before came comes is same =

@@ -6,10 +6,10 @@ use Rattle.wire.specs.declared.output.Output.TheVariants as output
 use Rattle.spec_model.specs.Holdings.{is_low, all_held}
 use Rattle.spec_model.specs.Slots.{same_digest, header_digest, certificate_digest}
 use Rattle.spec_model.specs.Words.{Author, Certificate, Coin, Digest, Header, HeaderBody, Output, Signature, Vote}
-use Rattle.spec_model.specs.declared.admission.Admission.{Admission}
-use Rattle.spec_model.specs.declared.admission.Admission.TheVariants as admission
-use Rattle.spec_model.specs.declared.refusal.Refusal.{Refusal}
-use Rattle.spec_model.specs.declared.refusal.Refusal.TheVariants.{Memory, TooOld, MissingParents, MissingBatch, Equivocation, CertConflict, DigestClash, AlreadyProposed, NotOurs, CoinOutOfTurn, CoinEarly, CoinConflict}
+use Rattle.header.specs.declared.admission.Admission.{Admission}
+use Rattle.header.specs.declared.admission.Admission.TheVariants as admission
+use Rattle.header.specs.declared.refusal.Refusal.{Refusal}
+use Rattle.header.specs.declared.refusal.Refusal.TheVariants.{Memory, TooOld, MissingParents, MissingBatch, Equivocation, CertConflict, DigestClash, AlreadyProposed, NotOurs, CoinOutOfTurn, CoinEarly, CoinConflict}
 use Rattle.committee.specs.Charter.{quorum_of}
 use Rattle.dag.specs.Answer.{answer}
 use Rattle.dag.specs.Graph.{slots_in, stake_in}

@@ -12,7 +12,7 @@ use Rattle.spec_model.specs.Words.{Certificate, Event, Header, Message, Vote}
 use Rattle.spec_machine.specs.Laws.{Comes}
 use Rattle.spec_machine.specs.Machine.{certificate_of, grown, after, fresh}
 use Rattle.spec_machine.specs.Sound.{IsSound}
-use Rattle.admission.specs.Headers.{Headers, empty, assembly_at, digest_in, has_voted_in, IsHeaders, answer_in, counted_in, IsWith, IsForgotten, IsAt}
+use Rattle.admission.specs.Headers.{AssembliesView, empty, assembly_at, digest_in, has_voted_in, IsHeaders, answer_in, counted_in, IsWith, IsForgotten, IsAt}
 
 -- ---- tables at states
 
@@ -21,32 +21,32 @@ abbrev pub StartsFresh : Type 0
 StartsFresh = (node : Node) → IsAt node (fresh node) (empty node.charter node.own.0)
 
 -- a table at a sound state has for each own header the digest that has the node's vote, and tells whose votes count
-pub record VotesAgreeAt (node : Node) (state : State) (headers : Headers) : Type 0 where
+pub record VotesAgreeAt (node : Node) (state : State) (headers : AssembliesView) : Type 0 where
   pub digests : (round : ℕ) → digest_in headers round ≡ state.votes round node.own.0
   pub voted : (round voter : ℕ) → has_voted_in headers round voter ≡ is_some (state.counted round voter)
 
 abbrev pub VotesAgree : Type 0
-VotesAgree = (node : Node) (state : State) (headers : Headers) → IsSound node state → IsAt node state headers → VotesAgreeAt node state headers
+VotesAgree = (node : Node) (state : State) (headers : AssembliesView) → IsSound node state → IsAt node state headers → VotesAgreeAt node state headers
 
 -- ---- behind an event
 
 -- a table is that at the state behind an event once the rounds up to its floor are forgotten
-abbrev pub IsBehind : Node → State → Event → Headers → Type 0
+abbrev pub IsBehind : Node → State → Event → AssembliesView → Type 0
 IsBehind node state event headers =
-    (later : Headers) → IsForgotten headers later (floor_in node (after node state event)) → IsAt node (after node state event) later
+    (later : AssembliesView) → IsForgotten headers later (floor_in node (after node state event)) → IsAt node (after node state event) later
 
 -- a new own header: it and the node's own vote on it may be held, since its round has none, and with both the table is that behind
 -- the event
-pub record HeaderComesTo (node : Node) (state : State) (event : Event) (header : Header) (before : Headers) : Type 0 where
+pub record HeaderComesTo (node : Node) (state : State) (event : Event) (header : Header) (before : AssembliesView) : Type 0 where
   pub author : header.body.author.0 ≡ before.own
   pub on : is_on header.body (own_vote node header.body) ≡ true
   pub voter : (own_vote node header.body).voter.0 ≡ before.own
   pub free : assembly_at before header.body.round ≡ None
-  pub behind : (held : Headers) → IsWith before held header.body.round (Some (started before.charter header (own_vote node header.body)))
+  pub behind : (held : AssembliesView) → IsWith before held header.body.round (Some (started before.charter header (own_vote node header.body)))
       → IsBehind node state event held
 
 abbrev pub HeaderComes : Type 0
-HeaderComes = (node : Node) (state : State) (event : Event) (header : Header) (before : Headers) → Comes node state event → IsAt node state before
+HeaderComes = (node : Node) (state : State) (event : Event) (header : Header) (before : AssembliesView) → Comes node state event → IsAt node state before
     → event.message ≡ message.Header header → is_own node header.body.author ≡ true → HeaderComesTo node state event header before
 
 -- what a new vote is answered, by the certificate that it completes, if any
@@ -56,15 +56,15 @@ added_by (Some certificate) = Complete certificate
 
 -- a new vote: it is counted, and completes a certificate exactly where the node's state has that with it;
 -- with the vote the table is that behind the event
-pub record VoteComesTo (node : Node) (state : State) (event : Event) (vote : Vote) (before : Headers) : Type 0 where
+pub record VoteComesTo (node : Node) (state : State) (event : Event) (vote : Vote) (before : AssembliesView) : Type 0 where
   pub answer : answer_in before vote ≡ added_by (certificate_of node state event.message)
   pub counted : answer_in before vote ≡ Counted → certificate_of node state event.message ≡ None
   pub complete : (certificate : Certificate) → answer_in before vote ≡ Complete certificate → certificate_of node state event.message ≡ Some certificate
   pub completed : completed_at node (grown node state event.message) vote.round ≡ certificate_of node state event.message
-  pub behind : (counted : Headers) → IsWith before counted vote.round (counted_in (answer_in before vote) before vote) → IsBehind node state event counted
+  pub behind : (counted : AssembliesView) → IsWith before counted vote.round (counted_in (answer_in before vote) before vote) → IsBehind node state event counted
 
 abbrev pub VoteComes : Type 0
-VoteComes = (node : Node) (state : State) (event : Event) (vote : Vote) (before : Headers) → Comes node state event → IsHeaders before → IsAt node state before
+VoteComes = (node : Node) (state : State) (event : Event) (vote : Vote) (before : AssembliesView) → Comes node state event → IsHeaders before → IsAt node state before
     → event.message ≡ message.Vote vote → VoteComesTo node state event vote before
 
 -- a message is neither a vote nor an own header
@@ -75,5 +75,5 @@ is_other node _ = true
 
 -- with any other event the table stays, but for the rounds up to the floor
 abbrev pub OthersCome : Type 0
-OthersCome = (node : Node) (state : State) (event : Event) (before : Headers) → Comes node state event → IsAt node state before
+OthersCome = (node : Node) (state : State) (event : Event) (before : AssembliesView) → Comes node state event → IsAt node state before
     → is_other node event.message ≡ true → IsBehind node state event before

@@ -8,7 +8,7 @@ use Rattle.wire.specs.declared.header.Vote.{Vote}
 use Rattle.wire.specs.declared.keys.Digest.{Digest}
 use Rattle.committee.specs.Charter.{Charter, IsCharter}
 use Rattle.certify.specs.Answer.{answer, after}
-use Rattle.certify.specs.Assembled.{Assembled, IsAssembled, has_voted}
+use Rattle.certify.specs.Assembled.{AssemblyView, IsAssembled, has_voted}
 use Rattle.certify.specs.declared.added.Added.{Added}
 use Rattle.certify.specs.declared.added.Added.TheVariants.{NotOurs}
 use Rattle.spec_model.specs.Nodes.{Node}
@@ -16,31 +16,31 @@ use Rattle.spec_model.specs.Slots.{header_digest}
 use Rattle.spec_model.specs.States.{State}
 
 -- a table: the committee, the validator's number, and the rounds that have an own header, each with its header and the votes
-pub record Headers : Type 0 where
+pub record AssembliesView : Type 0 where
   pub charter : Charter
   pub own : ℕ
-  pub rounds : List (ℕ × Assembled)
+  pub rounds : List (ℕ × AssemblyView)
 
 -- one with no header
-abbrev pub empty : Charter → ℕ → Headers
+abbrev pub empty : Charter → ℕ → AssembliesView
 empty charter own = record { charter = charter; own = own; rounds = [] }
 
 -- ---- what is held
 
 -- the header of a round with the votes on it
-abbrev pub assembly_at : Headers → ℕ → Option Assembled
+abbrev pub assembly_at : AssembliesView → ℕ → Option AssemblyView
 assembly_at headers round = option_map (λ entry. entry.1) (find (λ entry. entry.0 == round) headers.rounds)
 
 -- the header of a round
-abbrev pub header_in : Headers → ℕ → Option Header
+abbrev pub header_in : AssembliesView → ℕ → Option Header
 header_in headers round = option_map (λ assembled. assembled.header) (assembly_at headers round)
 
 -- its digest
-abbrev pub digest_in : Headers → ℕ → Option Digest
+abbrev pub digest_in : AssembliesView → ℕ → Option Digest
 digest_in headers round = option_map (λ header. header_digest header.body) (header_in headers round)
 
 -- the vote of a member, if it is counted: it is on the header, by the member, with the signature that is kept
-abbrev pub vote_in : Assembled → ℕ → Option Vote
+abbrev pub vote_in : AssemblyView → ℕ → Option Vote
 vote_in assembled voter = option_map (λ signature. record {
   header = header_digest assembled.header.body;
   round = assembled.header.body.round;
@@ -50,47 +50,47 @@ vote_in assembled voter = option_map (λ signature. record {
 }) (slice_index_or assembled.places voter None)
 
 -- the vote of a member on the header of a round, if it is counted
-abbrev pub vote_from : Headers → ℕ → ℕ → Option Vote
+abbrev pub vote_from : AssembliesView → ℕ → ℕ → Option Vote
 vote_from headers round voter = option_and_then (λ assembled. vote_in assembled voter) (assembly_at headers round)
 
 -- the vote of a member on the header of a round is counted
-abbrev pub has_voted_in : Headers → ℕ → ℕ → Bool
+abbrev pub has_voted_in : AssembliesView → ℕ → ℕ → Bool
 has_voted_in headers round voter = option_map_or (λ assembled. has_voted assembled.places voter) (assembly_at headers round) false
 
 -- ---- what holds of each table
 
 -- what is held for a round: an own header of that round, with votes of this committee
-pub record IsEntry (headers : Headers) (round : ℕ) (assembled : Assembled) : Type 0 where
+pub record IsEntry (headers : AssembliesView) (round : ℕ) (assembled : AssemblyView) : Type 0 where
   pub charter : assembled.charter ≡ headers.charter
   pub place : assembled.header.body.round ≡ round
   pub author : assembled.header.body.author.0 ≡ headers.own
   pub assembly : IsAssembled assembled
 
 -- the committee is one, the validator is a member, and the rounds rise
-pub record IsHeaders (headers : Headers) : Type 0 where
+pub record IsHeaders (headers : AssembliesView) : Type 0 where
   pub charter : IsCharter headers.charter
   pub member : headers.own < length headers.charter.keys
   pub rise : IsStrictlySortedBy nat_cmp (map (λ entry. entry.0) headers.rounds)
-  pub entries : (round : ℕ) (assembled : Assembled) → assembly_at headers round ≡ Some assembled → IsEntry headers round assembled
+  pub entries : (round : ℕ) (assembled : AssemblyView) → assembly_at headers round ≡ Some assembled → IsEntry headers round assembled
 
 -- ---- how a table changes
 
 -- what a vote is answered: what the votes on the header of its round answer, and that it isn't ours where there is none
-abbrev pub answer_in : Headers → Vote → Added
+abbrev pub answer_in : AssembliesView → Vote → Added
 answer_in headers vote = option_map_or (λ assembled. answer assembled vote) (assembly_at headers vote.round) NotOurs
 
 -- what the vote's round has behind an answer
-abbrev pub counted_in : Added → Headers → Vote → Option Assembled
+abbrev pub counted_in : Added → AssembliesView → Vote → Option AssemblyView
 counted_in added headers vote = option_map (λ assembled. after added assembled vote) (assembly_at headers vote.round)
 
 -- a table has this for a round, and for each other one what it had
-pub record IsWith (old new : Headers) (round : ℕ) (held : Option Assembled) : Type 0 where
+pub record IsWith (old new : AssembliesView) (round : ℕ) (held : Option AssemblyView) : Type 0 where
   pub charter : new.charter ≡ old.charter
   pub own : new.own ≡ old.own
   pub rounds : (other : ℕ) → assembly_at new other ≡ (if other == round then held else assembly_at old other)
 
 -- a table has nothing for the rounds up to one, and for each later one what it had
-pub record IsForgotten (old new : Headers) (round : ℕ) : Type 0 where
+pub record IsForgotten (old new : AssembliesView) (round : ℕ) : Type 0 where
   pub charter : new.charter ≡ old.charter
   pub own : new.own ≡ old.own
   pub rounds : (other : ℕ) → assembly_at new other ≡ (if nat_le other round then None else assembly_at old other)
@@ -98,7 +98,7 @@ pub record IsForgotten (old new : Headers) (round : ℕ) : Type 0 where
 -- ---- a node's state
 
 -- a table has the own headers of a state, with the votes that count on them
-pub record IsAt (node : Node) (state : State) (headers : Headers) : Type 0 where
+pub record IsAt (node : Node) (state : State) (headers : AssembliesView) : Type 0 where
   pub charter : headers.charter ≡ node.charter
   pub own : headers.own ≡ node.own.0
   pub held : (round : ℕ) → header_in headers round ≡ state.own_headers round

@@ -10,7 +10,7 @@ use Rattle.spec_model.specs.States as states
 use Rattle.spec_model.specs.Words.{Digest, Event, Header}
 use Rattle.spec_machine.specs.Laws.{Comes}
 use Rattle.spec_machine.specs.Machine.{after, fresh}
-use Rattle.batchstore.specs.Stock.{Stock, IsStock, batch_in, has_with, has_own, holds, is_available, nameable}
+use Rattle.batchstore.specs.Stock.{BatchStoreView, IsStock, batch_in, has_with, has_own, holds, is_available, nameable}
 use Rattle.votebook.specs.Votes.{Votes, ForgetsTo}
 use Rattle.admission.specs.Batches.{HasBatches, changes_batches}
 use Rattle.admission.specs.Votes.{HasVotes, with_vote, is_peers_header}
@@ -18,7 +18,7 @@ use Rattle.admission.specs.Votes.{HasVotes, with_vote, is_peers_header}
 -- ---- batches
 
 -- each look-up in a store says what the state says
-pub record ReadsAlike (node : Node) (state : State) (stock : Stock) : Type 0 where
+pub record ReadsAlike (node : Node) (state : State) (stock : BatchStoreView) : Type 0 where
   pub same_batch : (digest : Digest) → batch_in stock digest ≡ states.batch_in state digest
   pub same_own : (digest : Digest) → has_own stock digest ≡ has_own_batch node state digest
   pub same_holds : (digest : Digest) (member : ℕ) → holds stock digest member ≡ states.holds node state digest member
@@ -26,15 +26,15 @@ pub record ReadsAlike (node : Node) (state : State) (stock : Stock) : Type 0 whe
   pub same_with : (digest : Digest) (worker : ℕ) → has_with stock digest worker ≡ option_map_or (λ batch. batch.worker == worker) (states.batch_in state digest) false
 
 abbrev pub BatchesRead : Type 0
-BatchesRead = (node : Node) (state : State) (stock : Stock) → HasBatches node state stock → ReadsAlike node state stock
+BatchesRead = (node : Node) (state : State) (stock : BatchStoreView) → HasBatches node state stock → ReadsAlike node state stock
 
 -- a store lists the batches that the state may propose
 abbrev pub NameableAgrees : Type 0
-NameableAgrees = (node : Node) (state : State) (stock : Stock) → IsStock stock → HasBatches node state stock → nameable stock ≡ proposing.nameable node state
+NameableAgrees = (node : Node) (state : State) (stock : BatchStoreView) → IsStock stock → HasBatches node state stock → nameable stock ≡ proposing.nameable node state
 
 -- a message that changes nothing of batches leaves the store at the state behind the event
 abbrev pub BatchesStay : Type 0
-BatchesStay = (node : Node) (state : State) (event : Event) (stock : Stock) → HasBatches node state stock → changes_batches node event.message ≡ false
+BatchesStay = (node : Node) (state : State) (event : Event) (stock : BatchStoreView) → HasBatches node state stock → changes_batches node event.message ≡ false
     → HasBatches node (after node state event) stock
 
 -- ---- votes

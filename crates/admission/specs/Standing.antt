@@ -6,8 +6,8 @@ use Rattle.spec_model.specs.Admitting.{is_new, IsTaken}
 use Rattle.spec_model.specs.Nodes.{Node, IsNode}
 use Rattle.spec_model.specs.States.{State}
 use Rattle.spec_model.specs.Words.{Author, Digest, Event, Message, Output, Signature}
-use Rattle.spec_model.specs.declared.admission.Admission.TheVariants.{New}
-use Rattle.spec_model.specs.declared.refusal.Refusal.{Refusal}
+use Rattle.header.specs.declared.admission.Admission.TheVariants.{New}
+use Rattle.header.specs.declared.refusal.Refusal.{Refusal}
 use Rattle.spec_machine.specs.Machine.{answered, after, is_ready}
 use Rattle.spec_machine.specs.Sound.{IsSound}
 use Rattle.admission.specs.Headers as headers

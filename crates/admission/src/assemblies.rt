@@ -34,9 +34,9 @@ impl<'a> Drop for Assemblies<'a> {
 }
 
 impl<'a> Model for Assemblies<'a> {
-    ghost use Rattle.admission.specs.Headers.{Headers, IsHeaders};
+    ghost use Rattle.admission.specs.Headers.{AssembliesView, IsHeaders};
 
-    ghost Value = { Headers };
+    ghost Value = { AssembliesView };
 
     ghost view = { λ a. record { charter = a.committee.now; own = a.own.0; rounds = a.rounds.entries } };
 

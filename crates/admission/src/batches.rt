@@ -4,8 +4,8 @@ ghost use Rattle.std.specs.Prelude.{◌≡◌, ◌<◌, true, false, length, Non
 ghost use Rattle.std.specs.List.{list_all};
 ghost use Rattle.spec_model.specs.Admitting.{batch_outputs as outputs_of, held_batch_answer};
 ghost use Rattle.spec_model.specs.Nodes.{Node};
-ghost use Rattle.spec_model.specs.Words.{Contents};
-ghost use Rattle.spec_model.specs.declared.admission.Admission.TheVariants.{New};
+ghost use Rattle.spec_model.specs.Words.{BatchView};
+ghost use Rattle.header.specs.declared.admission.Admission.TheVariants.{New};
 ghost use Rattle.wire.specs.declared.message.Message.TheVariants as message;
 ghost use Rattle.batchstore.specs.Stock.{digest_of, held_at};
 ghost use Rattle.batchstore.specs.Answer.{is_full as spec_full, with_batch, with_names};
@@ -14,7 +14,7 @@ ghost use Rattle.admission.specs.Batches.{as_refusal, AnswersFrom, RefusesFrom, 
 
 use crate::step::Step;
 use batchstore::{Acked, BatchStore, StoreRefusal};
-use spec_model::Refusal;
+use header::Refusal;
 use std::alloc::{AllocError, Global};
 use wire::{Author, Batch, BatchAck, BatchReference, Digest, Header, Output};
 
@@ -128,7 +128,7 @@ pub fn take_batch(
 
 /// Whether a batch of this digest would be new: none is held under it, and there is room. It takes no memory.
 pub fn is_new_batch(batches: &BatchStore, digest: &Digest) -> bool
-    ensures { (batch : Contents) → digest.now ≡ digest_of batch → IsNewFrom batches.now (message.Batch batch) result }
+    ensures { (batch : BatchView) → digest.now ≡ digest_of batch → IsNewFrom batches.now (message.Batch batch) result }
 {
     match batches.get(digest) {
         Some(_) => false,

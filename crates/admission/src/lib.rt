@@ -12,6 +12,6 @@ mod votes;
 
 pub use assemblies::{Assemblies, votes_agree};
 pub use facts::nameable_agrees;
-pub use spec_model::Refusal;
+pub use header::Refusal;
 pub use step::Step;
 pub use tables::{Tables, others_are_ready};

@@ -21,7 +21,7 @@ use crate::facts::starts_empty;
 use batchstore::BatchStore;
 use committee::Committee;
 pub use facts::others_are_ready;
-use seed::TableSeed;
+use sigface::TableSeed;
 use sequencer::Sequencer;
 use std::alloc::{AllocError, Global};
 use votebook::VoteBook;

@@ -33,9 +33,9 @@ impl Drop for BatchMaker {
 
 impl Model for BatchMaker {
     ghost use Rattle.std.specs.Prelude.{◌≡◌};
-    ghost use Rattle.wire.specs.Batches.{Contents};
+    ghost use Rattle.wire.specs.Batches.{BatchView};
 
-    ghost Value = { Contents };
+    ghost Value = { BatchView };
 
     ghost view = { λ m. m.batch };
 

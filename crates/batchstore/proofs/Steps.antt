@@ -18,7 +18,7 @@ use Rattle.committee.specs.Sets.{has}
 use Rattle.committee.specs.declared.sets.MemberSet.{MemberSet}
 use Rattle.committee.proofs.Weights.{weight-same, weight-one, weight-within}
 use Rattle.std.specs.Option.{option_map_or}
-use Rattle.batchstore.specs.Stock.{Stock, IsStock, IsHeld, held_at, has_own, has_acked, holds, as_reference, holders, is_quorate, may_be_named}
+use Rattle.batchstore.specs.Stock.{BatchStoreView, IsStock, IsHeld, held_at, has_own, has_acked, holds, as_reference, holders, is_quorate, may_be_named}
 use Rattle.batchstore.specs.Answer.{with_member, acked_by, named_by}
 use Rattle.batchstore.specs.Kept.{IsKept, compared, reference_of}
 use Rattle.batchstore.specs.declared.held.Held.{Held}
@@ -28,7 +28,7 @@ use Rattle.batchstore.proofs.Listing.{listing, to_name-none, to_name-some, unlis
 use Rattle.batchstore.proofs.Members.{more_is}
 
 -- the store of these batches
-abbrev pub stock_in : Charter → ℕ → List Held → Stock
+abbrev pub stock_in : Charter → ℕ → List Held → BatchStoreView
 stock_in charter own batches = record { charter = charter; own = own; held = batches }
 
 -- a batch of this digest stands at a place, and no other has it
@@ -309,7 +309,7 @@ named_none own (h ∷ rest) =
 
 -- ---- what look-ups say of what is found
 
-pub own_of : (stock : Stock) (digest : Digest) (held : Held) → held_at stock digest ≡ Some held → has_own stock digest ≡ true → held.batch.author.0 ≡ stock.own
+pub own_of : (stock : BatchStoreView) (digest : Digest) (held : Held) → held_at stock digest ≡ Some held → has_own stock digest ≡ true → held.batch.author.0 ≡ stock.own
 own_of stock digest held is ours =
     eqb-true held.batch.author.0 stock.own (sym (ap (λ (o : Option Held). option_map_or (λ (h : Held). h.batch.author.0 == stock.own) o false) is) ∙ ours)
 
@@ -317,7 +317,7 @@ first_false : (a b : Bool) → (a || b) ≡ false → a ≡ false
 first_false true b h = absurd cc
 first_false false b h = refl
 
-pub other_than : (stock : Stock) (digest : Digest) (member : ℕ) → holds stock digest member ≡ false → member ≢ stock.own
+pub other_than : (stock : BatchStoreView) (digest : Digest) (member : ℕ) → holds stock digest member ≡ false → member ≢ stock.own
 other_than stock digest member apart same =
     let is = eq-eqb member stock.own same in
     let isnt = first_false (member == stock.own) (has_acked stock digest member) apart in
@@ -341,7 +341,7 @@ acked_by_member charter own None member all is = absurd cc
 acked_by_member charter own (Some held) member all is = ((all held refl).acknowledged member is).inside
 
 -- only members hold a batch
-pub holds_member : (stock : Stock) (digest : Digest) (member : ℕ) → IsStock stock → holds stock digest member ≡ true → member < length stock.charter.keys
+pub holds_member : (stock : BatchStoreView) (digest : Digest) (member : ℕ) → IsStock stock → holds stock digest member ≡ true → member < length stock.charter.keys
 holds_member stock digest member is holds =
     elim (cases_Bool (member == stock.own)) [
       | inl own ↦ let same = eqb-true member stock.own own in omega (arith, same, is.own)

@@ -4,11 +4,11 @@ use Rattle.std.specs.Prelude.{bit_or}
 use Rattle.std.specs.List.{list_any}
 use Rattle.std.specs.Option.{option_map_or}
 use Rattle.std.specs.Str.{bytes_eq}
-use Rattle.wire.specs.Batches.{Contents, batch_body}
+use Rattle.wire.specs.Batches.{BatchView, batch_body}
 use Rattle.wire.specs.declared.keys.Digest.{Digest}
 use Rattle.wire.specs.declared.references.BatchReference.{BatchReference}
 use Rattle.committee.specs.declared.sets.MemberSet.{MemberSet}
-use Rattle.batchstore.specs.Stock.{Stock, digest_of, held_at, batch_in}
+use Rattle.batchstore.specs.Stock.{BatchStoreView, digest_of, held_at, batch_in}
 use Rattle.batchstore.specs.declared.held.Held.{Held}
 use Rattle.batchstore.specs.declared.refusal.StoreRefusal.{StoreRefusal}
 use Rattle.batchstore.specs.declared.refusal.StoreRefusal.TheVariants.{DigestClash, Full}
@@ -16,31 +16,31 @@ use Rattle.batchstore.specs.declared.refusal.StoreRefusal.TheVariants.{DigestCla
 -- ---- a batch comes in
 
 -- it is held already
-abbrev pub is_known : Stock → Contents → Bool
+abbrev pub is_known : BatchStoreView → BatchView → Bool
 is_known stock batch = option_map_or (λ held. bytes_eq (batch_body held.batch) (batch_body batch)) (held_at stock (digest_of batch)) false
 
 -- another one is held under its digest
-abbrev pub is_clash : Stock → Contents → Bool
+abbrev pub is_clash : BatchStoreView → BatchView → Bool
 is_clash stock batch = option_map_or (λ held. not (bytes_eq (batch_body held.batch) (batch_body batch))) (held_at stock (digest_of batch)) false
 
 -- none is held under its digest
-abbrev pub is_new : Stock → Contents → Bool
+abbrev pub is_new : BatchStoreView → BatchView → Bool
 is_new stock batch = is_none (held_at stock (digest_of batch))
 
 -- no more batches can be held
-abbrev pub is_full : Stock → Bool
+abbrev pub is_full : BatchStoreView → Bool
 is_full stock = nat_le stock.charter.batches (length stock.held)
 
 -- what it is answered where this batch is held under its digest
-abbrev pub held_answer : Contents → Contents → Result (Option Contents) StoreRefusal
+abbrev pub held_answer : BatchView → BatchView → Result (Option BatchView) StoreRefusal
 held_answer held batch = if bytes_eq (batch_body held) (batch_body batch) then Ok (Some held) else Err DigestClash
 
 -- what it is answered where none is
-abbrev pub free_answer : Stock → Result (Option Contents) StoreRefusal
+abbrev pub free_answer : BatchStoreView → Result (Option BatchView) StoreRefusal
 free_answer stock = if is_full stock then Err Full else Ok None
 
 -- what it is answered: the batch that is held already, or none where it is new and there is room for it
-abbrev pub answer : Stock → Contents → Result (Option Contents) StoreRefusal
+abbrev pub answer : BatchStoreView → BatchView → Result (Option BatchView) StoreRefusal
 answer stock batch = option_map_or (λ held. held_answer held batch) (batch_in stock (digest_of batch)) (free_answer stock)
 
 -- the set of no member
@@ -48,13 +48,13 @@ abbrev pub no_members : MemberSet
 no_members = record { bits = 0 }
 
 -- the store with one more batch, which nobody has acknowledged and no header has named
-abbrev pub with_batch : Stock → Contents → Stock
+abbrev pub with_batch : BatchStoreView → BatchView → BatchStoreView
 with_batch stock batch = record stock { held = stock.held ++ record { batch = batch; acknowledged = no_members; named = false } ∷ [] }
 
 -- ---- a member acknowledges a batch
 
 -- a number is that of a member
-abbrev pub is_member : Stock → ℕ → Bool
+abbrev pub is_member : BatchStoreView → ℕ → Bool
 is_member stock member = nat_lt member (length stock.charter.keys)
 
 -- a set with one member more
@@ -67,13 +67,13 @@ acked_by digest member held =
     if bytes_eq digest.0 (digest_of held.batch).0 then record held { acknowledged = with_member held.acknowledged member } else held
 
 -- the store where one member more has acknowledged the batch of this digest
-abbrev pub with_ack : Stock → Digest → ℕ → Stock
+abbrev pub with_ack : BatchStoreView → Digest → ℕ → BatchStoreView
 with_ack stock digest member = record stock { held = map (acked_by digest member) stock.held }
 
 -- ---- an own header names batches
 
 -- a header names the batch
-abbrev pub is_named_in : List BatchReference → Contents → Bool
+abbrev pub is_named_in : List BatchReference → BatchView → Bool
 is_named_in references batch = list_any (λ reference. bytes_eq reference.digest.0 (digest_of batch).0) references
 
 -- an own batch that the header names has the mark, and any other batch is as it was
@@ -82,5 +82,5 @@ named_by own references held =
     if (held.batch.author.0 == own) && is_named_in references held.batch then record held { named = true } else held
 
 -- the store after an own header with these batches
-abbrev pub with_names : Stock → List BatchReference → Stock
+abbrev pub with_names : BatchStoreView → List BatchReference → BatchStoreView
 with_names stock references = record stock { held = map (named_by stock.own references) stock.held }

@@ -5,7 +5,7 @@ use Rattle.std.specs.Ordering.{nat_cmp}
 use Rattle.std.specs.declared.cmp.Ordering.{Ordering}
 use Rattle.wire.specs.declared.keys.Digest.{Digest}
 use Rattle.wire.specs.declared.references.BatchReference.{BatchReference}
-use Rattle.batchstore.specs.Stock.{Stock, IsStock, digest_of, nameable}
+use Rattle.batchstore.specs.Stock.{BatchStoreView, IsStock, digest_of, nameable}
 use Rattle.batchstore.specs.declared.held.Held.{Held}
 
 -- how two digests compare
@@ -21,6 +21,6 @@ abbrev pub reference_of : Digest × ℕ → BatchReference
 reference_of entry = record { digest = entry.0; worker = entry.1 }
 
 -- the batches are those of a store, and those that may be named are listed beside them
-pub record IsKept (stock : Stock) (listed : List (Digest × ℕ)) : Type 0 where
+pub record IsKept (stock : BatchStoreView) (listed : List (Digest × ℕ)) : Type 0 where
   pub valid : IsStock stock
   pub named : map reference_of listed ≡ nameable stock

@@ -2,7 +2,7 @@
 use Rattle.std.specs.Prelude.{◌≡◌, ◌≢◌, ℕ, ◌<◌, ◌≤◌, ◌==◌, ◌&&◌, ◌||◌, not, nat_le, Bool, true, false, List, [], length, map, find, fold, filter_map, Option, Some, None, option_map, All, AllPairs, if◌then◌else◌}
 use Rattle.std.specs.Option.{option_map_or}
 use Rattle.std.specs.Str.{bytes_eq}
-use Rattle.wire.specs.Batches.{Contents}
+use Rattle.wire.specs.Batches.{BatchView}
 use Rattle.wire.specs.Digests.{batch_digest_of}
 use Rattle.wire.specs.References.{placed}
 use Rattle.wire.specs.declared.keys.Digest.{Digest}
@@ -13,49 +13,49 @@ use Rattle.batchstore.specs.declared.held.Held.{Held}
 
 -- a store: the committee, the number of the validator's own member, and the batches in the order of acceptance, each with
 -- the members who acknowledged it and whether an own header named it
-pub record Stock : Type 0 where
+pub record BatchStoreView : Type 0 where
   pub charter : Charter
   pub own : ℕ
   pub held : List Held
 
 -- ---- look-ups by the digest
 
-abbrev pub digest_of : Contents → Digest
+abbrev pub digest_of : BatchView → Digest
 digest_of batch = record { 0 = batch_digest_of batch }
 
 -- what is held of the batch of a digest, among these and in a store
 abbrev pub found : Digest → List Held → Option Held
 found digest batches = find (λ held. bytes_eq digest.0 (digest_of held.batch).0) batches
 
-abbrev pub held_at : Stock → Digest → Option Held
+abbrev pub held_at : BatchStoreView → Digest → Option Held
 held_at stock digest = found digest stock.held
 
 -- the batch of a digest, if it is held
-abbrev pub batch_in : Stock → Digest → Option Contents
+abbrev pub batch_in : BatchStoreView → Digest → Option BatchView
 batch_in stock digest = option_map (λ held. held.batch) (held_at stock digest)
 
 -- the batch of a digest is held, with this worker
-abbrev pub has_with : Stock → Digest → ℕ → Bool
+abbrev pub has_with : BatchStoreView → Digest → ℕ → Bool
 has_with stock digest worker = option_map_or (λ held. held.batch.worker == worker) (held_at stock digest) false
 
 -- the batch of a digest is held, and is the validator's own
-abbrev pub has_own : Stock → Digest → Bool
+abbrev pub has_own : BatchStoreView → Digest → Bool
 has_own stock digest = option_map_or (λ held. held.batch.author.0 == stock.own) (held_at stock digest) false
 
 -- a member has acknowledged the batch of a digest
-abbrev pub has_acked : Stock → Digest → ℕ → Bool
+abbrev pub has_acked : BatchStoreView → Digest → ℕ → Bool
 has_acked stock digest member = option_map_or (λ held. has held.acknowledged member) (held_at stock digest) false
 
 -- an own header has named the batch of a digest
-abbrev pub was_named : Stock → Digest → Bool
+abbrev pub was_named : BatchStoreView → Digest → Bool
 was_named stock digest = option_map_or (λ held. held.named) (held_at stock digest) false
 
 -- a member holds an own batch: the validator itself, and who has acknowledged it
-abbrev pub holds : Stock → Digest → ℕ → Bool
+abbrev pub holds : BatchStoreView → Digest → ℕ → Bool
 holds stock digest member = (member == stock.own) || has_acked stock digest member
 
 -- an own batch is available: the members who hold it are a quorum
-abbrev pub is_available : Stock → Digest → Bool
+abbrev pub is_available : BatchStoreView → Digest → Bool
 is_available stock digest =
     has_own stock digest && nat_le (quorum_of stock.charter) (weight stock.charter (holds stock digest))
 
@@ -74,7 +74,7 @@ abbrev pub may_be_named : Charter → ℕ → Held → Bool
 may_be_named charter own held = (held.batch.author.0 == own) && (is_quorate charter own held && not held.named)
 
 -- a batch as a header names it
-abbrev pub as_reference : Contents → BatchReference
+abbrev pub as_reference : BatchView → BatchReference
 as_reference batch = record { digest = digest_of batch; worker = batch.worker }
 
 -- one that may be named, as a header names it
@@ -82,7 +82,7 @@ abbrev pub to_name : Charter → ℕ → Held → Option BatchReference
 to_name charter own held = if may_be_named charter own held then Some (as_reference held.batch) else None
 
 -- the batches that may be named, rising by digest
-abbrev pub nameable : Stock → List BatchReference
+abbrev pub nameable : BatchStoreView → List BatchReference
 nameable stock = fold placed [] (filter_map (to_name stock.charter stock.own) stock.held)
 
 -- ---- what holds of each store
@@ -99,7 +99,7 @@ pub record IsHeld (charter : Charter) (own : ℕ) (held : Held) : Type 0 where
   pub named : held.named ≡ true → held.batch.author.0 ≡ own
 
 -- its committee is one, with the own member; no digest stands there twice, and no more batches are held than may be
-pub record IsStock (stock : Stock) : Type 0 where
+pub record IsStock (stock : BatchStoreView) : Type 0 where
   pub charter : IsCharter stock.charter
   pub own : stock.own < length stock.charter.keys
   pub distinct : AllPairs (λ one other. one ≢ other) (map (λ held. digest_of held.batch) stock.held)

@@ -7,7 +7,7 @@ ghost use Rattle.committee.specs.Sets.{has};
 ghost use Rattle.committee.specs.declared.members.TheConstants.{MAX_MEMBERS};
 ghost use Rattle.batchstore.specs.declared.held.Held.{Held};
 ghost use Rattle.batchstore.specs.Kept.{reference_of};
-ghost use Rattle.batchstore.specs.Stock.{is_quorate, Stock, IsStock, digest_of, held_at, batch_in, has_with, has_own, holds, is_available, was_named, nameable};
+ghost use Rattle.batchstore.specs.Stock.{is_quorate, BatchStoreView, IsStock, digest_of, held_at, batch_in, has_with, has_own, holds, is_available, was_named, nameable};
 ghost use Rattle.batchstore.specs.Answer.{is_member, is_known, is_clash, is_new, is_full, answer, with_batch, with_ack, with_names};
 
 use crate::answers::{Acked, Put};
@@ -15,7 +15,7 @@ use crate::held::Held;
 use crate::refusal::StoreRefusal;
 use crate::table::Table;
 use committee::{Committee, MemberSet};
-use seed::TableSeed;
+use sigface::TableSeed;
 use std::alloc::{AllocError, Global};
 use std::collections::BTreeMap;
 use std::marker::Model;
@@ -43,10 +43,10 @@ impl<'a> Drop for BatchStore<'a> {
 }
 
 impl<'a> Model for BatchStore<'a> {
-    ghost use Rattle.batchstore.specs.Stock.{Stock};
+    ghost use Rattle.batchstore.specs.Stock.{BatchStoreView};
     ghost use Rattle.batchstore.specs.Kept.{IsKept};
 
-    ghost Value = { Stock };
+    ghost Value = { BatchStoreView };
 
     ghost view = { λ s. record { charter = s.committee.now; own = s.own.0; held = s.held } };
 

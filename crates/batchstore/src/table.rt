@@ -8,7 +8,7 @@ ghost use Rattle.batchstore.specs.declared.held.Held.{Held};
 use crate::held::Held;
 use committee::MemberSet;
 use indexmap::IndexMap;
-use seed::TableSeed;
+use sigface::TableSeed;
 use std::alloc::{AllocError, Global};
 use std::marker::Model;
 use wire::Digest;

@@ -10,23 +10,23 @@ use Rattle.spec_model.specs.Holdings.{order}
 use Rattle.spec_model.specs.Nodes.{Node}
 use Rattle.spec_model.specs.States.{State}
 use Rattle.spec_model.specs.Words.{Event, Output}
-use Rattle.spec_model.specs.declared.admission.Admission.{Admission}
-use Rattle.spec_model.specs.declared.admission.Admission.TheVariants.{New, Known, Refused}
-use Rattle.spec_model.specs.declared.refusal.Refusal.{Refusal}
-use Rattle.spec_model.specs.declared.refusal.Refusal.TheVariants as refusal
+use Rattle.header.specs.declared.admission.Admission.{Admission}
+use Rattle.header.specs.declared.admission.Admission.TheVariants.{New, Known, Refused}
+use Rattle.header.specs.declared.refusal.Refusal.{Refusal}
+use Rattle.header.specs.declared.refusal.Refusal.TheVariants as refusal
 use Rattle.spec_records.specs.Records.{record_of}
 use Rattle.spec_world.specs.World.{Waiting}
 use Rattle.spec_world.specs.Steps.{ticketed}
 use Rattle.validator.specs.Standing.{AreAtSound, GoesOn}
 use Rattle.book.specs.declared.book.TheConstants.{MAX_ACCEPTED}
-use Rattle.book.specs.Book.{Shown, Run, history_in, TakesNew, TakesKnown, MayRefuse, HasPlace}
+use Rattle.book.specs.Book.{BookView, Run, history_in, TakesNew, TakesKnown, MayRefuse, HasPlace}
 use Rattle.book.proofs.Accepting.{IsNoted, stands_new, stands_known}
 
 -- what is answered at each legal history at which the validator stands
-abbrev pub Answers : {S : Type 0} → Node → Shown S → Event → (Admission → Type 0) → Type 0
+abbrev pub Answers : {S : Type 0} → Node → BookView S → Event → (Admission → Type 0) → Type 0
 Answers node book event P = (history : History) → IsLegal node history → AreAtSound node book.validator.tables (kept node history) → P (admit node history event)
 
-module _ {S : Type 0} (node : Node) (before later : Shown S) (event : Event) (outputs : List Output) where
+module _ {S : Type 0} (node : Node) (before later : BookView S) (event : Event) (outputs : List Output) where
   pub takes_new : OutputsGiven → IsTaken node event → Answers node before event (λ answer. answer ≡ New outputs)
       → ((history : History) → IsLegal node history → AreAtSound node before.validator.tables (kept node history) → GoesOn node history event later.validator.tables)
       → later.pending ≡ before.pending ++ record_of event ∷ [] → later.queue ≡ before.queue ++ ticketed (before.accepted + 1) outputs
@@ -63,13 +63,13 @@ module _ {S : Type 0} (node : Node) (before later : Shown S) (event : Event) (ou
   }
 
 -- a known event leaves all but the queue
-pub queue_alone : {S : Type 0} (before later : Shown S) (queue : List Waiting) → later.validator ≡ before.validator → later.pending ≡ before.pending → later.queue ≡ queue → later.reached ≡ before.reached
+pub queue_alone : {S : Type 0} (before later : BookView S) (queue : List Waiting) → later.validator ≡ before.validator → later.pending ≡ before.pending → later.queue ≡ queue → later.reached ≡ before.reached
     → later.accepted ≡ before.accepted → later.taken ≡ before.taken → later.settled ≡ before.settled → later.ordered ≡ before.ordered → later.down ≡ before.down → later ≡ record before { queue = queue }
 queue_alone before later queue validator pending queue_is reached accepted taken settled ordered down =
     λ i. record { validator = validator i; pending = pending i; queue = queue_is i; accepted = accepted i; taken = taken i; settled = settled i; ordered = ordered i; reached = reached i; down = down i }
 
 -- why it may be refused
-pub may_refuse : {S : Type 0} (node : Node) (run : Run) (book : Shown S) (event : Event) (why : Refusal) → (why ≡ refusal.Memory) ⊎ (admit node (history_in run) event ≡ Refused why) → why ≢ refusal.Down
+pub may_refuse : {S : Type 0} (node : Node) (run : Run) (book : BookView S) (event : Event) (why : Refusal) → (why ≡ refusal.Memory) ⊎ (admit node (history_in run) event ≡ Refused why) → why ≢ refusal.Down
     → MayRefuse node run book event why
 may_refuse node run book event refusal.Memory comes up = tt
 may_refuse node run book event refusal.Down comes up = absurd (up refl)
@@ -79,7 +79,7 @@ may_refuse node run book event other (inl same) up = absurd cc
 may_refuse node run book event other (inr is) up = is
 
 -- a new event finds a place
-pub one_more : {S : Type 0} (node : Node) (book : Shown S) (event : Event) (outputs : List Output) → HasPlace node book event → book.accepted ≤ MAX_ACCEPTED
+pub one_more : {S : Type 0} (node : Node) (book : BookView S) (event : Event) (outputs : List Output) → HasPlace node book event → book.accepted ≤ MAX_ACCEPTED
     → ((state : State) → AreAtSound node book.validator.tables state → answered node state event ≡ New outputs) → book.accepted + 1 ≤ MAX_ACCEPTED
 one_more node book event outputs (inl place) most new = omega (arith, place)
 one_more node book event outputs (inr old) most new = absurd (true≢false (sym (ap is_new (new old.0 old.1)) ∙ old.2))

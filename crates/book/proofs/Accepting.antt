@@ -9,13 +9,13 @@ use Rattle.spec_model.specs.Giving.{kept}
 use Rattle.spec_model.specs.Holdings.{order}
 use Rattle.spec_model.specs.Nodes.{Node}
 use Rattle.spec_model.specs.Words.{Event, Output}
-use Rattle.spec_model.specs.declared.admission.Admission.TheVariants.{New, Known}
+use Rattle.header.specs.declared.admission.Admission.TheVariants.{New, Known}
 use Rattle.spec_records.specs.Records.{record_of}
 use Rattle.spec_world.specs.Steps.{ticketed}
 use Rattle.validator.specs.Standing.{AreAtSound, GoesOn}
 use Rattle.book.specs.declared.reached.Reached.{Reached}
 use Rattle.book.specs.Queue.{length_at, TicketsRise}
-use Rattle.book.specs.Book.{Shown, Run, IsDue, Stands, history_in, history_to, with_accepted}
+use Rattle.book.specs.Book.{BookView, Run, IsDue, Stands, history_in, history_to, with_accepted}
 use Rattle.book.proofs.Due.{begins_length, history_stays, history_now, history_more, due_new, due_known, rise_new}
 use Rattle.book.proofs.Lengths.{UpTo, cases_eq, cases_le, not_there, there, stays}
 
@@ -51,7 +51,7 @@ now_said before later count from to first noted upto said =
           ∙ there (count + 1) first before (record { ticket = count + 1; length = to }) (All-weaker (λ r. r.ticket ≤ count) (λ r. r.ticket ≤ count + 1) (λ r is. omega (arith, is)) before upto) (omega arith)
     ]
 
-module _ {S : Type 0} (given : OutputsGiven) (node : Node) (run : Run) (before later : Shown S) (event : Event) (outputs : List Output) (at : Stands node run before) where
+module _ {S : Type 0} (given : OutputsGiven) (node : Node) (run : Run) (before later : BookView S) (event : Event) (outputs : List Output) (at : Stands node run before) where
   -- behind a new event
   pub stands_new : admit node (history_in run) event ≡ New outputs → GoesOn node (history_in run) event later.validator.tables
       → later.pending ≡ before.pending ++ record_of event ∷ [] → later.queue ≡ before.queue ++ ticketed (before.accepted + 1) outputs

@@ -6,10 +6,11 @@ use Rattle.std.proofs.lemmas.List.Elements.{All-map, All-weaker, All-append, All
 use Rattle.spec_laws.specs.Laws.{PutsOutGiven, OutputsGiven}
 use Rattle.spec_model.specs.Admitting.{admit}
 use Rattle.spec_model.specs.Giving.{MayGive}
-use Rattle.spec_model.specs.Histories.{History, Begins}
+use Rattle.spec_model.specs.Histories.{History}
+use Rattle.wire.specs.Lists.{Begins}
 use Rattle.spec_model.specs.Nodes.{Node}
 use Rattle.spec_model.specs.Words.{Event, Output}
-use Rattle.spec_model.specs.declared.admission.Admission.TheVariants.{New, Known}
+use Rattle.header.specs.declared.admission.Admission.TheVariants.{New, Known}
 use Rattle.spec_world.specs.World.{Waiting, put_out}
 use Rattle.spec_world.specs.Steps.{ticketed}
 use Rattle.spec_world.specs.Promise.{GoesOut, by_new, by_known}

@@ -5,7 +5,8 @@ use Rattle.std.proofs.lemmas.List.{take_all, drop_at, take_at, take-map, drop-ta
 use Rattle.std.proofs.lemmas.List.Elements.{All-nil, All-weaker, All-tail}
 use Rattle.spec_model.specs.Admitting.{IsLegal}
 use Rattle.spec_model.specs.Giving.{kept}
-use Rattle.spec_model.specs.Histories.{History, Begins}
+use Rattle.spec_model.specs.Histories.{History}
+use Rattle.wire.specs.Lists.{Begins}
 use Rattle.spec_model.specs.Holdings.{order}
 use Rattle.spec_model.specs.Nodes.{Node}
 use Rattle.spec_records.specs.Records.{record_of}
@@ -14,7 +15,7 @@ use Rattle.spec_world.specs.Promise.{GoesOut}
 use Rattle.validator.specs.Standing.{AreAtSound}
 use Rattle.book.specs.Queue.{length_at, TicketsRise}
 use Rattle.book.specs.Pending.{IsLongestBeginning}
-use Rattle.book.specs.Book.{Shown, Run, IsDue, Stands, run_on, with_taken, with_settled}
+use Rattle.book.specs.Book.{BookView, Run, IsDue, Stands, run_on, with_taken, with_settled}
 use Rattle.book.proofs.Due.{begins_length}
 use Rattle.book.proofs.Lengths.{UpTo}
 
@@ -57,7 +58,7 @@ due_same node run other queue began accepted due =
       goes_out = subst (λ h. GoesOut node h (put_out w.output)) (sym (ap (λ l. l ++ take w.ticket other.accepted) began ∙ ap (λ l. run.began ++ take w.ticket l) accepted)) is.goes_out;
     }) queue due
 
-module _ {S : Type 0} (node : Node) (run : Run) (before later : Shown S) (at : Stands node run before) where
+module _ {S : Type 0} (node : Node) (run : Run) (before later : BookView S) (at : Stands node run before) where
   -- behind a group that is taken
   pub stands_taken : (group : List (List ℕ)) → IsLongestBeginning before.pending group later.pending → later ≡ record before { pending = later.pending; taken = before.taken + length group }
       → Stands node (with_taken run (length group)) later
@@ -131,7 +132,7 @@ module _ {S : Type 0} (node : Node) (run : Run) (before later : Shown S) (at : S
       })
 
 -- a book that is taken down stands where it stood
-pub stands_down : {S : Type 0} (node : Node) (run : Run) (before later : Shown S) → later ≡ record before { down = true } → Stands node run before → Stands node run later
+pub stands_down : {S : Type 0} (node : Node) (run : Run) (before later : BookView S) → later ≡ record before { down = true } → Stands node run before → Stands node run later
 stands_down {S} node run before later same at = subst (Stands node run) (sym same) (record {
   legal = at.legal;
   at = at.at;
@@ -149,7 +150,7 @@ stands_down {S} node run before later same at = subst (Stands node run) (sym sam
 })
 
 -- and so does one whose first output left
-pub stands_released : {S : Type 0} (node : Node) (run : Run) (before later : Shown S) (first : Waiting) (rest : List Waiting) → before.queue ≡ first ∷ rest → later ≡ record before { queue = rest } → Stands node run before → Stands node run later
+pub stands_released : {S : Type 0} (node : Node) (run : Run) (before later : BookView S) (first : Waiting) (rest : List Waiting) → before.queue ≡ first ∷ rest → later ≡ record before { queue = rest } → Stands node run before → Stands node run later
 stands_released {S} node run before later first rest parts same at =
     let due : All (IsDue node run) (first ∷ rest) = subst (All (IsDue node run)) parts at.due in
     let rising : TicketsRise (first ∷ rest) = subst TicketsRise parts at.rising in
@@ -170,7 +171,7 @@ stands_released {S} node run before later first rest parts same at =
     })
 
 -- at first
-pub stands_first : {S : Type 0} (node : Node) (began : History) (book : Shown S) → IsLegal node began → AreAtSound node book.validator.tables (kept node began)
+pub stands_first : {S : Type 0} (node : Node) (began : History) (book : BookView S) → IsLegal node began → AreAtSound node book.validator.tables (kept node began)
     → book.pending ≡ [] → book.queue ≡ [] → book.accepted ≡ 0 → book.taken ≡ 0 → book.settled ≡ 0 → book.reached ≡ [] → book.ordered ≡ length (order node began) → Stands node (run_on began) book
 stands_first node began book legal at pending queue accepted taken settled reached ordered =
     let same : began ++ [] ≡ began = append-nil began in

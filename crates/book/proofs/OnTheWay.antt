@@ -4,12 +4,13 @@ use Rattle.std.specs.Prelude.{Result, IfOk, OnErr, Option, Some, None, IfSome, I
 use Rattle.std.specs.declared.alloc.AllocError.{AllocError}
 use Rattle.std.proofs.lemmas.List.{nil_from_length, take_all, take-take, drop_at, take-append-le, take-append-drop, length-take-le, drop-append-le, drop-map, map-append, length-append, length-map, length-drop}
 use Rattle.std.proofs.lemmas.Grind.{flat_map-append}
-use Rattle.spec_model.specs.Histories.{History, Begins}
+use Rattle.spec_model.specs.Histories.{History}
+use Rattle.wire.specs.Lists.{Begins}
 use Rattle.spec_model.specs.Nodes.{Node}
 use Rattle.spec_model.specs.Words.{Event}
-use Rattle.spec_model.specs.declared.refusal.Refusal.{Refusal}
+use Rattle.header.specs.declared.refusal.Refusal.{Refusal}
 use Rattle.spec_records.specs.Records.{record_of}
-use Rattle.book.specs.Book.{Shown, Run, Stands, run_on, with_accepted, with_taken, with_settled, TakesNew, TakesKnown, SettlesNext}
+use Rattle.book.specs.Book.{BookView, Run, Stands, run_on, with_accepted, with_taken, with_settled, TakesNew, TakesKnown, SettlesNext}
 use Rattle.journal.specs.Format as file
 use Rattle.journal.specs.Format.{file_with}
 use Rattle.journal.specs.Journal.{IsBeforeOrAfter, stands_with}
@@ -23,18 +24,18 @@ begins_length one other begins = omega (arith, ap length begins.parts, length-ap
 
 module _ {S : Type 0} (node : Node) where
   -- at first there are none
-  pub way_first : (began : History) (book : Shown S) → Stands node (run_on began) book → AreOnTheWay node book []
+  pub way_first : (began : History) (book : BookView S) → Stands node (run_on began) book → AreOnTheWay node book []
   way_first began book at = record { run = run_on began; stands = at; are = refl }
 
   -- they stay where the runs stay
-  pub way_same : (before later : Shown S) (groups : List (List (List ℕ))) → ((run : Run) → Stands node run before → Stands node run later) → AreOnTheWay node before groups → AreOnTheWay node later groups
+  pub way_same : (before later : BookView S) (groups : List (List (List ℕ))) → ((run : Run) → Stands node run before → Stands node run later) → AreOnTheWay node before groups → AreOnTheWay node later groups
   way_same before later groups same way = record { run = way.run; stands = same way.run way.stands; are = way.are }
 
   -- and when an event is taken
-  pub way_new : (before later : Shown S) (groups : List (List (List ℕ))) (event : Event) → TakesNew node before later event → AreOnTheWay node before groups → AreOnTheWay node later groups
+  pub way_new : (before later : BookView S) (groups : List (List (List ℕ))) (event : Event) → TakesNew node before later event → AreOnTheWay node before groups → AreOnTheWay node later groups
   way_new before later groups event takes way = record { run = with_accepted way.run event; stands = takes.stands way.run way.stands; are = way.are }
 
-  pub way_accepted : (before later : Shown S) (groups : List (List (List ℕ))) (event : Event) (r : Result Receipt Refusal)
+  pub way_accepted : (before later : BookView S) (groups : List (List (List ℕ))) (event : Event) (r : Result Receipt Refusal)
       → IfOk r (λ receipt. receipt.new ≡ true → TakesNew node before later event) → IfOk r (λ receipt. receipt.new ≡ false → TakesKnown node before later event) → OnErr r (later ≡ before)
       → AreOnTheWay node before groups → AreOnTheWay node later groups
   way_accepted before later groups event (Ok receipt) new known same way = by_newness receipt.new new known
@@ -45,7 +46,7 @@ module _ {S : Type 0} (node : Node) where
   way_accepted before later groups event (Err refusal) new known same way = subst (λ s. AreOnTheWay node s groups) (sym same) way
 
   -- a group that is taken is the last of them
-  pub way_taken : (before later : Shown S) (groups : List (List (List ℕ))) (group : List (List ℕ))
+  pub way_taken : (before later : BookView S) (groups : List (List (List ℕ))) (group : List (List ℕ))
       → ((run : Run) → Stands node run before → Stands node (with_taken run (length group)) later)
       → ((run : Run) → Stands node run before → group ≡ map record_of (drop (length run.taken) (with_taken run (length group)).taken))
       → AreOnTheWay node before groups → AreOnTheWay node later (groups ++ group ∷ [])
@@ -72,11 +73,11 @@ module _ {S : Type 0} (node : Node) where
           take-take (length taken) (length taken + count) accepted (omega arith) ∙ ap (take (length taken)) begins.parts ∙ take-append-le (length taken) taken begins.rest (omega arith) ∙ take_all (length taken) taken (omega arith)
 
   -- the first of them may be settled
-  pub way_settles : (book : Shown S) (first : List (List ℕ)) (rest : List (List (List ℕ))) → AreOnTheWay node book (first ∷ rest) → SettlesNext node book first
+  pub way_settles : (book : BookView S) (first : List (List ℕ)) (rest : List (List (List ℕ))) → AreOnTheWay node book (first ∷ rest) → SettlesNext node book first
   way_settles book first rest way = (way.run, way.stands, record { rest = all_records rest; parts = way.are })
 
   -- and then it is none of them
-  pub way_settled : (before later : Shown S) (first : List (List ℕ)) (rest : List (List (List ℕ)))
+  pub way_settled : (before later : BookView S) (first : List (List ℕ)) (rest : List (List (List ℕ)))
       → ((run : Run) → Stands node run before → Begins first (map record_of (drop (length run.settled) run.taken)) → Stands node (with_settled run (length first)) later)
       → AreOnTheWay node before (first ∷ rest) → AreOnTheWay node later rest
   way_settled before later first rest stands way =
@@ -100,7 +101,7 @@ module _ {S : Type 0} (node : Node) where
           omega (arith, begins_length group (map record_of rest) begins, length-map rest record_of, length-drop (length run.settled) run.taken, begins_length run.settled run.taken settled)
 
   -- where as much is settled as was taken, there are none
-  pub way_none : (book : Shown S) (run : Run) → Stands node run book → book.taken ≡ book.settled → AreOnTheWay node book []
+  pub way_none : (book : BookView S) (run : Run) → Stands node run book → book.taken ≡ book.settled → AreOnTheWay node book []
   way_none book run at same = record {
     run = run;
     stands = at;
@@ -108,21 +109,21 @@ module _ {S : Type 0} (node : Node) where
   }
 
   -- a book that stands somewhere has some on the way, and one that has them stands somewhere
-  pub some_way : (book : Shown S) → StandsSomewhere node book → (groups : List (List (List ℕ))) × AreOnTheWay node book groups
+  pub some_way : (book : BookView S) → StandsSomewhere node book → (groups : List (List (List ℕ))) × AreOnTheWay node book groups
   some_way book (run, at) = (map record_of (drop (length run.settled) run.taken) ∷ [], record { run = run; stands = at; are = sym (append-nil (map record_of (drop (length run.settled) run.taken))) })
 
-  pub way_somewhere : (book : Shown S) (groups : List (List (List ℕ))) → AreOnTheWay node book groups → StandsSomewhere node book
+  pub way_somewhere : (book : BookView S) (groups : List (List (List ℕ))) → AreOnTheWay node book groups → StandsSomewhere node book
   way_somewhere book groups way = (way.run, way.stands)
 
-  module _ (before middle : Shown S) (group : List (List ℕ))
+  module _ (before middle : BookView S) (group : List (List ℕ))
       (longest : IsLongestBeginning before.pending group middle.pending) (taken : middle ≡ record before { pending = middle.pending; taken = before.taken + length group }) where
     -- a round that settles what it took where none was on the way
-    pub flushes : (later : Shown S) (old new : List ℕ) (count : ℕ) → before.taken ≡ before.settled
+    pub flushes : (later : BookView S) (old new : List ℕ) (count : ℕ) → before.taken ≡ before.settled
         → later ≡ record middle { settled = later.settled; ordered = later.ordered; reached = later.reached } → later.settled ≡ middle.settled + length group
         → ((run : Run) → Stands node run middle → Begins group (map record_of (drop (length run.settled) run.taken)) → Stands node (with_settled run (length group)) later)
         → HasRoomFor group old → new ≡ file_with old group → file.stands new ≡ stands_with old group → count ≡ length group → Flushes node before later old new count
     flushes later old new count none rest settled stands room written records counts =
-        let pending : middle.pending ≡ later.pending = sym (ap (λ (s : Shown S). s.pending) rest) in
+        let pending : middle.pending ≡ later.pending = sym (ap (λ (s : BookView S). s.pending) rest) in
         record {
           group = group;
           takes = subst (IsLongestBeginning before.pending group) pending longest;
@@ -130,7 +131,7 @@ module _ {S : Type 0} (node : Node) where
           written = written;
           records = records;
           counts = counts;
-          is = rest ∙ (λ i. record (taken i) { pending = pending i; settled = (settled ∙ ap (λ (s : Shown S). s.settled + length group) taken) i; ordered = later.ordered; reached = later.reached });
+          is = rest ∙ (λ i. record (taken i) { pending = pending i; settled = (settled ∙ ap (λ (s : BookView S). s.settled + length group) taken) i; ordered = later.ordered; reached = later.reached });
           stands = λ run at.
               stands (with_taken run (length group)) (stands_taken node run before middle at group longest taken) (record {
                 rest = [];
@@ -140,9 +141,9 @@ module _ {S : Type 0} (node : Node) where
         }
 
     -- and one that goes down with it on the way
-    abbrev pub goes_down : (later : Shown S) → later ≡ record middle { down = true } → AreOnTheWay node later (group ∷ []) → GoesDown node before later
+    abbrev pub goes_down : (later : BookView S) → later ≡ record middle { down = true } → AreOnTheWay node later (group ∷ []) → GoesDown node before later
     goes_down later down way =
-        let pending : middle.pending ≡ later.pending = sym (ap (λ (s : Shown S). s.pending) down) in
+        let pending : middle.pending ≡ later.pending = sym (ap (λ (s : BookView S). s.pending) down) in
         record {
           group = group;
           takes = subst (IsLongestBeginning before.pending group) pending longest;
@@ -150,7 +151,7 @@ module _ {S : Type 0} (node : Node) where
           way = way;
         }
 
-  module _ (before later : Shown S) (r : Result (Option (List (List ℕ))) AllocError)
+  module _ (before later : BookView S) (r : Result (Option (List (List ℕ))) AllocError)
       (stands : IfOk r (λ group. IfSome group (λ group. (run : Run) → Stands node run before → Stands node (with_taken run (length group)) later)))
       (records : IfOk r (λ group. IfSome group (λ group. (run : Run) → Stands node run before → group ≡ map record_of (drop (length run.taken) (with_taken run (length group)).taken)))) where
     -- what a call that takes makes of the way
@@ -181,7 +182,7 @@ pub with_or_without : (pending group rest : List (List ℕ)) → IsLongestBeginn
 with_or_without pending group rest longest file left = ⊎_elim (λ without. inl without) (λ with. inr (group, rest, longest, with))
 
 -- a call that takes leaves what the validator is set up with
-pub setting_stays : {S : Type 0} (before later : Shown S) (r : Result (Option (List (List ℕ))) AllocError)
+pub setting_stays : {S : Type 0} (before later : BookView S) (r : Result (Option (List (List ℕ))) AllocError)
     → IfOk r (λ group. IfSome group (λ group. later ≡ record before { pending = later.pending; taken = before.taken + length group }))
     → IfOk r (λ group. IsNone group → later ≡ before) → OnErr r (later ≡ before) → later.validator.setting ≡ before.validator.setting
 setting_stays before later (Ok (Some group)) taken nothing same = ap (λ b. b.validator.setting) taken

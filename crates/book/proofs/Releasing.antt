@@ -5,7 +5,7 @@ use Rattle.std.proofs.lemmas.Bool.{true≢false}
 use Rattle.std.proofs.lemmas.List.{take-append-drop, take-append-le, take_at, drop-append-le, nil_from_length, length-drop}
 use Rattle.std.proofs.lemmas.List.Elements.{All-head}
 use Rattle.spec_laws.specs.Laws.{GivenGrows, OrderGrows}
-use Rattle.spec_model.specs.Histories.{Begins}
+use Rattle.wire.specs.Lists.{Begins}
 use Rattle.spec_laws.proofs.Legal.{legal-begins}
 use Rattle.spec_model.specs.Admitting.{IsLegal}
 use Rattle.spec_model.specs.Giving.{MayGive}
@@ -14,7 +14,7 @@ use Rattle.spec_model.specs.Nodes.{Node}
 use Rattle.spec_model.specs.Words.{Digest, Output}
 use Rattle.spec_world.specs.World.{Waiting}
 use Rattle.book.specs.Queue.{settled_head}
-use Rattle.book.specs.Book.{Shown, Run, IsDue, Stands, history_in, history_to, settled_in, GoesOutSettled}
+use Rattle.book.specs.Book.{BookView, Run, IsDue, Stands, history_in, history_to, settled_in, GoesOutSettled}
 use Rattle.book.proofs.Due.{begins_length}
 use Rattle.book.proofs.Lengths.{cases_le}
 use Rattle.book.proofs.Queueing.{ticket_settled}
@@ -42,7 +42,7 @@ head_out settled queue later (Some output) some head = record {
   within = ticket_settled settled head.0 output later (subst (λ q. is_some (settled_head settled q) ≡ true) head.1 some);
 }
 
-module _ {S : Type 0} (node : Node) (run : Run) (book : Shown S) (at : Stands node run book) where
+module _ {S : Type 0} (node : Node) (run : Run) (book : BookView S) (at : Stands node run book) where
   -- what is settled is a beginning of what was accepted
   accepted_is : run.accepted ≡ run.settled ++ (at.settled_begins.rest ++ at.taken_begins.rest)
   accepted_is = at.taken_begins.parts ∙ ap (λ l. l ++ at.taken_begins.rest) at.settled_begins.parts ∙ append_assoc run.settled at.settled_begins.rest at.taken_begins.rest

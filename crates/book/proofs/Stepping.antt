@@ -13,7 +13,7 @@ use Rattle.spec_world.specs.World.{World, Waiting, not_begun, gate_synced, event
 use Rattle.spec_world.specs.Steps.{Move, accept, settle, release, ticketed, with_new, with_known, with_given, group_to, IsAnswered, IsRun}
 use Rattle.spec_world.proofs.GoingOn.{groups_settle}
 use Rattle.spec_world.proofs.Groups.{first_and_others, taken_more}
-use Rattle.book.specs.Book.{Shown, Run, Stands, with_taken, with_settled, TakesNew, TakesKnown, releasable}
+use Rattle.book.specs.Book.{BookView, Run, Stands, with_taken, with_settled, TakesNew, TakesKnown, releasable}
 use Rattle.book.specs.Queue.{settled_head}
 use Rattle.book.specs.OnTheWay.{Flushes, GoesDown}
 use Rattle.book.specs.Pending.{IsLongestBeginning}
@@ -38,7 +38,7 @@ head_of false settled (first ∷ rest) output is =
       | inr not ↦ (let none : ◌≡◌ {A = Option Output} None (Some output) = rw not at is in absurd cc)
     ]
 
-module _ {S : Type 0} (node : Node) (world : World) (before later : Shown S) (is_of : IsOf node world before) where
+module _ {S : Type 0} (node : Node) (world : World) (before later : BookView S) (is_of : IsOf node world before) where
   accepts : (event : Event) → TakesNew node before later event ⊎ TakesKnown node before later event → Moves node world (accept event) later
   accepts event (inl new) =
       let next = with_new world event new.outputs in
@@ -54,7 +54,7 @@ module _ {S : Type 0} (node : Node) (world : World) (before later : Shown S) (is
   accepts event (inr known) =
       let next = with_known world known.outputs in
       let queue : later.queue ≡ before.queue ++ ticketed (length world.accepted) known.outputs =
-      ap (λ (b : Shown S). b.queue) known.is ∙ ap (λ n. before.queue ++ ticketed n known.outputs) is_of.stands.accepted in
+      ap (λ (b : BookView S). b.queue) known.is ∙ ap (λ n. before.queue ++ ticketed n known.outputs) is_of.stands.accepted in
       record {
         next = next;
         step = record { is_taken = known.taken_by; is = subst (λ a. IsAnswered world event a next) (sym (known.answer (run_of world) is_of.stands)) refl };
@@ -80,7 +80,7 @@ module _ {S : Type 0} (node : Node) (world : World) (before later : Shown S) (is
           step = record { fits = fits; is = refl };
           is_of = record {
             stands = subst (λ (l : History). Stands node (record (run_of world) { taken = l }) later) (sym all) (stands_taken node (run_of world) before later is_of.stands group longest is);
-            waits = subst (λ (b : Shown S). All (Contains world.waiting) b.queue) (sym is) is_of.waits;
+            waits = subst (λ (b : BookView S). All (Contains world.waiting) b.queue) (sym is) is_of.waits;
           };
         };
         events = events;
@@ -123,7 +123,7 @@ module _ {S : Type 0} (node : Node) (world : World) (before later : Shown S) (is
           };
           is_of = record {
             stands = stands;
-            waits = subst (All (Contains world.waiting)) (sym (ap (λ (b : Shown S). b.queue) later_is ∙ ap (drop 1) head.2)) (All-tail (Contains world.waiting) first head.1 waits);
+            waits = subst (All (Contains world.waiting)) (sym (ap (λ (b : BookView S). b.queue) later_is ∙ ap (drop 1) head.2)) (All-tail (Contains world.waiting) first head.1 waits);
           };
         },
       )
@@ -147,7 +147,7 @@ run_there world next group count none is began accepted settled idle =
       settled = (again ∙ sym settled) i;
     })
 
-module _ {S : Type 0} (node : Node) (moves : List Move) (world : World) (before later : Shown S) (sound : IsNode node) (run : IsRun node moves world) (is_of : IsOf node world before) (none : world.groups ≡ []) where
+module _ {S : Type 0} (node : Node) (moves : List Move) (world : World) (before later : BookView S) (sound : IsNode node) (run : IsRun node moves world) (is_of : IsOf node world before) (none : world.groups ≡ []) where
   flushes : (old new : List ℕ) (count : ℕ) → Flushes node before later old new count → FlushesThere node world (length world.settled + count) old new later
   flushes old new count flush =
       let all : taken_in world ≡ world.settled = ap (λ (l : List History). world.settled ++ events_of l) none ∙ append-nil world.settled in
@@ -158,7 +158,7 @@ module _ {S : Type 0} (node : Node) (moves : List Move) (world : World) (before 
       let next = there.0 in
       let settled = there.2 in
       let runs = run_there world next (length flush.group) (length world.settled + count) none (omega (arith, flush.counts)) settled.began settled.accepted settled.settled settled.groups in
-      let queue : later.queue ≡ before.queue = ap (λ (b : Shown S). b.queue) flush.is in
+      let queue : later.queue ≡ before.queue = ap (λ (b : BookView S). b.queue) flush.is in
       record {
         next = next;
         leads = there.1;
@@ -171,9 +171,9 @@ module _ {S : Type 0} (node : Node) (moves : List Move) (world : World) (before 
       }
 
 -- where it goes down, the group stays taken
-fails : {S : Type 0} (node : Node) (world : World) (before later : Shown S) → IsOf node world before → (down : GoesDown node before later) → TakesBehind node world down.group later
+fails : {S : Type 0} (node : Node) (world : World) (before later : BookView S) → IsOf node world before → (down : GoesDown node before later) → TakesBehind node world down.group later
 fails {S} node world before later is_of down =
-    let up : Shown S = record before { pending = later.pending; taken = before.taken + length down.group } in
+    let up : BookView S = record before { pending = later.pending; taken = before.taken + length down.group } in
     let takes = takes node world before up is_of down.group down.takes refl in
     let same : later ≡ record up { down = true } = down.is in
     let stands = takes.moves.is_of.stands in
@@ -198,7 +198,7 @@ fails {S} node world before later is_of down =
             lengths = stands.lengths;
             tickets = stands.tickets;
           });
-          waits = subst (λ (b : Shown S). All (Contains next.waiting) b.queue) (sym same) takes.moves.is_of.waits;
+          waits = subst (λ (b : BookView S). All (Contains next.waiting) b.queue) (sym same) takes.moves.is_of.waits;
         };
       };
       events = takes.events;

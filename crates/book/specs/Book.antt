@@ -2,15 +2,16 @@
 use Rattle.std.specs.Prelude.{◌≡◌, ◌⊎◌, ⊤, ℕ, ◌+◌, ◌≤◌, List, [], ◌∷◌, ◌++◌, length, map, take, drop, Option, None, Bool, true, false, IsTrue, ◌<◌, All, if◌then◌else◌}
 use Rattle.spec_model.specs.Admitting.{admit, is_new, IsLegal, IsTaken}
 use Rattle.spec_model.specs.Giving.{kept, MayGive}
-use Rattle.spec_model.specs.Histories.{History, Begins}
+use Rattle.spec_model.specs.Histories.{History}
+use Rattle.wire.specs.Lists.{Begins}
 use Rattle.spec_model.specs.Holdings.{order}
 use Rattle.spec_model.specs.Nodes.{Node}
 use Rattle.spec_model.specs.States.{State}
 use Rattle.spec_machine.specs.Machine.{answered}
 use Rattle.spec_model.specs.Words.{Event, Output}
-use Rattle.spec_model.specs.declared.admission.Admission.TheVariants.{New, Known, Refused}
-use Rattle.spec_model.specs.declared.refusal.Refusal.{Refusal}
-use Rattle.spec_model.specs.declared.refusal.Refusal.TheVariants.{Memory, Down, StoreFull}
+use Rattle.header.specs.declared.admission.Admission.TheVariants.{New, Known, Refused}
+use Rattle.header.specs.declared.refusal.Refusal.{Refusal}
+use Rattle.header.specs.declared.refusal.Refusal.TheVariants.{Memory, Down, StoreFull}
 use Rattle.spec_records.specs.Records.{record_of}
 use Rattle.spec_world.specs.World.{Waiting, put_out}
 use Rattle.spec_world.specs.Steps.{ticketed}
@@ -21,9 +22,9 @@ use Rattle.book.specs.declared.reached.Reached.{Reached}
 use Rattle.book.specs.Queue.{length_at, TicketsRise, settled_head}
 
 -- what contracts see of a book
-pub record Shown (S : Type 0) : Type 0 where
+pub record BookView (S : Type 0) : Type 0 where
   -- what its validator is set up with, and its tables
-  pub validator : validator.Standing S
+  pub validator : validator.ValidatorView S
   -- the records that were accepted and not taken, oldest first
   pub pending : List (List ℕ)
   -- the outputs that were not released, oldest first
@@ -80,7 +81,7 @@ pub record IsDue (node : Node) (run : Run) (waiting : Waiting) : Type 0 where
 -- what the run began with; the validator stands there; the pending records are those of what was accepted and not taken; the
 -- numbers are the lengths; each output may be given out behind its ticket, and tickets don't fall; and the lengths of the order are
 -- those behind the records of their numbers.
-pub record Stands {S : Type 0} (node : Node) (run : Run) (book : Shown S) : Type 0 where
+pub record Stands {S : Type 0} (node : Node) (run : Run) (book : BookView S) : Type 0 where
   pub legal : IsLegal node (history_in run)
   pub at : validator.AreAtSound node book.validator.tables (kept node (history_in run))
   pub taken_begins : Begins run.taken run.accepted
@@ -98,7 +99,7 @@ pub record Stands {S : Type 0} (node : Node) (run : Run) (book : Shown S) : Type
 -- ---- what comes of an event
 
 -- a new event is accepted: its record is pending, and its outputs wait for it
-pub record TakesNew {S : Type 0} (node : Node) (before later : Shown S) (event : Event) : Type 0 where
+pub record TakesNew {S : Type 0} (node : Node) (before later : BookView S) (event : Event) : Type 0 where
   pub taken_by : IsTaken node event
   pub outputs : List Output
   pub answer : (run : Run) → Stands node run before → admit node (history_in run) event ≡ New outputs
@@ -111,7 +112,7 @@ pub record TakesNew {S : Type 0} (node : Node) (before later : Shown S) (event :
   pub down : later.down ≡ before.down
 
 -- a known one changes nothing but that its outputs wait for all that was accepted
-pub record TakesKnown {S : Type 0} (node : Node) (before later : Shown S) (event : Event) : Type 0 where
+pub record TakesKnown {S : Type 0} (node : Node) (before later : BookView S) (event : Event) : Type 0 where
   pub taken_by : IsTaken node event
   pub outputs : List Output
   pub answer : (run : Run) → Stands node run before → admit node (history_in run) event ≡ Known outputs
@@ -119,18 +120,18 @@ pub record TakesKnown {S : Type 0} (node : Node) (before later : Shown S) (event
   pub is : later ≡ record before { queue = before.queue ++ ticketed before.accepted outputs }
 
 -- an event would be new, and the run has accepted as much as it may
-abbrev pub IsFull : {S : Type 0} → Node → Run → Shown S → Event → Type 0
+abbrev pub IsFull : {S : Type 0} → Node → Run → BookView S → Event → Type 0
 IsFull node run book event = IsTrue (is_new (admit node (history_in run) event)) × (book.accepted ≡ MAX_ACCEPTED)
 
 -- the run may accept more, or the event wouldn't be new at a state at which the validator stands
-abbrev pub HasPlace : {S : Type 0} → Node → Shown S → Event → Type 0
+abbrev pub HasPlace : {S : Type 0} → Node → BookView S → Event → Type 0
 HasPlace node book event = (book.accepted < MAX_ACCEPTED) ⊎ IsOld
   where
     IsOld : Type 0
     IsOld = (state : State) × validator.AreAtSound node book.validator.tables state × (is_new (answered node state event) ≡ false)
 
 -- why an event may be refused: memory, a book that is down, a full run, or what admission answers
-abbrev pub MayRefuse : {S : Type 0} → Node → Run → Shown S → Event → Refusal → Type 0
+abbrev pub MayRefuse : {S : Type 0} → Node → Run → BookView S → Event → Refusal → Type 0
 MayRefuse node run book event Memory = ⊤
 MayRefuse node run book event Down = book.down ≡ true
 MayRefuse node run book event StoreFull = (admit node (history_in run) event ≡ Refused StoreFull) ⊎ IsFull node run book event
@@ -139,11 +140,11 @@ MayRefuse node run book event refusal = admit node (history_in run) event ≡ Re
 -- ---- what goes out
 
 -- what may go out now
-abbrev pub releasable : {S : Type 0} → Shown S → Option Output
+abbrev pub releasable : {S : Type 0} → BookView S → Option Output
 releasable book = if book.down then None else settled_head book.settled book.queue
 
 -- at a run at which the book stands a group has the records that were taken first of what isn't settled
-abbrev pub SettlesNext : {S : Type 0} → Node → Shown S → List (List ℕ) → Type 0
+abbrev pub SettlesNext : {S : Type 0} → Node → BookView S → List (List ℕ) → Type 0
 SettlesNext node book group = (run : Run) × Stands node run book × Begins group (map record_of (drop (length run.settled) run.taken))
 
 -- an output was put out behind settled records, and may be given out there and behind all that is settled

@@ -10,17 +10,17 @@ use Rattle.journal.specs.Journal.{stands_with}
 use Rattle.journal.specs.declared.layout.TheConstants.{MAX_JOURNAL_BYTES}
 use Rattle.admission.specs.declared.tables.Tables.{Tables}
 use Rattle.validator.specs.Standing.{AreAtSound}
-use Rattle.book.specs.Book.{Shown, Run, Stands, with_taken, with_settled}
+use Rattle.book.specs.Book.{BookView, Run, Stands, with_taken, with_settled}
 use Rattle.book.specs.Pending.{IsLongestBeginning, all_records}
 
 -- at a run at which the book stands these groups, oldest first, have the records that were taken and aren't settled
-pub record AreOnTheWay {S : Type 0} (node : Node) (book : Shown S) (groups : List (List (List ℕ))) : Type 0 where
+pub record AreOnTheWay {S : Type 0} (node : Node) (book : BookView S) (groups : List (List (List ℕ))) : Type 0 where
   pub run : Run
   pub stands : Stands node run book
   pub are : map record_of (drop (length run.settled) run.taken) ≡ all_records groups
 
 -- a book stands at a run, whatever that is
-abbrev pub StandsSomewhere : {S : Type 0} → Node → Shown S → Type 0
+abbrev pub StandsSomewhere : {S : Type 0} → Node → BookView S → Type 0
 StandsSomewhere node book = (run : Run) × Stands node run book
 
 -- there is a legal history at which a node's tables stand
@@ -35,7 +35,7 @@ HasRoomFor group old = length old + length (group_bytes group) ≤ MAX_JOURNAL_B
 
 -- The longest beginning of the pending records that fits a group is taken, has room behind what a disk has, is written there, and is
 -- settled: the book stands at each run at which it stood, with these taken and settled. So many records they are.
-pub record Flushes {S : Type 0} (node : Node) (before later : Shown S) (old new : List ℕ) (count : ℕ) : Type 0 where
+pub record Flushes {S : Type 0} (node : Node) (before later : BookView S) (old new : List ℕ) (count : ℕ) : Type 0 where
   pub group : List (List ℕ)
   pub takes : IsLongestBeginning before.pending group later.pending
   pub room : HasRoomFor group old
@@ -46,17 +46,17 @@ pub record Flushes {S : Type 0} (node : Node) (before later : Shown S) (old new 
   pub stands : (run : Run) → Stands node run before → Stands node (with_settled (with_taken run (length group)) (length group)) later
 
 -- that beginning is taken and stays on the way, alone, and the book is down
-pub record GoesDown {S : Type 0} (node : Node) (before later : Shown S) : Type 0 where
+pub record GoesDown {S : Type 0} (node : Node) (before later : BookView S) : Type 0 where
   pub group : List (List ℕ)
   pub takes : IsLongestBeginning before.pending group later.pending
   pub is : later ≡ record before { pending = later.pending; taken = before.taken + length group; down = true }
   pub way : AreOnTheWay node later (group ∷ [])
 
 -- so it goes down, and there was no room behind these bytes for what it took, or there was
-abbrev pub FindsNoRoom : {S : Type 0} → Node → Shown S → Shown S → List ℕ → Type 0
+abbrev pub FindsNoRoom : {S : Type 0} → Node → BookView S → BookView S → List ℕ → Type 0
 FindsNoRoom node before later old = (down : GoesDown node before later) × (HasRoomFor down.group old → ⊥)
 
-abbrev pub FailsWithRoom : {S : Type 0} → Node → Shown S → Shown S → List ℕ → Type 0
+abbrev pub FailsWithRoom : {S : Type 0} → Node → BookView S → BookView S → List ℕ → Type 0
 FailsWithRoom node before later old = (down : GoesDown node before later) × HasRoomFor down.group old
 
 -- what a stop leaves stands for the records of this file, or for these and the longest beginning of what was pending

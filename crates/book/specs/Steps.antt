@@ -7,7 +7,7 @@ use Rattle.spec_records.specs.Records.{record_of}
 use Rattle.spec_world.specs.World.{World, gate_synced, taken_in, group_in, content_in}
 use Rattle.spec_world.specs.Runs.{IsSettledTo}
 use Rattle.spec_world.specs.Steps.{Move, accept, take_to, device_call, settle, release, IsStep, Leads, IsRun}
-use Rattle.book.specs.Book.{Shown, Run, Stands, with_settled, TakesNew, TakesKnown, releasable}
+use Rattle.book.specs.Book.{BookView, Run, Stands, with_settled, TakesNew, TakesKnown, releasable}
 use Rattle.book.specs.OnTheWay.{Flushes, GoesDown}
 use Rattle.book.specs.Pending.{IsLongestBeginning}
 
@@ -16,47 +16,47 @@ abbrev pub run_of : World → Run
 run_of world = record { began = world.began; accepted = world.accepted; taken = taken_in world; settled = world.settled }
 
 -- a book is that of a world: it stands at its run, and what it queues waits there
-pub record IsOf {S : Type 0} (node : Node) (world : World) (book : Shown S) : Type 0 where
+pub record IsOf {S : Type 0} (node : Node) (world : World) (book : BookView S) : Type 0 where
   pub stands : Stands node (run_of world) book
   pub waits : All (Contains world.waiting) book.queue
 
 -- a move leads from a world to one whose book this is
-pub record Moves {S : Type 0} (node : Node) (world : World) (move : Move) (book : Shown S) : Type 0 where
+pub record Moves {S : Type 0} (node : Node) (world : World) (move : Move) (book : BookView S) : Type 0 where
   pub next : World
   pub step : IsStep node world move next
   pub is_of : IsOf node next book
 
 -- an event, new or known, is accepted there
 abbrev pub AcceptIsAStep : Type 0 → Type 0
-AcceptIsAStep S = (node : Node) (world : World) (before later : Shown S) (event : Event) → IsOf node world before
+AcceptIsAStep S = (node : Node) (world : World) (before later : BookView S) (event : Event) → IsOf node world before
     → TakesNew node before later event ⊎ TakesKnown node before later event → Moves node world (accept event) later
 
 -- a group that is taken, also before another one is settled, is the last one on its way there
-pub record TakesBehind {S : Type 0} (node : Node) (world : World) (group : List (List ℕ)) (later : Shown S) : Type 0 where
+pub record TakesBehind {S : Type 0} (node : Node) (world : World) (group : List (List ℕ)) (later : BookView S) : Type 0 where
   pub moves : Moves node world (take_to (length (taken_in world) + length group)) later
   pub events : History
   pub groups : moves.next.groups ≡ world.groups ++ events ∷ []
   pub records : group ≡ map record_of events
 
 abbrev pub TakeIsAStep : Type 0 → Type 0
-TakeIsAStep S = (node : Node) (world : World) (before later : Shown S) (group : List (List ℕ)) → IsOf node world before
+TakeIsAStep S = (node : Node) (world : World) (before later : BookView S) (group : List (List ℕ)) → IsOf node world before
     → IsLongestBeginning before.pending group later.pending → later ≡ record before { pending = later.pending; taken = before.taken + length group }
     → TakesBehind node world group later
 
 -- the first group on its way in the world, once its gate is synced, is settled there
 abbrev pub SettleIsAStep : Type 0 → Type 0
-SettleIsAStep S = (node : Node) (world : World) (before later : Shown S) (group : List (List ℕ)) → IsOf node world before → world.phase ≡ gate_synced → group_in world ≡ group
+SettleIsAStep S = (node : Node) (world : World) (before later : BookView S) (group : List (List ℕ)) → IsOf node world before → world.phase ≡ gate_synced → group_in world ≡ group
     → Stands node (with_settled (run_of world) (length group)) later → later.queue ≡ before.queue → Moves node world settle later
 
 -- what is released goes out there
 abbrev pub ReleaseIsAStep : Type 0 → Type 0
-ReleaseIsAStep S = (node : Node) (world : World) (before later : Shown S) (output : Output) → IsOf node world before → releasable before ≡ Some output
+ReleaseIsAStep S = (node : Node) (world : World) (before later : BookView S) (output : Output) → IsOf node world before → releasable before ≡ Some output
     → later ≡ record before { queue = drop 1 before.queue } → Stands node (run_of world) later
     → (ticket : ℕ) × Moves node world (release (record { ticket = ticket; output = output })) later
 
 -- a round of one owner that settled a group: it is taken, the four device calls are made, and it is settled. A disk that had these bytes
 -- before then has those
-pub record FlushesThere {S : Type 0} (node : Node) (world : World) (count : ℕ) (old new : List ℕ) (later : Shown S) : Type 0 where
+pub record FlushesThere {S : Type 0} (node : Node) (world : World) (count : ℕ) (old new : List ℕ) (later : BookView S) : Type 0 where
   pub next : World
   pub leads : Leads node world (take_to count ∷ device_call ∷ device_call ∷ device_call ∷ device_call ∷ settle ∷ []) next
   pub settled : IsSettledTo node world count next
@@ -64,10 +64,10 @@ pub record FlushesThere {S : Type 0} (node : Node) (world : World) (count : ℕ)
   pub content : content_in world ≡ old → content_in next ≡ new
 
 abbrev pub FlushIsSteps : Type 0 → Type 0
-FlushIsSteps S = (node : Node) (moves : List Move) (world : World) (before later : Shown S) (old new : List ℕ) (count : ℕ) → IsNode node → IsRun node moves world → IsOf node world before
+FlushIsSteps S = (node : Node) (moves : List Move) (world : World) (before later : BookView S) (old new : List ℕ) (count : ℕ) → IsNode node → IsRun node moves world → IsOf node world before
     → world.groups ≡ [] → Flushes node before later old new count → FlushesThere node world (length world.settled + count) old new later
 
 -- a round that took the book down: the group is taken, and stays on its way; the device calls that were made before the failure come
 -- behind that
 abbrev pub FailIsAStep : Type 0 → Type 0
-FailIsAStep S = (node : Node) (world : World) (before later : Shown S) → IsOf node world before → (down : GoesDown node before later) → TakesBehind node world down.group later
+FailIsAStep S = (node : Node) (world : World) (before later : BookView S) → IsOf node world before → (down : GoesDown node before later) → TakesBehind node world down.group later

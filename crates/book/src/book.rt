@@ -75,11 +75,11 @@ impl<'a, S: Sign> Model for Book<'a, S> {
     ghost use Rattle.std.specs.Prelude.{◌≡◌, ◌+◌, ◌≤◌, All, length};
     ghost use Rattle.std.specs.Coded.{codes};
     ghost use Rattle.votebook.specs.contracts.book.VoteBook as votes;
-    ghost use Rattle.book.specs.Book.{Shown};
+    ghost use Rattle.book.specs.Book.{BookView};
     ghost use Rattle.book.specs.Queue.{queue_of, HasOutput};
     ghost use Rattle.book.specs.declared.book.TheConstants.{MAX_ACCEPTED};
 
-    ghost Value = { Shown S };
+    ghost Value = { BookView S };
 
     ghost coded = { Prim.hlevel (codes, S.code, votes.the_row.coded) };
 
@@ -93,7 +93,8 @@ impl<'a, S: Sign> Book<'a, S> {
     ghost use Rattle.header.specs.Checks.{fault_of, accepts_all};
     ghost use Rattle.spec_model.specs.Giving.{kept};
     ghost use Rattle.spec_model.specs.Holdings.{order as order_of, round as round_of};
-    ghost use Rattle.spec_model.specs.Histories.{History, Begins};
+    ghost use Rattle.spec_model.specs.Histories.{History};
+    ghost use Rattle.wire.specs.Lists.{Begins};
     ghost use Rattle.spec_model.specs.Admitting.{IsLegal};
     ghost use Rattle.validator.specs.Setting.{node_of};
     ghost use Rattle.validator.specs.Standing.{AreAtSound};
@@ -102,7 +103,7 @@ impl<'a, S: Sign> Book<'a, S> {
 
     /// A book over this validator that has accepted nothing.
     pub fn new(alloc: Global, validator: Validator<'a, S>) -> Book<'a, S>
-        ensures stands { let node = node_of S.own_key S.signature_of validator.entry.setting in (began : History) → IsLegal node began
+        ensures stands { let node = node_of S.scheme validator.entry.setting in (began : History) → IsLegal node began
             → AreAtSound node validator.entry.tables (kept node began)
             → Stands node (run_on began) result }
         ensures validator { result.validator ≡ validator.entry }
@@ -146,11 +147,11 @@ impl<'a, S: Sign> Book<'a, S> {
         requires passed { fault_of self.old.validator.setting.charter accepts_all event ≡ None }
         // It answers Down exactly where the book is down.
         ensures down { IsErrOf result Refusal.Down ↔ IsTrue self.old.down }
-        ensures new { IfOk result (λ receipt. receipt.new ≡ true → TakesNew (node_of S.own_key S.signature_of self.old.validator.setting) self.old self.new event) }
-        ensures known { IfOk result (λ receipt. receipt.new ≡ false → TakesKnown (node_of S.own_key S.signature_of self.old.validator.setting) self.old self.new event) }
+        ensures new { IfOk result (λ receipt. receipt.new ≡ true → TakesNew (node_of S.scheme self.old.validator.setting) self.old self.new event) }
+        ensures known { IfOk result (λ receipt. receipt.new ≡ false → TakesKnown (node_of S.scheme self.old.validator.setting) self.old self.new event) }
         ensures ticket { IfOk result (λ receipt. receipt.ticket ≡ self.new.accepted) }
         ensures limit { IfOk result (λ receipt. receipt.ticket ≤ MAX_ACCEPTED) }
-        ensures refused { let node = node_of S.own_key S.signature_of self.old.validator.setting in IfErr result (λ refusal. (run : Run) → Stands node run self.old
+        ensures refused { let node = node_of S.scheme self.old.validator.setting in IfErr result (λ refusal. (run : Run) → Stands node run self.old
             → MayRefuse node run self.old event refusal) }
         ensures err { OnErr result (self.new ≡ self.old) }
         ensures setting { self.new.validator.setting ≡ self.old.validator.setting }
@@ -206,8 +207,8 @@ impl<'a, S: Sign> Book<'a, S> {
     // Whether an event would be new, and the run can accept no more.
     fn has_no_place(&self, event: &Checked) -> bool
         requires passed { fault_of self.now.validator.setting.charter accepts_all event.now ≡ None }
-        ensures full { let node = node_of S.own_key S.signature_of self.now.validator.setting in result ≡ true → (run : Run) → Stands node run self.now → IsFull node run self.now event.now }
-        ensures room { result ≡ false → HasPlace (node_of S.own_key S.signature_of self.now.validator.setting) self.now event.now }
+        ensures full { let node = node_of S.scheme self.now.validator.setting in result ≡ true → (run : Run) → Stands node run self.now → IsFull node run self.now event.now }
+        ensures room { result ≡ false → HasPlace (node_of S.scheme self.now.validator.setting) self.now event.now }
     {
         self.validator.limits_hold();
         self.accepted == MAX_ACCEPTED && self.validator.is_new(event)
@@ -219,10 +220,10 @@ impl<'a, S: Sign> Book<'a, S> {
         ensures none { IfOk result (λ group. IsNone group ↔ (self.old.pending ≡ [])) }
         ensures group { IfOk result (λ group. IfSome group (λ group. IsLongestBeginning self.old.pending group self.new.pending)) }
         ensures taken { IfOk result (λ group. IfSome group (λ group. self.new ≡ record self.old { pending = self.new.pending; taken = self.old.taken + length group })) }
-        ensures stands { let node = node_of S.own_key S.signature_of self.old.validator.setting in IfOk result (λ group. IfSome group (λ group. (run : Run) → Stands node run self.old
+        ensures stands { let node = node_of S.scheme self.old.validator.setting in IfOk result (λ group. IfSome group (λ group. (run : Run) → Stands node run self.old
             → Stands node (with_taken run (length group)) self.new)) }
         // It has the records of exactly the events that are taken.
-        ensures records { IfOk result (λ group. IfSome group (λ group. (run : Run) → Stands (node_of S.own_key S.signature_of self.old.validator.setting) run self.old
+        ensures records { IfOk result (λ group. IfSome group (λ group. (run : Run) → Stands (node_of S.scheme self.old.validator.setting) run self.old
             → group ≡ map record_of (drop (length run.taken) (with_taken run (length group)).taken))) }
         ensures nothing { IfOk result (λ group. IsNone group → self.new ≡ self.old) }
         ensures err { OnErr result (self.new ≡ self.old) }
@@ -243,8 +244,8 @@ impl<'a, S: Sign> Book<'a, S> {
 
     /// Says that records are on the disk: those that were taken first of what isn't settled.
     pub fn settle(&mut self, synced: Synced)
-        requires { SettlesNext (node_of S.own_key S.signature_of self.old.validator.setting) self.old synced }
-        ensures stands { let node = node_of S.own_key S.signature_of self.old.validator.setting in (run : Run) → Stands node run self.old
+        requires { SettlesNext (node_of S.scheme self.old.validator.setting) self.old synced }
+        ensures stands { let node = node_of S.scheme self.old.validator.setting in (run : Run) → Stands node run self.old
             → Begins synced (map record_of (drop (length run.settled) run.taken))
             → Stands node (with_settled run (length synced)) self.new }
         ensures settled { self.new.settled ≡ self.old.settled + length synced }
@@ -258,10 +259,10 @@ impl<'a, S: Sign> Book<'a, S> {
     pub fn release(&mut self) -> Option<Output>
         ensures output { result ≡ releasable self.old }
         ensures queue { self.new ≡ (if is_some result then record self.old { queue = drop 1 self.old.queue } else self.old) }
-        ensures stands { let node = node_of S.own_key S.signature_of self.old.validator.setting in (run : Run) → Stands node run self.old
+        ensures stands { let node = node_of S.scheme self.old.validator.setting in (run : Run) → Stands node run self.old
             → Stands node run self.new }
         // What it gives may be given out behind what is settled.
-        ensures goes_out { let node = node_of S.own_key S.signature_of self.old.validator.setting in IfSome result (λ output. (run : Run) → Stands node run self.old
+        ensures goes_out { let node = node_of S.scheme self.old.validator.setting in IfSome result (λ output. (run : Run) → Stands node run self.old
             → GoesOutSettled node run output) }
     {
         spec_laws::given_grows();
@@ -277,7 +278,7 @@ impl<'a, S: Sign> Book<'a, S> {
     /// Takes the book down, as where a device call failed or the journal is full. From now on nothing is accepted or released.
     pub fn fail(&mut self)
         ensures down { self.new ≡ record self.old { down = true } }
-        ensures stands { let node = node_of S.own_key S.signature_of self.old.validator.setting in (run : Run) → Stands node run self.old
+        ensures stands { let node = node_of S.scheme self.old.validator.setting in (run : Run) → Stands node run self.old
             → Stands node run self.new }
     {
         self.down = true;
@@ -314,7 +315,7 @@ impl<'a, S: Sign> Book<'a, S> {
 
     /// The validator's round, behind all that was accepted.
     pub fn round_now(&self) -> u64
-        ensures { let node = node_of S.own_key S.signature_of self.now.validator.setting in (run : Run) → Stands node run self.now
+        ensures { let node = node_of S.scheme self.now.validator.setting in (run : Run) → Stands node run self.now
             → result ≡ round_of node (history_in run) }
     {
         self.validator.round()
@@ -326,7 +327,7 @@ impl<'a, S: Sign> Book<'a, S> {
     /// # Errors
     /// `Down` where the book is down, `Memory` where a growth was refused.
     pub fn order(&self, from: u64) -> Result<Vec<Digest>, Refusal>
-        ensures order { let node = node_of S.own_key S.signature_of self.now.validator.setting in IfOk result (λ digests. (run : Run) → Stands node run self.now
+        ensures order { let node = node_of S.scheme self.now.validator.setting in IfOk result (λ digests. (run : Run) → Stands node run self.now
             → digests.items ≡ drop from (order_of node (settled_in run))) }
         ensures down { IsErrOf result Refusal.Down ↔ IsTrue self.now.down }
         ensures errors { IfErr result (λ refusal. (refusal ≡ Refusal.Down) ⊎ (refusal ≡ Refusal.Memory)) }

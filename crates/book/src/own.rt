@@ -28,17 +28,17 @@ impl<'a, S: Sign> Drop for OwnBook<'a, S> {
 impl<'a, S: Sign> Model for OwnBook<'a, S> {
     ghost use Rattle.std.specs.Coded.{codes};
     ghost use Rattle.votebook.specs.contracts.book.VoteBook as votes;
-    ghost use Rattle.book.specs.Book.{Shown};
+    ghost use Rattle.book.specs.Book.{BookView};
     ghost use Rattle.validator.specs.Setting.{node_of};
     ghost use Rattle.book.specs.OnTheWay.{StandsSomewhere};
 
-    ghost Value = { Shown S };
+    ghost Value = { BookView S };
 
     ghost coded = { Prim.hlevel (codes, S.code, votes.the_row.coded) };
 
     ghost view = { λ own. own.book };
 
-    ghost invariant = { λ own. StandsSomewhere (node_of S.own_key S.signature_of own.book.validator.setting) own.book };
+    ghost invariant = { λ own. StandsSomewhere (node_of S.scheme own.book.validator.setting) own.book };
 }
 
 impl<'a, S: Sign> OwnBook<'a, S> {
@@ -53,15 +53,16 @@ impl<'a, S: Sign> OwnBook<'a, S> {
     ghost use Rattle.book.specs.declared.book.TheConstants.{MAX_ACCEPTED};
     ghost use Rattle.spec_model.specs.Admitting.{IsLegal};
     ghost use Rattle.spec_model.specs.Giving.{kept};
-    ghost use Rattle.spec_model.specs.Histories.{History, Begins};
+    ghost use Rattle.spec_model.specs.Histories.{History};
+    ghost use Rattle.wire.specs.Lists.{Begins};
     ghost use Rattle.spec_model.specs.Holdings.{order as order_of, round as round_of};
     ghost use Rattle.book.specs.OnTheWay.{AreOnTheWay, Flushes, FindsNoRoom, FailsWithRoom, IsWithOrWithout, StandsAtLegal};
     ghost use Rattle.book.specs.Pending.{IsLongestBeginning};
 
     /// A book that has accepted nothing, over a validator that stands at a history.
     pub fn new(alloc: Global, validator: Validator<'a, S>) -> OwnBook<'a, S>
-        requires { StandsAtLegal (node_of S.own_key S.signature_of validator.setting) validator.tables }
-        ensures stands { let node = node_of S.own_key S.signature_of validator.entry.setting in (began : History) → IsLegal node began
+        requires { StandsAtLegal (node_of S.scheme validator.setting) validator.tables }
+        ensures stands { let node = node_of S.scheme validator.entry.setting in (began : History) → IsLegal node began
             → AreAtSound node validator.entry.tables (kept node began)
             → Stands node (run_on began) result }
         ensures validator { result.validator ≡ validator.entry }
@@ -78,14 +79,14 @@ impl<'a, S: Sign> OwnBook<'a, S> {
     pub fn accept(&mut self, event: Checked) -> Result<Receipt, Refusal>
         requires passed { fault_of self.old.validator.setting.charter accepts_all event ≡ None }
         ensures down { IsErrOf result Refusal.Down ↔ IsTrue self.old.down }
-        ensures new { IfOk result (λ receipt. receipt.new ≡ true → TakesNew (node_of S.own_key S.signature_of self.old.validator.setting) self.old self.new event) }
-        ensures known { IfOk result (λ receipt. receipt.new ≡ false → TakesKnown (node_of S.own_key S.signature_of self.old.validator.setting) self.old self.new event) }
+        ensures new { IfOk result (λ receipt. receipt.new ≡ true → TakesNew (node_of S.scheme self.old.validator.setting) self.old self.new event) }
+        ensures known { IfOk result (λ receipt. receipt.new ≡ false → TakesKnown (node_of S.scheme self.old.validator.setting) self.old self.new event) }
         ensures ticket { IfOk result (λ receipt. receipt.ticket ≡ self.new.accepted) }
         ensures limit { IfOk result (λ receipt. receipt.ticket ≤ MAX_ACCEPTED) }
-        ensures refused { let node = node_of S.own_key S.signature_of self.old.validator.setting in IfErr result (λ refusal. (run : Run) → Stands node run self.old
+        ensures refused { let node = node_of S.scheme self.old.validator.setting in IfErr result (λ refusal. (run : Run) → Stands node run self.old
             → MayRefuse node run self.old event refusal) }
         ensures err { OnErr result (self.new ≡ self.old) }
-        ensures way { let node = node_of S.own_key S.signature_of self.old.validator.setting in (groups : List (List (List ℕ))) → AreOnTheWay node self.old groups
+        ensures way { let node = node_of S.scheme self.old.validator.setting in (groups : List (List (List ℕ))) → AreOnTheWay node self.old groups
             → AreOnTheWay node self.new groups }
         ensures setting { self.new.validator.setting ≡ self.old.validator.setting }
     {
@@ -100,7 +101,7 @@ impl<'a, S: Sign> OwnBook<'a, S> {
         ensures taken { IfOk result (λ taken. IfSome taken (λ group. self.new ≡ record self.old { pending = self.new.pending; taken = self.old.taken + length group })) }
         ensures nothing { IfOk result (λ taken. IsNone taken → self.new ≡ self.old) }
         ensures err { OnErr result (self.new ≡ self.old) }
-        ensures way { let node = node_of S.own_key S.signature_of self.old.validator.setting in IfOk result (λ taken. IfSome taken (λ group. (groups : List (List (List ℕ))) → AreOnTheWay node self.old groups
+        ensures way { let node = node_of S.scheme self.old.validator.setting in IfOk result (λ taken. IfSome taken (λ group. (groups : List (List (List ℕ))) → AreOnTheWay node self.old groups
             → AreOnTheWay node self.new (groups ++ group ∷ []))) }
         ensures setting { self.new.validator.setting ≡ self.old.validator.setting }
     {
@@ -109,13 +110,13 @@ impl<'a, S: Sign> OwnBook<'a, S> {
 
     /// Settles the first group on the way.
     pub fn settle(&mut self, synced: Synced)
-        requires { SettlesNext (node_of S.own_key S.signature_of self.old.validator.setting) self.old synced }
-        ensures stands { let node = node_of S.own_key S.signature_of self.old.validator.setting in (run : Run) → Stands node run self.old
+        requires { SettlesNext (node_of S.scheme self.old.validator.setting) self.old synced }
+        ensures stands { let node = node_of S.scheme self.old.validator.setting in (run : Run) → Stands node run self.old
             → Begins synced (map record_of (drop (length run.settled) run.taken))
             → Stands node (with_settled run (length synced)) self.new }
         ensures settled { self.new.settled ≡ self.old.settled + length synced }
         ensures rest { self.new ≡ record self.old { settled = self.new.settled; ordered = self.new.ordered; reached = self.new.reached } }
-        ensures way { let node = node_of S.own_key S.signature_of self.old.validator.setting in (groups : List (List (List ℕ))) → AreOnTheWay node self.old (synced ∷ groups)
+        ensures way { let node = node_of S.scheme self.old.validator.setting in (groups : List (List (List ℕ))) → AreOnTheWay node self.old (synced ∷ groups)
             → AreOnTheWay node self.new groups }
         ensures setting { self.new.validator.setting ≡ self.old.validator.setting }
     {
@@ -125,7 +126,7 @@ impl<'a, S: Sign> OwnBook<'a, S> {
     /// Whether no group is on the way.
     pub fn is_settled(&self) -> bool
         ensures value { result ≡ (self.now.taken == self.now.settled) }
-        ensures way { IsTrue result → AreOnTheWay (node_of S.own_key S.signature_of self.now.validator.setting) self.now [] }
+        ensures way { IsTrue result → AreOnTheWay (node_of S.scheme self.now.validator.setting) self.now [] }
     {
         self.book.taken() == self.book.settled()
     }
@@ -134,11 +135,11 @@ impl<'a, S: Sign> OwnBook<'a, S> {
     pub fn release(&mut self) -> Option<Output>
         ensures output { result ≡ releasable self.old }
         ensures queue { self.new ≡ (if is_some result then record self.old { queue = drop 1 self.old.queue } else self.old) }
-        ensures stands { let node = node_of S.own_key S.signature_of self.old.validator.setting in (run : Run) → Stands node run self.old
+        ensures stands { let node = node_of S.scheme self.old.validator.setting in (run : Run) → Stands node run self.old
             → Stands node run self.new }
-        ensures goes_out { let node = node_of S.own_key S.signature_of self.old.validator.setting in IfSome result (λ output. (run : Run) → Stands node run self.old
+        ensures goes_out { let node = node_of S.scheme self.old.validator.setting in IfSome result (λ output. (run : Run) → Stands node run self.old
             → GoesOutSettled node run output) }
-        ensures way { let node = node_of S.own_key S.signature_of self.old.validator.setting in (groups : List (List (List ℕ))) → AreOnTheWay node self.old groups
+        ensures way { let node = node_of S.scheme self.old.validator.setting in (groups : List (List (List ℕ))) → AreOnTheWay node self.old groups
             → AreOnTheWay node self.new groups }
         ensures setting { self.new.validator.setting ≡ self.old.validator.setting }
     {
@@ -148,7 +149,7 @@ impl<'a, S: Sign> OwnBook<'a, S> {
     /// Takes the book down. From now on nothing is accepted or released.
     pub fn fail(&mut self)
         ensures down { self.new ≡ record self.old { down = true } }
-        ensures way { let node = node_of S.own_key S.signature_of self.old.validator.setting in (groups : List (List (List ℕ))) → AreOnTheWay node self.old groups
+        ensures way { let node = node_of S.scheme self.old.validator.setting in (groups : List (List (List ℕ))) → AreOnTheWay node self.old groups
             → AreOnTheWay node self.new groups }
         ensures setting { self.new.validator.setting ≡ self.old.validator.setting }
     {
@@ -161,25 +162,25 @@ impl<'a, S: Sign> OwnBook<'a, S> {
     /// # Errors
     /// Each of them, as told there.
     pub fn flush<D: Disk>(&mut self, journal: &mut Journal<D>) -> Result<u64, FlushError>
-        requires { IsAlive D.content D.outcome journal.old }
+        requires { IsAlive D.device journal.old }
         // It takes the longest beginning of the pending records, which is then on the disk and settled.
         ensures idle { OnOk result (self.old.pending ≡ [] → (result ≡ Ok 0) × (self.new ≡ self.old) × (journal.new ≡ journal.old)) }
-        ensures flushed { IfOk result (λ count. self.old.pending ≢ [] → Flushes (node_of S.own_key S.signature_of self.old.validator.setting) self.old self.new (D.content (disk_of journal.old)) (D.content (disk_of journal.new)) count) }
-        ensures way { OnOk result (AreOnTheWay (node_of S.own_key S.signature_of self.old.validator.setting) self.new []) }
+        ensures flushed { IfOk result (λ count. self.old.pending ≢ [] → Flushes (node_of S.scheme self.old.validator.setting) self.old self.new (D.device.content (disk_of journal.old)) (D.device.content (disk_of journal.new)) count) }
+        ensures way { OnOk result (AreOnTheWay (node_of S.scheme self.old.validator.setting) self.new []) }
         // A book that is down, and one with a group on the way, is left as it was, and so is one where memory is refused.
         ensures down { IsErrOf result FlushError.Down ↔ (IsTrue self.old.down ⊎ (self.old.taken ≢ self.old.settled)) }
         ensures unchanged { IfErr result (λ error. (error ≡ FlushError.Down) ⊎ (error ≡ FlushError.Memory) → (self.new ≡ self.old) × (journal.new ≡ journal.old)) }
         // Where the journal has no room for it and where the disk fails, what it took stays on the way, and the book is down.
-        ensures full { IsErrOf result FlushError.Full → FindsNoRoom (node_of S.own_key S.signature_of self.old.validator.setting) self.old self.new (D.content (disk_of journal.old)) }
+        ensures full { IsErrOf result FlushError.Full → FindsNoRoom (node_of S.scheme self.old.validator.setting) self.old self.new (D.device.content (disk_of journal.old)) }
         ensures full_same { IsErrOf result FlushError.Full → journal.new ≡ journal.old }
-        ensures fails { IsErrOf result FlushError.Device → FailsWithRoom (node_of S.own_key S.signature_of self.old.validator.setting) self.old self.new (D.content (disk_of journal.old)) }
+        ensures fails { IsErrOf result FlushError.Device → FailsWithRoom (node_of S.scheme self.old.validator.setting) self.old self.new (D.device.content (disk_of journal.old)) }
         // A stop at any moment leaves the records from before it, with all that it takes or without.
-        ensures any_moment { AtEachMoment D.clock D.outcome_since (disk_of journal.old) (disk_of journal.new) (IsWithOrWithout self.old.pending (D.content (disk_of journal.old))) }
+        ensures any_moment { AtEachMoment D.device (disk_of journal.old) (disk_of journal.new) (IsWithOrWithout self.old.pending (D.device.content (disk_of journal.old))) }
         // The journal is alive exactly where it doesn't answer Device.
-        ensures alive { (IsErrOf result FlushError.Device) ⊎ IsAlive D.content D.outcome journal.new }
-        ensures dead { IsErrOf result FlushError.Device → ¬ IsAlive D.content D.outcome journal.new }
+        ensures alive { (IsErrOf result FlushError.Device) ⊎ IsAlive D.device journal.new }
+        ensures dead { IsErrOf result FlushError.Device → ¬ IsAlive D.device journal.new }
         // It answers Device exactly where the disk has failed.
-        ensures cause { TellsFault FlushError.Device (D.faults (disk_of journal.old)) (D.faults (disk_of journal.new)) result }
+        ensures cause { TellsFault FlushError.Device (D.device.faults (disk_of journal.old)) (D.device.faults (disk_of journal.new)) result }
         ensures setting { self.new.validator.setting ≡ self.old.validator.setting }
     {
         if self.is_down() {
@@ -239,7 +240,7 @@ impl<'a, S: Sign> OwnBook<'a, S> {
 
     /// The validator's round, behind all that was accepted.
     pub fn round_now(&self) -> u64
-        ensures { let node = node_of S.own_key S.signature_of self.now.validator.setting in (run : Run) → Stands node run self.now
+        ensures { let node = node_of S.scheme self.now.validator.setting in (run : Run) → Stands node run self.now
             → result ≡ round_of node (history_in run) }
     {
         self.book.round_now()
@@ -250,7 +251,7 @@ impl<'a, S: Sign> OwnBook<'a, S> {
     /// # Errors
     /// `Down` where the book is down, `Memory` where a growth was refused.
     pub fn order(&self, from: u64) -> Result<Vec<Digest>, Refusal>
-        ensures order { let node = node_of S.own_key S.signature_of self.now.validator.setting in IfOk result (λ digests. (run : Run) → Stands node run self.now
+        ensures order { let node = node_of S.scheme self.now.validator.setting in IfOk result (λ digests. (run : Run) → Stands node run self.now
             → digests.items ≡ drop from (order_of node (settled_in run))) }
         ensures down { IsErrOf result Refusal.Down ↔ IsTrue self.now.down }
         ensures errors { IfErr result (λ refusal. (refusal ≡ Refusal.Down) ⊎ (refusal ≡ Refusal.Memory)) }

@@ -25,7 +25,7 @@ use Rattle.committee.proofs.Weights.{weight-same, weight-one}
 use Rattle.certify.specs.declared.added.Added.{Added}
 use Rattle.certify.specs.declared.added.Added.TheVariants.{Counted, Complete, Again, NotOurs}
 use Rattle.certify.specs.Answer.{answer, certificate_of, is_ours, is_again, is_too_few}
-use Rattle.certify.specs.Assembled.{Places, Assembled, IsKept, is_on, has_voted, with_vote, entry_of, votes_weight}
+use Rattle.certify.specs.Assembled.{Places, AssemblyView, IsKept, is_on, has_voted, with_vote, entry_of, votes_weight}
 
 -- ---- the votes of the first members
 
@@ -127,7 +127,7 @@ on-digest body vote on =
     (bytes_eq-Decides vote.header.0 (header_digest_of body)).0 (and_parts (bytes_eq vote.header.0 (header_digest_of body)) ((vote.round == body.round) && (vote.author.0 == body.author.0)) on).0
 
 -- the weight of those who have voted with one vote more
-pub weight-with : (old : Assembled) (vote : Vote) (digest : Digest) (before voters : MemberSet) → IsKept old digest before → vote.voter.0 < length old.charter.keys
+pub weight-with : (old : AssemblyView) (vote : Vote) (digest : Digest) (before voters : MemberSet) → IsKept old digest before → vote.voter.0 < length old.charter.keys
     → ((member : ℕ) → has voters member ≡ (has before member || (member == vote.voter.0)))
     → weight old.charter (has voters) ≡ votes_weight old.charter (with_vote old.places vote)
 weight-with old vote digest before voters kept within more =
@@ -136,7 +136,7 @@ weight-with old vote digest before voters kept within more =
     (λ m inside. more m ∙ ap (λ b. b || (m == vote.voter.0)) (kept.voted m) ∙ sym (voted-with old.places vote m place))
 
 -- what is kept, with one vote more
-pub kept-with : (old : Assembled) (vote : Vote) (digest : Digest) (before voters : MemberSet) (complete : Bool) → IsKept old digest before → vote.voter.0 < length old.charter.keys
+pub kept-with : (old : AssemblyView) (vote : Vote) (digest : Digest) (before voters : MemberSet) (complete : Bool) → IsKept old digest before → vote.voter.0 < length old.charter.keys
     → ((member : ℕ) → has voters member ≡ (has before member || (member == vote.voter.0)))
     → (complete ≡ false → weight old.charter (has voters) < quorum_of old.charter)
     → (complete ≡ true → quorum_of old.charter ≤ weight old.charter (has voters))
@@ -158,18 +158,18 @@ kept-with old vote digest before voters complete kept within more few many =
     }
 
 -- a vote that is ours is a member's, and on the header
-pub ours_member : (old : Assembled) (vote : Vote) → is_ours old vote ≡ true → vote.voter.0 < length old.charter.keys
+pub ours_member : (old : AssemblyView) (vote : Vote) → is_ours old vote ≡ true → vote.voter.0 < length old.charter.keys
 ours_member old vote ours =
     ltb-true vote.voter.0 (length old.charter.keys) (and_parts (nat_lt vote.voter.0 (length old.charter.keys)) (is_on old.header.body vote) ours).0
 
-pub ours_on : (old : Assembled) (vote : Vote) → is_ours old vote ≡ true → is_on old.header.body vote ≡ true
+pub ours_on : (old : AssemblyView) (vote : Vote) → is_ours old vote ≡ true → is_on old.header.body vote ≡ true
 ours_on old vote ours = (and_parts (nat_lt vote.voter.0 (length old.charter.keys)) (is_on old.header.body vote) ours).1
 
 neither : (a b : Bool) → a ≡ false → b ≡ false → (a || b) ≡ false
 neither a b first second = rw (first, second)
 
 -- a new vote on the header with which they weigh too little is counted
-pub counts : (old : Assembled) (vote : Vote) (digest : Digest) (before voters : MemberSet) → IsKept old digest before → vote.voter.0 < length old.charter.keys
+pub counts : (old : AssemblyView) (vote : Vote) (digest : Digest) (before voters : MemberSet) → IsKept old digest before → vote.voter.0 < length old.charter.keys
     → ((member : ℕ) → has voters member ≡ (has before member || (member == vote.voter.0)))
     → is_on old.header.body vote ≡ true → old.complete ≡ false → has before vote.voter.0 ≡ false
     → weight old.charter (has voters) < quorum_of old.charter
@@ -182,7 +182,7 @@ counts old vote digest before voters kept within more on going absent few =
     rw (member, on, again, low)
 
 -- one with which they weigh a quorum makes the certificate
-pub completes : (old : Assembled) (vote : Vote) (digest : Digest) (before voters : MemberSet) → IsKept old digest before → vote.voter.0 < length old.charter.keys
+pub completes : (old : AssemblyView) (vote : Vote) (digest : Digest) (before voters : MemberSet) → IsKept old digest before → vote.voter.0 < length old.charter.keys
     → ((member : ℕ) → has voters member ≡ (has before member || (member == vote.voter.0)))
     → is_on old.header.body vote ≡ true → old.complete ≡ false → has before vote.voter.0 ≡ false
     → quorum_of old.charter ≤ weight old.charter (has voters)
@@ -202,7 +202,7 @@ is_counted Counted = true
 is_counted (Complete certificate) = true
 
 -- with a vote that is counted they weigh too little
-pub counted-low : (old : Assembled) (vote : Vote) → answer old vote ≡ Counted → votes_weight old.charter (with_vote old.places vote) < quorum_of old.charter
+pub counted-low : (old : AssemblyView) (vote : Vote) → answer old vote ≡ Counted → votes_weight old.charter (with_vote old.places vote) < quorum_of old.charter
 counted-low old vote is =
     elim (cases_Bool (is_ours old vote)) [
       | inr off ↦ let never = rw off at is in absurd cc
@@ -218,7 +218,7 @@ counted-low old vote is =
     ]
 
 -- with one that makes the certificate they weigh a quorum
-pub complete-high : (old : Assembled) (vote : Vote) (certificate : Certificate) → answer old vote ≡ Complete certificate → quorum_of old.charter ≤ votes_weight old.charter (with_vote old.places vote)
+pub complete-high : (old : AssemblyView) (vote : Vote) (certificate : Certificate) → answer old vote ≡ Complete certificate → quorum_of old.charter ≤ votes_weight old.charter (with_vote old.places vote)
 complete-high old vote certificate is =
     elim (cases_Bool (is_ours old vote)) [
       | inr off ↦ let never = rw off at is in absurd cc
@@ -234,7 +234,7 @@ complete-high old vote certificate is =
     ]
 
 -- a vote that is counted is a member's
-pub of_member : (old : Assembled) (vote : Vote) (added : Added) → answer old vote ≡ added → is_counted added ≡ true → vote.voter.0 < length old.charter.keys
+pub of_member : (old : AssemblyView) (vote : Vote) (added : Added) → answer old vote ≡ added → is_counted added ≡ true → vote.voter.0 < length old.charter.keys
 of_member old vote added is counted =
     elim (cases_Bool (is_ours old vote)) [
       | inl ours ↦ ours_member old vote ours

@@ -6,19 +6,19 @@ use Rattle.wire.specs.declared.header.Vote.{Vote}
 use Rattle.committee.specs.Charter.{quorum_of}
 use Rattle.certify.specs.declared.added.Added.{Added}
 use Rattle.certify.specs.declared.added.Added.TheVariants.{Counted, Complete, Again, NotOurs}
-use Rattle.certify.specs.Assembled.{Places, Assembled, is_on, has_voted, with_vote, votes_in, votes_weight}
+use Rattle.certify.specs.Assembled.{Places, AssemblyView, is_on, has_voted, with_vote, votes_in, votes_weight}
 
 -- the vote is a member's, and on the header
-abbrev pub is_ours : Assembled → Vote → Bool
+abbrev pub is_ours : AssemblyView → Vote → Bool
 is_ours assembled vote = nat_lt vote.voter.0 (length assembled.charter.keys) && is_on assembled.header.body vote
 
 -- the votes with this one weigh less than a quorum
-abbrev pub is_too_few : Assembled → Vote → Bool
+abbrev pub is_too_few : AssemblyView → Vote → Bool
 is_too_few assembled vote =
     nat_lt (votes_weight assembled.charter (with_vote assembled.places vote)) (quorum_of assembled.charter)
 
 -- the vote is of a voter whose vote is counted, or comes when the certificate is made
-abbrev pub is_again : Assembled → Vote → Bool
+abbrev pub is_again : AssemblyView → Vote → Bool
 is_again assembled vote = assembled.complete || has_voted assembled.places vote.voter.0
 
 -- the certificate of a header and of the votes in these places
@@ -26,7 +26,7 @@ abbrev pub certificate_of : HeaderBody → Places → Certificate
 certificate_of body places = record { header = body; votes = votes_in places }
 
 -- what is answered
-abbrev pub answer : Assembled → Vote → Added
+abbrev pub answer : AssemblyView → Vote → Added
 answer assembled vote =
     if not (is_ours assembled vote) then NotOurs
     else if is_again assembled vote then Again
@@ -48,7 +48,7 @@ complete_after Counted complete = complete
 complete_after (Complete certificate) complete = true
 
 -- the assembly behind an answer: of the same committee and header
-abbrev pub after : Added → Assembled → Vote → Assembled
+abbrev pub after : Added → AssemblyView → Vote → AssemblyView
 after added assembled vote = record assembled {
   places = places_after added assembled.places vote;
   complete = complete_after added assembled.complete;

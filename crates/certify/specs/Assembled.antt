@@ -18,7 +18,7 @@ abbrev pub Places : Type 0
 Places = List (Option Signature)
 
 -- an assembly: the committee, the header, the votes that are counted, and whether they have made a certificate
-pub record Assembled : Type 0 where
+pub record AssemblyView : Type 0 where
   pub charter : Charter
   pub header : Header
   pub places : Places
@@ -54,7 +54,7 @@ votes_weight charter places = weight charter (has_voted places)
 -- ---- assemblies
 
 -- one with no vote but the own one
-abbrev pub started : Charter → Header → Vote → Assembled
+abbrev pub started : Charter → Header → Vote → AssemblyView
 started charter header own = record {
   charter = charter;
   header = header;
@@ -64,14 +64,14 @@ started charter header own = record {
 
 -- what holds of each assembly: its committee is one, with a place for each member, and it is complete exactly where the
 -- votes weigh a quorum
-pub record IsAssembled (assembled : Assembled) : Type 0 where
+pub record IsAssembled (assembled : AssemblyView) : Type 0 where
   pub committee : IsCharter assembled.charter
   pub size : length assembled.places ≡ length assembled.charter.keys
   pub below : assembled.complete ≡ false → votes_weight assembled.charter assembled.places < quorum_of assembled.charter
   pub enough : assembled.complete ≡ true → quorum_of assembled.charter ≤ votes_weight assembled.charter assembled.places
 
 -- what is kept beside an assembly: its header's digest, and the set of those who have voted
-pub record IsKept (assembled : Assembled) (digest : Digest) (voters : MemberSet) : Type 0 where
+pub record IsKept (assembled : AssemblyView) (digest : Digest) (voters : MemberSet) : Type 0 where
   pub assembly : IsAssembled assembled
   pub digested : digest.0 ≡ header_digest_of assembled.header.body
   pub voted : (member : ℕ) → has voters member ≡ has_voted assembled.places member

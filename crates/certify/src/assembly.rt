@@ -40,9 +40,9 @@ impl<'a> Drop for Assembly<'a> {
 }
 
 impl<'a> Model for Assembly<'a> {
-    ghost use Rattle.certify.specs.Assembled.{Assembled, IsKept};
+    ghost use Rattle.certify.specs.Assembled.{AssemblyView, IsKept};
 
-    ghost Value = { Assembled };
+    ghost Value = { AssemblyView };
 
     ghost view = { λ a. record { charter = a.committee.now; header = a.header; places = a.places.items; complete = a.complete } };
 

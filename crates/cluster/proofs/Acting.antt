@@ -6,10 +6,12 @@ use Rattle.std.proofs.lemmas.List.Elements.{All-append, All-push}
 use Rattle.header.specs.Checks.{Accepts}
 use Rattle.spec_model.specs.Nodes.{Node}
 use Rattle.spec_model.specs.Words.{Author, Event}
-use Rattle.validator.specs.Setting.{Setting}
-use Rattle.cluster.specs.Member.{Kept}
+use Rattle.validator.specs.Setting.{ConfigView}
+use Rattle.cluster.specs.Member.{MemberView}
 use Rattle.cluster.specs.Threads.{Act, take, round, Hears, IsHeard, HasActed, HaveActed, HasRun, rounds_in}
 use Rattle.cluster.specs.declared.moves.Applied.{Applied}
+use Rattle.diskmodel.specs.Disk.{Device}
+use Rattle.sigface.specs.Scheme.{Scheme}
 
 -- ---- acts and rounds
 
@@ -32,46 +34,46 @@ rounds_more acts (round applied ∷ more) = ap (λ n. n + 1) (rounds_more acts m
 heard_none : (own : Author) → All (λ act. Hears own act) []
 heard_none own k act less = absurd (omega (arith, less))
 
-module _ {S D : Type 0} (node : Setting S → Node) (content : D → List ℕ) (outcome : D → List ℕ → Type 0) (accepts : Accepts) where
+module _ {S D : Type 0} (scheme : Scheme S) (device : Device D) (accepts : Accepts) where
   -- it did nothing in no turn
-  pub none_run : (member : Kept S D) → HasRun node content outcome accepts 0 member member
+  pub none_run : (member : MemberView S D) → HasRun scheme device accepts 0 member member
   none_run member = record { setting = refl; there = refl; acts = []; have = refl; heard = heard_none member.setting.own; rounds = no_rounds (is_some member.desk) }
 
   -- one that is gone does nothing in any
-  pub gone_run : (turns : ℕ) (member : Kept S D) → is_some member.desk ≡ false → HasRun node content outcome accepts turns member member
+  pub gone_run : (turns : ℕ) (member : MemberView S D) → is_some member.desk ≡ false → HasRun scheme device accepts turns member member
   gone_run turns member gone = record { setting = refl; there = refl; acts = []; have = refl; heard = heard_none member.setting.own; rounds = sym (ap (λ there. so_many there turns) gone) }
 
-  pub none_run_as : (before later : Kept S D) → later ≡ before → HasRun node content outcome accepts 0 before later
-  none_run_as before later same = subst (λ (m : Kept S D). HasRun node content outcome accepts 0 before m) (sym same) (none_run before)
+  pub none_run_as : (before later : MemberView S D) → later ≡ before → HasRun scheme device accepts 0 before later
+  none_run_as before later same = subst (λ (m : MemberView S D). HasRun scheme device accepts 0 before m) (sym same) (none_run before)
 
   -- it did one thing
-  one_act : (count : ℕ) (act : Act) (before later : Kept S D) → later.setting ≡ before.setting → is_some later.desk ≡ is_some before.desk → Hears before.setting.own act
-      → rounds_in (act ∷ []) ≡ so_many (is_some before.desk) count → HasActed node content outcome accepts act before later → HasRun node content outcome accepts count before later
+  one_act : (count : ℕ) (act : Act) (before later : MemberView S D) → later.setting ≡ before.setting → is_some later.desk ≡ is_some before.desk → Hears before.setting.own act
+      → rounds_in (act ∷ []) ≡ so_many (is_some before.desk) count → HasActed scheme device accepts act before later → HasRun scheme device accepts count before later
   one_act count act before later setting there hears counted acted =
       record { setting = setting; there = there; acts = act ∷ []; have = (before, refl, acted); heard = All-push (λ one. Hears before.setting.own one) [] act (heard_none before.setting.own) hears; rounds = counted }
 
-  pub took_one : (event : Event) (applied : Applied) (before later : Kept S D) → later.setting ≡ before.setting → is_some later.desk ≡ is_some before.desk → IsHeard before.setting.own event
-      → HasActed node content outcome accepts (take event applied) before later → HasRun node content outcome accepts 0 before later
+  pub took_one : (event : Event) (applied : Applied) (before later : MemberView S D) → later.setting ≡ before.setting → is_some later.desk ≡ is_some before.desk → IsHeard before.setting.own event
+      → HasActed scheme device accepts (take event applied) before later → HasRun scheme device accepts 0 before later
   took_one event applied before later setting there heard acted = one_act 0 (take event applied) before later setting there heard (no_rounds (is_some before.desk)) acted
 
-  pub made_one : (applied : Applied) (before later : Kept S D) → later.setting ≡ before.setting → is_some later.desk ≡ is_some before.desk → is_some before.desk ≡ true
-      → HasActed node content outcome accepts (round applied) before later → HasRun node content outcome accepts 1 before later
+  pub made_one : (applied : Applied) (before later : MemberView S D) → later.setting ≡ before.setting → is_some later.desk ≡ is_some before.desk → is_some before.desk ≡ true
+      → HasActed scheme device accepts (round applied) before later → HasRun scheme device accepts 1 before later
   made_one applied before later setting same there acted = one_act 1 (round applied) before later setting same tt (sym (ap (λ b. so_many b 1) there)) acted
 
-  joined : (acts more : List Act) (before middle later : Kept S D) → HaveActed node content outcome accepts acts before middle → HaveActed node content outcome accepts more middle later
-      → HaveActed node content outcome accepts (more ++ acts) before later
-  joined acts [] before middle later one same = subst (λ (m : Kept S D). HaveActed node content outcome accepts acts before m) (sym same) one
+  joined : (acts more : List Act) (before middle later : MemberView S D) → HaveActed scheme device accepts acts before middle → HaveActed scheme device accepts more middle later
+      → HaveActed scheme device accepts (more ++ acts) before later
+  joined acts [] before middle later one same = subst (λ (m : MemberView S D). HaveActed scheme device accepts acts before m) (sym same) one
   joined acts (act ∷ more) before middle later one two = (two.0, joined acts more before middle two.0 one two.1, two.2)
 
   -- it ran, and ran on
-  pub run_on : (one_turns more_turns : ℕ) (before middle later : Kept S D) → HasRun node content outcome accepts one_turns before middle → HasRun node content outcome accepts more_turns middle later
-      → HasRun node content outcome accepts (one_turns + more_turns) before later
+  pub run_on : (one_turns more_turns : ℕ) (before middle later : MemberView S D) → HasRun scheme device accepts one_turns before middle → HasRun scheme device accepts more_turns middle later
+      → HasRun scheme device accepts (one_turns + more_turns) before later
   run_on one_turns more_turns before middle later one two = record {
     setting = two.setting ∙ one.setting;
     there = two.there ∙ one.there;
     acts = two.acts ++ one.acts;
     have = joined one.acts two.acts before middle later one.have two.have;
-    heard = All-append (λ act. Hears before.setting.own act) two.acts one.acts (subst (λ (s : Setting S). All (λ act. Hears s.own act) two.acts) one.setting two.heard) one.heard;
+    heard = All-append (λ act. Hears before.setting.own act) two.acts one.acts (subst (λ (s : ConfigView S). All (λ act. Hears s.own act) two.acts) one.setting two.heard) one.heard;
     rounds =
         rounds_more one.acts two.acts
         ∙ ap (λ n. n + rounds_in one.acts) (two.rounds ∙ ap (λ there. so_many there more_turns) one.there)

@@ -7,7 +7,7 @@ use Rattle.std.specs.List.{list_any}
 use Rattle.std.specs.Option.{option_map_or}
 use Rattle.book.specs.declared.own.error.FlushError.TheVariants as errors
 use Rattle.desk.specs.AtWorld.{IsStop}
-use Rattle.desk.specs.Desk.{Shown}
+use Rattle.desk.specs.Desk.{DeskView}
 use Rattle.header.specs.Checks.{fault_of}
 use Rattle.spec_cluster.proofs.Unforged.{vote_unforged, certificate_unforged}
 use Rattle.spec_cluster.specs.Cluster.{Cluster, Worlds, Turn, AreMembers, IsReached}
@@ -19,19 +19,21 @@ use Rattle.spec_model.specs.Words.{Author, Digest, Event, Message, Output}
 use Rattle.spec_world.proofs.Ballots.{joined_of}
 use Rattle.spec_world.specs.Steps.{Move, accept, release}
 use Rattle.spec_world.specs.World.{World, Waiting, Outgoing, put_out, read, Given}
-use Rattle.validator.specs.Setting.{Setting}
+use Rattle.validator.specs.Setting.{ConfigView}
 use Rattle.wire.specs.declared.message.Message.TheVariants as message
 use Rattle.wire.specs.declared.output.Output.TheVariants as output
 use Rattle.cluster.specs.Answers.{TakesIn, MakesRound, Stops}
 use Rattle.cluster.specs.Applying.{handed_in, signed_by, NoneForged, StandsAmong}
 use Rattle.cluster.specs.Cluster.{message_at, Does}
-use Rattle.cluster.specs.Member.{Kept, going_out}
+use Rattle.cluster.specs.Member.{MemberView, going_out}
 use Rattle.cluster.specs.Outputs.{message_of, output_in, outputs_in}
 use Rattle.cluster.specs.declared.moves.Applied.{Applied}
 use Rattle.cluster.specs.declared.moves.Applied.TheVariants.{Took, Refused, Unchecked, Settled, Fault, Reopened}
 use Rattle.cluster.specs.declared.moves.Move as moves
 use Rattle.cluster.specs.declared.moves.Move.TheVariants.{Deliver, Give, Coin, Flush, Stop}
 use Rattle.cluster.proofs.InTurn.{ArePlain, MayLead, plain_may}
+use Rattle.diskmodel.specs.Disk.{Device}
+use Rattle.sigface.specs.Scheme.{Scheme}
 
 -- ---- signatures
 
@@ -68,8 +70,8 @@ stop_plain : (world : World) (moves : List Move) → IsStop world moves → AreP
 stop_plain world moves (found, inl same) = subst ArePlain (sym same) (tt, tt)
 stop_plain world moves (found, inr same) = subst ArePlain (sym same) (tt, (tt, (tt, (tt, (tt, tt)))))
 
-module _ {S D : Type 0} (content : D → List ℕ) (outcome : D → List ℕ → Type 0) where
-  round_plain : (own : Node) (world : World) (applied : Applied) (moves : List Move) (before later : Shown S D) → MakesRound own content world applied moves before later → ArePlain moves
+module _ {S D : Type 0} (device : Device D) where
+  round_plain : (own : Node) (world : World) (applied : Applied) (moves : List Move) (before later : DeskView S D) → MakesRound own device world applied moves before later → ArePlain moves
   round_plain own world (Settled count) moves before later round = by_pending before.book.pending refl
     where
       by_pending : (pending : List (List ℕ)) → before.book.pending ≡ pending → ArePlain moves
@@ -87,7 +89,7 @@ module _ {S D : Type 0} (content : D → List ℕ) (outcome : D → List ℕ →
   round_plain own world (Unchecked error) moves before later round = absurd round
   round_plain own world (Reopened count) moves before later round = absurd round
 
-  stops_plain : (own : Node) (world : World) (applied : Applied) (moves : List Move) (before later : Shown S D) → Stops own content outcome world applied moves before later → ArePlain moves
+  stops_plain : (own : Node) (world : World) (applied : Applied) (moves : List Move) (before later : DeskView S D) → Stops own device world applied moves before later → ArePlain moves
   stops_plain own world (Reopened count) moves before later stop = stop_plain world moves stop.by
   stops_plain own world (Took ticket new) moves before later stop = absurd stop
   stops_plain own world (Refused why) moves before later stop = absurd stop
@@ -95,15 +97,15 @@ module _ {S D : Type 0} (content : D → List ℕ) (outcome : D → List ℕ →
   stops_plain own world (Settled count) moves before later stop = absurd stop
   stops_plain own world (Fault error) moves before later stop = absurd stop
 
-  module _ (node : Setting S → Node) (cluster : Cluster) (value : ℕ → ℕ) (worlds : Worlds) (members : List (Kept S D))
-      (stand : (number : Author) → cluster.honest number.0 ≡ true → StandsAmong node content outcome members number (cluster.node number.0) (worlds number.0)) where
+  module _ (scheme : Scheme S) (cluster : Cluster) (value : ℕ → ℕ) (worlds : Worlds) (members : List (MemberView S D))
+      (stand : (number : Author) → cluster.honest number.0 ≡ true → StandsAmong scheme device members number (cluster.node number.0) (worlds number.0)) where
     -- what a member has signed in its outputs it has signed in its world
     signed_there : (number : Author) → cluster.honest number.0 ≡ true → (digest : Digest) → signed_by members number digest ≡ true → has_signed (worlds number.0) digest ≡ true
     signed_there number honest digest is =
         let at_world = stand number honest in
         sym (any_outputs digest (worlds number.0).given)
         ∙ ap (list_any (λ output. signs digest (put_out output))) at_world.stands.out.outputs
-        ∙ sym (ap (λ (found : Option (Kept S D)). option_map_or (λ member. list_any (λ output. signs digest (put_out output)) member.out.outputs) found false) at_world.is)
+        ∙ sym (ap (λ (found : Option (MemberView S D)). option_map_or (λ member. list_any (λ output. signs digest (put_out output)) member.out.outputs) found false) at_world.is)
         ∙ is
 
     -- a fair event is fair in the worlds
@@ -130,9 +132,9 @@ module _ {S D : Type 0} (content : D → List ℕ) (outcome : D → List ℕ →
 
       -- what an honest member put out is fair where it is delivered
       sent_fair : (from : Author) → cluster.honest from.0 ≡ true → (place : ℕ) (m : Message) → message_at members from place ≡ Some m → NoForgery cluster worlds m × HasCoin value m
-      sent_fair from honest place m is = by_output (slice_get among.member.out.outputs place) refl (sym (ap (option_and_then (λ (k : Kept S D). option_and_then message_of (slice_get k.out.outputs place))) among.is) ∙ is)
+      sent_fair from honest place m is = by_output (slice_get among.member.out.outputs place) refl (sym (ap (option_and_then (λ (k : MemberView S D). option_and_then message_of (slice_get k.out.outputs place))) among.is) ∙ is)
         where
-          among : StandsAmong node content outcome members from (cluster.node from.0) (worlds from.0)
+          among : StandsAmong scheme device members from (cluster.node from.0) (worlds from.0)
           among = stand from honest
 
           by_output : (out : Option Output) → slice_get among.member.out.outputs place ≡ out → option_and_then message_of out ≡ Some m → NoForgery cluster worlds m × HasCoin value m
@@ -145,7 +147,7 @@ module _ {S D : Type 0} (content : D → List ℕ) (outcome : D → List ℕ →
               given_fair from.0 honest found.0 found.1 out (is_put_out found.0.outgoing out found.2) m same
 
       module _ (own : Node) (charter : own.charter ≡ cluster.charter) where
-        takes_may : (event : Event) (applied : Applied) (moves : List Move) (before later : Shown S D) → TakesIn own cluster.accepts event applied moves before later
+        takes_may : (event : Event) (applied : Applied) (moves : List Move) (before later : DeskView S D) → TakesIn own cluster.accepts event applied moves before later
             → (fault_of cluster.charter cluster.accepts event ≡ None → IsFair cluster value worlds (accept event)) → MayLead cluster value worlds moves
         takes_may event (Took ticket new) moves before later takes fair =
             let passed : fault_of cluster.charter cluster.accepts event ≡ None = subst (λ c. fault_of c cluster.accepts event ≡ None) charter takes.passed in
@@ -157,7 +159,7 @@ module _ {S D : Type 0} (content : D → List ℕ) (outcome : D → List ℕ →
         takes_may event (Reopened count) moves before later takes fair = absurd takes
 
         -- the moves that are made of a fair move of the cluster
-        pub does_may : (step : moves.Move) (applied : Applied) (world : World) (moves : List Move) (before later : Shown S D) → Does own content outcome cluster.accepts members step applied world moves before later
+        pub does_may : (step : moves.Move) (applied : Applied) (world : World) (moves : List Move) (before later : DeskView S D) → Does own device cluster.accepts members step applied world moves before later
             → ((event : Event) → handed_in cluster members step ≡ Some event → fault_of cluster.charter cluster.accepts event ≡ None → NoneForged cluster members event.message × HasCoin value event.message)
             → MayLead cluster value worlds moves
         does_may (Deliver from output to) applied world moves before later (message, is, takes) fair = by_sender (cluster.honest from.0) refl

@@ -4,27 +4,29 @@ use Rattle.std.specs.Prelude.{◌<◌, length}
 use Rattle.std.proofs.lemmas.Bool.{cases_Bool, cases_eq, true≢false, eqb-true}
 use Rattle.committee.specs.Charter.{Charter, IsCharter}
 use Rattle.spec_world.proofs.Scripts.{leads_join}
-use Rattle.desk.specs.Desk.{Shown}
+use Rattle.desk.specs.Desk.{DeskView}
 use Rattle.header.specs.Checks.{Accepts}
 use Rattle.spec_accord.specs.Accord.{Agree}
 use Rattle.spec_cluster.specs.Agreement.{AreAgreed, Agreement, GaveIt}
 use Rattle.spec_cluster.specs.Cluster.{Cluster, Worlds, Turn, AreMembers, IsReached}
 use Rattle.spec_cluster.specs.Premises.{FewFaulty, NoTwoTexts, Fair}
-use Rattle.spec_model.specs.Histories.{Begins}
+use Rattle.wire.specs.Lists.{Begins}
 use Rattle.spec_model.specs.Nodes.{Node, IsNode}
 use Rattle.spec_model.specs.Words.{Author, Digest}
 use Rattle.spec_world.specs.Steps.{Move, IsRestarted, Leads}
 use Rattle.spec_world.specs.World.{World, run_on}
-use Rattle.validator.specs.Setting.{Setting}
+use Rattle.validator.specs.Setting.{ConfigView, node_of}
 use Rattle.cluster.specs.Answers.{Makes, MakesSome, IsGone}
 use Rattle.cluster.specs.Applying.{Became, moved, moved_some, refused, gone, IsApplied, MovesLead, IsFairMove, StandsAmong, first_world, BeginsAmong, AreInAccord, GivenOrdersAgree}
 use Rattle.cluster.specs.Cluster.{named, at, actor, Does}
-use Rattle.cluster.specs.Member.{Kept, StandsAt, HasPutOut, IsLongest, going_out}
+use Rattle.cluster.specs.Member.{MemberView, StandsAt, HasPutOut, IsLongest, going_out}
 use Rattle.cluster.specs.declared.moves.Applied.{Applied}
 use Rattle.cluster.specs.declared.moves.Move as moves
 use Rattle.cluster.proofs.Fairness.{going_plain, does_may}
 use Rattle.cluster.proofs.InTurn.{ArePlain, MayLead, may_join, reached_more, TurnsTo, turns_to}
 use Rattle.cluster.proofs.Places.{found_passes}
+use Rattle.diskmodel.specs.Disk.{Device}
+use Rattle.sigface.specs.Scheme.{Scheme}
 
 some_is : {T : Type 0} (one other : T) → ◌≡◌ {A = Option T} (Some one) (Some other) → one ≡ other
 some_is one other same = cc
@@ -35,20 +37,20 @@ same_author one other same = λ i. record { 0 = same i }
 none_some : {T : Type 0} (one : T) → ◌≡◌ {A = Option T} None (Some one) → ⊥
 none_some one same = cc
 
-module _ {S D : Type 0} (node : Setting S → Node) (content : D → List ℕ) (outcome : D → List ℕ → Type 0) (cluster : Cluster) (value : ℕ → ℕ) where
+module _ {S D : Type 0} (scheme : Scheme S) (device : Device D) (cluster : Cluster) (value : ℕ → ℕ) where
   -- ---- what a member did
 
   -- a member went on by moves of its world, of which at most the first lets an event in
-  record GoesOn (own : Node) (worlds : Worlds) (world : World) (one other : Kept S D) : Type 0 where
+  record GoesOn (own : Node) (worlds : Worlds) (world : World) (one other : MemberView S D) : Type 0 where
     pub moves : List Move
     pub may : MayLead cluster value worlds moves
     pub to : World
     pub leads : Leads own world moves to
-    pub stands : StandsAt own content outcome to other
+    pub stands : StandsAt own device to other
     pub setting : other.setting ≡ one.setting
 
-  module _ (own : Node) (worlds : Worlds) (Kind : List Move → Shown S D → Shown S D → Type 0) (may : (moves : List Move) (a b : Shown S D) → Kind moves a b → MayLead cluster value worlds moves) (world : World) (one other : Kept S D) where
-    makes_on : Makes own content outcome Kind world one other → GoesOn own worlds world one other
+  module _ (own : Node) (worlds : Worlds) (Kind : List Move → DeskView S D → DeskView S D → Type 0) (may : (moves : List Move) (a b : DeskView S D) → Kind moves a b → MayLead cluster value worlds moves) (world : World) (one other : MemberView S D) where
+    makes_on : Makes own device Kind world one other → GoesOn own worlds world one other
     makes_on is =
         let behind = is.behind in
         let out = going_out is.middle.book.down behind.went in
@@ -61,7 +63,7 @@ module _ {S D : Type 0} (node : Setting S → Node) (content : D → List ℕ) (
           setting = is.setting;
         }
 
-    makes_some_on : MakesSome own content outcome Kind world one other → GoesOn own worlds world one other
+    makes_some_on : MakesSome own device Kind world one other → GoesOn own worlds world one other
     makes_some_on is =
         let behind = is.behind in
         let first : MayLead cluster value worlds is.moved.moves = elim is.moved.does [
@@ -82,7 +84,7 @@ module _ {S D : Type 0} (node : Setting S → Node) (content : D → List ℕ) (
         }
 
   -- a member that is gone
-  gone_on : (own : Node) (worlds : Worlds) (world : World) (one other : Kept S D) → StandsAt own content outcome world one → IsGone one other → GoesOn own worlds world one other
+  gone_on : (own : Node) (worlds : Worlds) (world : World) (one other : MemberView S D) → StandsAt own device world one → IsGone one other → GoesOn own worlds world one other
   gone_on own worlds world one other stands is = record {
     moves = [];
     may = tt;
@@ -101,18 +103,18 @@ module _ {S D : Type 0} (node : Setting S → Node) (content : D → List ℕ) (
   -- ---- where the honest members stand
 
   -- each of them stands among these members at its world, and fair turns led to these worlds
-  pub record AreAt (members : List (Kept S D)) : Type 0 where
+  pub record AreAt (members : List (MemberView S D)) : Type 0 where
     pub worlds : Worlds
     pub turns : List Turn
     pub reached : IsReached cluster (Fair cluster value) turns worlds
-    pub stand : (number : Author) → cluster.honest number.0 ≡ true → StandsAmong node content outcome members number (cluster.node number.0) (worlds number.0)
+    pub stand : (number : Author) → cluster.honest number.0 ≡ true → StandsAmong scheme device members number (cluster.node number.0) (worlds number.0)
 
-  among_also : (before later : List (Kept S D)) (number : Author) (own : Node) (world : World) → at later number ≡ at before number → StandsAmong node content outcome before number own world
-      → StandsAmong node content outcome later number own world
+  among_also : (before later : List (MemberView S D)) (number : Author) (own : Node) (world : World) → at later number ≡ at before number → StandsAmong scheme device before number own world
+      → StandsAmong scheme device later number own world
   among_also before later number own world same among = record { member = among.member; is = same ∙ among.is; set_up = among.set_up; stands = among.stands }
 
   -- a member that isn't honest did something
-  others_on : (before later : List (Kept S D)) (number : Author) → cluster.honest number.0 ≡ false → ((other : Author) → other ≢ number → at later other ≡ at before other) → AreAt before → AreAt later
+  others_on : (before later : List (MemberView S D)) (number : Author) → cluster.honest number.0 ≡ false → ((other : Author) → other ≢ number → at later other ≡ at before other) → AreAt before → AreAt later
   others_on before later number off others are = record {
     worlds = are.worlds;
     turns = are.turns;
@@ -123,80 +125,80 @@ module _ {S D : Type 0} (node : Setting S → Node) (content : D → List ℕ) (
   }
 
   -- an honest one did something, by these turns
-  honest_turned : (before later : List (Kept S D)) (number : Author) (world : World) → StandsAmong node content outcome later number (cluster.node number.0) world
+  honest_turned : (before later : List (MemberView S D)) (number : Author) (world : World) → StandsAmong scheme device later number (cluster.node number.0) world
       → ((other : Author) → other ≢ number → at later other ≡ at before other) → (are : AreAt before) → TurnsTo cluster value number.0 are.worlds world → AreAt later
   honest_turned before later number world stands others are to = record {
     worlds = to.next;
     turns = are.turns ++ to.turns;
     reached = reached_more cluster (Fair cluster value) are.turns to.turns are.worlds to.next are.reached to.leads;
     stand = λ also honest. elim (cases_eq also.0 number.0) [
-      | inl it ↦ subst (λ (a : Author). StandsAmong node content outcome later a (cluster.node a.0) (to.next a.0)) (sym (same_author also number it)) here
+      | inl it ↦ subst (λ (a : Author). StandsAmong scheme device later a (cluster.node a.0) (to.next a.0)) (sym (same_author also number it)) here
       | inr differs ↦
-          subst (λ (w : World). StandsAmong node content outcome later also (cluster.node also.0) w) (sym (to.others also.0 differs))
+          subst (λ (w : World). StandsAmong scheme device later also (cluster.node also.0) w) (sym (to.others also.0 differs))
           (among_also before later also (cluster.node also.0) (are.worlds also.0) (others also (λ it. differs (ap (λ (a : Author). a.0) it))) (are.stand also honest))
     ];
   }
     where
-      here : StandsAmong node content outcome later number (cluster.node number.0) (to.next number.0)
-      here = subst (λ (w : World). StandsAmong node content outcome later number (cluster.node number.0) w) (sym to.own) stands
+      here : StandsAmong scheme device later number (cluster.node number.0) (to.next number.0)
+      here = subst (λ (w : World). StandsAmong scheme device later number (cluster.node number.0) w) (sym to.own) stands
 
   -- and went on
-  honest_on : (before later : List (Kept S D)) (number : Author) → cluster.honest number.0 ≡ true → (one other : Kept S D) → at before number ≡ Some one → at later number ≡ Some other
+  honest_on : (before later : List (MemberView S D)) (number : Author) → cluster.honest number.0 ≡ true → (one other : MemberView S D) → at before number ≡ Some one → at later number ≡ Some other
       → ((other : Author) → other ≢ number → at later other ≡ at before other) → (are : AreAt before)
-      → (node one.setting ≡ cluster.node number.0 → StandsAt (node one.setting) content outcome (are.worlds number.0) one → GoesOn (node one.setting) are.worlds (are.worlds number.0) one other) → AreAt later
+      → (node_of scheme one.setting ≡ cluster.node number.0 → StandsAt (node_of scheme one.setting) device (are.worlds number.0) one → GoesOn (node_of scheme one.setting) are.worlds (are.worlds number.0) one other) → AreAt later
   honest_on before later number honest one other was is others are goes =
       let among = are.stand number honest in
       let same : among.member ≡ one = some_is among.member one (sym among.is ∙ was) in
-      let own : node one.setting ≡ cluster.node number.0 = ap (λ (m : Kept S D). node m.setting) (sym same) ∙ among.set_up in
-      let stood : StandsAt (cluster.node number.0) content outcome (are.worlds number.0) one = subst (λ (m : Kept S D). StandsAt (cluster.node number.0) content outcome (are.worlds number.0) m) same among.stands in
-      let stood_own : StandsAt (node one.setting) content outcome (are.worlds number.0) one = subst (λ (n : Node). StandsAt n content outcome (are.worlds number.0) one) (sym own) stood in
+      let own : node_of scheme one.setting ≡ cluster.node number.0 = ap (λ (m : MemberView S D). node_of scheme m.setting) (sym same) ∙ among.set_up in
+      let stood : StandsAt (cluster.node number.0) device (are.worlds number.0) one = subst (λ (m : MemberView S D). StandsAt (cluster.node number.0) device (are.worlds number.0) m) same among.stands in
+      let stood_own : StandsAt (node_of scheme one.setting) device (are.worlds number.0) one = subst (λ (n : Node). StandsAt n device (are.worlds number.0) one) (sym own) stood in
       went own (goes own stood_own)
     where
-      went : node one.setting ≡ cluster.node number.0 → GoesOn (node one.setting) are.worlds (are.worlds number.0) one other → AreAt later
+      went : node_of scheme one.setting ≡ cluster.node number.0 → GoesOn (node_of scheme one.setting) are.worlds (are.worlds number.0) one other → AreAt later
       went own on =
           honest_turned before later number on.to
-          (record { member = other; is = is; set_up = ap node on.setting ∙ own; stands = subst (λ (n : Node). StandsAt n content outcome on.to other) own on.stands })
+          (record { member = other; is = is; set_up = ap scheme on.setting ∙ own; stands = subst (λ (n : Node). StandsAt n device on.to other) own on.stands })
           others are
           (turns_to cluster value number.0 honest on.moves are.worlds on.to on.may (subst (λ (n : Node). Leads n (are.worlds number.0) on.moves on.to) own on.leads))
 
   module _ (are_members : AreMembers cluster) where
-    module _ (before later : List (Kept S D)) (step : moves.Move) (fair : IsFairMove cluster value before step) (are : AreAt before) where
-      may : cluster.honest (actor step).0 ≡ true → (own : Node) → own ≡ cluster.node (actor step).0 → (answer : Applied) (moves : List Move) (a b : Shown S D)
-          → Does own content outcome cluster.accepts before step answer (are.worlds (actor step).0) moves a b → MayLead cluster value are.worlds moves
+    module _ (before later : List (MemberView S D)) (step : moves.Move) (fair : IsFairMove cluster value before step) (are : AreAt before) where
+      may : cluster.honest (actor step).0 ≡ true → (own : Node) → own ≡ cluster.node (actor step).0 → (answer : Applied) (moves : List Move) (a b : DeskView S D)
+          → Does own device cluster.accepts before step answer (are.worlds (actor step).0) moves a b → MayLead cluster value are.worlds moves
       may honest own same answer moves a b does =
-          does_may content outcome node cluster value are.worlds before are.stand are.turns are_members are.reached own (ap (λ (n : Node). n.charter) same ∙ (are_members (actor step).0 honest).charter) step answer (are.worlds (actor step).0) moves a b does
+          does_may device scheme cluster value are.worlds before are.stand are.turns are_members are.reached own (ap (λ (n : Node). n.charter) same ∙ (are_members (actor step).0 honest).charter) step answer (are.worlds (actor step).0) moves a b does
           (λ event handed passed. fair event handed honest passed)
 
-      honest_became : cluster.honest (actor step).0 ≡ true → ((other : Author) → other ≢ actor step → at later other ≡ at before other) → Became node content outcome cluster.accepts before step later → AreAt later
+      honest_became : cluster.honest (actor step).0 ≡ true → ((other : Author) → other ≢ actor step → at later other ≡ at before other) → Became scheme device cluster.accepts before step later → AreAt later
       honest_became honest others (moved answer is) =
           honest_on before later (actor step) honest is.one is.other is.was is.is others are
           (λ own stands.
-          makes_on (node is.one.setting) are.worlds (Does (node is.one.setting) content outcome cluster.accepts before step answer (are.worlds (actor step).0)) (may honest (node is.one.setting) own answer)
+          makes_on (node_of scheme is.one.setting) are.worlds (Does (node_of scheme is.one.setting) device cluster.accepts before step answer (are.worlds (actor step).0)) (may honest (node_of scheme is.one.setting) own answer)
           (are.worlds (actor step).0) is.one is.other (is.becomes (are.worlds (actor step).0) stands))
       honest_became honest others (moved_some is) =
           honest_on before later (actor step) honest is.one is.other is.was is.is others are
           (λ own stands.
           let some = is.becomes (are.worlds (actor step).0) stands in
-          makes_some_on (node is.one.setting) are.worlds (Does (node is.one.setting) content outcome cluster.accepts before step some.0 (are.worlds (actor step).0)) (may honest (node is.one.setting) own some.0)
+          makes_some_on (node_of scheme is.one.setting) are.worlds (Does (node_of scheme is.one.setting) device cluster.accepts before step some.0 (are.worlds (actor step).0)) (may honest (node_of scheme is.one.setting) own some.0)
           (are.worlds (actor step).0) is.one is.other some.1)
       honest_became honest others (refused same) = subst AreAt (sym same) are
       honest_became honest others (gone stop is) =
           honest_on before later (actor step) honest is.one is.other is.was is.is others are
-          (λ own stands. gone_on (node is.one.setting) are.worlds (are.worlds (actor step).0) is.one is.other stands is.becomes)
+          (λ own stands. gone_on (node_of scheme is.one.setting) are.worlds (are.worlds (actor step).0) is.one is.other stands is.becomes)
 
       -- a fair move was applied
-      step_on : IsApplied node content outcome cluster.accepts before step later → AreAt later
+      step_on : IsApplied scheme device cluster.accepts before step later → AreAt later
       step_on applied = elim (cases_Bool (cluster.honest (actor step).0)) [
         | inl honest ↦ honest_became honest applied.others applied.became
         | inr off ↦ others_on before later (actor step) off applied.others are
       ]
 
     -- and so were these
-    pub leads_on : (steps : List moves.Move) (before later : List (Kept S D)) → MovesLead node content outcome cluster.accepts (IsFairMove cluster value) before steps later → AreAt before → AreAt later
+    pub leads_on : (steps : List moves.Move) (before later : List (MemberView S D)) → MovesLead scheme device cluster.accepts (IsFairMove cluster value) before steps later → AreAt before → AreAt later
     leads_on [] before later same are = subst AreAt same are
     leads_on (step ∷ steps) before later leads are = leads_on steps leads.0 later leads.3 (step_on before leads.0 step leads.1 are leads.2)
 
-  module _ (first : List (Kept S D)) (begin : (number : Author) → cluster.honest number.0 ≡ true → BeginsAmong node content outcome first cluster number) where
+  module _ (first : List (MemberView S D)) (begin : (number : Author) → cluster.honest number.0 ≡ true → BeginsAmong scheme device first cluster number) where
     -- they begin
     pub begin_at : AreAt first
     begin_at = record {
@@ -206,8 +208,8 @@ module _ {S D : Type 0} (node : Setting S → Node) (content : D → List ℕ) (
         first = λ number. first_world (cluster.node number);
         begins = λ number honest.
             let begins = begin (record { 0 = number }) honest in
-            let restarted : IsRestarted (node begins.member.setting) (run_on [] [] []) [] (first_world (node begins.member.setting)) =
-            subst (λ (w : World). IsRestarted (node begins.member.setting) (run_on [] [] []) [] w) begins.runs.leads begins.runs.begins in
+            let restarted : IsRestarted (node_of scheme begins.member.setting) (run_on [] [] []) [] (first_world (node_of scheme begins.member.setting)) =
+            subst (λ (w : World). IsRestarted (node_of scheme begins.member.setting) (run_on [] [] []) [] w) begins.runs.leads begins.runs.begins in
             subst (λ (n : Node). IsRestarted n (run_on [] [] []) [] (first_world n)) begins.set_up restarted;
         leads = refl;
       };
@@ -217,22 +219,22 @@ module _ {S D : Type 0} (node : Setting S → Node) (content : D → List ℕ) (
             member = begins.member;
             is = begins.is;
             set_up = begins.set_up;
-            stands = subst (λ (n : Node). StandsAt n content outcome (first_world n) begins.member) begins.set_up begins.begins;
+            stands = subst (λ (n : Node). StandsAt n device (first_world n) begins.member) begins.set_up begins.begins;
           };
     }
 
     -- each of them is a node of the committee
-    module _ (owns : (setting : Setting S) → (node setting).own ≡ setting.own) (charters : (setting : Setting S) → (node setting).charter ≡ setting.charter) where
+    module _ (owns : (setting : ConfigView S) → (node_of scheme setting).own ≡ setting.own) (charters : (setting : ConfigView S) → (node_of scheme setting).charter ≡ setting.charter) where
       pub members_begin : AreMembers cluster
       members_begin number honest =
           let begins = begin (record { 0 = number }) honest in
           let member = begins.member in
           let is_number : member.setting.own.0 ≡ number = eqb-true member.setting.own.0 number (found_passes (λ member. named (record { 0 = number }) member) first member begins.is) in
-          let own : (node member.setting).own.0 ≡ number = ap (λ (a : Author). a.0) (owns member.setting) ∙ is_number in
-          let charter : (node member.setting).charter ≡ cluster.charter = charters member.setting ∙ begins.charter in
+          let own : (node_of scheme member.setting).own.0 ≡ number = ap (λ (a : Author). a.0) (owns member.setting) ∙ is_number in
+          let charter : (node_of scheme member.setting).charter ≡ cluster.charter = charters member.setting ∙ begins.charter in
           let sound = begins.begins.sound in
           record {
-            within = subst (λ (n : ℕ). n < length cluster.charter.keys) own (subst (λ (c : Charter). (node member.setting).own.0 < length c.keys) charter sound.member);
+            within = subst (λ (n : ℕ). n < length cluster.charter.keys) own (subst (λ (c : Charter). (node_of scheme member.setting).own.0 < length c.keys) charter sound.member);
             number = subst (λ (n : Node). n.own.0 ≡ number) begins.set_up own;
             charter = subst (λ (n : Node). n.charter ≡ cluster.charter) begins.set_up charter;
             is = subst IsNode begins.set_up sound;
@@ -259,7 +261,7 @@ module _ {S D : Type 0} (node : Setting S → Node) (content : D → List ℕ) (
   sound_of : AreMembers cluster → (number : ℕ) → cluster.honest number ≡ true → IsCharter cluster.charter
   sound_of are number honest = let member = are number honest in subst IsCharter member.charter member.is.charter
 
-  pub in_accord : Agreement → AreMembers cluster → FewFaulty cluster → (members : List (Kept S D)) → AreAt members → AreInAccord node content outcome members cluster value
+  pub in_accord : Agreement → AreMembers cluster → FewFaulty cluster → (members : List (MemberView S D)) → AreAt members → AreInAccord scheme device members cluster value
   in_accord agreement are few members at_worlds = record {
     worlds = at_worlds.worlds;
     turns = at_worlds.turns;
@@ -278,18 +280,18 @@ module _ {S D : Type 0} (node : Setting S → Node) (content : D → List ℕ) (
             (agreement cluster value at_worlds.turns at_worlds.worlds (sound_of are member gave.honest) are few at_worlds.reached clash).orders member also one other gave gave';
       }
 
-      given : (number : Author) → cluster.honest number.0 ≡ true → (one : Kept S D) → at members number ≡ Some one → (one.out.order ≡ []) ⊎ GaveIt cluster at_worlds.worlds number.0 one.out.order
+      given : (number : Author) → cluster.honest number.0 ≡ true → (one : MemberView S D) → at members number ≡ Some one → (one.out.order ≡ []) ⊎ GaveIt cluster at_worlds.worlds number.0 one.out.order
       given number honest one is =
           let among = at_worlds.stand number honest in
           let same : among.member ≡ one = some_is among.member one (sym among.is ∙ is) in
-          subst (λ (m : Kept S D). (m.out.order ≡ []) ⊎ GaveIt cluster at_worlds.worlds number.0 m.out.order) same
+          subst (λ (m : MemberView S D). (m.out.order ≡ []) ⊎ GaveIt cluster at_worlds.worlds number.0 m.out.order) same
           (gave at_worlds.worlds number.0 honest among.member.out.order among.stands.out.order)
 
 -- the law
-pub given_orders_agree : {S D : Type 0} (node : Setting S → Node) (content : D → List ℕ) (outcome : D → List ℕ → Type 0) (accepts : Accepts) (members : List (Kept S D))
-    → ((setting : Setting S) → (node setting).own ≡ setting.own) → ((setting : Setting S) → (node setting).charter ≡ setting.charter) → Agreement
-    → GivenOrdersAgree node content outcome accepts members
-given_orders_agree {S} {D} node content outcome accepts members owns charters agreement = λ cluster value first steps same begin few leads.
-    let are = members_begin node content outcome cluster value first begin owns charters in
-    let led = subst (λ (a : Accepts). MovesLead node content outcome a (IsFairMove cluster value) first steps members) (sym same) leads in
-    in_accord node content outcome cluster value agreement are few members (leads_on node content outcome cluster value are steps first members led (begin_at node content outcome cluster value first begin))
+pub given_orders_agree : {S D : Type 0} (scheme : Scheme S) (device : Device D) (accepts : Accepts) (members : List (MemberView S D))
+    → ((setting : ConfigView S) → (node_of scheme setting).own ≡ setting.own) → ((setting : ConfigView S) → (node_of scheme setting).charter ≡ setting.charter) → Agreement
+    → GivenOrdersAgree scheme device accepts members
+given_orders_agree {S} {D} scheme device accepts members owns charters agreement = λ cluster value first steps same begin few leads.
+    let are = members_begin scheme device cluster value first begin owns charters in
+    let led = subst (λ (a : Accepts). MovesLead scheme device a (IsFairMove cluster value) first steps members) (sym same) leads in
+    in_accord scheme device cluster value agreement are few members (leads_on scheme device cluster value are steps first members led (begin_at scheme device cluster value first begin))

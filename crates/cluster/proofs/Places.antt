@@ -10,7 +10,7 @@ use Rattle.std.proofs.lemmas.Option.{slice_get_past, slice_get-get_or, get_or_fr
 use Rattle.desk.specs.Desk as desk
 use Rattle.spec_model.specs.Words.{Author}
 use Rattle.cluster.specs.Cluster.{named, at, has_member, IsThere, MovesOne}
-use Rattle.cluster.specs.Member.{Kept}
+use Rattle.cluster.specs.Member.{MemberView}
 
 -- where the first one stands that passes
 record IsFirst {X : Type 0} (p : X → Bool) (xs : List X) (place : ℕ) : Type 0 where
@@ -51,33 +51,33 @@ pub there_of : {X : Type 0} (p : X → Bool) (xs : List X) (place : ℕ) (x : X)
 there_of p xs place x first is = slice_get-get_or xs place x (first_of p xs place first).within ∙ ap (λ y. Some y) (sym is)
 
 -- a member that is there has a desk
-pub record IsUp {S D : Type 0} (members : List (Kept S D)) (number : Author) : Type 0 where
-  pub one : Kept S D
+pub record IsUp {S D : Type 0} (members : List (MemberView S D)) (number : Author) : Type 0 where
+  pub one : MemberView S D
   pub found : at members number ≡ Some one
-  pub desk : desk.Shown S D
+  pub desk : desk.DeskView S D
   pub has : one.desk ≡ Some desk
 
-pub there_some : {S D : Type 0} (members : List (Kept S D)) (number : Author) → has_member members number ≡ true → IsUp members number
+pub there_some : {S D : Type 0} (members : List (MemberView S D)) (number : Author) → has_member members number ≡ true → IsUp members number
 there_some {S} {D} members number is = by_found (at members number) refl is
   where
-    by_desk : (one : Kept S D) (d : Option (desk.Shown S D)) → at members number ≡ Some one → one.desk ≡ d → is_some d ≡ true → IsUp members number
+    by_desk : (one : MemberView S D) (d : Option (desk.DeskView S D)) → at members number ≡ Some one → one.desk ≡ d → is_some d ≡ true → IsUp members number
     by_desk one None found same so = absurd cc
     by_desk one (Some x) found same so = record { one = one; found = found; desk = x; has = same }
 
-    by_found : (o : Option (Kept S D)) → at members number ≡ o → option_map_or (λ member. is_some member.desk) o false ≡ true → IsUp members number
+    by_found : (o : Option (MemberView S D)) → at members number ≡ o → option_map_or (λ member. is_some member.desk) o false ≡ true → IsUp members number
     by_found None found so = absurd cc
     by_found (Some one) found so = by_desk one one.desk found refl so
 
 -- ---- a member that becomes another one of the same settings
 
-module _ {S D : Type 0} (members : List (Kept S D)) (number : Author) (place : ℕ) (one later : Kept S D) (first : position (λ member. named number member) members ≡ Some place) (there : slice_get members place ≡ Some one) (setting : later.setting ≡ one.setting) where
+module _ {S D : Type 0} (members : List (MemberView S D)) (number : Author) (place : ℕ) (one later : MemberView S D) (first : position (λ member. named number member) members ≡ Some place) (there : slice_get members place ≡ Some one) (setting : later.setting ≡ one.setting) where
   found : at members number ≡ Some one
   found = found_at (λ member. named number member) members place first ∙ there
 
   is_named : named number one ≡ true
   is_named = found_passes (λ member. named number member) members one found
 
-  pub moves_one : (Becomes : Kept S D → Kept S D → Type 0) → Becomes one later → MovesOne Becomes number members (set members place later)
+  pub moves_one : (Becomes : MemberView S D → MemberView S D → Type 0) → Becomes one later → MovesOne Becomes number members (set members place later)
   moves_one Becomes becomes =
       let at_place = first_of (λ member. named number member) members place first in
       record {
@@ -103,10 +103,10 @@ module _ {S D : Type 0} (members : List (Kept S D)) (number : Author) (place : �
   -- all settings stay
   pub settings_stay : map (λ member. member.setting) (set members place later) ≡ map (λ member. member.setting) members
   settings_stay =
-      map-set (λ (m : Kept S D). m.setting) members place later
-      ∙ ap (set (map (λ (m : Kept S D). m.setting) members) place) (setting ∙ ap (λ (m : Kept S D). m.setting) (sym (get_or_from_slice_get members place one one there)))
-      ∙ sym (map-set (λ (m : Kept S D). m.setting) members place (get_or members place one))
-      ∙ ap (map (λ (m : Kept S D). m.setting)) (set-get_or members place one)
+      map-set (λ (m : MemberView S D). m.setting) members place later
+      ∙ ap (set (map (λ (m : MemberView S D). m.setting) members) place) (setting ∙ ap (λ (m : MemberView S D). m.setting) (sym (get_or_from_slice_get members place one one there)))
+      ∙ sym (map-set (λ (m : MemberView S D). m.setting) members place (get_or members place one))
+      ∙ ap (map (λ (m : MemberView S D). m.setting)) (set-get_or members place one)
 
   -- it is there unless it is gone
   pub gone_where : (one.desk ≡ None) ↔ (IsThere members number → ⊥)
@@ -115,11 +115,11 @@ module _ {S D : Type 0} (members : List (Kept S D)) (number : Author) (place : �
       there_is : has_member members number ≡ is_some one.desk
       there_is = ap (λ found. option_map_or (λ member. is_some member.desk) found false) found
 
-      by_desk : (d : Option (desk.Shown S D)) → one.desk ≡ d → (IsThere members number → ⊥) → one.desk ≡ None
+      by_desk : (d : Option (desk.DeskView S D)) → one.desk ≡ d → (IsThere members number → ⊥) → one.desk ≡ None
       by_desk None is never = is
       by_desk (Some x) is never = absurd (never (there_is ∙ ap is_some is))
 
 -- no member of a number is there where there is none
-pub none_there : {S D : Type 0} (members : List (Kept S D)) (number : Author) → position (λ member. named number member) members ≡ None → IsThere members number → ⊥
+pub none_there : {S D : Type 0} (members : List (MemberView S D)) (number : Author) → position (λ member. named number member) members ≡ None → IsThere members number → ⊥
 none_there members number none is =
     true≢false (sym is ∙ ap (λ found. option_map_or (λ member. is_some member.desk) found false) (none_found (λ member. named number member) members none))

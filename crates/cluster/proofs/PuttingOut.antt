@@ -2,7 +2,8 @@
 use Rattle.std.proofs.Common.{◌≡◌, inl, inr, List, [], ◌∷◌, ◌++◌, length, drop, refl, sym, ap, ◌∙◌, subst, append_assoc, append-nil}
 use Rattle.std.specs.Prelude.{Some, Contains}
 use Rattle.std.proofs.lemmas.List.Elements.{Contains-append_left, Contains-push}
-use Rattle.spec_model.specs.Histories.{History, Begins}
+use Rattle.spec_model.specs.Histories.{History}
+use Rattle.wire.specs.Lists.{Begins}
 use Rattle.spec_model.specs.Holdings.{order}
 use Rattle.spec_model.specs.Nodes.{Node, IsNode}
 use Rattle.spec_model.specs.Words.{Digest, Output}
@@ -12,7 +13,7 @@ use Rattle.spec_world.specs.Steps.{Move, with_given, IsRun}
 use Rattle.spec_world.specs.World.{World, put_out, read, Given}
 use Rattle.spec_world.proofs.Lasting.{given_orders_are_settled}
 use Rattle.cluster.specs.Collecting.{IsWhole}
-use Rattle.cluster.specs.Member.{Out, IsLongest, HasPutOut}
+use Rattle.cluster.specs.Member.{GivenOutView, IsLongest, HasPutOut}
 use Rattle.cluster.specs.Outputs.{output_in, outputs_in}
 
 outputs_push : (given : List Given) (one : Given) → outputs_in (given ++ one ∷ []) ≡ outputs_in given ++ output_in one.outgoing
@@ -41,7 +42,7 @@ module _ (node : Node) (moves : List Move) (world : World) (sound : IsNode node)
 
 module _ (node : Node) (moves : List Move) (world next : World) (sound : IsNode node) (run : IsRun node moves next) where
   -- the settled order was read
-  pub read_out : next ≡ with_given world (read (order node (settled_in world))) (settled_in world) → (out later : Out) → HasPutOut node world out → later.outputs ≡ out.outputs
+  pub read_out : next ≡ with_given world (read (order node (settled_in world))) (settled_in world) → (out later : GivenOutView) → HasPutOut node world out → later.outputs ≡ out.outputs
       → later.order ≡ order node (settled_in world) → IsWhole node next later
   read_out same out later was outputs is =
       let digests = order node (settled_in world) in
@@ -62,7 +63,7 @@ module _ (node : Node) (moves : List Move) (world next : World) (sound : IsNode 
       }
 
   -- an output went out behind it
-  pub release_out : (output : Output) (history : History) → next ≡ with_given world (put_out output) history → (out later : Out) → IsWhole node world out
+  pub release_out : (output : Output) (history : History) → next ≡ with_given world (put_out output) history → (out later : GivenOutView) → IsWhole node world out
       → later.outputs ≡ out.outputs ++ output ∷ [] → later.order ≡ out.order → IsWhole node next later
   release_out output history same out later was outputs is =
       let one : Given = record { outgoing = put_out output; history = history } in

@@ -3,7 +3,7 @@ use Rattle.std.proofs.Common.{◌≡◌, ℕ, Bool, true, false, inl, inr, List,
 use Rattle.std.specs.Prelude.{Option, Some, None, Result, Ok, Err, is_ok, OnOk, OnErr, nat_le, if◌then◌else◌}
 use Rattle.std.proofs.lemmas.Bool.{cases_Bool}
 use Rattle.std.proofs.lemmas.List.{map-append}
-use Rattle.book.specs.Book.{Shown, releasable}
+use Rattle.book.specs.Book.{BookView, releasable}
 use Rattle.book.specs.Queue.{settled_head}
 use Rattle.desk.specs.AtWorld.{IsAt, LeadsTo}
 use Rattle.desk.specs.Desk as desk
@@ -15,8 +15,9 @@ use Rattle.spec_world.specs.Lasting.{settled_in}
 use Rattle.spec_world.specs.Steps.{Move, read_order, release, IsStep, Leads}
 use Rattle.spec_world.specs.World.{World, Waiting}
 use Rattle.cluster.specs.Collecting.{IsWhole, HasRead, IsReleasedNext, HasReleased}
-use Rattle.cluster.specs.Member.{Out, HasPutOut, HasKept, HasCollected, HasCollectedSome, going_out}
+use Rattle.cluster.specs.Member.{GivenOutView, HasPutOut, HasKept, HasCollected, HasCollectedSome, going_out}
 use Rattle.cluster.proofs.PuttingOut.{begins_drop, longest_begins, read_out, release_out}
+use Rattle.diskmodel.specs.Disk.{Device}
 
 abbrev outs : List Waiting → List Output
 outs waiting = map (λ one. one.output) waiting
@@ -36,10 +37,10 @@ head_of false settled (first ∷ rest) output is =
       | inr not ↦ (let none : ◌≡◌ {A = Option Output} None (Some output) = rw not at is in absurd cc)
     ]
 
-module _ {S D : Type 0} (node : Node) (content : D → List ℕ) (outcome : D → List ℕ → Type 0) where
+module _ {S D : Type 0} (node : Node) (device : Device D) where
   -- the settled order was read
-  pub has_read : (world : World) (one : desk.Shown S D) (before later : Out) → IsAt node content outcome world one → HasPutOut node world before → LeadsTo node content outcome world (read_order ∷ []) one
-      → later.outputs ≡ before.outputs → later.order ≡ before.order ++ drop (length before.order) (order node (settled_in world)) → HasRead node content outcome world one later
+  pub has_read : (world : World) (one : desk.DeskView S D) (before later : GivenOutView) → IsAt node device world one → HasPutOut node world before → LeadsTo node device world (read_order ∷ []) one
+      → later.outputs ≡ before.outputs → later.order ≡ before.order ++ drop (length before.order) (order node (settled_in world)) → HasRead node device world one later
   has_read world one before later at was to outputs digests = record {
     to = to.next;
     leads = to.leads;
@@ -49,7 +50,7 @@ module _ {S D : Type 0} (node : Node) (content : D → List ℕ) (outcome : D �
   }
 
   -- nothing went out yet
-  pub none_released : (world : World) (one : desk.Shown S D) (out : Out) → IsAt node content outcome world one → IsWhole node world out → HasReleased node content outcome world one one out out
+  pub none_released : (world : World) (one : desk.DeskView S D) (out : GivenOutView) → IsAt node device world one → IsWhole node world out → HasReleased node device world one one out out
   none_released world one out at whole = record {
     went = [];
     kept = record { took = []; queue = refl; outputs = sym (append-nil out.outputs); same = refl };
@@ -60,8 +61,8 @@ module _ {S D : Type 0} (node : Node) (content : D → List ℕ) (outcome : D �
   }
 
   -- and one output more did
-  pub released_more : (world : World) (first middle last : desk.Shown S D) (before between later : Out) → HasReleased node content outcome world first middle before between
-      → IsReleasedNext node content outcome middle last between later → HasReleased node content outcome world first last before later
+  pub released_more : (world : World) (first middle last : desk.DeskView S D) (before between later : GivenOutView) → HasReleased node device world first middle before between
+      → IsReleasedNext node device middle last between later → HasReleased node device world first last before later
   released_more world first middle last before between later so_far more =
       let step = more.step so_far.to so_far.at in
       let to = step.1 in
@@ -84,24 +85,24 @@ module _ {S D : Type 0} (node : Node) (content : D → List ℕ) (outcome : D �
       }
 
   -- the first output of the queue went out
-  pub next_released : (one next : desk.Shown S D) (output : Output) (before later : Out) → releasable one.book ≡ Some output → next.book ≡ record one.book { queue = drop 1 one.book.queue }
+  pub next_released : (one next : desk.DeskView S D) (output : Output) (before later : GivenOutView) → releasable one.book ≡ Some output → next.book ≡ record one.book { queue = drop 1 one.book.queue }
       → later.outputs ≡ before.outputs ++ output ∷ [] → later.order ≡ before.order
-      → ((world : World) → IsAt node content outcome world one → (ticket : ℕ) × LeadsTo node content outcome world (release (record { ticket = ticket; output = output }) ∷ []) next)
-      → IsReleasedNext node content outcome one next before later
+      → ((world : World) → IsAt node device world one → (ticket : ℕ) × LeadsTo node device world (release (record { ticket = ticket; output = output }) ∷ []) next)
+      → IsReleasedNext node device one next before later
   next_released one next output before later may is outputs digests step =
       let head = head_of one.book.down one.book.settled one.book.queue output may in
       record {
         waiting = head.0;
-        queue = head.2 ∙ ap (λ (l : List Waiting). head.0 ∷ l) (sym (ap (λ (b : Shown S). b.queue) is ∙ ap (drop 1) head.2));
+        queue = head.2 ∙ ap (λ (l : List Waiting). head.0 ∷ l) (sym (ap (λ (b : BookView S). b.queue) is ∙ ap (drop 1) head.2));
         outputs = outputs ∙ ap (λ (o : Output). before.outputs ++ o ∷ []) (sym head.3);
         order = digests;
-        step = λ world at. subst (λ (o : Output). (ticket : ℕ) × LeadsTo node content outcome world (release (record { ticket = ticket; output = o }) ∷ []) next) (sym head.3) (step world at);
+        step = λ world at. subst (λ (o : Output). (ticket : ℕ) × LeadsTo node device world (release (record { ticket = ticket; output = o }) ∷ []) next) (sym head.3) (step world at);
       }
 
   -- ---- both
 
   -- a desk that is down gives nothing out
-  pub nothing_collected : (world : World) (one : desk.Shown S D) (out : Out) → one.book.down ≡ true → IsAt node content outcome world one → HasPutOut node world out → HasCollected node content outcome world one one out out
+  pub nothing_collected : (world : World) (one : desk.DeskView S D) (out : GivenOutView) → one.book.down ≡ true → IsAt node device world one → HasPutOut node world out → HasCollected node device world one one out out
   nothing_collected world one out down at was = record {
     went = [];
     kept = record { took = []; queue = refl; outputs = sym (append-nil out.outputs); same = refl };
@@ -113,7 +114,7 @@ module _ {S D : Type 0} (node : Node) (content : D → List ℕ) (outcome : D �
   }
 
   -- memory was refused before anything went out
-  pub none_collected : (world : World) (one : desk.Shown S D) (out : Out) → IsAt node content outcome world one → HasPutOut node world out → HasCollectedSome node content outcome world one one out out
+  pub none_collected : (world : World) (one : desk.DeskView S D) (out : GivenOutView) → IsAt node device world one → HasPutOut node world out → HasCollectedSome node device world one one out out
   none_collected world one out at was = record {
     went = [];
     kept = record { took = []; queue = refl; outputs = sym (append-nil out.outputs); same = refl };
@@ -125,8 +126,8 @@ module _ {S D : Type 0} (node : Node) (content : D → List ℕ) (outcome : D �
     out = was;
   }
 
-  module _ (world : World) (one next : desk.Shown S D) (before between later : Out) (read : HasRead node content outcome world one between) (outputs : between.outputs ≡ before.outputs)
-      (released : HasReleased node content outcome read.to one next between later) where
+  module _ (world : World) (one next : desk.DeskView S D) (before between later : GivenOutView) (read : HasRead node device world one between) (outputs : between.outputs ≡ before.outputs)
+      (released : HasReleased node device read.to one next between later) where
     joined : Leads node world (read_order ∷ map release released.went) released.to
     joined = leads_join node world (read_order ∷ []) (map release released.went) read.to released.to read.leads released.leads
 
@@ -139,7 +140,7 @@ module _ {S D : Type 0} (node : Node) (content : D → List ℕ) (outcome : D �
     }
 
     -- all that may went out
-    pub all_collected : one.book.down ≡ false → releasable next.book ≡ None → HasCollected node content outcome world one next before later
+    pub all_collected : one.book.down ≡ false → releasable next.book ≡ None → HasCollected node device world one next before later
     all_collected up none = record {
       went = released.went;
       kept = kept;
@@ -151,7 +152,7 @@ module _ {S D : Type 0} (node : Node) (content : D → List ℕ) (outcome : D �
     }
 
     -- or some of it
-    pub some_collected : one.book.down ≡ false → HasCollectedSome node content outcome world one next before later
+    pub some_collected : one.book.down ≡ false → HasCollectedSome node device world one next before later
     some_collected up = record {
       went = released.went;
       kept = kept;

@@ -6,7 +6,7 @@ use Rattle.book.specs.OnTheWay.{Flushes, FindsNoRoom, FailsWithRoom}
 use Rattle.book.specs.declared.own.error.FlushError.{FlushError}
 use Rattle.book.specs.declared.own.error.FlushError.TheVariants as errors
 use Rattle.desk.specs.AtWorld.{IsAt, LeadsTo, IsStop}
-use Rattle.desk.specs.Desk.{Shown, IsOpened}
+use Rattle.desk.specs.Desk.{DeskView, IsOpened}
 use Rattle.header.specs.Checks.{Accepts, fault_of}
 use Rattle.header.specs.declared.error.CheckError.{CheckError}
 use Rattle.journal.specs.Journal.{disk_of}
@@ -14,16 +14,17 @@ use Rattle.opening.specs.Told.{told}
 use Rattle.spec_model.specs.Histories.{History}
 use Rattle.spec_model.specs.Nodes.{Node}
 use Rattle.spec_model.specs.Words.{Event}
-use Rattle.spec_model.specs.declared.refusal.Refusal.{Refusal}
-use Rattle.spec_model.specs.declared.refusal.Refusal.TheVariants as refusal
+use Rattle.header.specs.declared.refusal.Refusal.{Refusal}
+use Rattle.header.specs.declared.refusal.Refusal.TheVariants as refusal
 use Rattle.spec_model.specs.Admitting.{admit}
-use Rattle.spec_model.specs.declared.admission.Admission.{Admission}
-use Rattle.spec_model.specs.declared.admission.Admission.TheVariants.{New, Known}
-use Rattle.spec_model.specs.declared.admission.Admission.TheVariants as admission
+use Rattle.header.specs.declared.admission.Admission.{Admission}
+use Rattle.header.specs.declared.admission.Admission.TheVariants.{New, Known}
+use Rattle.header.specs.declared.admission.Admission.TheVariants as admission
 use Rattle.spec_world.specs.Steps.{Move, accept, take_to, device_call, settle, release, read_order, restart, IsAnswered, IsStep, Leads}
 use Rattle.spec_world.specs.World.{World}
 use Rattle.cluster.specs.Answers.{TakesIn, MakesRound, IsDeviceFault, HasMoved}
 use Rattle.cluster.specs.declared.moves.Applied.TheVariants.{Took, Refused, Unchecked, Settled, Fault}
+use Rattle.diskmodel.specs.Disk.{Device}
 
 -- moves by which nothing goes out
 abbrev pub IsQuiet : Move → Type 0
@@ -58,46 +59,46 @@ pub stop_quiet : (world : World) (moves : List Move) → IsStop world moves → 
 stop_quiet world moves (found, inl same) = subst AllQuiet (sym same) (tt, tt)
 stop_quiet world moves (found, inr same) = subst AllQuiet (sym same) (tt, (tt, (tt, (tt, (tt, tt)))))
 
-module _ {S D : Type 0} (node : Node) (content : D → List ℕ) (outcome : D → List ℕ → Type 0) where
+module _ {S D : Type 0} (node : Node) (device : Device D) where
   -- nothing moved
-  pub stays : (Does : List Move → Shown S D → Shown S D → Type 0) (world : World) (before later : Shown S D) → IsAt node content outcome world before → later ≡ before → Does [] before later
-      → HasMoved node content outcome Does world before later
+  pub stays : (Does : List Move → DeskView S D → DeskView S D → Type 0) (world : World) (before later : DeskView S D) → IsAt node device world before → later ≡ before → Does [] before later
+      → HasMoved node device Does world before later
   stays Does world before later at same does = record {
     moves = [];
     does = does;
     to = world;
     leads = refl;
-    at = subst (IsAt node content outcome world) (sym same) at;
+    at = subst (IsAt node device world) (sym same) at;
     quiet = refl;
   }
 
   -- a desk moved
-  pub moved : (Does : List Move → Shown S D → Shown S D → Type 0) (world : World) (moves : List Move) (before later : Shown S D) → AllQuiet moves → LeadsTo node content outcome world moves later → Does moves before later
-      → HasMoved node content outcome Does world before later
+  pub moved : (Does : List Move → DeskView S D → DeskView S D → Type 0) (world : World) (moves : List Move) (before later : DeskView S D) → AllQuiet moves → LeadsTo node device world moves later → Does moves before later
+      → HasMoved node device Does world before later
   moved Does world moves before later quiet to does = record { moves = moves; does = does; to = to.next; leads = to.leads; at = to.is_at; quiet = leads_given node moves world to.next quiet to.leads }
 
-  module _ (accepts : Accepts) (event : Event) (world : World) (before later : Shown S D) (passed : fault_of node.charter accepts event ≡ None) (at : IsAt node content outcome world before) where
+  module _ (accepts : Accepts) (event : Event) (world : World) (before later : DeskView S D) (passed : fault_of node.charter accepts event ≡ None) (at : IsAt node device world before) where
     pub took : before.book.down ≡ false → (ticket : ℕ) (new : Bool) → (new ≡ true → TakesNew node before.book later.book event) → (new ≡ false → TakesKnown node before.book later.book event) → ticket ≡ later.book.accepted
-        → ((w : World) → IsAt node content outcome w before → LeadsTo node content outcome w (accept event ∷ []) later)
-        → HasMoved node content outcome (TakesIn node accepts event (Took ticket new)) world before later
+        → ((w : World) → IsAt node device w before → LeadsTo node device w (accept event ∷ []) later)
+        → HasMoved node device (TakesIn node accepts event (Took ticket new)) world before later
     took up ticket new takes_new takes_known counted step =
         moved (TakesIn node accepts event (Took ticket new)) world (accept event ∷ []) before later (tt, tt) (step world at)
         (record { passed = passed; up = up; takes_new = takes_new; takes_known = takes_known; counted = counted; by = refl })
 
     pub refused : (why : Refusal) → why ≢ refusal.Memory → ((why ≡ refusal.Down) ↔ (before.book.down ≡ true)) → ((run : Run) → Stands node run before.book → MayRefuse node run before.book event why) → later ≡ before
-        → HasMoved node content outcome (TakesIn node accepts event (Refused why)) world before later
+        → HasMoved node device (TakesIn node accepts event (Refused why)) world before later
     refused why not_memory down may same =
         stays (TakesIn node accepts event (Refused why)) world before later at same
         (record { passed = passed; not_memory = not_memory; down = down; may = may; same = same; by = refl })
 
-  pub unchecked : (accepts : Accepts) (event : Event) (world : World) (desk : Shown S D) (error : CheckError) → IsAt node content outcome world desk → fault_of node.charter accepts event ≡ Some error
-      → HasMoved node content outcome (TakesIn node accepts event (Unchecked error)) world desk desk
+  pub unchecked : (accepts : Accepts) (event : Event) (world : World) (desk : DeskView S D) (error : CheckError) → IsAt node device world desk → fault_of node.charter accepts event ≡ Some error
+      → HasMoved node device (TakesIn node accepts event (Unchecked error)) world desk desk
   unchecked accepts event world desk error at fault =
       stays (TakesIn node accepts event (Unchecked error)) world desk desk at refl (record { fault = fault; same = refl; by = refl })
 
   -- ---- a round
 
-  module _ (world : World) (before later : Shown S D) (at : IsAt node content outcome world before) where
+  module _ (world : World) (before later : DeskView S D) (at : IsAt node device world before) where
     some_pending : (first : List ℕ) (rest : List (List ℕ)) → before.book.pending ≡ first ∷ rest → before.book.pending ≢ []
     some_pending first rest is none = some_none (sym is ∙ none)
       where
@@ -105,41 +106,41 @@ module _ {S D : Type 0} (node : Node) (content : D → List ℕ) (outcome : D �
         some_none same = cc
 
     pub settled : before.book.down ≡ false → (count : ℕ) → (before.book.pending ≡ [] → (◌≡◌ {A = Result ℕ FlushError} (Ok count) (Ok 0)) × (later ≡ before))
-        → (before.book.pending ≢ [] → Flushes node before.book later.book (content (disk_of before.journal)) (content (disk_of later.journal)) count)
-        → (before.book.pending ≢ [] → (w : World) → IsAt node content outcome w before
-        → LeadsTo node content outcome w (take_to (length w.settled + count) ∷ device_call ∷ device_call ∷ device_call ∷ device_call ∷ settle ∷ []) later)
-        → HasMoved node content outcome (MakesRound node content world (Settled count)) world before later
+        → (before.book.pending ≢ [] → Flushes node before.book later.book (device.content (disk_of before.journal)) (device.content (disk_of later.journal)) count)
+        → (before.book.pending ≢ [] → (w : World) → IsAt node device w before
+        → LeadsTo node device w (take_to (length w.settled + count) ∷ device_call ∷ device_call ∷ device_call ∷ device_call ∷ settle ∷ []) later)
+        → HasMoved node device (MakesRound node device world (Settled count)) world before later
     settled up count idle flushes steps = by_pending before.book.pending refl
       where
-        by_pending : (pending : List (List ℕ)) → before.book.pending ≡ pending → HasMoved node content outcome (MakesRound node content world (Settled count)) world before later
+        by_pending : (pending : List (List ℕ)) → before.book.pending ≡ pending → HasMoved node device (MakesRound node device world (Settled count)) world before later
         by_pending [] none =
             let same = idle none in
-            stays (MakesRound node content world (Settled count)) world before later at same.1
+            stays (MakesRound node device world (Settled count)) world before later at same.1
             (record { up = up; idle = λ _. (ok_is count 0 same.0, same.1, refl); flushes = flushes; by = λ some. absurd (some none) })
           where
             ok_is : (one other : ℕ) → ◌≡◌ {A = Result ℕ FlushError} (Ok one) (Ok other) → one ≡ other
             ok_is one other so = cc
         by_pending (first ∷ rest) is =
             let some = some_pending first rest is in
-            moved (MakesRound node content world (Settled count)) world (take_to (length world.settled + count) ∷ device_call ∷ device_call ∷ device_call ∷ device_call ∷ settle ∷ []) before later (tt, (tt, (tt, (tt, (tt, (tt, tt)))))) (steps some world at)
+            moved (MakesRound node device world (Settled count)) world (take_to (length world.settled + count) ∷ device_call ∷ device_call ∷ device_call ∷ device_call ∷ settle ∷ []) before later (tt, (tt, (tt, (tt, (tt, (tt, tt)))))) (steps some world at)
             (record { up = up; idle = λ none. absurd (some none); flushes = flushes; by = λ _. refl })
 
     pub fault : (error : FlushError) → ((error ≡ errors.Down) ↔ (before.book.down ≡ true)) → ((error ≡ errors.Down) ⊎ (error ≡ errors.Memory) → later ≡ before)
-        → (error ≡ errors.Full → FindsNoRoom node before.book later.book (content (disk_of before.journal))) → (error ≡ errors.Device → FailsWithRoom node before.book later.book (content (disk_of before.journal)))
-        → ((error ≡ errors.Full) ⊎ (error ≡ errors.Device) → (w : World) → IsAt node content outcome w before → (count : ℕ) × LeadsTo node content outcome w (take_to count ∷ []) later)
-        → HasMoved node content outcome (MakesRound node content world (Fault error)) world before later
+        → (error ≡ errors.Full → FindsNoRoom node before.book later.book (device.content (disk_of before.journal))) → (error ≡ errors.Device → FailsWithRoom node before.book later.book (device.content (disk_of before.journal)))
+        → ((error ≡ errors.Full) ⊎ (error ≡ errors.Device) → (w : World) → IsAt node device w before → (count : ℕ) × LeadsTo node device w (take_to count ∷ []) later)
+        → HasMoved node device (MakesRound node device world (Fault error)) world before later
     fault errors.Memory down unchanged full fails steps =
         let same = unchanged (inr refl) in
-        stays (MakesRound node content world (Fault errors.Memory)) world before later at same
+        stays (MakesRound node device world (Fault errors.Memory)) world before later at same
         (record { was_down = down; unchanged = λ _. (same, refl); taken_down = λ either. absurd (elim either [ inl so ↦ (cc) | inr so ↦ (cc) ]) })
     fault errors.Down down unchanged full fails steps =
         let same = unchanged (inl refl) in
-        stays (MakesRound node content world (Fault errors.Down)) world before later at same
+        stays (MakesRound node device world (Fault errors.Down)) world before later at same
         (record { was_down = down; unchanged = λ _. (same, refl); taken_down = λ either. absurd (elim either [ inl so ↦ (cc) | inr so ↦ (cc) ]) })
     fault errors.Full down unchanged full fails steps =
         let to = steps (inl refl) world at in
         let found = full refl in
-        moved (MakesRound node content world (Fault errors.Full)) world (take_to to.0 ∷ []) before later (tt, tt) to.1
+        moved (MakesRound node device world (Fault errors.Full)) world (take_to to.0 ∷ []) before later (tt, tt) to.1
         (record {
           was_down = down;
           unchanged = λ either. absurd (elim either [ inl so ↦ (cc) | inr so ↦ (cc) ]);
@@ -148,7 +149,7 @@ module _ {S D : Type 0} (node : Node) (content : D → List ℕ) (outcome : D �
     fault errors.Device down unchanged full fails steps =
         let to = steps (inr refl) world at in
         let found = fails refl in
-        moved (MakesRound node content world (Fault errors.Device)) world (take_to to.0 ∷ []) before later (tt, tt) to.1
+        moved (MakesRound node device world (Fault errors.Device)) world (take_to to.0 ∷ []) before later (tt, tt) to.1
         (record {
           was_down = down;
           unchanged = λ either. absurd (elim either [ inl so ↦ (cc) | inr so ↦ (cc) ]);
@@ -156,11 +157,11 @@ module _ {S D : Type 0} (node : Node) (content : D → List ℕ) (outcome : D �
         })
 
   -- what a stop leaves of a desk in its world is told as a history
-  pub left_told : (world : World) (desk : Shown S D) → IsAt node content outcome world desk → (found : List ℕ) → outcome (disk_of desk.journal) found → (history : History) × (told node found ≡ Ok history)
+  pub left_told : (world : World) (desk : DeskView S D) → IsAt node device world desk → (found : List ℕ) → device.outcome (disk_of desk.journal) found → (history : History) × (told node found ≡ Ok history)
   left_told world desk at found may = elim (at.is_of.left found may) [ inl settled ↦ (_, settled) | inr all ↦ (_, all) ]
 
   -- a desk that was opened on bytes that are told as these are
-  pub opened_same : (one other : List ℕ) (desk : Shown S D) → told node other ≡ told node one → IsOpened node content outcome other desk → IsOpened node content outcome one desk
+  pub opened_same : (one other : List ℕ) (desk : DeskView S D) → told node other ≡ told node one → IsOpened node device other desk → IsOpened node device one desk
   opened_same one other desk same opened = record {
     history = opened.history;
     told_first = sym same ∙ opened.told_first;

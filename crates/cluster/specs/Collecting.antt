@@ -7,34 +7,35 @@ use Rattle.spec_model.specs.Nodes.{Node}
 use Rattle.spec_world.specs.Lasting.{settled_in}
 use Rattle.spec_world.specs.Steps.{read_order, release, Leads}
 use Rattle.spec_world.specs.World.{World, Waiting}
-use Rattle.cluster.specs.Member.{Out, HasPutOut, HasKept}
+use Rattle.cluster.specs.Member.{GivenOutView, HasPutOut, HasKept}
+use Rattle.diskmodel.specs.Disk.{Device}
 
 -- that went out, the whole settled order among it
-pub record IsWhole (node : Node) (world : World) (given : Out) : Type 0 where
+pub record IsWhole (node : Node) (world : World) (given : GivenOutView) : Type 0 where
   pub out : HasPutOut node world given
   pub whole : given.order ≡ order node (settled_in world)
 
 -- the settled order was read
-pub record HasRead {S D : Type 0} (node : Node) (content : D → List ℕ) (outcome : D → List ℕ → Type 0) (world : World) (desk : desk.Shown S D) (later : Out) : Type 0 where
+pub record HasRead {S D : Type 0} (node : Node) (device : Device D) (world : World) (desk : desk.DeskView S D) (later : GivenOutView) : Type 0 where
   pub to : World
   pub leads : Leads node world (read_order ∷ []) to
-  pub at : IsAt node content outcome to desk
+  pub at : IsAt node device to desk
   pub whole : IsWhole node to later
 
 -- the first output of a desk's queue went out
-pub record IsReleasedNext {S D : Type 0} (node : Node) (content : D → List ℕ) (outcome : D → List ℕ → Type 0) (desk next : desk.Shown S D) (before later : Out) : Type 0 where
+pub record IsReleasedNext {S D : Type 0} (node : Node) (device : Device D) (desk next : desk.DeskView S D) (before later : GivenOutView) : Type 0 where
   pub waiting : Waiting
   pub queue : desk.book.queue ≡ waiting ∷ next.book.queue
   pub outputs : later.outputs ≡ before.outputs ++ waiting.output ∷ []
   pub order : later.order ≡ before.order
-  pub step : (world : World) → IsAt node content outcome world desk
-      → (ticket : ℕ) × LeadsTo node content outcome world (release (record { ticket = ticket; output = waiting.output }) ∷ []) next
+  pub step : (world : World) → IsAt node device world desk
+      → (ticket : ℕ) × LeadsTo node device world (release (record { ticket = ticket; output = waiting.output }) ∷ []) next
 
 -- and some outputs did, one after the other
-pub record HasReleased {S D : Type 0} (node : Node) (content : D → List ℕ) (outcome : D → List ℕ → Type 0) (world : World) (desk next : desk.Shown S D) (before later : Out) : Type 0 where
+pub record HasReleased {S D : Type 0} (node : Node) (device : Device D) (world : World) (desk next : desk.DeskView S D) (before later : GivenOutView) : Type 0 where
   pub went : List Waiting
   pub kept : HasKept desk next before later went
   pub to : World
   pub leads : Leads node world (map release went) to
-  pub at : IsAt node content outcome to next
+  pub at : IsAt node device to next
   pub whole : IsWhole node to later

@@ -4,7 +4,7 @@ use Rattle.book.specs.Book.{Run, Stands, history_in, releasable}
 use Rattle.desk.specs.AtWorld.{IsAt}
 use Rattle.desk.specs.Desk as desk
 use Rattle.journal.specs.Journal.{disk_of}
-use Rattle.spec_model.specs.Histories.{Begins}
+use Rattle.wire.specs.Lists.{Begins}
 use Rattle.spec_model.specs.Holdings.{order}
 use Rattle.spec_model.specs.Nodes.{Node, IsNode}
 use Rattle.spec_model.specs.Proposing.{propose}
@@ -12,19 +12,20 @@ use Rattle.spec_model.specs.Words.{Digest, Header, Output}
 use Rattle.spec_world.specs.Promise.{order_given}
 use Rattle.spec_world.specs.Steps.{Move, read_order, release, Leads, IsRun}
 use Rattle.spec_world.specs.World.{World, Waiting, Given}
-use Rattle.validator.specs.Setting.{Setting}
+use Rattle.validator.specs.Setting.{ConfigView}
 use Rattle.cluster.specs.Outputs.{outputs_in}
+use Rattle.diskmodel.specs.Disk.{Device}
 
 -- what a member gave out over all its runs: its outputs, oldest first, and the longest order
-pub record Out : Type 0 where
+pub record GivenOutView : Type 0 where
   pub outputs : List Output
   pub order : List Digest
 
 -- what contracts see of a member: what it is set up with, its desk, which is gone once a reopening failed, and what it gave out
-pub record Kept (S D : Type 0) : Type 0 where
-  pub setting : Setting S
-  pub desk : Option (desk.Shown S D)
-  pub out : Out
+pub record MemberView (S D : Type 0) : Type 0 where
+  pub setting : ConfigView S
+  pub desk : Option (desk.DeskView S D)
+  pub out : GivenOutView
 
 -- an order is the longest that was given out in a world: it was given, where any was, and each other one is a beginning of it
 pub record IsLongest (node : Node) (world : World) (digests : List Digest) : Type 0 where
@@ -32,25 +33,25 @@ pub record IsLongest (node : Node) (world : World) (digests : List Digest) : Typ
   pub begins : (one : Given) (other : List Digest) → Contains world.given one → order_given (order node one.history) one.outgoing ≡ Some other → Begins other digests
 
 -- that is what went out in a world
-pub record HasPutOut (node : Node) (world : World) (out : Out) : Type 0 where
+pub record HasPutOut (node : Node) (world : World) (out : GivenOutView) : Type 0 where
   pub outputs : outputs_in world.given ≡ out.outputs
   pub order : IsLongest node world out.order
 
 -- A member stands at a world of its node's runs: its desk is at it, unless it is gone, and what it gave out is what went out there.
-pub record StandsAt {S D : Type 0} (node : Node) (content : D → List ℕ) (outcome : D → List ℕ → Type 0) (world : World) (member : Kept S D) : Type 0 where
+pub record StandsAt {S D : Type 0} (node : Node) (device : Device D) (world : World) (member : MemberView S D) : Type 0 where
   pub sound : IsNode node
   pub moves : List Move
   pub run : IsRun node moves world
-  pub at : (one : desk.Shown S D) → member.desk ≡ Some one → IsAt node content outcome world one
+  pub at : (one : desk.DeskView S D) → member.desk ≡ Some one → IsAt node device world one
   pub out : HasPutOut node world member.out
 
 -- A member was opened on a disk, by what can be told of that: its desk's disk has counted as many failures.
-abbrev pub IsOn : {S D : Type 0} → (D → ℕ) → D → Kept S D → Type 0
-IsOn {S} {D} faults disk member = (one : desk.Shown S D) → member.desk ≡ Some one → faults (disk_of one.journal) ≡ faults disk
+abbrev pub IsOn : {S D : Type 0} → Device D → D → MemberView S D → Type 0
+IsOn {S} {D} device disk member = (one : desk.DeskView S D) → member.desk ≡ Some one → device.faults (disk_of one.journal) ≡ device.faults disk
 
 -- a member proposes a header, or none: what its node proposes behind all that it accepted
-pub record Proposes {S D : Type 0} (node : Node) (member : Kept S D) (found : Option Header) : Type 0 where
-  pub desk : desk.Shown S D
+pub record Proposes {S D : Type 0} (node : Node) (member : MemberView S D) (found : Option Header) : Type 0 where
+  pub desk : desk.DeskView S D
   pub has : member.desk ≡ Some desk
   pub proposes : (run : Run) → Stands node run desk.book → found ≡ propose node (history_in run)
 
@@ -62,29 +63,29 @@ going_out true went = []
 going_out false went = read_order ∷ map release went
 
 -- outputs left a desk's queue, from its head on, and were kept behind the others; these are what went out
-pub record HasKept {S D : Type 0} (desk next : desk.Shown S D) (before later : Out) (went : List Waiting) : Type 0 where
+pub record HasKept {S D : Type 0} (desk next : desk.DeskView S D) (before later : GivenOutView) (went : List Waiting) : Type 0 where
   pub took : List Waiting
   pub queue : desk.book.queue ≡ took ++ next.book.queue
   pub outputs : later.outputs ≡ before.outputs ++ map (λ waiting. waiting.output) took
   pub same : map (λ waiting. waiting.output) went ≡ map (λ waiting. waiting.output) took
 
 -- what may go out went out, and no other output may
-pub record HasCollected {S D : Type 0} (node : Node) (content : D → List ℕ) (outcome : D → List ℕ → Type 0) (world : World) (desk next : desk.Shown S D) (before later : Out) : Type 0 where
+pub record HasCollected {S D : Type 0} (node : Node) (device : Device D) (world : World) (desk next : desk.DeskView S D) (before later : GivenOutView) : Type 0 where
   pub went : List Waiting
   pub kept : HasKept desk next before later went
   pub none_left : releasable next.book ≡ None
   pub to : World
   pub leads : Leads node world (going_out desk.book.down went) to
-  pub at : IsAt node content outcome to next
+  pub at : IsAt node device to next
   pub out : HasPutOut node to later
 
 -- memory was refused before the order was read, or behind some of them
-pub record HasCollectedSome {S D : Type 0} (node : Node) (content : D → List ℕ) (outcome : D → List ℕ → Type 0) (world : World) (desk next : desk.Shown S D) (before later : Out) : Type 0 where
+pub record HasCollectedSome {S D : Type 0} (node : Node) (device : Device D) (world : World) (desk next : desk.DeskView S D) (before later : GivenOutView) : Type 0 where
   pub went : List Waiting
   pub kept : HasKept desk next before later went
   pub moves : List Move
   pub are : (moves ≡ []) ⊎ (moves ≡ going_out desk.book.down went)
   pub to : World
   pub leads : Leads node world moves to
-  pub at : IsAt node content outcome to next
+  pub at : IsAt node device to next
   pub out : HasPutOut node to later

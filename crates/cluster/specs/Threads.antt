@@ -6,12 +6,14 @@ use Rattle.spec_model.specs.Nodes.{Node}
 use Rattle.spec_model.specs.Words.{Author, Event, Output}
 use Rattle.spec_world.specs.Steps.{Move}
 use Rattle.spec_world.specs.World.{World}
-use Rattle.validator.specs.Setting.{Setting}
+use Rattle.validator.specs.Setting.{ConfigView, node_of}
 use Rattle.wire.specs.Outputs.{receiver_of}
 use Rattle.cluster.specs.Answers.{TakesIn, MakesRound, Makes}
-use Rattle.cluster.specs.Member.{Kept, StandsAt}
+use Rattle.cluster.specs.Member.{MemberView, StandsAt}
 use Rattle.cluster.specs.Outputs.{message_of, IsFor}
 use Rattle.cluster.specs.declared.moves.Applied.{Applied}
+use Rattle.diskmodel.specs.Disk.{Device}
+use Rattle.sigface.specs.Scheme.{Scheme}
 
 -- ---- what comes
 
@@ -37,19 +39,19 @@ pub data Act : Type 0 where
   round : Applied → Act
 
 -- what that is to its desk
-abbrev pub DoesAct : {S D : Type 0} → Node → (D → List ℕ) → Accepts → Act → World → List Move → desk.Shown S D → desk.Shown S D → Type 0
-DoesAct node content accepts (take event applied) world moves before later = TakesIn node accepts event applied moves before later
-DoesAct node content accepts (round applied) world moves before later = MakesRound node content world applied moves before later
+abbrev pub DoesAct : {S D : Type 0} → Node → Device D → Accepts → Act → World → List Move → desk.DeskView S D → desk.DeskView S D → Type 0
+DoesAct node device accepts (take event applied) world moves before later = TakesIn node accepts event applied moves before later
+DoesAct node device accepts (round applied) world moves before later = MakesRound node device world applied moves before later
 
 -- a member does that in each world at which it stands, and then all goes out that may
-abbrev pub HasActed : {S D : Type 0} → (Setting S → Node) → (D → List ℕ) → (D → List ℕ → Type 0) → Accepts → Act → Kept S D → Kept S D → Type 0
-HasActed node content outcome accepts act before later = (world : World) → StandsAt (node before.setting) content outcome world before
-    → Makes (node before.setting) content outcome (DoesAct (node before.setting) content accepts act world) world before later
+abbrev pub HasActed : {S D : Type 0} → Scheme S → Device D → Accepts → Act → MemberView S D → MemberView S D → Type 0
+HasActed scheme device accepts act before later = (world : World) → StandsAt (node_of scheme before.setting) device world before
+    → Makes (node_of scheme before.setting) device (DoesAct (node_of scheme before.setting) device accepts act world) world before later
 
 -- it does all of these, the last one first in the list
-abbrev pub HaveActed : {S D : Type 0} → (Setting S → Node) → (D → List ℕ) → (D → List ℕ → Type 0) → Accepts → List Act → Kept S D → Kept S D → Type 0
-HaveActed node content outcome accepts [] before later = later ≡ before
-HaveActed {S} {D} node content outcome accepts (act ∷ acts) before later = (middle : Kept S D) × HaveActed node content outcome accepts acts before middle × HasActed node content outcome accepts act middle later
+abbrev pub HaveActed : {S D : Type 0} → Scheme S → Device D → Accepts → List Act → MemberView S D → MemberView S D → Type 0
+HaveActed scheme device accepts [] before later = later ≡ before
+HaveActed {S} {D} scheme device accepts (act ∷ acts) before later = (middle : MemberView S D) × HaveActed scheme device accepts acts before middle × HasActed scheme device accepts act middle later
 
 -- what a member takes has come to it
 abbrev pub Hears : Author → Act → Type 0
@@ -64,10 +66,10 @@ rounds_in (round applied ∷ acts) = rounds_in acts + 1
 
 -- A member ran in a thread for so many turns: unless it is gone it made a round in each, and beside these it took what had come to it.
 -- Nothing else happened to it, and it did not stop.
-pub record HasRun {S D : Type 0} (node : Setting S → Node) (content : D → List ℕ) (outcome : D → List ℕ → Type 0) (accepts : Accepts) (turns : ℕ) (before later : Kept S D) : Type 0 where
+pub record HasRun {S D : Type 0} (scheme : Scheme S) (device : Device D) (accepts : Accepts) (turns : ℕ) (before later : MemberView S D) : Type 0 where
   pub setting : later.setting ≡ before.setting
   pub there : is_some later.desk ≡ is_some before.desk
   pub acts : List Act
-  pub have : HaveActed node content outcome accepts acts before later
+  pub have : HaveActed scheme device accepts acts before later
   pub heard : All (λ act. Hears before.setting.own act) acts
   pub rounds : rounds_in acts ≡ (if is_some before.desk then turns else 0)

@@ -15,7 +15,7 @@ impl<'a, S: Sign, D: StopDisk, V: Verify> Cluster<'a, S, D, V> {
     /// that honest nodes settled share a digest, of the orders that any two honest nodes gave out one begins the other. The
     /// call does nothing.
     pub fn orders_agree(&self)
-        ensures { GivenOrdersAgree (node_of S.own_key S.signature_of) D.content D.outcome (V.accepts self.now.verifier) self.now.members }
+        ensures { GivenOrdersAgree S.scheme D.device (V.accepts self.now.verifier) self.now.members }
     {
         agreement();
     }

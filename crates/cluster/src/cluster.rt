@@ -36,9 +36,9 @@ impl<'a, S: Sign, D: StopDisk + Drop, V: Verify + Drop> Drop for Cluster<'a, S, 
 impl<'a, S: Sign, D: StopDisk, V: Verify> Model for Cluster<'a, S, D, V> {
     ghost use Rattle.std.specs.Coded.{codes};
     ghost use Rattle.votebook.specs.contracts.book.VoteBook as votes;
-    ghost use Rattle.cluster.specs.Cluster.{Shown};
+    ghost use Rattle.cluster.specs.Cluster.{ClusterView};
 
-    ghost Value = { Shown S D V };
+    ghost Value = { ClusterView S D V };
 
     ghost coded = { Prim.hlevel (codes, S.code, D.code, V.code, votes.the_row.coded) };
 
@@ -55,7 +55,7 @@ impl<'a, S: Sign, D: StopDisk + Drop, V: Verify + Drop> Cluster<'a, S, D, V> {
     ghost use Rattle.validator.specs.Setting.{node_of};
     ghost use Rattle.cluster.specs.Answers.{TakesIn, MakesRound, IsDeviceFault, HasFailed, Stops, Makes, MakesSome, IsJournal, IsJournalFault, IsLost, CountsMore};
     ghost use Rattle.cluster.specs.Applying.{IsApplied};
-    ghost use Rattle.cluster.specs.Member.{Kept, StandsAt, IsOn, Proposes};
+    ghost use Rattle.cluster.specs.Member.{MemberView, StandsAt, IsOn, Proposes};
     ghost use Rattle.cluster.specs.Cluster.{named, at, has_member, message_at, IsThere, Does, Moved, MovedSome, MovesOne, LacksNode, LacksOutput, IsStopOf, AreOfOne, AreDistinct, actor};
     ghost use Rattle.cluster.specs.Threads.{HasRun};
     ghost use Rattle.cluster.specs.declared.moves.Applied.{Applied};
@@ -72,20 +72,20 @@ impl<'a, S: Sign, D: StopDisk + Drop, V: Verify + Drop> Cluster<'a, S, D, V> {
         verifier: V,
     ) -> Result<Cluster<'a, S, D, V>, ClusterError>
         requires many { vec_len disks ≡ length configs.now }
-        requires empty { All (λ disk. D.content disk ≡ []) disks.items }
+        requires empty { All (λ disk. D.device.content disk ≡ []) disks.items }
         requires one_committee { AreOfOne configs.now }
         requires distinct { AreDistinct configs.now }
         ensures settings { IfOk result (λ cluster. map (λ member. member.setting) cluster.members ≡ configs.now) }
         ensures verifier { IfOk result (λ cluster. cluster.verifier ≡ verifier) }
         // Each of them stands where its runs begin, before any move.
-        ensures runs { IfOk result (λ cluster. All (λ member. IsRun (node_of S.own_key S.signature_of member.setting) [] (run_on (first_bytes (node_of S.own_key S.signature_of member.setting)) [] [])) cluster.members) }
-        ensures begins { IfOk result (λ cluster. All (λ member. StandsAt (node_of S.own_key S.signature_of member.setting) D.content D.outcome (run_on (first_bytes (node_of S.own_key S.signature_of member.setting)) [] []) member) cluster.members) }
+        ensures runs { IfOk result (λ cluster. All (λ member. IsRun (node_of S.scheme member.setting) [] (run_on (first_bytes (node_of S.scheme member.setting)) [] [])) cluster.members) }
+        ensures begins { IfOk result (λ cluster. All (λ member. StandsAt (node_of S.scheme member.setting) D.device (run_on (first_bytes (node_of S.scheme member.setting)) [] []) member) cluster.members) }
         ensures up { IfOk result (λ cluster. All (λ member. member.desk ≢ None) cluster.members) }
         // Each has the disk at its place, as far as its count of failures tells.
-        ensures disks { IfOk result (λ cluster. AllZip (IsOn D.faults) disks.items cluster.members) }
+        ensures disks { IfOk result (λ cluster. AllZip (IsOn D.device) disks.items cluster.members) }
         // An empty disk is refused for want of memory or a fault alone, a fault only where one of the disks counted a failure.
         ensures errors { IfErr result (λ error. (error ≡ ClusterError.Memory) ⊎ IsJournalFault error) }
-        ensures device { IsErrOf result (ClusterError.Journal JournalError.Device) → (disk : D) × Contains disks.items disk × CountsMore D.faults disk }
+        ensures device { IsErrOf result (ClusterError.Journal JournalError.Device) → (disk : D) × Contains disks.items disk × CountsMore D.device disk }
     {
         let mut disks = disks;
         let mut members = Vec::new(alloc);
@@ -108,11 +108,11 @@ impl<'a, S: Sign, D: StopDisk + Drop, V: Verify + Drop> Cluster<'a, S, D, V> {
     /// what could not be put out then waits in the node.
     pub fn apply(&mut self, step: Move) -> Result<Applied, ClusterError>
         // The node that moves makes just this move in its world, and what may go out behind it goes out.
-        ensures moves { IfOk result (λ applied. Moved (node_of S.own_key S.signature_of) D.content D.outcome (λ node world. Does node D.content D.outcome (V.accepts self.old.verifier) self.old.members step applied world) (actor step) self.old.members self.new.members) }
+        ensures moves { IfOk result (λ applied. Moved S.scheme D.device (λ node world. Does node D.device (V.accepts self.old.verifier) self.old.members step applied world) (actor step) self.old.members self.new.members) }
         // Whatever it is answered, it is one of the moves over which `orders_agree` speaks.
-        ensures applied { IsApplied (node_of S.own_key S.signature_of) D.content D.outcome (V.accepts self.old.verifier) self.old.members step self.new.members }
+        ensures applied { IsApplied S.scheme D.device (V.accepts self.old.verifier) self.old.members step self.new.members }
         // A round answers Device only where the node's disk counted a failure.
-        ensures device { (node : Author) → step ≡ Flush node → IfOk result (λ applied. IsDeviceFault applied → MovesOne (HasFailed D.faults) node self.old.members self.new.members) }
+        ensures device { (node : Author) → step ≡ Flush node → IfOk result (λ applied. IsDeviceFault applied → MovesOne (HasFailed D.device) node self.old.members self.new.members) }
         // All others are as they were, and what each is set up with stays.
         ensures others { (other : Author) → other ≢ actor step → at self.new.members other ≡ at self.old.members other }
         ensures verifier { self.new.verifier ≡ self.old.verifier }
@@ -122,10 +122,10 @@ impl<'a, S: Sign, D: StopDisk + Drop, V: Verify + Drop> Cluster<'a, S, D, V> {
         ensures no_output { IsErrOf result ClusterError.NoSuchOutput ↔ LacksOutput self.old.members step }
         ensures unchanged { IfErr result (λ error. (error ≡ ClusterError.NoSuchNode) ⊎ (error ≡ ClusterError.NoSuchOutput) → self.new ≡ self.old) }
         // Where memory was refused nothing had happened, or the move was made, and some of what goes out behind it waits.
-        ensures memory { IsErrOf result ClusterError.Memory → MovedSome (node_of S.own_key S.signature_of) D.content D.outcome (λ applied node world. Does node D.content D.outcome (V.accepts self.old.verifier) self.old.members step applied world) (actor step) self.old.members self.new.members }
+        ensures memory { IsErrOf result ClusterError.Memory → MovedSome S.scheme D.device (λ applied node world. Does node D.device (V.accepts self.old.verifier) self.old.members step applied world) (actor step) self.old.members self.new.members }
         // A node that could not be opened behind a stop is gone, for want of memory or a fault of its disk, and what it gave out
         // stays.
-        ensures gone { IfErr result (λ error. IsJournal error → IsStopOf step × MovesOne (λ member. IsLost (node_of S.own_key S.signature_of member.setting) D.content D.outcome D.faults error member) (actor step) self.old.members self.new.members) }
+        ensures gone { IfErr result (λ error. IsJournal error → IsStopOf step × MovesOne (λ member. IsLost (node_of S.scheme member.setting) D.device error member) (actor step) self.old.members self.new.members) }
     {
         match step {
             Move::Deliver { node, output, to } => self.deliver(node, output, to),
@@ -145,7 +145,7 @@ impl<'a, S: Sign, D: StopDisk + Drop, V: Verify + Drop> Cluster<'a, S, D, V> {
     /// # Errors
     /// `NoSuchNode` where there is no such node, or it is gone; `Memory` where a growth was refused.
     pub fn propose(&self, node: Author) -> Result<Option<Header>, ClusterError>
-        ensures ok { IfOk result (λ found. (member : Kept S D) × (at self.now.members node ≡ Some member) × Proposes (node_of S.own_key S.signature_of member.setting) member found) }
+        ensures ok { IfOk result (λ found. (member : MemberView S D) × (at self.now.members node ≡ Some member) × Proposes (node_of S.scheme member.setting) member found) }
         ensures no_node { IsErrOf result ClusterError.NoSuchNode ↔ (IsThere self.now.members node → ⊥) }
         ensures errors { IfErr result (λ error. (error ≡ ClusterError.NoSuchNode) ⊎ (error ≡ ClusterError.Memory)) }
     {
@@ -158,7 +158,7 @@ impl<'a, S: Sign, D: StopDisk + Drop, V: Verify + Drop> Cluster<'a, S, D, V> {
     /// The longest order that a node gave out over all its runs, also where it is gone by now; None where there is no such
     /// node. It takes no memory.
     pub fn given_order(&self, node: Author) -> Option<&[Digest]>
-        ensures some { IfSome result (λ digests. (member : Kept S D) × (at self.now.members node ≡ Some member) × (digests.now ≡ member.out.order)) }
+        ensures some { IfSome result (λ digests. (member : MemberView S D) × (at self.now.members node ≡ Some member) × (digests.now ≡ member.out.order)) }
         ensures none { IsNone result ↔ (at self.now.members node ≡ None) }
     {
         match self.member(node) {
@@ -210,7 +210,7 @@ impl<'a, S: Sign, D: StopDisk + Drop, V: Verify + Drop> Cluster<'a, S, D, V> {
         requires gates { vec_len gates ≡ length self.members }
         // Each node made a round in each turn, took messages that others' outputs are, for it, and did not stop. That anything
         // comes to it, and that its sender put it out, no clause says.
-        ensures ran { IfOk result (λ later. AllZip (HasRun (node_of S.own_key S.signature_of) D.content D.outcome (V.accepts self.entry.verifier) turns) self.entry.members later.members) }
+        ensures ran { IfOk result (λ later. AllZip (HasRun S.scheme D.device (V.accepts self.entry.verifier) turns) self.entry.members later.members) }
         ensures verifier { IfOk result (λ later. later.verifier ≡ self.entry.verifier) }
         ensures errors { IfErr result (λ error. error ≡ ClusterError.Memory) }
     {
@@ -252,14 +252,14 @@ impl<'a, S: Sign, D: StopDisk + Drop, V: Verify + Drop> Cluster<'a, S, D, V> {
     }
 
     fn deliver(&mut self, node: Author, output: u64, to: Author) -> Result<Applied, ClusterError>
-        ensures moves { IfOk result (λ applied. Moved (node_of S.own_key S.signature_of) D.content D.outcome (λ own world. Does own D.content D.outcome (V.accepts self.old.verifier) self.old.members (Deliver node output to) applied world) to self.old.members self.new.members) }
+        ensures moves { IfOk result (λ applied. Moved S.scheme D.device (λ own world. Does own D.device (V.accepts self.old.verifier) self.old.members (Deliver node output to) applied world) to self.old.members self.new.members) }
         ensures others { (other : Author) → other ≢ to → at self.new.members other ≡ at self.old.members other }
         ensures verifier { self.new.verifier ≡ self.old.verifier }
         ensures settings { map (λ member. member.setting) self.new.members ≡ map (λ member. member.setting) self.old.members }
         ensures no_node { IsErrOf result ClusterError.NoSuchNode ↔ LacksNode self.old.members (Deliver node output to) }
         ensures no_output { IsErrOf result ClusterError.NoSuchOutput ↔ LacksOutput self.old.members (Deliver node output to) }
         ensures unchanged { IfErr result (λ error. (error ≡ ClusterError.NoSuchNode) ⊎ (error ≡ ClusterError.NoSuchOutput) → self.new ≡ self.old) }
-        ensures memory { IsErrOf result ClusterError.Memory → MovedSome (node_of S.own_key S.signature_of) D.content D.outcome (λ applied own world. Does own D.content D.outcome (V.accepts self.old.verifier) self.old.members (Deliver node output to) applied world) to self.old.members self.new.members }
+        ensures memory { IsErrOf result ClusterError.Memory → MovedSome S.scheme D.device (λ applied own world. Does own D.device (V.accepts self.old.verifier) self.old.members (Deliver node output to) applied world) to self.old.members self.new.members }
         ensures never { IfErr result (λ error. IsJournal error → ⊥) }
     {
         if !self.is_there(to) {
@@ -294,13 +294,13 @@ impl<'a, S: Sign, D: StopDisk + Drop, V: Verify + Drop> Cluster<'a, S, D, V> {
         sender: Author,
         message: Message,
     ) -> Result<Applied, ClusterError>
-        ensures moves { IfOk result (λ applied. Moved (node_of S.own_key S.signature_of) D.content D.outcome (λ node world. TakesIn node (V.accepts self.old.verifier) (record { sender = sender; message = message }) applied) to self.old.members self.new.members) }
+        ensures moves { IfOk result (λ applied. Moved S.scheme D.device (λ node world. TakesIn node (V.accepts self.old.verifier) (record { sender = sender; message = message }) applied) to self.old.members self.new.members) }
         ensures others { (other : Author) → other ≢ to → at self.new.members other ≡ at self.old.members other }
         ensures verifier { self.new.verifier ≡ self.old.verifier }
         ensures settings { map (λ member. member.setting) self.new.members ≡ map (λ member. member.setting) self.old.members }
         ensures no_node { IsErrOf result ClusterError.NoSuchNode ↔ (IsThere self.old.members to → ⊥) }
         ensures unchanged { IsErrOf result ClusterError.NoSuchNode → self.new ≡ self.old }
-        ensures memory { IsErrOf result ClusterError.Memory → MovedSome (node_of S.own_key S.signature_of) D.content D.outcome (λ applied node world. TakesIn node (V.accepts self.old.verifier) (record { sender = sender; message = message }) applied) to self.old.members self.new.members }
+        ensures memory { IsErrOf result ClusterError.Memory → MovedSome S.scheme D.device (λ applied node world. TakesIn node (V.accepts self.old.verifier) (record { sender = sender; message = message }) applied) to self.old.members self.new.members }
         ensures errors { IfErr result (λ error. (error ≡ ClusterError.NoSuchNode) ⊎ (error ≡ ClusterError.Memory)) }
     {
         match self.place_of(to) {
@@ -310,14 +310,14 @@ impl<'a, S: Sign, D: StopDisk + Drop, V: Verify + Drop> Cluster<'a, S, D, V> {
     }
 
     fn flush(&mut self, node: Author) -> Result<Applied, ClusterError>
-        ensures moves { IfOk result (λ applied. Moved (node_of S.own_key S.signature_of) D.content D.outcome (λ own world. MakesRound own D.content world applied) node self.old.members self.new.members) }
-        ensures device { IfOk result (λ applied. IsDeviceFault applied → MovesOne (HasFailed D.faults) node self.old.members self.new.members) }
+        ensures moves { IfOk result (λ applied. Moved S.scheme D.device (λ own world. MakesRound own D.device world applied) node self.old.members self.new.members) }
+        ensures device { IfOk result (λ applied. IsDeviceFault applied → MovesOne (HasFailed D.device) node self.old.members self.new.members) }
         ensures others { (other : Author) → other ≢ node → at self.new.members other ≡ at self.old.members other }
         ensures verifier { self.new.verifier ≡ self.old.verifier }
         ensures settings { map (λ member. member.setting) self.new.members ≡ map (λ member. member.setting) self.old.members }
         ensures no_node { IsErrOf result ClusterError.NoSuchNode ↔ (IsThere self.old.members node → ⊥) }
         ensures unchanged { IsErrOf result ClusterError.NoSuchNode → self.new ≡ self.old }
-        ensures memory { IsErrOf result ClusterError.Memory → MovedSome (node_of S.own_key S.signature_of) D.content D.outcome (λ applied own world. MakesRound own D.content world applied) node self.old.members self.new.members }
+        ensures memory { IsErrOf result ClusterError.Memory → MovedSome S.scheme D.device (λ applied own world. MakesRound own D.device world applied) node self.old.members self.new.members }
         ensures errors { IfErr result (λ error. (error ≡ ClusterError.NoSuchNode) ⊎ (error ≡ ClusterError.Memory)) }
     {
         match self.place_of(node) {
@@ -327,14 +327,14 @@ impl<'a, S: Sign, D: StopDisk + Drop, V: Verify + Drop> Cluster<'a, S, D, V> {
     }
 
     fn stop(&mut self, node: Author) -> Result<Applied, ClusterError>
-        ensures moves { IfOk result (λ applied. Moved (node_of S.own_key S.signature_of) D.content D.outcome (λ own world. Stops own D.content D.outcome world applied) node self.old.members self.new.members) }
+        ensures moves { IfOk result (λ applied. Moved S.scheme D.device (λ own world. Stops own D.device world applied) node self.old.members self.new.members) }
         ensures others { (other : Author) → other ≢ node → at self.new.members other ≡ at self.old.members other }
         ensures verifier { self.new.verifier ≡ self.old.verifier }
         ensures settings { map (λ member. member.setting) self.new.members ≡ map (λ member. member.setting) self.old.members }
         ensures no_node { IsErrOf result ClusterError.NoSuchNode ↔ (IsThere self.old.members node → ⊥) }
         ensures unchanged { IsErrOf result ClusterError.NoSuchNode → self.new ≡ self.old }
-        ensures memory { IsErrOf result ClusterError.Memory → MovedSome (node_of S.own_key S.signature_of) D.content D.outcome (λ applied own world. Stops own D.content D.outcome world applied) node self.old.members self.new.members }
-        ensures errors { IfErr result (λ error. (error ≡ ClusterError.NoSuchNode) ⊎ ((error ≡ ClusterError.Memory) ⊎ (IsJournal error × MovesOne (λ member. IsLost (node_of S.own_key S.signature_of member.setting) D.content D.outcome D.faults error member) node self.old.members self.new.members))) }
+        ensures memory { IsErrOf result ClusterError.Memory → MovedSome S.scheme D.device (λ applied own world. Stops own D.device world applied) node self.old.members self.new.members }
+        ensures errors { IfErr result (λ error. (error ≡ ClusterError.NoSuchNode) ⊎ ((error ≡ ClusterError.Memory) ⊎ (IsJournal error × MovesOne (λ member. IsLost (node_of S.scheme member.setting) D.device error member) node self.old.members self.new.members))) }
     {
         match self.place_of(node) {
             Some(place) => self.members[place].stop(self.alloc),

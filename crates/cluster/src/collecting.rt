@@ -33,9 +33,9 @@ impl Drop for GivenOut {
 }
 
 impl Model for GivenOut {
-    ghost use Rattle.cluster.specs.Member.{Out};
+    ghost use Rattle.cluster.specs.Member.{GivenOutView};
 
-    ghost Value = { Out };
+    ghost Value = { GivenOutView };
 
     ghost view = { λ given. record { outputs = given.outputs.items; order = given.order.items } };
 }
@@ -85,12 +85,12 @@ pub(crate) fn collect<S: Sign, D: StopDisk>(
 ) -> Result<(), AllocError>
     ensures setting { desk.new.book.validator.setting ≡ desk.old.book.validator.setting }
     ensures journal { desk.new.journal ≡ desk.old.journal }
-    ensures ok { let node = node_of S.own_key S.signature_of desk.old.book.validator.setting in OnOk result ((world : World) → IsAt node D.content D.outcome world desk.old
+    ensures ok { let node = node_of S.scheme desk.old.book.validator.setting in OnOk result ((world : World) → IsAt node D.device world desk.old
         → HasPutOut node world given.old
-        → HasCollected node D.content D.outcome world desk.old desk.new given.old given.new) }
-    ensures err { let node = node_of S.own_key S.signature_of desk.old.book.validator.setting in OnErr result ((world : World) → IsAt node D.content D.outcome world desk.old
+        → HasCollected node D.device world desk.old desk.new given.old given.new) }
+    ensures err { let node = node_of S.scheme desk.old.book.validator.setting in OnErr result ((world : World) → IsAt node D.device world desk.old
         → HasPutOut node world given.old
-        → HasCollectedSome node D.content D.outcome world desk.old desk.new given.old given.new) }
+        → HasCollectedSome node D.device world desk.old desk.new given.old given.new) }
 {
     if desk.is_down() {
         return Ok(());
@@ -105,9 +105,9 @@ fn read_order<S: Sign, D: StopDisk>(
     given: &mut GivenOut,
 ) -> Result<(), AllocError>
     requires up { desk.now.book.down ≡ false }
-    ensures ok { let node = node_of S.own_key S.signature_of desk.now.book.validator.setting in OnOk result ((world : World) → IsAt node D.content D.outcome world desk.now
+    ensures ok { let node = node_of S.scheme desk.now.book.validator.setting in OnOk result ((world : World) → IsAt node D.device world desk.now
         → HasPutOut node world given.old
-        → HasRead node D.content D.outcome world desk.now given.new) }
+        → HasRead node D.device world desk.now given.new) }
     ensures outputs { given.new.outputs ≡ given.old.outputs }
     ensures err { OnErr result (given.new ≡ given.old) }
 {
@@ -124,13 +124,13 @@ fn release_all<S: Sign, D: StopDisk>(
 ) -> Result<(), AllocError>
     ensures setting { desk.new.book.validator.setting ≡ desk.old.book.validator.setting }
     ensures journal { desk.new.journal ≡ desk.old.journal }
-    ensures ok { let node = node_of S.own_key S.signature_of desk.old.book.validator.setting in OnOk result ((world : World) → IsAt node D.content D.outcome world desk.old
+    ensures ok { let node = node_of S.scheme desk.old.book.validator.setting in OnOk result ((world : World) → IsAt node D.device world desk.old
         → IsWhole node world given.old
-        → HasReleased node D.content D.outcome world desk.old desk.new given.old given.new) }
+        → HasReleased node D.device world desk.old desk.new given.old given.new) }
     ensures none_left { OnOk result (releasable desk.new.book ≡ None) }
-    ensures err { let node = node_of S.own_key S.signature_of desk.old.book.validator.setting in OnErr result ((world : World) → IsAt node D.content D.outcome world desk.old
+    ensures err { let node = node_of S.scheme desk.old.book.validator.setting in OnErr result ((world : World) → IsAt node D.device world desk.old
         → IsWhole node world given.old
-        → HasReleased node D.content D.outcome world desk.old desk.new given.old given.new) }
+        → HasReleased node D.device world desk.old desk.new given.old given.new) }
 {
     'releasing: while release_next(desk, given)? {}
     Ok(())
@@ -143,7 +143,7 @@ fn release_next<S: Sign, D: StopDisk>(
 ) -> Result<bool, AllocError>
     ensures setting { desk.new.book.validator.setting ≡ desk.old.book.validator.setting }
     ensures journal { desk.new.journal ≡ desk.old.journal }
-    ensures some { IfOk result (λ more. more ≡ true → IsReleasedNext (node_of S.own_key S.signature_of desk.old.book.validator.setting) D.content D.outcome desk.old desk.new given.old given.new) }
+    ensures some { IfOk result (λ more. more ≡ true → IsReleasedNext (node_of S.scheme desk.old.book.validator.setting) D.device desk.old desk.new given.old given.new) }
     ensures none { IfOk result (λ more. more ≡ false → (releasable desk.old.book ≡ None) × (desk.new ≡ desk.old) × (given.new ≡ given.old)) }
     ensures err { OnErr result ((desk.new ≡ desk.old) × (given.new ≡ given.old)) }
 {

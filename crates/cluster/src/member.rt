@@ -34,16 +34,16 @@ impl<'a, S: Sign, D: StopDisk> Model for Member<'a, S, D> {
     ghost use Rattle.std.specs.Prelude.{◌≡◌, Some};
     ghost use Rattle.std.specs.Coded.{codes};
     ghost use Rattle.votebook.specs.contracts.book.VoteBook as votes;
-    ghost use Rattle.desk.specs.Desk.{Shown};
-    ghost use Rattle.cluster.specs.Member.{Kept};
+    ghost use Rattle.desk.specs.Desk.{DeskView};
+    ghost use Rattle.cluster.specs.Member.{MemberView};
 
-    ghost Value = { Kept S D };
+    ghost Value = { MemberView S D };
 
     ghost coded = { Prim.hlevel (codes, S.code, D.code, votes.the_row.coded) };
 
     ghost view = { λ m. record { setting = m.config.now; desk = m.desk; out = m.given } };
 
-    ghost invariant = { λ m. (desk : Shown S D) → m.desk ≡ Some desk → desk.book.validator.setting ≡ m.config.now };
+    ghost invariant = { λ m. (desk : DeskView S D) → m.desk ≡ Some desk → desk.book.validator.setting ≡ m.config.now };
 }
 
 impl<'a, S: Sign, D: StopDisk> Member<'a, S, D> {
@@ -52,7 +52,7 @@ impl<'a, S: Sign, D: StopDisk> Member<'a, S, D> {
     ghost use Rattle.spec_world.specs.Steps.{IsRun};
     ghost use Rattle.spec_world.specs.World.{World, run_on};
     ghost use Rattle.validator.specs.Setting.{node_of};
-    ghost use Rattle.desk.specs.Desk.{Shown};
+    ghost use Rattle.desk.specs.Desk.{DeskView};
     ghost use Rattle.cluster.specs.Answers.{TakesIn, MakesRound, IsDeviceFault, HasFailed, Stops, Makes, MakesSome, IsJournal, IsJournalFault, IsLost, CountsMore};
     ghost use Rattle.cluster.specs.Member.{StandsAt, IsOn, Proposes};
     ghost use Rattle.cluster.specs.declared.moves.Applied.{Applied};
@@ -70,13 +70,13 @@ impl<'a, S: Sign, D: StopDisk> Member<'a, S, D> {
         D: Drop,
         ensures setting { IfOk result (λ member. member.setting ≡ config.now) }
         // On an empty disk it stands where its runs begin.
-        ensures begins { let node = node_of S.own_key S.signature_of config.now in IfOk result (λ member. D.content disk ≡ [] → StandsAt node D.content D.outcome (run_on (first_bytes node) [] []) member) }
-        ensures runs { IfOk result (λ member. IsRun (node_of S.own_key S.signature_of member.setting) [] (run_on (first_bytes (node_of S.own_key S.signature_of member.setting)) [] [])) }
+        ensures begins { let node = node_of S.scheme config.now in IfOk result (λ member. D.device.content disk ≡ [] → StandsAt node D.device (run_on (first_bytes node) [] []) member) }
+        ensures runs { IfOk result (λ member. IsRun (node_of S.scheme member.setting) [] (run_on (first_bytes (node_of S.scheme member.setting)) [] [])) }
         ensures up { IfOk result (λ member. member.desk ≢ None) }
-        ensures disk { IfOk result (λ member. IsOn D.faults disk member) }
-        ensures errors { IfErr result (λ error. D.content disk ≡ [] → IsJournalFault error) }
+        ensures disk { IfOk result (λ member. IsOn D.device disk member) }
+        ensures errors { IfErr result (λ error. D.device.content disk ≡ [] → IsJournalFault error) }
         ensures journal { IfErr result IsJournal }
-        ensures device { IsErrOf result (ClusterError.Journal JournalError.Device) → CountsMore D.faults disk }
+        ensures device { IsErrOf result (ClusterError.Journal JournalError.Device) → CountsMore D.device disk }
     {
         config.limits_hold();
         config.keys_hold();
@@ -131,7 +131,7 @@ impl<'a, S: Sign, D: StopDisk> Member<'a, S, D> {
     /// # Errors
     /// `NoSuchNode` where it is gone; `Memory` where a growth was refused.
     pub(crate) fn propose(&self) -> Result<Option<Header>, ClusterError>
-        ensures ok { IfOk result (λ found. Proposes (node_of S.own_key S.signature_of self.now.setting) self.now found) }
+        ensures ok { IfOk result (λ found. Proposes (node_of S.scheme self.now.setting) self.now found) }
         ensures gone { IsErrOf result ClusterError.NoSuchNode ↔ (self.now.desk ≡ None) }
         ensures errors { IfErr result (λ error. (error ≡ ClusterError.NoSuchNode) ⊎ (error ≡ ClusterError.Memory)) }
     {
@@ -151,10 +151,10 @@ impl<'a, S: Sign, D: StopDisk> Member<'a, S, D> {
         sender: Author,
         message: Message,
     ) -> Result<Applied, ClusterError>
-        ensures ok { let node = node_of S.own_key S.signature_of self.old.setting in IfOk result (λ applied. (world : World) → StandsAt node D.content D.outcome world self.old
-            → Makes node D.content D.outcome (TakesIn node (V.accepts verifier.now) (record { sender = sender; message = message }) applied) world self.old self.new) }
-        ensures memory { let node = node_of S.own_key S.signature_of self.old.setting in IsErrOf result ClusterError.Memory → (world : World) → StandsAt node D.content D.outcome world self.old
-            → (applied : Applied) × MakesSome node D.content D.outcome (TakesIn node (V.accepts verifier.now) (record { sender = sender; message = message }) applied) world self.old self.new }
+        ensures ok { let node = node_of S.scheme self.old.setting in IfOk result (λ applied. (world : World) → StandsAt node D.device world self.old
+            → Makes node D.device (TakesIn node (V.accepts verifier.now) (record { sender = sender; message = message }) applied) world self.old self.new) }
+        ensures memory { let node = node_of S.scheme self.old.setting in IsErrOf result ClusterError.Memory → (world : World) → StandsAt node D.device world self.old
+            → (applied : Applied) × MakesSome node D.device (TakesIn node (V.accepts verifier.now) (record { sender = sender; message = message }) applied) world self.old self.new }
         ensures gone { IsErrOf result ClusterError.NoSuchNode ↔ (self.old.desk ≡ None) }
         ensures same { IsErrOf result ClusterError.NoSuchNode → self.new ≡ self.old }
         ensures errors { IfErr result (λ error. (error ≡ ClusterError.NoSuchNode) ⊎ (error ≡ ClusterError.Memory)) }
@@ -174,11 +174,11 @@ impl<'a, S: Sign, D: StopDisk> Member<'a, S, D> {
     /// # Errors
     /// `NoSuchNode` where it is gone; `Memory` where a growth was refused behind the round.
     pub(crate) fn flush(&mut self) -> Result<Applied, ClusterError>
-        ensures ok { let node = node_of S.own_key S.signature_of self.old.setting in IfOk result (λ applied. (world : World) → StandsAt node D.content D.outcome world self.old
-            → Makes node D.content D.outcome (MakesRound node D.content world applied) world self.old self.new) }
-        ensures memory { let node = node_of S.own_key S.signature_of self.old.setting in IsErrOf result ClusterError.Memory → (world : World) → StandsAt node D.content D.outcome world self.old
-            → (applied : Applied) × MakesSome node D.content D.outcome (MakesRound node D.content world applied) world self.old self.new }
-        ensures device { IfOk result (λ applied. IsDeviceFault applied → HasFailed D.faults self.old self.new) }
+        ensures ok { let node = node_of S.scheme self.old.setting in IfOk result (λ applied. (world : World) → StandsAt node D.device world self.old
+            → Makes node D.device (MakesRound node D.device world applied) world self.old self.new) }
+        ensures memory { let node = node_of S.scheme self.old.setting in IsErrOf result ClusterError.Memory → (world : World) → StandsAt node D.device world self.old
+            → (applied : Applied) × MakesSome node D.device (MakesRound node D.device world applied) world self.old self.new }
+        ensures device { IfOk result (λ applied. IsDeviceFault applied → HasFailed D.device self.old self.new) }
         ensures gone { IsErrOf result ClusterError.NoSuchNode ↔ (self.old.desk ≡ None) }
         ensures same { IsErrOf result ClusterError.NoSuchNode → self.new ≡ self.old }
         ensures errors { IfErr result (λ error. (error ≡ ClusterError.NoSuchNode) ⊎ (error ≡ ClusterError.Memory)) }
@@ -201,13 +201,13 @@ impl<'a, S: Sign, D: StopDisk> Member<'a, S, D> {
     pub(crate) fn stop(&mut self, alloc: Global) -> Result<Applied, ClusterError>
     where
         D: Drop,
-        ensures ok { let node = node_of S.own_key S.signature_of self.old.setting in IfOk result (λ applied. (world : World) → StandsAt node D.content D.outcome world self.old
-            → Makes node D.content D.outcome (Stops node D.content D.outcome world applied) world self.old self.new) }
-        ensures memory { let node = node_of S.own_key S.signature_of self.old.setting in IsErrOf result ClusterError.Memory → (world : World) → StandsAt node D.content D.outcome world self.old
-            → (applied : Applied) × MakesSome node D.content D.outcome (Stops node D.content D.outcome world applied) world self.old self.new }
+        ensures ok { let node = node_of S.scheme self.old.setting in IfOk result (λ applied. (world : World) → StandsAt node D.device world self.old
+            → Makes node D.device (Stops node D.device world applied) world self.old self.new) }
+        ensures memory { let node = node_of S.scheme self.old.setting in IsErrOf result ClusterError.Memory → (world : World) → StandsAt node D.device world self.old
+            → (applied : Applied) × MakesSome node D.device (Stops node D.device world applied) world self.old self.new }
         ensures gone { IsErrOf result ClusterError.NoSuchNode ↔ (self.old.desk ≡ None) }
         ensures same { IsErrOf result ClusterError.NoSuchNode → self.new ≡ self.old }
-        ensures journal { IfErr result (λ error. (error ≡ ClusterError.NoSuchNode) ⊎ ((error ≡ ClusterError.Memory) ⊎ (IsJournal error × IsLost (node_of S.own_key S.signature_of self.old.setting) D.content D.outcome D.faults error self.old self.new))) }
+        ensures journal { IfErr result (λ error. (error ≡ ClusterError.NoSuchNode) ⊎ ((error ≡ ClusterError.Memory) ⊎ (IsJournal error × IsLost (node_of S.scheme self.old.setting) D.device error self.old self.new))) }
         ensures never { ¬ IsErrOf result ClusterError.NoSuchOutput }
         ensures setting { self.new.setting ≡ self.old.setting }
     {

@@ -38,7 +38,7 @@ where
     ghost use Rattle.validator.specs.Setting.{node_of};
     ghost use Rattle.cluster.specs.Threads.{HasRun};
 
-    ghost ran = { λ shared worker ended. IfOk ended (λ later. HasRun (node_of S.own_key S.signature_of) D.content D.outcome (V.accepts shared.verifier.now) shared.turns worker.member later) };
+    ghost ran = { λ shared worker ended. IfOk ended (λ later. HasRun S.scheme D.device (V.accepts shared.verifier.now) shared.turns worker.member later) };
 
     fn run(&self, worker: Worker<'a, S, D, G>) -> Result<Member<'a, S, D>, AllocError> {
         let Some(inbox) = self.inboxes.get(worker.place()) else {
@@ -68,7 +68,7 @@ where
     V: Verify + Sync,
     G: Gate + Drop + Send,
     requires gates { vec_len gates ≡ vec_len members }
-    ensures { IfOk result (λ later. AllZip (HasRun (node_of S.own_key S.signature_of) D.content D.outcome (V.accepts verifier.now) turns) members.entry.items later.items) }
+    ensures { IfOk result (λ later. AllZip (HasRun S.scheme D.device (V.accepts verifier.now) turns) members.entry.items later.items) }
 {
     let inboxes = inboxes_of(alloc, &members)?;
     let (router, envelopes) = unbounded(alloc)?;

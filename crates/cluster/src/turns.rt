@@ -32,8 +32,8 @@ pub(crate) fn offer<S: Sign, D: StopDisk, V: Verify>(
     sender: Author,
     message: Message,
 ) -> Result<Applied, ClusterError>
-    ensures ok { let node = node_of S.own_key S.signature_of desk.old.book.validator.setting in IfOk result (λ applied. (world : World) → IsAt node D.content D.outcome world desk.old
-        → HasMoved node D.content D.outcome (TakesIn node (V.accepts verifier.now) (record { sender = sender; message = message }) applied) world desk.old desk.new) }
+    ensures ok { let node = node_of S.scheme desk.old.book.validator.setting in IfOk result (λ applied. (world : World) → IsAt node D.device world desk.old
+        → HasMoved node D.device (TakesIn node (V.accepts verifier.now) (record { sender = sender; message = message }) applied) world desk.old desk.new) }
     ensures err { OnErr result (desk.new ≡ desk.old) }
     ensures errors { IfErr result (λ error. error ≡ ClusterError.Memory) }
     ensures setting { desk.new.book.validator.setting ≡ desk.old.book.validator.setting }
@@ -50,9 +50,9 @@ fn hand_in<S: Sign, D: StopDisk>(
     event: Checked,
 ) -> Result<Applied, ClusterError>
     requires passed { fault_of desk.old.book.validator.setting.charter accepts_all event ≡ None }
-    ensures ok { let node = node_of S.own_key S.signature_of desk.old.book.validator.setting in IfOk result (λ applied. (accepts : Accepts) (world : World) → fault_of desk.old.book.validator.setting.charter accepts event ≡ None
-        → IsAt node D.content D.outcome world desk.old
-        → HasMoved node D.content D.outcome (TakesIn node accepts event applied) world desk.old desk.new) }
+    ensures ok { let node = node_of S.scheme desk.old.book.validator.setting in IfOk result (λ applied. (accepts : Accepts) (world : World) → fault_of desk.old.book.validator.setting.charter accepts event ≡ None
+        → IsAt node D.device world desk.old
+        → HasMoved node D.device (TakesIn node accepts event applied) world desk.old desk.new) }
     ensures err { OnErr result (desk.new ≡ desk.old) }
     ensures errors { IfErr result (λ error. error ≡ ClusterError.Memory) }
     ensures setting { desk.new.book.validator.setting ≡ desk.old.book.validator.setting }
@@ -69,10 +69,10 @@ fn hand_in<S: Sign, D: StopDisk>(
 
 /// Lets a desk make one round.
 pub(crate) fn round<S: Sign, D: StopDisk>(desk: &mut Desk<'_, S, D>) -> Applied
-    ensures moved { let node = node_of S.own_key S.signature_of desk.old.book.validator.setting in (world : World) → IsAt node D.content D.outcome world desk.old
-        → HasMoved node D.content D.outcome (MakesRound node D.content world result) world desk.old desk.new }
+    ensures moved { let node = node_of S.scheme desk.old.book.validator.setting in (world : World) → IsAt node D.device world desk.old
+        → HasMoved node D.device (MakesRound node D.device world result) world desk.old desk.new }
     // It answers Device only where the disk counted a failure.
-    ensures device { IsDeviceFault result → D.faults (disk_of desk.old.journal) < D.faults (disk_of desk.new.journal) }
+    ensures device { IsDeviceFault result → D.device.faults (disk_of desk.old.journal) < D.device.faults (disk_of desk.new.journal) }
     ensures setting { desk.new.book.validator.setting ≡ desk.old.book.validator.setting }
 {
     match desk.flush() {
@@ -91,12 +91,12 @@ pub(crate) fn restart<'a, S: Sign, D: StopDisk + Drop>(
     desk: Desk<'a, S, D>,
 ) -> Result<(Desk<'a, S, D>, u64), JournalError>
     ensures setting { IfOk result (λ opened. opened.0.book.validator.setting ≡ config.now) }
-    ensures opened { IfOk result (λ opened. (found : List ℕ) × D.outcome (disk_of desk.entry.journal) found
-        × (is : IsOpened (node_of S.own_key S.signature_of config.now) D.content D.outcome found opened.0) × (opened.1 ≡ length is.history)) }
+    ensures opened { IfOk result (λ opened. (found : List ℕ) × D.device.outcome (disk_of desk.entry.journal) found
+        × (is : IsOpened (node_of S.scheme config.now) D.device found opened.0) × (opened.1 ≡ length is.history)) }
     // It answers Device only where the disk counted a failure.
-    ensures device { IsErrOf result JournalError.Device → CountsMore D.faults (disk_of desk.entry.journal) }
+    ensures device { IsErrOf result JournalError.Device → CountsMore D.device (disk_of desk.entry.journal) }
     // What a stop leaves of a node in its world is refused for want of memory or a fault of the disk alone.
-    ensures refused { IfErr result (λ error. (world : World) → IsAt (node_of S.own_key S.signature_of config.now) D.content D.outcome world desk.entry → IsNoRefusal error) }
+    ensures refused { IfErr result (λ error. (world : World) → IsAt (node_of S.scheme config.now) D.device world desk.entry → IsNoRefusal error) }
 {
     let mut disk = desk.into_disk();
     disk.stop();
@@ -109,11 +109,11 @@ pub(crate) fn restart<'a, S: Sign, D: StopDisk + Drop>(
 
 // How many events a disk's journal has, behind the record of the configuration.
 fn count_events<D: StopDisk + Drop>(alloc: Global, disk: D) -> Result<(u64, D), JournalError>
-    ensures same { IfOk result (λ counted. stands (D.content counted.1) ≡ stands (D.content disk)) }
-    ensures count { IfOk result (λ counted. (node : Node) (history : History) → told node (D.content disk) ≡ Ok history → counted.0 ≡ length history) }
-    ensures refused { IfErr result (λ error. (node : Node) (history : History) → told node (D.content disk) ≡ Ok history → IsNoRefusal error) }
-    ensures device { IsErrOf result JournalError.Device → CountsMore D.faults disk }
-    ensures no_fault { IfOk result (λ counted. D.faults counted.1 ≡ D.faults disk) }
+    ensures same { IfOk result (λ counted. stands (D.device.content counted.1) ≡ stands (D.device.content disk)) }
+    ensures count { IfOk result (λ counted. (node : Node) (history : History) → told node (D.device.content disk) ≡ Ok history → counted.0 ≡ length history) }
+    ensures refused { IfErr result (λ error. (node : Node) (history : History) → told node (D.device.content disk) ≡ Ok history → IsNoRefusal error) }
+    ensures device { IsErrOf result JournalError.Device → CountsMore D.device disk }
+    ensures no_fault { IfOk result (λ counted. D.device.faults counted.1 ≡ D.device.faults disk) }
 {
     match Journal::open(alloc, disk) {
         Ok((journal, records)) => Ok((records.len().saturating_sub(1) as u64, journal.into_disk())),

@@ -72,7 +72,7 @@ impl<'a, S: Sign, D: StopDisk + Drop, G: Gate + Drop> Worker<'a, S, D, G> {
         inbox: &Inbox,
         turns: u64,
     ) -> Result<Member<'a, S, D>, ClusterError>
-        ensures { IfOk result (λ later. HasRun (node_of S.own_key S.signature_of) D.content D.outcome (V.accepts verifier.now) turns self.entry.member later) }
+        ensures { IfOk result (λ later. HasRun S.scheme D.device (V.accepts verifier.now) turns self.entry.member later) }
     {
         'turns: for made in 0..turns {
             self.turn(rt, verifier, inbox)?;
@@ -94,7 +94,7 @@ impl<'a, S: Sign, D: StopDisk + Drop, G: Gate + Drop> Worker<'a, S, D, G> {
         verifier: &V,
         inbox: &Inbox,
     ) -> Result<(), ClusterError>
-        ensures { OnOk result (HasRun (node_of S.own_key S.signature_of) D.content D.outcome (V.accepts verifier.now) 1 self.old.member self.new.member) }
+        ensures { OnOk result (HasRun S.scheme D.device (V.accepts verifier.now) 1 self.old.member self.new.member) }
     {
         self.gate.pass();
         take_all(&mut self.member, verifier, inbox.take(rt))?;
@@ -138,7 +138,7 @@ fn take_all<S: Sign, D: StopDisk, V: Verify>(
     verifier: &V,
     envelopes: Vec<Envelope>,
 ) -> Result<(), ClusterError>
-    ensures { OnOk result (HasRun (node_of S.own_key S.signature_of) D.content D.outcome (V.accepts verifier.now) 0 member.old member.new) }
+    ensures { OnOk result (HasRun S.scheme D.device (V.accepts verifier.now) 0 member.old member.new) }
 {
     'envelopes: for envelope in envelopes {
         take_one(member, verifier, envelope)?;
@@ -152,7 +152,7 @@ fn take_one<S: Sign, D: StopDisk, V: Verify>(
     verifier: &V,
     envelope: Envelope,
 ) -> Result<(), ClusterError>
-    ensures { OnOk result (HasRun (node_of S.own_key S.signature_of) D.content D.outcome (V.accepts verifier.now) 0 member.old member.new) }
+    ensures { OnOk result (HasRun S.scheme D.device (V.accepts verifier.now) 0 member.old member.new) }
 {
     if !member.is_there() {
         return Ok(());
@@ -167,7 +167,7 @@ fn take_one<S: Sign, D: StopDisk, V: Verify>(
 
 // Lets a member make a round. One that is gone makes none.
 fn make_round<S: Sign, D: StopDisk>(member: &mut Member<'_, S, D>) -> Result<(), ClusterError>
-    ensures { OnOk result ((accepts : Accepts) → HasRun (node_of S.own_key S.signature_of) D.content D.outcome accepts 1 member.old member.new) }
+    ensures { OnOk result ((accepts : Accepts) → HasRun S.scheme D.device accepts 1 member.old member.new) }
 {
     if !member.is_there() {
         return Ok(());

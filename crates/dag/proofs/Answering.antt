@@ -7,13 +7,13 @@ use Rattle.spec_model.specs.Holdings.{is_low, all_held}
 use Rattle.spec_model.specs.Slots.{same_digest, certificate_digest}
 use Rattle.spec_model.specs.Words.{Certificate}
 use Rattle.dag.specs.Answer.{held_answer, free_answer, answer}
-use Rattle.dag.specs.Graph.{Graph, slots_in}
+use Rattle.dag.specs.Graph.{DagView, slots_in}
 use Rattle.dag.specs.declared.answers.Added.{Added}
 use Rattle.dag.specs.declared.answers.Added.TheVariants.{New, Known}
 use Rattle.dag.specs.declared.refusal.DagRefusal.{DagRefusal}
 use Rattle.dag.specs.declared.refusal.DagRefusal.TheVariants.{Memory, TooOld, CertConflict, DigestClash, MissingParents}
 
-pub record IsNew (graph : Graph) (c : Certificate) : Type 0 where
+pub record IsNew (graph : DagView) (c : Certificate) : Type 0 where
   pub high : is_low graph.floor c.header.round ≡ false
   pub free : slots_in graph c.header.round c.header.author.0 ≡ None
   pub held : all_held (slots_in graph) graph.floor c.header ≡ true
@@ -31,15 +31,15 @@ parts c false true None is = (refl, refl, refl)
 parts c false false None is = absurd cc
 parts c false all (Some held) is = absurd (never (same_digest (certificate_digest held.header) (certificate_digest c.header)) (same_header held.header c.header) is)
 
-pub is_new : (graph : Graph) (c : Certificate) → answer graph c ≡ Ok New → IsNew graph c
+pub is_new : (graph : DagView) (c : Certificate) → answer graph c ≡ Ok New → IsNew graph c
 is_new graph c is =
     let all = parts c (is_low graph.floor c.header.round) (all_held (slots_in graph) graph.floor c.header) (slots_in graph c.header.round c.header.author.0) is in
     record { high = all.0; free = all.1; held = all.2 }
 
-pub answer_held : (graph : Graph) (c held : Certificate) → is_low graph.floor c.header.round ≡ false → slots_in graph c.header.round c.header.author.0 ≡ Some held → answer graph c ≡ held_answer held c
+pub answer_held : (graph : DagView) (c held : Certificate) → is_low graph.floor c.header.round ≡ false → slots_in graph c.header.round c.header.author.0 ≡ Some held → answer graph c ≡ held_answer held c
 answer_held graph c held high there = rw (high, there) refl
 
-pub answer_free : (graph : Graph) (c : Certificate) → is_low graph.floor c.header.round ≡ false → slots_in graph c.header.round c.header.author.0 ≡ None → answer graph c ≡ free_answer graph c
+pub answer_free : (graph : DagView) (c : Certificate) → is_low graph.floor c.header.round ≡ false → slots_in graph c.header.round c.header.author.0 ≡ None → answer graph c ≡ free_answer graph c
 answer_free graph c high none = rw (high, none) refl
 
 held_or_clash : (digest header : Bool) → ◌≡◌ {A = Result Added DagRefusal} (if not digest then Err CertConflict else if header then Ok Known else Err DigestClash) (Err Memory) → ⊥
@@ -55,5 +55,5 @@ of_none c false false None is = absurd cc
 of_none c false all (Some held) is = held_or_clash (same_digest (certificate_digest held.header) (certificate_digest c.header)) (same_header held.header c.header) is
 
 -- an answer is of no refused growth
-pub never_memory : (graph : Graph) (c : Certificate) → answer graph c ≡ Err Memory → ⊥
+pub never_memory : (graph : DagView) (c : Certificate) → answer graph c ≡ Err Memory → ⊥
 never_memory graph c is = of_none c (is_low graph.floor c.header.round) (all_held (slots_in graph) graph.floor c.header) (slots_in graph c.header.round c.header.author.0) is

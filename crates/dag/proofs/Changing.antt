@@ -13,7 +13,7 @@ use Rattle.spec_model.specs.Holdings.{all_held}
 use Rattle.spec_model.specs.Slots.{Slots}
 use Rattle.spec_laws.proofs.Lists.{given_or_none}
 use Rattle.dag.specs.Changes.{IsMarked}
-use Rattle.dag.specs.Graph.{Graph, slots_in, marked_in}
+use Rattle.dag.specs.Graph.{DagView, slots_in, marked_in}
 use Rattle.dag.specs.Kept.{Rows, entry_at, graph_of, placed_of, has_below, IsKept, IsEntry}
 use Rattle.dag.specs.Rows.{marked, marked_from, marked_row, marked_rows}
 use Rattle.dag.specs.declared.entry.Entry.{Entry}
@@ -206,7 +206,7 @@ carried charter floor base rows later same round author e facts = record {
   parents = λ above other. facts.parents above other ∙ sym (ap (λ (s : Slots). has_below s e.certificate other) same);
 }
 
-remarked : (graph : Graph) (round author : ℕ) (e : Entry) → IsEntry graph round author e → IsEntry graph round author (marked e)
+remarked : (graph : DagView) (round author : ℕ) (e : Entry) → IsEntry graph round author e → IsEntry graph round author (marked e)
 remarked graph round author e facts = record { place = facts.place; digest = facts.digest; held = facts.held; parents = facts.parents }
 
 after_is : (here : Bool) (old e : Entry) (P : Entry → Type 0) → after here (Some old) ≡ Some e → P old → P (marked old) → P e

@@ -18,7 +18,7 @@ use Rattle.spec_laws.proofs.Growing.{any_same}
 use Rattle.spec_laws.proofs.Lists.{given_or_none}
 use Rattle.spec_laws.proofs.Votes.{slot_is}
 use Rattle.dag.specs.Changes.{IsDropped}
-use Rattle.dag.specs.Graph.{Graph, IsGraph, size_in, slots_in, reaches_in}
+use Rattle.dag.specs.Graph.{DagView, IsGraph, size_in, slots_in, reaches_in}
 use Rattle.dag.specs.Kept.{Rows, entry_at, graph_of, placed_of, IsKept, IsEntry}
 use Rattle.dag.specs.declared.entry.Entry.{Entry}
 use Rattle.dag.proofs.Slots.{at_place, at_place-drop, slot_kept, mark_kept}
@@ -158,7 +158,7 @@ seen_from charter floor round base rows higher =
 -- ---- the law
 
 -- certificates from a round on are the same where nothing below it is held any more
-pub agree_above : (before after : Graph) (low : ℕ) → IsGraph before → IsDropped before after low → AgreeFrom low (slots_in before) (slots_in after)
+pub agree_above : (before after : DagView) (low : ℕ) → IsGraph before → IsDropped before after low → AgreeFrom low (slots_in before) (slots_in after)
 agree_above before after low graph dropped =
     let same : (r a : ℕ) → low ≤ r → slots_in before r a ≡ slots_in after r a =
     λ r a least. let above : nat_lt r low ≡ false = grind (arith, least) in sym (dropped.slots r a ∙ rw above refl) in
@@ -173,7 +173,7 @@ agree_above before after low graph dropped =
     }
 
 -- what is still held reaches the same of what is still held
-pub still_reaches : (before after : Graph) (low : ℕ) → IsGraph before → IsDropped before after low → (round author below other : ℕ) → low ≤ below
+pub still_reaches : (before after : DagView) (low : ℕ) → IsGraph before → IsDropped before after low → (round author below other : ℕ) → low ≤ below
     → reaches_in after round author below other ≡ reaches_in before round author below other
 still_reaches before after low graph dropped round author below other least =
     let n = size_in before in

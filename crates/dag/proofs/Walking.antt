@@ -13,7 +13,7 @@ use Rattle.spec_laws.proofs.Growing.{is_in}
 use Rattle.spec_laws.proofs.Lists.{given_or_none, Contains-made}
 use Rattle.spec_laws.proofs.Meeting.{any_to}
 use Rattle.spec_laws.proofs.Votes.{slot_is}
-use Rattle.dag.specs.Graph.{Graph, IsGraph, slots_in, size_in, has_parent_in, reaches_in, is_parent_of}
+use Rattle.dag.specs.Graph.{DagView, IsGraph, slots_in, size_in, has_parent_in, reaches_in, is_parent_of}
 use Rattle.dag.proofs.Paths.{in_round, parent_below, reached_level, reached_self}
 use Rattle.dag.proofs.Tests.{same_test, any_from}
 
@@ -67,14 +67,14 @@ past_on ledger (Some leader) child end inside names past = reaches_on (ordering.
 -- ---- by slots
 
 -- the two certificates of a reference that counts
-pub record HasParent (graph : Graph) (round author below other : ℕ) : Type 0 where
+pub record HasParent (graph : DagView) (round author below other : ℕ) : Type 0 where
   pub child : Certificate
   pub held_child : slots_in graph round author ≡ Some child
   pub parent : Certificate
   pub held_parent : slots_in graph below other ≡ Some parent
   pub names : is_parent parent child ≡ true
 
-pub parent_of : (graph : Graph) (round author below other : ℕ) → has_parent_in graph round author below other ≡ true → HasParent graph round author below other
+pub parent_of : (graph : DagView) (round author below other : ℕ) → has_parent_in graph round author below other ≡ true → HasParent graph round author below other
 parent_of graph round author below other has =
     elim (given_or_none (slots_in graph round author)) [
       | inr none ↦ absurd (true≢false (sym has ∙ ap (λ o. option_map_or (λ child. option_map_or (λ c. is_parent c child) (slots_in graph below other) false) o false) none))
@@ -94,14 +94,14 @@ parent_of graph round author below other has =
     ]
 
 -- the slots of two certificates of which one reaches the other
-pub record Reaches (graph : Graph) (round author below other : ℕ) : Type 0 where
+pub record Reaches (graph : DagView) (round author below other : ℕ) : Type 0 where
   pub start : Certificate
   pub held_start : slots_in graph round author ≡ Some start
   pub end : Certificate
   pub held_end : slots_in graph below other ≡ Some end
   pub path : reaches (size_in graph) (slots_in graph) start end ≡ true
 
-pub reaches_of : (graph : Graph) (round author below other : ℕ) → reaches_in graph round author below other ≡ true → Reaches graph round author below other
+pub reaches_of : (graph : DagView) (round author below other : ℕ) → reaches_in graph round author below other ≡ true → Reaches graph round author below other
 reaches_of graph round author below other does =
     elim (given_or_none (slots_in graph round author)) [
       | inr none ↦ absurd (true≢false (sym does ∙ ap (λ o. option_map_or (λ start. option_map_or (reaches (size_in graph) (slots_in graph) start) (slots_in graph below other) false) o false) none))
@@ -120,20 +120,20 @@ reaches_of graph round author below other does =
           ]
     ]
 
-pub reaches_by : (graph : Graph) (round author below other : ℕ) (start end : Certificate) → slots_in graph round author ≡ Some start → slots_in graph below other ≡ Some end
+pub reaches_by : (graph : DagView) (round author below other : ℕ) (start end : Certificate) → slots_in graph round author ≡ Some start → slots_in graph below other ≡ Some end
     → reaches_in graph round author below other ≡ reaches (size_in graph) (slots_in graph) start end
 reaches_by graph round author below other start end held held' =
     ap (λ o. option_map_or (λ s. option_map_or (reaches (size_in graph) (slots_in graph) s) (slots_in graph below other) false) o false) held
     ∙ ap (λ o. option_map_or (reaches (size_in graph) (slots_in graph) start) o false) held'
 
-pub parent_by : (graph : Graph) (round author below other : ℕ) (child parent : Certificate) → slots_in graph round author ≡ Some child → slots_in graph below other ≡ Some parent
+pub parent_by : (graph : DagView) (round author below other : ℕ) (child parent : Certificate) → slots_in graph round author ≡ Some child → slots_in graph below other ≡ Some parent
     → has_parent_in graph round author below other ≡ is_parent parent child
 parent_by graph round author below other child parent held held' =
     ap (λ o. option_map_or (λ d. option_map_or (λ c. is_parent c d) (slots_in graph below other) false) o false) held
     ∙ ap (λ o. option_map_or (λ c. is_parent c child) o false) held'
 
 -- whom a slot reaches in a round are the parents of those whom it reaches in the round above
-pub one_down : (graph : Graph) → IsGraph graph → (start author round other : ℕ) → round < start
+pub one_down : (graph : DagView) → IsGraph graph → (start author round other : ℕ) → round < start
     → is_parent_of graph (round + 1) round (reaches_in graph start author (round + 1)) other ≡ reaches_in graph start author round other
 one_down graph is start author round other lower =
     let n = size_in graph in
@@ -162,7 +162,7 @@ one_down graph is start author round other lower =
     any_from test (numbers n) over.author over.member (and_from _ _ above has))
 
 -- of its own round a slot reaches itself, if it holds something
-pub own_round : (graph : Graph) → IsGraph graph → (round author : ℕ) → is_some (slots_in graph round author) ≡ true → (other : ℕ) → (other == author) ≡ reaches_in graph round author round other
+pub own_round : (graph : DagView) → IsGraph graph → (round author : ℕ) → is_some (slots_in graph round author) ≡ true → (other : ℕ) → (other == author) ≡ reaches_in graph round author round other
 own_round graph is round author held other =
     same_test (other == author) (reaches_in graph round author round other)
     (λ same. let at : other ≡ author = eqb-true other author same in
@@ -179,12 +179,12 @@ own_round graph is round author held other =
     eq-eqb other author (omega (arith, owner, place.1, place'.1)))
 
 -- an empty slot reaches nothing
-pub none_from : (graph : Graph) (round author below other : ℕ) → slots_in graph round author ≡ None → reaches_in graph round author below other ≡ false
+pub none_from : (graph : DagView) (round author below other : ℕ) → slots_in graph round author ≡ None → reaches_in graph round author below other ≡ false
 none_from graph round author below other none =
     ap (λ o. option_map_or (λ start. option_map_or (reaches (size_in graph) (slots_in graph) start) (slots_in graph below other) false) o false) none
 
 -- a walk of one step more
-pub walked : (graph : Graph) → IsGraph graph → (start author past : ℕ) (above : ℕ → Bool) → past < start → ((other : ℕ) → above other ≡ reaches_in graph start author (start - past) other) → (other : ℕ)
+pub walked : (graph : DagView) → IsGraph graph → (start author past : ℕ) (above : ℕ → Bool) → past < start → ((other : ℕ) → above other ≡ reaches_in graph start author (start - past) other) → (other : ℕ)
     → is_parent_of graph (start - past) ((start - past) - 1) above other ≡ reaches_in graph start author (start - (past + 1)) other
 walked graph is start author past above within so_far other =
     let below : (start - past) - 1 ≡ start - (past + 1) = omega arith in

@@ -5,7 +5,7 @@ use Rattle.spec_model.specs.Admitting.{same_header}
 use Rattle.spec_model.specs.Holdings.{is_low, all_held}
 use Rattle.spec_model.specs.Slots.{same_digest, certificate_digest}
 use Rattle.spec_model.specs.Words.{Certificate}
-use Rattle.dag.specs.Graph.{Graph, slots_in}
+use Rattle.dag.specs.Graph.{DagView, slots_in}
 use Rattle.dag.specs.declared.answers.Added.{Added}
 use Rattle.dag.specs.declared.answers.Added.TheVariants.{New, Known}
 use Rattle.dag.specs.declared.refusal.DagRefusal.{DagRefusal}
@@ -19,10 +19,10 @@ held_answer held certificate =
     else Err DigestClash
 
 -- where it holds nothing
-abbrev pub free_answer : Graph → Certificate → Result Added DagRefusal
+abbrev pub free_answer : DagView → Certificate → Result Added DagRefusal
 free_answer graph certificate = if not (all_held (slots_in graph) graph.floor certificate.header) then Err MissingParents else Ok New
 
-abbrev pub answer : Graph → Certificate → Result Added DagRefusal
+abbrev pub answer : DagView → Certificate → Result Added DagRefusal
 answer graph certificate =
     if is_low graph.floor certificate.header.round then Err TooOld
     else option_map_or (λ held. held_answer held certificate) (slots_in graph certificate.header.round certificate.header.author.0) (free_answer graph certificate)

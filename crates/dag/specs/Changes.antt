@@ -3,11 +3,11 @@ use Rattle.std.specs.Prelude.{◌≡◌, ◌≤◌, ℕ, ◌+◌, ◌==◌, ◌&
 use Rattle.std.specs.Option.{option_or}
 use Rattle.spec_model.specs.Slots.{slots_of}
 use Rattle.spec_model.specs.Words.{Certificate}
-use Rattle.dag.specs.Graph.{Graph, slots_in, marked_in, end_in}
+use Rattle.dag.specs.Graph.{DagView, slots_in, marked_in, end_in}
 
 -- one certificate more is held, in a slot that held nothing, and it has no mark; rows are made up to its round, which is the next
 -- one at most
-pub record IsWith (before after : Graph) (certificate : Certificate) : Type 0 where
+pub record IsWith (before after : DagView) (certificate : Certificate) : Type 0 where
   pub charter : after.charter ≡ before.charter
   pub floor : after.floor ≡ before.floor
   pub base : after.base ≡ before.base
@@ -17,7 +17,7 @@ pub record IsWith (before after : Graph) (certificate : Certificate) : Type 0 wh
   pub near : certificate.header.round ≤ max (end_in before) (before.floor + 1)
 
 -- what these authors' slots of a round hold has a mark
-pub record IsMarked (before after : Graph) (round : ℕ) (authors : ℕ → Bool) : Type 0 where
+pub record IsMarked (before after : DagView) (round : ℕ) (authors : ℕ → Bool) : Type 0 where
   pub charter : after.charter ≡ before.charter
   pub floor : after.floor ≡ before.floor
   pub base : after.base ≡ before.base
@@ -26,7 +26,7 @@ pub record IsMarked (before after : Graph) (round : ℕ) (authors : ℕ → Bool
   pub end : end_in after ≡ end_in before
 
 -- nothing below a round is held
-pub record IsDropped (before after : Graph) (round : ℕ) : Type 0 where
+pub record IsDropped (before after : DagView) (round : ℕ) : Type 0 where
   pub charter : after.charter ≡ before.charter
   pub floor : after.floor ≡ max before.floor round
   pub base : after.base ≡ before.base

@@ -15,14 +15,14 @@ pub record Placed : Type 0 where
 
 -- a DAG: the committee, the lowest round that is kept, the round of the last committed leader, or 1 where there is none, and
 -- of each round from the floor up to the last that ever held a certificate what its members' slots hold
-pub record Graph : Type 0 where
+pub record DagView : Type 0 where
   pub charter : Charter
   pub floor : ℕ
   pub base : ℕ
   pub rounds : List (List (Option Placed))
 
 -- how many members the committee has
-abbrev pub size_in : Graph → ℕ
+abbrev pub size_in : DagView → ℕ
 size_in graph = length graph.charter.keys
 
 -- what rows that begin with a round have at a round and author
@@ -31,59 +31,59 @@ row_at floor rounds round author =
     if nat_le floor round then option_and_then (λ row. option_and_then (λ held. held) (slice_get row author)) (slice_get rounds (round - floor)) else None
 
 -- what a slot holds, with its mark
-abbrev pub placed_at : Graph → ℕ → ℕ → Option Placed
+abbrev pub placed_at : DagView → ℕ → ℕ → Option Placed
 placed_at graph round author = row_at graph.floor graph.rounds round author
 
 -- what each slot holds
-abbrev pub slots_in : Graph → Slots
+abbrev pub slots_in : DagView → Slots
 slots_in graph round author = option_map (λ placed. placed.certificate) (placed_at graph round author)
 
 -- the certificate of a slot is marked
-abbrev pub marked_in : Graph → ℕ → ℕ → Bool
+abbrev pub marked_in : DagView → ℕ → ℕ → Bool
 marked_in graph round author = option_map_or (λ placed. placed.marked) (placed_at graph round author) false
 
 -- the round after the last that has a row
-abbrev pub end_in : Graph → ℕ
+abbrev pub end_in : DagView → ℕ
 end_in graph = graph.floor + length graph.rounds
 
 -- how many certificates of a round are held
-abbrev pub count_in : Graph → ℕ → ℕ
+abbrev pub count_in : DagView → ℕ → ℕ
 count_in graph round = option_map_or (λ row. count_by is_some row) (if nat_le graph.floor round then slice_get graph.rounds (round - graph.floor) else None) 0
 
 -- what the authors weigh who have certificates of a round
-abbrev pub stake_in : Graph → ℕ → ℕ
+abbrev pub stake_in : DagView → ℕ → ℕ
 stake_in graph round = weight graph.charter (λ author. is_some (slots_in graph round author))
 
 -- the digest of what a slot holds
-abbrev pub digest_in : Graph → ℕ → ℕ → Option Digest
+abbrev pub digest_in : DagView → ℕ → ℕ → Option Digest
 digest_in graph round author = option_map (λ c. certificate_digest c.header) (slots_in graph round author)
 
 -- the parent that the certificate of a slot names at a place, by its author and digest
-abbrev pub parent_in : Graph → ℕ → ℕ → ℕ → Option (Author × Digest)
+abbrev pub parent_in : DagView → ℕ → ℕ → ℕ → Option (Author × Digest)
 parent_in graph round author place =
     option_and_then (λ c. option_map (λ (parent : ParentReference). (parent.author, parent.certificate)) (slice_get c.header.parents place)) (slots_in graph round author)
 
 -- what is held in a slot has what another one holds as a parent
-abbrev pub has_parent_in : Graph → ℕ → ℕ → ℕ → ℕ → Bool
+abbrev pub has_parent_in : DagView → ℕ → ℕ → ℕ → ℕ → Bool
 has_parent_in graph round author below parent =
     option_map_or (λ child. option_map_or (λ c. is_parent c child) (slots_in graph below parent) false) (slots_in graph round author) false
 
 -- what is held in a slot reaches what another one holds
-abbrev pub reaches_in : Graph → ℕ → ℕ → ℕ → ℕ → Bool
+abbrev pub reaches_in : DagView → ℕ → ℕ → ℕ → ℕ → Bool
 reaches_in graph round author below other =
     option_map_or (λ start. option_map_or (reaches (size_in graph) (slots_in graph) start) (slots_in graph below other) false) (slots_in graph round author) false
 
 -- what slots of a round hold, whose authors pass, has what a slot of the round below holds as a parent
-abbrev pub is_parent_of : Graph → ℕ → ℕ → (ℕ → Bool) → ℕ → Bool
+abbrev pub is_parent_of : DagView → ℕ → ℕ → (ℕ → Bool) → ℕ → Bool
 is_parent_of graph round below passes other =
     list_any (λ author. passes author && has_parent_in graph round author below other) (numbers (size_in graph))
 
 -- how many references to parents the certificate of a slot names
-abbrev pub references_at : Graph → ℕ → ℕ → ℕ
+abbrev pub references_at : DagView → ℕ → ℕ → ℕ
 references_at graph round author = option_map_or (λ c. length c.header.parents) (slots_in graph round author) 0
 
 -- how many references those of a round name whose authors pass
-abbrev pub references_of : Graph → ℕ → (ℕ → Bool) → ℕ
+abbrev pub references_of : DagView → ℕ → (ℕ → Bool) → ℕ
 references_of graph round passes = sum_by (λ author. cond (passes author) (references_at graph round author) 0) (numbers (size_in graph))
 
 -- ---- what holds of each DAG
@@ -91,7 +91,7 @@ references_of graph round passes = sum_by (λ author. cond (passes author) (refe
 -- its committee is one, the floor is below the round of the last committed leader, no row is past the greatest round and each has
 -- a slot for each member; the certificates are of their slots and of members, none lies below the floor, and the parents of
 -- each are held
-pub record IsGraph (graph : Graph) : Type 0 where
+pub record IsGraph (graph : DagView) : Type 0 where
   pub charter : IsCharter graph.charter
   pub low : graph.floor < graph.base
   pub within : graph.base ≤ MAX

@@ -6,7 +6,7 @@ use Rattle.committee.specs.Charter.{Charter, IsCharter}
 use Rattle.spec_model.specs.Holdings.{all_held}
 use Rattle.spec_model.specs.Slots.{Slots, certificate_digest, is_of_slot, is_parent}
 use Rattle.spec_model.specs.Words.{Certificate}
-use Rattle.dag.specs.Graph.{Graph, Placed, row_at, slots_in}
+use Rattle.dag.specs.Graph.{DagView, Placed, row_at, slots_in}
 use Rattle.committee.specs.Sets.{has}
 use Rattle.dag.specs.declared.entry.Entry.{Entry}
 
@@ -22,7 +22,7 @@ abbrev pub placed_of : Entry → Placed
 placed_of entry = record { certificate = entry.certificate; marked = entry.marked }
 
 -- what contracts see of what is kept
-abbrev pub graph_of : Charter → ℕ → ℕ → Rows → Graph
+abbrev pub graph_of : Charter → ℕ → ℕ → Rows → DagView
 graph_of charter floor base rows =
     record { charter = charter; floor = floor; base = base; rounds = map (λ row. map (option_map placed_of) row) rows }
 
@@ -32,7 +32,7 @@ has_below slots certificate author = option_map_or (λ c. is_parent c certificat
 
 -- what is kept of a slot: a certificate of it with its digest, whose parents are held, and above the floor the set of those whose
 -- certificates it has as parents
-pub record IsEntry (graph : Graph) (round author : ℕ) (entry : Entry) : Type 0 where
+pub record IsEntry (graph : DagView) (round author : ℕ) (entry : Entry) : Type 0 where
   pub place : is_of_slot round author entry.certificate.header ≡ true
   pub digest : entry.digest ≡ certificate_digest entry.certificate.header
   pub held : all_held (slots_in graph) graph.floor entry.certificate.header ≡ true

@@ -4,16 +4,16 @@ use Rattle.spec_model.specs.Admitting.{certificate_answer, order_outputs}
 use Rattle.spec_model.specs.Nodes.{Node}
 use Rattle.spec_model.specs.States.{State, floor_in}
 use Rattle.spec_model.specs.Words.{Certificate}
-use Rattle.spec_model.specs.declared.admission.Admission.TheVariants as admission
-use Rattle.spec_model.specs.declared.refusal.Refusal.TheVariants as refusal
+use Rattle.header.specs.declared.admission.Admission.TheVariants as admission
+use Rattle.header.specs.declared.refusal.Refusal.TheVariants as refusal
 use Rattle.dag.specs.Answer.{answer}
 use Rattle.dag.specs.Changes.{IsWith, IsDropped}
-use Rattle.dag.specs.Graph.{Graph, IsGraph, size_in, slots_in, reaches_in}
+use Rattle.dag.specs.Graph.{DagView, IsGraph, size_in, slots_in, reaches_in}
 use Rattle.dag.specs.declared.answers.Added.TheVariants.{New, Known}
 use Rattle.dag.specs.declared.refusal.DagRefusal.TheVariants.{TooOld, CertConflict, DigestClash, MissingParents}
 
 -- a node's state answers a certificate as a DAG does
-pub record AnswersAlike (node : Node) (now later : State) (graph : Graph) (certificate : Certificate) : Type 0 where
+pub record AnswersAlike (node : Node) (now later : State) (graph : DagView) (certificate : Certificate) : Type 0 where
   pub new : answer graph certificate ≡ Ok New → certificate_answer node now later certificate ≡ admission.New (order_outputs now later)
   pub known : answer graph certificate ≡ Ok Known → certificate_answer node now later certificate ≡ admission.Known []
   pub too_old : answer graph certificate ≡ Err TooOld → certificate_answer node now later certificate ≡ admission.Refused refusal.TooOld
@@ -23,16 +23,16 @@ pub record AnswersAlike (node : Node) (now later : State) (graph : Graph) (certi
 
 -- so it does where it has the DAG's floor and certificates
 abbrev pub AnswersAsAdmission : Type 0
-AnswersAsAdmission = (node : Node) (now later : State) (graph : Graph) (certificate : Certificate) → graph.floor ≡ floor_in node now → slots_in graph ≡ now.slots
+AnswersAsAdmission = (node : Node) (now later : State) (graph : DagView) (certificate : Certificate) → graph.floor ≡ floor_in node now → slots_in graph ≡ now.slots
     → AnswersAlike node now later graph certificate
 
 -- whom the certificates reach that were held before a new one came
 abbrev pub ReachStays : Type 0
-ReachStays = (before after : Graph) (certificate : Certificate) → IsGraph before → certificate.header.author.0 < size_in before → answer before certificate ≡ Ok New
+ReachStays = (before after : DagView) (certificate : Certificate) → IsGraph before → certificate.header.author.0 < size_in before → answer before certificate ≡ Ok New
     → IsWith before after certificate → (round author below other : ℕ) → is_some (slots_in before round author) ≡ true
     → reaches_in after round author below other ≡ reaches_in before round author below other
 
 -- and those that are still held where nothing below a round is
 abbrev pub ReachStaysAbove : Type 0
-ReachStaysAbove = (before after : Graph) (low : ℕ) → IsGraph before → IsDropped before after low → (round author below other : ℕ) → low ≤ below
+ReachStaysAbove = (before after : DagView) (low : ℕ) → IsGraph before → IsDropped before after low → (round author below other : ℕ) → low ≤ below
     → reaches_in after round author below other ≡ reaches_in before round author below other

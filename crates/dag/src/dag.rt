@@ -12,7 +12,7 @@ ghost use Rattle.dag.specs.Kept.{has_below};
 ghost use Rattle.spec_model.specs.Admitting.{same_header};
 ghost use Rattle.dag.specs.Answer.{held_answer, answer};
 ghost use Rattle.dag.specs.Changes.{IsWith, IsMarked, IsDropped};
-ghost use Rattle.dag.specs.Graph.{IsGraph, Graph, slots_in, marked_in, end_in, count_in, stake_in, digest_in, parent_in, has_parent_in, reaches_in, is_parent_of, references_at, references_of};
+ghost use Rattle.dag.specs.Graph.{IsGraph, DagView, slots_in, marked_in, end_in, count_in, stake_in, digest_in, parent_in, has_parent_in, reaches_in, is_parent_of, references_at, references_of};
 ghost use Rattle.dag.specs.declared.reads.TheConstants.{MAX_ROUND_REFERENCES};
 ghost use Rattle.wire.specs.declared.limits.TheConstants.{MAX_PARENTS};
 ghost use Rattle.wire.specs.declared.round.TheConstants.Round.{MAX};
@@ -57,10 +57,10 @@ impl<'a> Drop for Dag<'a> {
 }
 
 impl<'a> Model for Dag<'a> {
-    ghost use Rattle.dag.specs.Graph.{Graph};
+    ghost use Rattle.dag.specs.Graph.{DagView};
     ghost use Rattle.dag.specs.Kept.{graph_of, IsKept};
 
-    ghost Value = { Graph };
+    ghost Value = { DagView };
 
     ghost view = { λ d. graph_of d.committee.now d.floor d.base d.rows.items };
 

@@ -3,7 +3,7 @@ use Rattle.std.proofs.Common.{◌≡◌, ◌≢◌, ℕ, ◌≤◌, false, inl, 
 use Rattle.admission.specs.declared.tables.Tables.{Tables}
 use Rattle.book.specs.Book as book
 use Rattle.book.specs.OnTheWay.{StandsAtLegal}
-use Rattle.diskmodel.specs.Disk.{AtEachMoment}
+use Rattle.diskmodel.specs.Disk.{AtEachMoment, Device}
 use Rattle.journal.specs.Format.{stands}
 use Rattle.journal.specs.Journal.{disk_of, IsAlive}
 use Rattle.journal.specs.declared.error.JournalError.{JournalError}
@@ -23,12 +23,12 @@ pub legal_of : (node : Node) (read : Result History JournalError) (tables : Tabl
 legal_of node read tables at = record { history = at.history; legal = at.legal; at = at.at }
 
 -- a new book over what an opening gives
-pub opened_of : {S D : Type 0} (node : Node) (content : D → List ℕ) (outcome : D → List ℕ → Type 0) (bytes : List ℕ) (tables : Tables) (one : book.Shown S) (journal : Journal D) → StandsAt node (told node bytes) tables
+pub opened_of : {S D : Type 0} (node : Node) (device : Device D) (bytes : List ℕ) (tables : Tables) (one : book.BookView S) (journal : Journal D) → StandsAt node (told node bytes) tables
     → ((began : History) → IsLegal node began → AreAtSound node tables (kept node began) → book.Stands node (book.run_on began) one)
-    → one.queue ≡ [] → one.down ≡ false → IsAlive content outcome journal → stands (content (disk_of journal)) ≢ Ok [] → told node (content (disk_of journal)) ≡ told node bytes
-    → IsOpened node content outcome bytes (record { book = one; journal = journal })
-opened_of node content outcome bytes tables one journal at stands_at queue up alive configured same =
-    let told_as : told node (content (disk_of journal)) ≡ Ok (at.history ++ []) = same ∙ at.is_read ∙ ap Ok (sym (append-nil at.history)) in
+    → one.queue ≡ [] → one.down ≡ false → IsAlive device journal → stands (device.content (disk_of journal)) ≢ Ok [] → told node (device.content (disk_of journal)) ≡ told node bytes
+    → IsOpened node device bytes (record { book = one; journal = journal })
+opened_of node device bytes tables one journal at stands_at queue up alive configured same =
+    let told_as : told node (device.content (disk_of journal)) ≡ Ok (at.history ++ []) = same ∙ at.is_read ∙ ap Ok (sym (append-nil at.history)) in
     record {
       history = at.history;
       told_first = at.is_read;
@@ -38,23 +38,23 @@ opened_of node content outcome bytes tables one journal at stands_at queue up al
       is_of = record {
         stands_at = stands_at at.history at.legal at.at;
         up = λ _. record { configured = configured; told_as = told_as; settled = refl };
-        left = left_firm node content outcome (book.run_on at.history) journal told_as alive;
+        left = left_firm node device (book.run_on at.history) journal told_as alive;
       };
     }
 
 -- an opening that failed
-pub not_opened_of : {D : Type 0} (node : Node) (clock : D → ℕ) (since : D → ℕ → List ℕ → Type 0) (may : D → List ℕ → Type 0) (old new : D) (bytes : List ℕ) (cause : JournalError)
-    → (cause ≢ errors.Device → Tells cause (told node bytes)) → cause ≢ errors.Full → AtEachMoment clock since old new (IsToldAsOneOf node (may old)) → AtEachMoment clock since old new (KeepsRecords node (may old))
-    → ((disk : D) (t : ℕ) (c : List ℕ) → t ≤ clock disk → may disk c → since disk t c) → IsNotOpened node cause bytes (may old) (may new)
-not_opened_of {D} node clock since may old new bytes cause tells never at keeping counts = record {
+pub not_opened_of : {D : Type 0} (node : Node) (device : Device D) (old new : D) (bytes : List ℕ) (cause : JournalError)
+    → (cause ≢ errors.Device → Tells cause (told node bytes)) → cause ≢ errors.Full → AtEachMoment device old new (IsToldAsOneOf node (device.outcome old)) → AtEachMoment device old new (KeepsRecords node (device.outcome old))
+    → ((disk : D) (t : ℕ) (c : List ℕ) → t ≤ device.clock disk → device.outcome disk c → device.outcome_since disk t c) → IsNotOpened node cause bytes (device.outcome old) (device.outcome new)
+not_opened_of {D} node device old new bytes cause tells never at keeping counts = record {
   tells = tells;
   never_full = never;
-  left = λ found left. at.each found (counts new (clock old) found at.later left);
-  keeps = λ found left. keeping.each found (counts new (clock old) found keeping.later left);
+  left = λ found left. at.each found (counts new (device.clock old) found at.later left);
+  keeps = λ found left. keeping.each found (counts new (device.clock old) found keeping.later left);
 }
 
 -- a book that stands at a run that has done nothing has taken what it settled
-pub nothing_taken : {S : Type 0} (node : Node) (history : History) (one : book.Shown S) → book.Stands node (book.run_on history) one → one.taken ≡ one.settled
+pub nothing_taken : {S : Type 0} (node : Node) (history : History) (one : book.BookView S) → book.Stands node (book.run_on history) one → one.taken ≡ one.settled
 nothing_taken node history one at = at.taken ∙ sym at.settled
 
 -- an opening that failed behind a stop of the machine

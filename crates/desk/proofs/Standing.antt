@@ -4,7 +4,7 @@ use Rattle.std.proofs.lemmas.List.{take-append-drop, take_at, take-map}
 use Rattle.book.specs.Book as book
 use Rattle.book.specs.OnTheWay.{IsWithOrWithout}
 use Rattle.book.specs.Pending.{IsLongestBeginning}
-use Rattle.diskmodel.specs.Disk.{AtEachMoment}
+use Rattle.diskmodel.specs.Disk.{AtEachMoment, Device}
 use Rattle.journal.specs.Format.{stands}
 use Rattle.journal.specs.Journal.{disk_of, IsAlive, stands_with}
 use Rattle.journal.specs.declared.journal.Journal.{Journal}
@@ -13,7 +13,8 @@ use Rattle.opening.proofs.Longer.{told_more, some_more}
 use Rattle.opening.proofs.Telling.{told_same}
 use Rattle.spec_laws.proofs.Legal.{legal-begins}
 use Rattle.spec_model.specs.Admitting.{IsLegal}
-use Rattle.spec_model.specs.Histories.{History, Begins}
+use Rattle.spec_model.specs.Histories.{History}
+use Rattle.wire.specs.Lists.{Begins}
 use Rattle.spec_model.specs.Nodes.{Node}
 use Rattle.spec_records.specs.Records.{record_of}
 use Rattle.desk.specs.Desk.{IsUp, IsLeft}
@@ -33,9 +34,9 @@ taken_more {X} (x ∷ taken) (y ∷ accepted) count begins =
     head_is a b p q same = cc
 
 -- the events that are taken next, where all that was taken is settled
-module _ {S D : Type 0} (node : Node) (content : D → List ℕ) (outcome : D → List ℕ → Type 0) (run : book.Run) (before : book.Shown S) (old : Journal D) (at : book.Stands node run before) (up : IsUp node content run old) where
+module _ {S D : Type 0} (node : Node) (device : Device D) (run : book.Run) (before : book.BookView S) (old : Journal D) (at : book.Stands node run before) (up : IsUp node device run old) where
   abbrev file : List ℕ
-  file = content (disk_of old)
+  file = device.content (disk_of old)
 
   abbrev with_count : ℕ → History
   with_count count = run.began ++ take (length run.taken + count) run.accepted
@@ -73,11 +74,11 @@ module _ {S D : Type 0} (node : Node) (content : D → List ℕ) (outcome : D �
       inr (told_with with_it.0 with_it.1 with_it.2 bytes with_it.3 ∙ ap (λ (n : ℕ). Ok (with_count n)) same)
 
 -- what a firm disk leaves is told as what is settled
-pub left_firm : {D : Type 0} (node : Node) (content : D → List ℕ) (outcome : D → List ℕ → Type 0) (run : book.Run) (journal : Journal D) → told node (content (disk_of journal)) ≡ Ok (book.settled_in run)
-    → IsAlive content outcome journal → IsLeft node outcome run journal
-left_firm {D} node content outcome run journal told_as alive bytes left = inl (ap (told node) (alive.firm bytes left) ∙ told_as)
+pub left_firm : {D : Type 0} (node : Node) (device : Device D) (run : book.Run) (journal : Journal D) → told node (device.content (disk_of journal)) ≡ Ok (book.settled_in run)
+    → IsAlive device journal → IsLeft node device run journal
+left_firm {D} node device run journal told_as alive bytes left = inl (ap (told node) (alive.firm bytes left) ∙ told_as)
 
 -- what may be left at the end of a call may be left at some moment of it
-pub left_by : {D : Type 0} (clock : D → ℕ) (since : D → ℕ → List ℕ → Type 0) (old new : D) (P : List ℕ → Type 0) (bytes : List ℕ) (may : D → List ℕ → Type 0)
-    → AtEachMoment clock since old new P → ((disk : D) (t : ℕ) (c : List ℕ) → t ≤ clock disk → may disk c → since disk t c) → may new bytes → P bytes
-left_by {D} clock since old new P bytes may at counts left = at.each bytes (counts new (clock old) bytes at.later left)
+pub left_by : {D : Type 0} (device : Device D) (old new : D) (P : List ℕ → Type 0) (bytes : List ℕ) (device : Device D)
+    → AtEachMoment device old new P → ((disk : D) (t : ℕ) (c : List ℕ) → t ≤ device.clock disk → device.outcome disk c → device.outcome_since disk t c) → device.outcome new bytes → P bytes
+left_by {D} device old new P bytes device at counts left = at.each bytes (counts new (device.clock old) bytes at.later left)

@@ -15,8 +15,8 @@ use Rattle.spec_model.specs.Admitting.{admit}
 use Rattle.spec_model.specs.Histories.{History}
 use Rattle.spec_model.specs.Nodes.{Node, IsNode}
 use Rattle.spec_model.specs.Words.{Event, Output}
-use Rattle.spec_model.specs.declared.admission.Admission.{Admission}
-use Rattle.spec_model.specs.declared.admission.Admission.TheVariants.{New, Known, Refused}
+use Rattle.header.specs.declared.admission.Admission.{Admission}
+use Rattle.header.specs.declared.admission.Admission.TheVariants.{New, Known, Refused}
 use Rattle.spec_records.specs.Records.{record_of}
 use Rattle.spec_world.specs.World.{World, Waiting, events_of, taken_in, content_in, StandsFor, as_journal, run_on}
 use Rattle.spec_world.specs.Steps.{Move, accept, take_to, device_call, settle, release, read_order, restart, group_to, IsAnswered, IsStep, Leads, IsRun}
@@ -25,13 +25,14 @@ use Rattle.spec_world.proofs.Beginning.{runs_begin}
 use Rattle.spec_world.proofs.GoingOn.{stops_are_possible, runs_begin_with_what_stands, groups_settle}
 use Rattle.spec_world.proofs.Groups.{taken_more}
 use Rattle.spec_world.proofs.Law.{nothing_taken_back}
-use Rattle.desk.specs.Desk.{Shown, IsUp, IsLeft, IsOf, IsOpened}
+use Rattle.desk.specs.Desk.{DeskView, IsUp, IsLeft, IsOf, IsOpened}
 use Rattle.desk.specs.AtWorld.{HasTaken, IsAt, LeadsTo, IsStop}
 use Rattle.desk.proofs.Runs.{leads_one}
 use Rattle.spec_world.proofs.Scripts.{leads_join, run_more}
 use Rattle.opening.proofs.Telling.{told_records, journal_nil}
 use Rattle.journal.proofs.Walks.{stands_short}
 use Rattle.desk.proofs.Standing.{told_with, configured_with, left_firm}
+use Rattle.diskmodel.specs.Disk.{Device}
 
 -- ---- what a move leaves as it was
 
@@ -53,7 +54,7 @@ answered_keeps world event (Refused refusal) next is = absurd is
 none_taken : (world : World) → world.groups ≡ [] → taken_in world ≡ world.settled
 none_taken world idle = ap (λ (l : List History). world.settled ++ events_of l) idle ∙ append-nil world.settled
 
-module _ {S D : Type 0} (node : Node) (content : D → List ℕ) (outcome : D → List ℕ → Type 0) (world : World) (before : Shown S D) (is : IsAt node content outcome world before) (up : before.book.down ≡ false) where
+module _ {S D : Type 0} (node : Node) (device : Device D) (world : World) (before : DeskView S D) (is : IsAt node device world before) (up : before.book.down ≡ false) where
   abbrev run : book.Run
   run = steps.run_of world
 
@@ -63,20 +64,20 @@ module _ {S D : Type 0} (node : Node) (content : D → List ℕ) (outcome : D �
   -- ---- events, outputs, reads
 
   -- behind a move that leaves the disk, and what is settled, as it was
-  pub stays : (later : Shown S D) (move : Move) (next : World) → IsStep node world move next → IsKept world next → steps.IsOf node next later.book → later.book.down ≡ false → later.journal ≡ before.journal
-      → LeadsTo node content outcome world (move ∷ []) later
+  pub stays : (later : DeskView S D) (move : Move) (next : World) → IsStep node world move next → IsKept world next → steps.IsOf node next later.book → later.book.down ≡ false → later.journal ≡ before.journal
+      → LeadsTo node device world (move ∷ []) later
   stays later move next step kept of up_later same =
       let still = is.is_of.up up in
       let leads = leads_one node world move next step in
       let none : next.groups ≡ [] = kept.groups ∙ idle in
       let settled : next.began ++ next.settled ≡ world.began ++ world.settled = (λ i. kept.began i ++ kept.settled i) in
       let taken : next.began ++ taken_in next ≡ world.began ++ taken_in world = (λ i. kept.began i ++ (none_taken next none ∙ kept.settled ∙ sym (none_taken world idle)) i) in
-      let is_up : IsUp node content (steps.run_of next) later.journal = subst (IsUp node content (steps.run_of next)) (sym same) (record {
+      let is_up : IsUp node device (steps.run_of next) later.journal = subst (IsUp node device (steps.run_of next)) (sym same) (record {
         configured = still.configured;
         told_as = still.told_as ∙ ap Ok (sym settled);
         settled = none_taken next none;
       }) in
-      let left : IsLeft node outcome (steps.run_of next) later.journal = subst (IsLeft node outcome (steps.run_of next)) (sym same) (λ bytes may.
+      let left : IsLeft node device (steps.run_of next) later.journal = subst (IsLeft node device (steps.run_of next)) (sym same) (λ bytes may.
       elim (is.is_of.left bytes may) [ inl so ↦ inl (so ∙ ap Ok (sym settled)) | inr with_it ↦ inr (with_it ∙ ap Ok (sym taken)) ]) in
       record {
         next = next;
@@ -92,32 +93,32 @@ module _ {S D : Type 0} (node : Node) (content : D → List ℕ) (outcome : D �
         };
       }
 
-  pub accepts : steps.AcceptIsAStep S → (later : Shown S D) (event : Event) → book.TakesNew node before.book later.book event ⊎ book.TakesKnown node before.book later.book event → later.book.down ≡ false → later.journal ≡ before.journal
-      → LeadsTo node content outcome world (accept event ∷ []) later
+  pub accepts : steps.AcceptIsAStep S → (later : DeskView S D) (event : Event) → book.TakesNew node before.book later.book event ⊎ book.TakesKnown node before.book later.book event → later.book.down ≡ false → later.journal ≡ before.journal
+      → LeadsTo node device world (accept event ∷ []) later
   accepts law later event takes up_later same =
       let moves = law node world before.book later.book event is.is_of_world takes in
       stays later (accept event) moves.next moves.step (answered_keeps world event (admit node (world.began ++ world.accepted) event) moves.next moves.step.is) moves.is_of up_later same
 
-  pub releases : steps.ReleaseIsAStep S → (later : Shown S D) (output : Output) → book.releasable before.book ≡ Some output → later.book ≡ record before.book { queue = drop 1 before.book.queue }
+  pub releases : steps.ReleaseIsAStep S → (later : DeskView S D) (output : Output) → book.releasable before.book ≡ Some output → later.book ≡ record before.book { queue = drop 1 before.book.queue }
       → ((run : book.Run) → book.Stands node run before.book → book.Stands node run later.book) → later.journal ≡ before.journal
-      → (ticket : ℕ) × LeadsTo node content outcome world (release (record { ticket = ticket; output = output }) ∷ []) later
+      → (ticket : ℕ) × LeadsTo node device world (release (record { ticket = ticket; output = output }) ∷ []) later
   releases law later output may is_later stands same =
       let one = law node world before.book later.book output is.is_of_world may is_later (stands run is.is_of_world.stands) in
       let waiting : Waiting = record { ticket = one.0; output = output } in
       let moves = one.1 in (
         one.0,
         stays later (release waiting) moves.next moves.step (kept_of world _ moves.next moves.step.is (record { began = refl; settled = refl; groups = refl })) moves.is_of
-            (ap (λ (b : book.Shown S). b.down) is_later ∙ up) same,
+            (ap (λ (b : book.BookView S). b.down) is_later ∙ up) same,
       )
 
-  pub reads : LeadsTo node content outcome world (read_order ∷ []) before
+  pub reads : LeadsTo node device world (read_order ∷ []) before
   reads = stays before read_order _ refl (record { began = refl; settled = refl; groups = refl }) (record { stands = is.is_of_world.stands; waits = is.is_of_world.waits }) up refl
 
   -- ---- a round
 
-  pub flushes : steps.FlushIsSteps S → (later : Shown S D) (old new : List ℕ) (count : ℕ) → content (disk_of before.journal) ≡ old → content (disk_of later.journal) ≡ new
-      → Flushes node before.book later.book old new count → IsAlive content outcome later.journal
-      → LeadsTo node content outcome world (take_to (length world.settled + count) ∷ device_call ∷ device_call ∷ device_call ∷ device_call ∷ settle ∷ []) later
+  pub flushes : steps.FlushIsSteps S → (later : DeskView S D) (old new : List ℕ) (count : ℕ) → device.content (disk_of before.journal) ≡ old → device.content (disk_of later.journal) ≡ new
+      → Flushes node before.book later.book old new count → IsAlive device later.journal
+      → LeadsTo node device world (take_to (length world.settled + count) ∷ device_call ∷ device_call ∷ device_call ∷ device_call ∷ settle ∷ []) later
   flushes law later old new count old_is new_is flush alive =
       let still = is.is_of.up up in
       let there = law node is.moves world before.book later.book old new count is.sound is.run is.is_of_world idle flush in
@@ -128,8 +129,8 @@ module _ {S D : Type 0} (node : Node) (content : D → List ℕ) (outcome : D �
       let number : length (taken_in world) + length flush.group ≡ length world.settled + count = omega (arith, ap length (none_taken world idle), flush.counts) in
       let all : world.began ++ take (length (taken_in world) + length flush.group) world.accepted ≡ next.began ++ next.settled =
       (λ i. sym settled.began i ++ take (number i) world.accepted) ∙ ap (λ (l : History). next.began ++ l) (sym settled.settled) in
-      let told_as : told node (content (disk_of later.journal)) ≡ Ok (next.began ++ next.settled) =
-      told_with node content outcome run before.book before.journal at still flush.group later.book.pending flush.takes (content (disk_of later.journal)) with_it ∙ ap Ok all in
+      let told_as : told node (device.content (disk_of later.journal)) ≡ Ok (next.began ++ next.settled) =
+      told_with node device run before.book before.journal at still flush.group later.book.pending flush.takes (device.content (disk_of later.journal)) with_it ∙ ap Ok all in
       record {
         next = next;
         leads = there.leads;
@@ -141,21 +142,21 @@ module _ {S D : Type 0} (node : Node) (content : D → List ℕ) (outcome : D �
           is_of = record {
             stands_at = there.is_of.stands;
             up = λ _. record {
-              configured = configured_with node content outcome run before.book before.journal at still flush.group (content (disk_of later.journal)) with_it;
+              configured = configured_with node device run before.book before.journal at still flush.group (device.content (disk_of later.journal)) with_it;
               told_as = told_as;
               settled = none_taken next settled.groups;
             };
-            left = left_firm node content outcome (steps.run_of next) later.journal told_as alive;
+            left = left_firm node device (steps.run_of next) later.journal told_as alive;
           };
           idle = λ _. settled.groups;
-          taken = λ down. absurd (true≢false (sym down ∙ ap (λ (b : book.Shown S). b.down) flush.is ∙ up));
+          taken = λ down. absurd (true≢false (sym down ∙ ap (λ (b : book.BookView S). b.down) flush.is ∙ up));
         };
       }
 
-  pub goes_down : steps.FailIsAStep S → (later : Shown S D) (down : GoesDown node before.book later.book)
-      → ((bytes : List ℕ) → outcome (disk_of later.journal) bytes
+  pub goes_down : steps.FailIsAStep S → (later : DeskView S D) (down : GoesDown node before.book later.book)
+      → ((bytes : List ℕ) → device.outcome (disk_of later.journal) bytes
       → (told node bytes ≡ Ok (world.began ++ world.settled)) ⊎ (told node bytes ≡ Ok (world.began ++ take (length (taken_in world) + length down.group) world.accepted)))
-      → (count : ℕ) × LeadsTo node content outcome world (take_to count ∷ []) later
+      → (count : ℕ) × LeadsTo node device world (take_to count ∷ []) later
   goes_down law later down left =
       let takes = law node world before.book later.book is.is_of_world down in
       let moves = takes.moves in
@@ -167,7 +168,7 @@ module _ {S D : Type 0} (node : Node) (content : D → List ℕ) (outcome : D �
       let taken : taken_in next ≡ take count world.accepted = ap taken_in same ∙ taken_more world count is.is_of_world.stands.taken_begins some in
       let began : next.began ≡ world.began = ap (λ (w : World). w.began) same in
       let settled : next.settled ≡ world.settled = ap (λ (w : World). w.settled) same in
-      let is_down : later.book.down ≡ true = ap (λ (b : book.Shown S). b.down) down.is in (
+      let is_down : later.book.down ≡ true = ap (λ (b : book.BookView S). b.down) down.is in (
         count,
         record {
           next = next;
@@ -242,14 +243,14 @@ calls_four node world sound has =
 ok_is : (one other : History) → ◌≡◌ {A = Result History JournalError} (Ok one) (Ok other) → one ≡ other
 ok_is one other same = cc
 
-module _ {S D : Type 0} (node : Node) (content : D → List ℕ) (outcome : D → List ℕ → Type 0) where
+module _ {S D : Type 0} (node : Node) (device : Device D) where
   -- a desk that was opened is at a world that begins with what it was opened on
-  pub opened_at : (bytes : List ℕ) (desk : Shown S D) → IsNode node → IsOpened node content outcome bytes desk → (moves : List Move) (world : World) → IsRun node moves world
-      → (history : History) → told node bytes ≡ Ok history → world ≡ run_on world.bytes_at_start history world.given → IsAt node content outcome world desk
+  pub opened_at : (bytes : List ℕ) (desk : DeskView S D) → IsNode node → IsOpened node device bytes desk → (moves : List Move) (world : World) → IsRun node moves world
+      → (history : History) → told node bytes ≡ Ok history → world ≡ run_on world.bytes_at_start history world.given → IsAt node device world desk
   opened_at bytes desk sound opened moves world run history is same =
       let first : opened.history ≡ history = ok_is opened.history history (sym opened.told_first ∙ is) in
       let runs : book.run_on opened.history ≡ steps.run_of world = ap book.run_on first ∙ sym (ap steps.run_of same) in
-      let of : IsOf node content outcome (steps.run_of world) desk = subst (λ (r : book.Run). IsOf node content outcome r desk) runs opened.is_of in
+      let of : IsOf node device (steps.run_of world) desk = subst (λ (r : book.Run). IsOf node device r desk) runs opened.is_of in
       record {
         sound = sound;
         moves = moves;
@@ -261,8 +262,8 @@ module _ {S D : Type 0} (node : Node) (content : D → List ℕ) (outcome : D �
       }
 
   -- a run that begins on what a stop leaves in a world
-  restarts : (bytes : List ℕ) (desk : Shown S D) → IsNode node → IsOpened node content outcome bytes desk → (moves : List Move) (world : World) → IsRun node moves world
-      → (history : History) → told node bytes ≡ Ok history → StandsFor node (content_in world) history → LeadsTo node content outcome world (restart (content_in world) ∷ []) desk
+  restarts : (bytes : List ℕ) (desk : DeskView S D) → IsNode node → IsOpened node device bytes desk → (moves : List Move) (world : World) → IsRun node moves world
+      → (history : History) → told node bytes ≡ Ok history → StandsFor node (content_in world) history → LeadsTo node device world (restart (content_in world) ∷ []) desk
   restarts bytes desk sound opened moves world run history is stands =
       let found = content_in world in
       let there = runs_begin_with_what_stands node moves world found history sound run (stops_are_possible node moves world sound run) stands in
@@ -277,15 +278,15 @@ module _ {S D : Type 0} (node : Node) (content : D → List ℕ) (outcome : D �
       }
 
   -- the moves of a stop lead to a desk that was opened on what it left
-  pub stops : (world : World) (before : Shown S D) → IsAt node content outcome world before → (bytes : List ℕ) → outcome (disk_of before.journal) bytes
-      → (desk : Shown S D) → IsOpened node content outcome bytes desk → (moves : List Move) × IsStop world moves × LeadsTo node content outcome world moves desk
+  pub stops : (world : World) (before : DeskView S D) → IsAt node device world before → (bytes : List ℕ) → device.outcome (disk_of before.journal) bytes
+      → (desk : DeskView S D) → IsOpened node device bytes desk → (moves : List Move) × IsStop world moves × LeadsTo node device world moves desk
   stops world before is bytes may desk opened = elim (cases_Bool before.book.down) [ inl so ↦ down so | inr off ↦ up off ]
     where
-      at_once : told node bytes ≡ Ok (world.began ++ world.settled) → StandsFor node (content_in world) (world.began ++ world.settled) → (moves : List Move) × IsStop world moves × LeadsTo node content outcome world moves desk
+      at_once : told node bytes ≡ Ok (world.began ++ world.settled) → StandsFor node (content_in world) (world.began ++ world.settled) → (moves : List Move) × IsStop world moves × LeadsTo node device world moves desk
       at_once told_as stands =
           (restart (content_in world) ∷ [], (content_in world, inl refl), restarts bytes desk is.sound opened is.moves world is.run (world.began ++ world.settled) told_as stands)
 
-      up : before.book.down ≡ false → (moves : List Move) × IsStop world moves × LeadsTo node content outcome world moves desk
+      up : before.book.down ≡ false → (moves : List Move) × IsStop world moves × LeadsTo node device world moves desk
       up off =
           let idle = is.idle off in
           let stands = settled_stands node is.moves world is.sound is.run idle in
@@ -294,7 +295,7 @@ module _ {S D : Type 0} (node : Node) (content : D → List ℕ) (outcome : D �
             | inr with_it ↦ at_once (with_it ∙ ap (λ (l : History). Ok (world.began ++ l)) (none_taken world idle)) stands
           ]
 
-      behind : HasTaken node world → told node bytes ≡ Ok (world.began ++ taken_in world) → (moves : List Move) × IsStop world moves × LeadsTo node content outcome world moves desk
+      behind : HasTaken node world → told node bytes ≡ Ok (world.began ++ taken_in world) → (moves : List Move) × IsStop world moves × LeadsTo node device world moves desk
       behind has told_as =
           let four = calls_four node world is.sound has in
           let calls = device_call ∷ device_call ∷ device_call ∷ device_call ∷ [] in
@@ -310,7 +311,7 @@ module _ {S D : Type 0} (node : Node) (content : D → List ℕ) (outcome : D �
             },
           )
 
-      down : before.book.down ≡ true → (moves : List Move) × IsStop world moves × LeadsTo node content outcome world moves desk
+      down : before.book.down ≡ true → (moves : List Move) × IsStop world moves × LeadsTo node device world moves desk
       down so =
           let has = is.taken so in
           let stands = settled_stands node has.moves has.before is.sound has.run has.idle in
@@ -325,7 +326,7 @@ told_nothing : (node : Node) → told node [] ≡ Ok []
 told_nothing node = told_records node [] [] (stands_short [] (omega arith)) ∙ journal_nil node
 
 -- a desk that was opened on an empty disk is at the world that begins there
-pub begins : {S D : Type 0} (node : Node) (content : D → List ℕ) (outcome : D → List ℕ → Type 0) (desk : Shown S D) → IsNode node → AreKeys node → IsOpened node content outcome [] desk
-    → IsAt node content outcome (run_on (first_bytes node) [] []) desk
-begins {S} {D} node content outcome desk sound keys opened =
-    opened_at node content outcome [] desk sound opened [] (run_on (first_bytes node) [] []) (runs_begin node sound keys) [] (told_nothing node) refl
+pub begins : {S D : Type 0} (node : Node) (device : Device D) (desk : DeskView S D) → IsNode node → AreKeys node → IsOpened node device [] desk
+    → IsAt node device (run_on (first_bytes node) [] []) desk
+begins {S} {D} node device desk sound keys opened =
+    opened_at node device [] desk sound opened [] (run_on (first_bytes node) [] []) (runs_begin node sound keys) [] (told_nothing node) refl

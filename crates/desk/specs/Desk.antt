@@ -11,13 +11,13 @@ use Rattle.spec_model.specs.Histories.{History}
 use Rattle.spec_model.specs.Nodes.{Node}
 
 -- its book and its journal
-pub record Shown (S D : Type 0) : Type 0 where
-  pub book : book.Shown S
+pub record DeskView (S D : Type 0) : Type 0 where
+  pub book : book.BookView S
   pub journal : Journal D
 
 -- while it is up, its journal can be added to, and no group is on the way
-pub record IsSound {S D : Type 0} (content : D → List ℕ) (outcome : D → List ℕ → Type 0) (desk : Shown S D) : Type 0 where
-  pub alive : desk.book.down ≡ false → IsAlive content outcome desk.journal
+pub record IsSound {S D : Type 0} (device : Device D) (desk : DeskView S D) : Type 0 where
+  pub alive : desk.book.down ≡ false → IsAlive device desk.journal
   pub settled : desk.book.down ≡ false → desk.book.taken ≡ desk.book.settled
 
 -- all that was taken behind what a run began with
@@ -25,31 +25,31 @@ abbrev pub taken_of : book.Run → History
 taken_of run = run.began ++ run.taken
 
 -- while it is up, its disk has the node's configuration and is told as what is settled, which is all that was taken
-pub record IsUp {D : Type 0} (node : Node) (content : D → List ℕ) (run : book.Run) (journal : Journal D) : Type 0 where
-  pub configured : stands (content (disk_of journal)) ≢ Ok []
-  pub told_as : told node (content (disk_of journal)) ≡ Ok (book.settled_in run)
+pub record IsUp {D : Type 0} (node : Node) (device : Device D) (run : book.Run) (journal : Journal D) : Type 0 where
+  pub configured : stands (device.content (disk_of journal)) ≢ Ok []
+  pub told_as : told node (device.content (disk_of journal)) ≡ Ok (book.settled_in run)
   pub settled : run.taken ≡ run.settled
 
 -- whatever a stop leaves of its disk is told as what is settled, or as all that was taken
-abbrev pub IsLeft : {D : Type 0} → Node → (D → List ℕ → Type 0) → book.Run → Journal D → Type 0
-IsLeft node outcome run journal = (bytes : List ℕ) → outcome (disk_of journal) bytes
+abbrev pub IsLeft : {D : Type 0} → Node → Device D → book.Run → Journal D → Type 0
+IsLeft node device run journal = (bytes : List ℕ) → device.outcome (disk_of journal) bytes
     → (told node bytes ≡ Ok (book.settled_in run)) ⊎ (told node bytes ≡ Ok (taken_of run))
 
 -- A desk is that of a run: the book stands there, and the disk has what is settled. Where it went down, a stop leaves that, or what was on
 -- the way too.
-pub record IsOf {S D : Type 0} (node : Node) (content : D → List ℕ) (outcome : D → List ℕ → Type 0) (run : book.Run) (desk : Shown S D) : Type 0 where
+pub record IsOf {S D : Type 0} (node : Node) (device : Device D) (run : book.Run) (desk : DeskView S D) : Type 0 where
   pub stands_at : book.Stands node run desk.book
-  pub up : desk.book.down ≡ false → IsUp node content run desk.journal
-  pub left : IsLeft node outcome run desk.journal
+  pub up : desk.book.down ≡ false → IsUp node device run desk.journal
+  pub left : IsLeft node device run desk.journal
 
 -- it was opened on these bytes: it is that of a run that begins with what they are told as, and nothing waits
-pub record IsOpened {S D : Type 0} (node : Node) (content : D → List ℕ) (outcome : D → List ℕ → Type 0) (before : List ℕ) (desk : Shown S D) : Type 0 where
+pub record IsOpened {S D : Type 0} (node : Node) (device : Device D) (before : List ℕ) (desk : DeskView S D) : Type 0 where
   pub history : History
   pub told_first : told node before ≡ Ok history
   pub up : desk.book.down ≡ false
-  pub alive : IsAlive content outcome desk.journal
+  pub alive : IsAlive device desk.journal
   pub waits : desk.book.queue ≡ []
-  pub is_of : IsOf node content outcome (book.run_on history) desk
+  pub is_of : IsOf node device (book.run_on history) desk
 
 -- It was not opened: the error is what the bytes are told as, unless memory or the disk failed; and what a stop leaves is told as one
 -- outcome from before, and is one byte for byte, or has the records of one, or where these are none the configuration alone.

@@ -30,15 +30,15 @@ impl<'a, S: Sign, D: Disk + Drop> Drop for Desk<'a, S, D> {
 impl<'a, S: Sign, D: Disk> Model for Desk<'a, S, D> {
     ghost use Rattle.std.specs.Coded.{codes};
     ghost use Rattle.votebook.specs.contracts.book.VoteBook as votes;
-    ghost use Rattle.desk.specs.Desk.{Shown, IsSound};
+    ghost use Rattle.desk.specs.Desk.{DeskView, IsSound};
 
-    ghost Value = { Shown S D };
+    ghost Value = { DeskView S D };
 
     ghost coded = { Prim.hlevel (codes, S.code, D.code, votes.the_row.coded) };
 
     ghost view = { λ desk. record { book = desk.book; journal = desk.journal } };
 
-    ghost invariant = { λ desk. IsSound D.content D.outcome (record { book = desk.book; journal = desk.journal }) };
+    ghost invariant = { λ desk. IsSound D.device (record { book = desk.book; journal = desk.journal }) };
 }
 
 impl<'a, S: Sign, D: Disk> Desk<'a, S, D> {
@@ -71,17 +71,17 @@ impl<'a, S: Sign, D: Disk> Desk<'a, S, D> {
         disk: D,
     ) -> Result<Desk<'a, S, D>, Failed<JournalError, D>>
         ensures setting { IfOk result (λ desk. desk.book.validator.setting ≡ config.now) }
-        ensures ok { IfOk result (λ desk. IsOpened (node_of S.own_key S.signature_of config.now) D.content D.outcome (D.content disk) desk) }
-        ensures err { IfErr result (λ failed. IsNotOpened (node_of S.own_key S.signature_of config.now) failed.error (D.content disk) (D.outcome disk) (D.outcome failed.disk)) }
+        ensures ok { IfOk result (λ desk. IsOpened (node_of S.scheme config.now) D.device (D.device.content disk) desk) }
+        ensures err { IfErr result (λ failed. IsNotOpened (node_of S.scheme config.now) failed.error (D.device.content disk) (D.device.outcome disk) (D.device.outcome failed.disk)) }
         // It answers Device exactly where the disk has failed.
-        ensures cause { TellsFaultBack D.faults (λ desk. disk_of desk.journal) JournalError.Device disk result }
+        ensures cause { TellsFaultBack D.device (λ desk. disk_of desk.journal) JournalError.Device disk result }
         // What a stop leaves in a world of this node is never refused.
-        ensures never_refused { IfErr result (λ failed. IsLeft (node_of S.own_key S.signature_of config.now) (D.content disk) → IsNoRefusal failed.error) }
+        ensures never_refused { IfErr result (λ failed. IsLeft (node_of S.scheme config.now) (D.device.content disk) → IsNoRefusal failed.error) }
         // A stop at any moment of the call leaves what is told as one outcome from before it is, and the records, whoever's they are.
-        ensures any_moment { IfOk result (λ desk. AtEachMoment D.clock D.outcome_since disk (disk_of desk.journal) (IsToldAsOneOf (node_of S.own_key S.signature_of config.now) (D.outcome disk))) }
-        ensures any_moment_err { IfErr result (λ failed. AtEachMoment D.clock D.outcome_since disk failed.disk (IsToldAsOneOf (node_of S.own_key S.signature_of config.now) (D.outcome disk))) }
-        ensures keeps { IfOk result (λ desk. AtEachMoment D.clock D.outcome_since disk (disk_of desk.journal) (KeepsRecords (node_of S.own_key S.signature_of config.now) (D.outcome disk))) }
-        ensures keeps_err { IfErr result (λ failed. AtEachMoment D.clock D.outcome_since disk failed.disk (KeepsRecords (node_of S.own_key S.signature_of config.now) (D.outcome disk))) }
+        ensures any_moment { IfOk result (λ desk. AtEachMoment D.device disk (disk_of desk.journal) (IsToldAsOneOf (node_of S.scheme config.now) (D.device.outcome disk))) }
+        ensures any_moment_err { IfErr result (λ failed. AtEachMoment D.device disk failed.disk (IsToldAsOneOf (node_of S.scheme config.now) (D.device.outcome disk))) }
+        ensures keeps { IfOk result (λ desk. AtEachMoment D.device disk (disk_of desk.journal) (KeepsRecords (node_of S.scheme config.now) (D.device.outcome disk))) }
+        ensures keeps_err { IfErr result (λ failed. AtEachMoment D.device disk failed.disk (KeepsRecords (node_of S.scheme config.now) (D.device.outcome disk))) }
     {
         match reopen(alloc, config, disk) {
             Ok((validator, journal)) => Ok(Desk {
@@ -99,18 +99,18 @@ impl<'a, S: Sign, D: Disk> Desk<'a, S, D> {
     pub fn accept(&mut self, event: Checked) -> Result<Receipt, Refusal>
         requires passed { fault_of self.old.book.validator.setting.charter accepts_all event ≡ None }
         ensures down { IsErrOf result Refusal.Down ↔ IsTrue self.old.book.down }
-        ensures new { IfOk result (λ receipt. receipt.new ≡ true → TakesNew (node_of S.own_key S.signature_of self.old.book.validator.setting) self.old.book self.new.book event) }
-        ensures known { IfOk result (λ receipt. receipt.new ≡ false → TakesKnown (node_of S.own_key S.signature_of self.old.book.validator.setting) self.old.book self.new.book event) }
+        ensures new { IfOk result (λ receipt. receipt.new ≡ true → TakesNew (node_of S.scheme self.old.book.validator.setting) self.old.book self.new.book event) }
+        ensures known { IfOk result (λ receipt. receipt.new ≡ false → TakesKnown (node_of S.scheme self.old.book.validator.setting) self.old.book self.new.book event) }
         ensures ticket { IfOk result (λ receipt. receipt.ticket ≡ self.new.book.accepted) }
         ensures limit { IfOk result (λ receipt. receipt.ticket ≤ MAX_ACCEPTED) }
-        ensures refused { let node = node_of S.own_key S.signature_of self.old.book.validator.setting in IfErr result (λ refusal. (run : Run) → Stands node run self.old.book
+        ensures refused { let node = node_of S.scheme self.old.book.validator.setting in IfErr result (λ refusal. (run : Run) → Stands node run self.old.book
             → MayRefuse node run self.old.book event refusal) }
         ensures err { OnErr result (self.new ≡ self.old) }
         ensures same { self.new.journal ≡ self.old.journal }
         ensures setting { self.new.book.validator.setting ≡ self.old.book.validator.setting }
         // In the world it is accepted.
-        ensures step { let node = node_of S.own_key S.signature_of self.old.book.validator.setting in OnOk result ((world : World) → IsAt node D.content D.outcome world self.old
-            → LeadsTo node D.content D.outcome world (accept_event event ∷ []) self.new) }
+        ensures step { let node = node_of S.scheme self.old.book.validator.setting in OnOk result ((world : World) → IsAt node D.device world self.old
+            → LeadsTo node D.device world (accept_event event ∷ []) self.new) }
     {
         book::accept_is_a_step::<S>();
         self.book.accept(event)
@@ -124,25 +124,25 @@ impl<'a, S: Sign, D: Disk> Desk<'a, S, D> {
     /// `Device` where the disk fails: what was taken stays on the way, and the desk is down.
     pub fn flush(&mut self) -> Result<u64, FlushError>
         ensures idle { OnOk result (self.old.book.pending ≡ [] → (result ≡ Ok 0) × (self.new ≡ self.old)) }
-        ensures flushed { IfOk result (λ count. self.old.book.pending ≢ [] → Flushes (node_of S.own_key S.signature_of self.old.book.validator.setting) self.old.book self.new.book (D.content (disk_of self.old.journal)) (D.content (disk_of self.new.journal)) count) }
+        ensures flushed { IfOk result (λ count. self.old.book.pending ≢ [] → Flushes (node_of S.scheme self.old.book.validator.setting) self.old.book self.new.book (D.device.content (disk_of self.old.journal)) (D.device.content (disk_of self.new.journal)) count) }
         ensures down { IsErrOf result FlushError.Down ↔ IsTrue self.old.book.down }
         ensures unchanged { IfErr result (λ error. (error ≡ FlushError.Down) ⊎ (error ≡ FlushError.Memory) → self.new ≡ self.old) }
-        ensures full { IsErrOf result FlushError.Full → FindsNoRoom (node_of S.own_key S.signature_of self.old.book.validator.setting) self.old.book self.new.book (D.content (disk_of self.old.journal)) }
+        ensures full { IsErrOf result FlushError.Full → FindsNoRoom (node_of S.scheme self.old.book.validator.setting) self.old.book self.new.book (D.device.content (disk_of self.old.journal)) }
         ensures full_same { IsErrOf result FlushError.Full → self.new.journal ≡ self.old.journal }
-        ensures fails { IsErrOf result FlushError.Device → FailsWithRoom (node_of S.own_key S.signature_of self.old.book.validator.setting) self.old.book self.new.book (D.content (disk_of self.old.journal)) }
+        ensures fails { IsErrOf result FlushError.Device → FailsWithRoom (node_of S.scheme self.old.book.validator.setting) self.old.book self.new.book (D.device.content (disk_of self.old.journal)) }
         // A stop at any moment leaves the records from before it, with all that it takes or without.
-        ensures any_moment { self.old.book.down ≡ false → AtEachMoment D.clock D.outcome_since (disk_of self.old.journal) (disk_of self.new.journal) (IsWithOrWithout self.old.book.pending (D.content (disk_of self.old.journal))) }
-        ensures alive { OnOk result (IsAlive D.content D.outcome self.new.journal) }
+        ensures any_moment { self.old.book.down ≡ false → AtEachMoment D.device (disk_of self.old.journal) (disk_of self.new.journal) (IsWithOrWithout self.old.book.pending (D.device.content (disk_of self.old.journal))) }
+        ensures alive { OnOk result (IsAlive D.device self.new.journal) }
         ensures accepted { self.new.book.accepted ≡ self.old.book.accepted }
         // It answers Device exactly where the disk has failed.
-        ensures cause { TellsFault FlushError.Device (D.faults (disk_of self.old.journal)) (D.faults (disk_of self.new.journal)) result }
+        ensures cause { TellsFault FlushError.Device (D.device.faults (disk_of self.old.journal)) (D.device.faults (disk_of self.new.journal)) result }
         ensures setting { self.new.book.validator.setting ≡ self.old.book.validator.setting }
         // In the world so many events are taken, the four device calls are made, and they are settled.
-        ensures steps { let node = node_of S.own_key S.signature_of self.old.book.validator.setting in IfOk result (λ count. self.old.book.pending ≢ [] → (world : World) → IsAt node D.content D.outcome world self.old
-            → LeadsTo node D.content D.outcome world (take_to (length world.settled + count) ∷ device_call ∷ device_call ∷ device_call ∷ device_call ∷ settle ∷ []) self.new) }
+        ensures steps { let node = node_of S.scheme self.old.book.validator.setting in IfOk result (λ count. self.old.book.pending ≢ [] → (world : World) → IsAt node D.device world self.old
+            → LeadsTo node D.device world (take_to (length world.settled + count) ∷ device_call ∷ device_call ∷ device_call ∷ device_call ∷ settle ∷ []) self.new) }
         // Where the desk goes down they are taken.
-        ensures fails_step { let node = node_of S.own_key S.signature_of self.old.book.validator.setting in IfErr result (λ error. (error ≡ FlushError.Full) ⊎ (error ≡ FlushError.Device) → (world : World) → IsAt node D.content D.outcome world self.old
-            → (count : ℕ) × LeadsTo node D.content D.outcome world (take_to count ∷ []) self.new) }
+        ensures fails_step { let node = node_of S.scheme self.old.book.validator.setting in IfErr result (λ error. (error ≡ FlushError.Full) ⊎ (error ≡ FlushError.Device) → (world : World) → IsAt node D.device world self.old
+            → (count : ℕ) × LeadsTo node D.device world (take_to count ∷ []) self.new) }
     {
         book::flush_is_steps::<S>();
         book::fail_is_a_step::<S>();
@@ -156,15 +156,15 @@ impl<'a, S: Sign, D: Disk> Desk<'a, S, D> {
     pub fn release(&mut self) -> Option<Output>
         ensures output { result ≡ releasable self.old.book }
         ensures queue { self.new.book ≡ (if is_some result then record self.old.book { queue = drop 1 self.old.book.queue } else self.old.book) }
-        ensures stands { let node = node_of S.own_key S.signature_of self.old.book.validator.setting in (run : Run) → Stands node run self.old.book
+        ensures stands { let node = node_of S.scheme self.old.book.validator.setting in (run : Run) → Stands node run self.old.book
             → Stands node run self.new.book }
-        ensures goes_out { let node = node_of S.own_key S.signature_of self.old.book.validator.setting in IfSome result (λ output. (run : Run) → Stands node run self.old.book
+        ensures goes_out { let node = node_of S.scheme self.old.book.validator.setting in IfSome result (λ output. (run : Run) → Stands node run self.old.book
             → GoesOutSettled node run output) }
         ensures same { self.new.journal ≡ self.old.journal }
         ensures setting { self.new.book.validator.setting ≡ self.old.book.validator.setting }
         // In the world it goes out.
-        ensures step { let node = node_of S.own_key S.signature_of self.old.book.validator.setting in IfSome result (λ output. (world : World) → IsAt node D.content D.outcome world self.old
-            → (ticket : ℕ) × LeadsTo node D.content D.outcome world (release_output (record { ticket = ticket; output = output }) ∷ []) self.new) }
+        ensures step { let node = node_of S.scheme self.old.book.validator.setting in IfSome result (λ output. (world : World) → IsAt node D.device world self.old
+            → (ticket : ℕ) × LeadsTo node D.device world (release_output (record { ticket = ticket; output = output }) ∷ []) self.new) }
     {
         book::release_is_a_step::<S>();
         self.book.release()
@@ -175,20 +175,20 @@ impl<'a, S: Sign, D: Disk> Desk<'a, S, D> {
     /// # Errors
     /// `Down` exactly where the desk is down, `Memory` where a growth was refused.
     pub fn order(&self, from: u64) -> Result<Vec<Digest>, Refusal>
-        ensures order { let node = node_of S.own_key S.signature_of self.now.book.validator.setting in IfOk result (λ digests. (run : Run) → Stands node run self.now.book
+        ensures order { let node = node_of S.scheme self.now.book.validator.setting in IfOk result (λ digests. (run : Run) → Stands node run self.now.book
             → digests.items ≡ drop from (order_of node (settled_in run))) }
         ensures down { IsErrOf result Refusal.Down ↔ IsTrue self.now.book.down }
         ensures errors { IfErr result (λ refusal. (refusal ≡ Refusal.Down) ⊎ (refusal ≡ Refusal.Memory)) }
         // In the world the settled order may be read.
-        ensures step { let node = node_of S.own_key S.signature_of self.now.book.validator.setting in OnOk result ((world : World) → IsAt node D.content D.outcome world self.now
-            → LeadsTo node D.content D.outcome world (read_order ∷ []) self.now) }
+        ensures step { let node = node_of S.scheme self.now.book.validator.setting in OnOk result ((world : World) → IsAt node D.device world self.now
+            → LeadsTo node D.device world (read_order ∷ []) self.now) }
     {
         self.book.order(from)
     }
 
     /// The validator's round, behind all that was accepted.
     pub fn round_now(&self) -> u64
-        ensures { let node = node_of S.own_key S.signature_of self.now.book.validator.setting in (run : Run) → Stands node run self.now.book
+        ensures { let node = node_of S.scheme self.now.book.validator.setting in (run : Run) → Stands node run self.now.book
             → result ≡ round_of node (history_in run) }
     {
         self.book.round_now()
@@ -197,7 +197,7 @@ impl<'a, S: Sign, D: Disk> Desk<'a, S, D> {
     /// Whether an event that passed the checks is ready: its answer isn't that a parent is missing.
     pub fn ready(&self, event: &Checked) -> bool
         requires passed { fault_of self.now.book.validator.setting.charter accepts_all event.now ≡ None }
-        ensures { let node = node_of S.own_key S.signature_of self.now.book.validator.setting in (run : Run) → Stands node run self.now.book
+        ensures { let node = node_of S.scheme self.now.book.validator.setting in (run : Run) → Stands node run self.now.book
             → result ≡ not (is_missing_parents (admit node (history_in run) event.now)) }
     {
         self.book.validator().ready(event)
@@ -206,7 +206,7 @@ impl<'a, S: Sign, D: Disk> Desk<'a, S, D> {
     /// The header that the node proposes, behind all that was accepted. None where its round has an own header, or is past
     /// `Round::MAX`. `AllocError` where a growth was refused.
     pub fn propose(&self) -> Result<Option<Header>, AllocError>
-        ensures { let node = node_of S.own_key S.signature_of self.now.book.validator.setting in IfOk result (λ found. (run : Run) → Stands node run self.now.book
+        ensures { let node = node_of S.scheme self.now.book.validator.setting in IfOk result (λ found. (run : Run) → Stands node run self.now.book
             → found ≡ propose_of node (history_in run)) }
     {
         self.book.validator().propose()
@@ -254,12 +254,12 @@ impl<'a, S: Sign, D: StopDisk> Desk<'a, S, D> {
         config: &'a Config<S>,
     ) -> Result<Desk<'a, S, D>, Failed<JournalError, D>>
         ensures setting { IfOk result (λ next. next.book.validator.setting ≡ config.now) }
-        ensures ok { IfOk result (λ next. (found : List ℕ) × D.outcome (disk_of self.entry.journal) found × IsOpened (node_of S.own_key S.signature_of config.now) D.content D.outcome found next) }
-        ensures err { IfErr result (λ failed. (found : List ℕ) × D.outcome (disk_of self.entry.journal) found × IsNotOpened (node_of S.own_key S.signature_of config.now) failed.error found (D.outcome (disk_of self.entry.journal)) (D.outcome failed.disk)) }
+        ensures ok { IfOk result (λ next. (found : List ℕ) × D.device.outcome (disk_of self.entry.journal) found × IsOpened (node_of S.scheme config.now) D.device found next) }
+        ensures err { IfErr result (λ failed. (found : List ℕ) × D.device.outcome (disk_of self.entry.journal) found × IsNotOpened (node_of S.scheme config.now) failed.error found (D.device.outcome (disk_of self.entry.journal)) (D.device.outcome failed.disk)) }
         // In the world the machine stops, and what that left is opened.
-        ensures steps { let node = node_of S.own_key S.signature_of config.now in IfOk result (λ next. (world : World) → IsAt node D.content D.outcome world self.entry
-            → (moves : List Move) × IsStop world moves × LeadsTo node D.content D.outcome world moves next) }
-        ensures cause { TellsFaultBack D.faults (λ next. disk_of next.journal) JournalError.Device (disk_of self.entry.journal) result }
+        ensures steps { let node = node_of S.scheme config.now in IfOk result (λ next. (world : World) → IsAt node D.device world self.entry
+            → (moves : List Move) × IsStop world moves × LeadsTo node D.device world moves next) }
+        ensures cause { TellsFaultBack D.device (λ next. disk_of next.journal) JournalError.Device (disk_of self.entry.journal) result }
     {
         let mut disk = self.into_disk();
         disk.stop();

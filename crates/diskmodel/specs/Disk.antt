@@ -2,6 +2,7 @@
 use Rattle.std.specs.Prelude.{◌<◌, ◌≡◌, ◌≢◌, ◌⊎◌, ℕ, ◌+◌, ◌≤◌, max, min, List, [], ◌∷◌, ◌++◌, length, take, drop, Result, OnOk, OnErr, IfErr}
 use Rattle.diskmodel.specs.declared.call.Call.{Call}
 use Rattle.diskmodel.specs.declared.disk.DiskFault.{DiskFault}
+use Rattle.diskmodel.specs.Disk.{Device}
 
 -- old with these bytes written at this place, which is within it or at its end
 abbrev pub written : List ℕ → ℕ → List ℕ → List ℕ
@@ -57,8 +58,8 @@ pub record Makes {T : Type 0} (call : Call) (result : Result T DiskFault) (old n
   pub failed : OnErr result ((new ≡ old) ⊎ (new ≡ old ++ call ∷ []))
 
 -- a stop at any moment since old leaves bytes of which P holds
-pub record AtEachMoment {D : Type 0} (clock : D → ℕ) (outcome_since : D → ℕ → List ℕ → Type 0) (old new : D) (P : List ℕ → Type 0) : Type 0 where
-  pub later : clock old ≤ clock new
-  pub each : (c : List ℕ) → outcome_since new (clock old) c → P c
+pub record AtEachMoment {D : Type 0} (device : Device D) (old new : D) (P : List ℕ → Type 0) : Type 0 where
+  pub later : device.clock old ≤ device.clock new
+  pub each : (c : List ℕ) → device.outcome_since new (device.clock old) c → P c
   -- for a caller that began earlier
-  pub before : (t : ℕ) (c : List ℕ) → t ≤ clock old → outcome_since new t c → outcome_since old t c ⊎ P c
+  pub before : (t : ℕ) (c : List ℕ) → t ≤ device.clock old → device.outcome_since new t c → device.outcome_since old t c ⊎ P c

@@ -94,10 +94,10 @@ pub trait StopDisk: Disk {
     /// Stops the machine: from then on a read gives one of the outcomes of a stop. All of them stay
     /// possible until a sync.
     fn stop(&mut self)
-        ensures content { Self.outcome self.old (Self.content self.new) }
-        ensures outcomes { NoneNew (Self.outcome self.old) (Self.outcome self.new) }
-        ensures others { NoneNew (Self.outcome self.new) (Self.outcome self.old) }
-        ensures time { GoesOn (Self.clock self.old) (Self.clock self.new) (Self.outcome_since self.old) (Self.outcome_since self.new) (Self.outcome self.new) }
-        ensures faults { Self.faults self.new ≡ Self.faults self.old }
-        ensures calls { Self.calls self.new ≡ Self.calls self.old };
+        ensures content { Self.device.outcome self.old (Self.device.content self.new) }
+        ensures outcomes { NoneNew (Self.device.outcome self.old) (Self.device.outcome self.new) }
+        ensures others { NoneNew (Self.device.outcome self.new) (Self.device.outcome self.old) }
+        ensures time { GoesOn (Self.device.clock self.old) (Self.device.clock self.new) (Self.device.outcome_since self.old) (Self.device.outcome_since self.new) (Self.device.outcome self.new) }
+        ensures faults { Self.device.faults self.new ≡ Self.device.faults self.old }
+        ensures calls { Self.device.calls self.new ≡ Self.device.calls self.old };
 }

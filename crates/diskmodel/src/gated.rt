@@ -50,17 +50,17 @@ impl<D, G> GatedDisk<D, G> {
 }
 
 impl<D: Disk, G: Gate> Disk for GatedDisk<D, G> {
-    ghost content = { λ gated. D.content gated.disk };
+    ghost content = { λ gated. D.device.content gated.disk };
 
-    ghost outcome = { λ gated. D.outcome gated.disk };
+    ghost outcome = { λ gated. D.device.outcome gated.disk };
 
-    ghost clock = { λ gated. D.clock gated.disk };
+    ghost clock = { λ gated. D.device.clock gated.disk };
 
-    ghost outcome_since = { λ gated. D.outcome_since gated.disk };
+    ghost outcome_since = { λ gated. D.device.outcome_since gated.disk };
 
-    ghost faults = { λ gated. D.faults gated.disk };
+    ghost faults = { λ gated. D.device.faults gated.disk };
 
-    ghost calls = { λ gated. D.calls gated.disk };
+    ghost calls = { λ gated. D.device.calls gated.disk };
 
     ghost content_is_outcome = { λ gated. D.content_is_outcome gated.disk };
 
@@ -69,12 +69,12 @@ impl<D: Disk, G: Gate> Disk for GatedDisk<D, G> {
     ghost only_now = { λ gated. D.only_now gated.disk };
 
     fn len(&mut self) -> Result<u64, DiskFault>
-        ensures value { IfOk result (λ len. len ≡ length (D.content self.old.disk)) }
-        ensures content { D.content self.new.disk ≡ D.content self.old.disk }
-        ensures outcomes { NoneNew (D.outcome self.old.disk) (D.outcome self.new.disk) }
-        ensures time { GoesOn (D.clock self.old.disk) (D.clock self.new.disk) (D.outcome_since self.old.disk) (D.outcome_since self.new.disk) (D.outcome self.new.disk) }
-        ensures cause { HasCause (D.faults self.old.disk) (D.faults self.new.disk) result }
-        ensures calls { D.calls self.new.disk ≡ D.calls self.old.disk }
+        ensures value { IfOk result (λ len. len ≡ length (D.device.content self.old.disk)) }
+        ensures content { D.device.content self.new.disk ≡ D.device.content self.old.disk }
+        ensures outcomes { NoneNew (D.device.outcome self.old.disk) (D.device.outcome self.new.disk) }
+        ensures time { GoesOn (D.device.clock self.old.disk) (D.device.clock self.new.disk) (D.device.outcome_since self.old.disk) (D.device.outcome_since self.new.disk) (D.device.outcome self.new.disk) }
+        ensures cause { HasCause (D.device.faults self.old.disk) (D.device.faults self.new.disk) result }
+        ensures calls { D.device.calls self.new.disk ≡ D.device.calls self.old.disk }
 
         // Only a sync passes the gate.
         ensures gate { self.new.gate ≡ self.old.gate }
@@ -83,37 +83,37 @@ impl<D: Disk, G: Gate> Disk for GatedDisk<D, G> {
     }
 
     fn read_at(&mut self, at: u64, buffer: &mut [u8]) -> Result<(), DiskFault>
-        requires { at + length buffer.old ≤ length (D.content self.old.disk) }
-        ensures bytes { OnOk result (buffer.new ≡ take (length buffer.old) (drop at (D.content self.old.disk))) }
-        ensures content { D.content self.new.disk ≡ D.content self.old.disk }
-        ensures outcomes { NoneNew (D.outcome self.old.disk) (D.outcome self.new.disk) }
-        ensures time { GoesOn (D.clock self.old.disk) (D.clock self.new.disk) (D.outcome_since self.old.disk) (D.outcome_since self.new.disk) (D.outcome self.new.disk) }
-        ensures cause { HasCause (D.faults self.old.disk) (D.faults self.new.disk) result }
-        ensures calls { D.calls self.new.disk ≡ D.calls self.old.disk }
+        requires { at + length buffer.old ≤ length (D.device.content self.old.disk) }
+        ensures bytes { OnOk result (buffer.new ≡ take (length buffer.old) (drop at (D.device.content self.old.disk))) }
+        ensures content { D.device.content self.new.disk ≡ D.device.content self.old.disk }
+        ensures outcomes { NoneNew (D.device.outcome self.old.disk) (D.device.outcome self.new.disk) }
+        ensures time { GoesOn (D.device.clock self.old.disk) (D.device.clock self.new.disk) (D.device.outcome_since self.old.disk) (D.device.outcome_since self.new.disk) (D.device.outcome self.new.disk) }
+        ensures cause { HasCause (D.device.faults self.old.disk) (D.device.faults self.new.disk) result }
+        ensures calls { D.device.calls self.new.disk ≡ D.device.calls self.old.disk }
         ensures gate { self.new.gate ≡ self.old.gate }
     {
         self.disk.read_at(at, buffer)
     }
 
     fn write_at(&mut self, at: u64, bytes: &[u8]) -> Result<(), DiskFault>
-        requires { at ≤ length (D.content self.old.disk) }
-        ensures content { OnOk result (D.content self.new.disk ≡ written (D.content self.old.disk) at bytes.now) }
-        ensures outcomes { ComesBy (IsTorn at (length bytes.now)) (D.outcome self.old.disk) (D.outcome self.new.disk) }
-        ensures time { GoesOn (D.clock self.old.disk) (D.clock self.new.disk) (D.outcome_since self.old.disk) (D.outcome_since self.new.disk) (D.outcome self.new.disk) }
-        ensures cause { HasCause (D.faults self.old.disk) (D.faults self.new.disk) result }
-        ensures calls { Makes (Wrote at bytes.now) result (D.calls self.old.disk) (D.calls self.new.disk) }
+        requires { at ≤ length (D.device.content self.old.disk) }
+        ensures content { OnOk result (D.device.content self.new.disk ≡ written (D.device.content self.old.disk) at bytes.now) }
+        ensures outcomes { ComesBy (IsTorn at (length bytes.now)) (D.device.outcome self.old.disk) (D.device.outcome self.new.disk) }
+        ensures time { GoesOn (D.device.clock self.old.disk) (D.device.clock self.new.disk) (D.device.outcome_since self.old.disk) (D.device.outcome_since self.new.disk) (D.device.outcome self.new.disk) }
+        ensures cause { HasCause (D.device.faults self.old.disk) (D.device.faults self.new.disk) result }
+        ensures calls { Makes (Wrote at bytes.now) result (D.device.calls self.old.disk) (D.device.calls self.new.disk) }
         ensures gate { self.new.gate ≡ self.old.gate }
     {
         self.disk.write_at(at, bytes)
     }
 
     fn cut(&mut self, len: u64) -> Result<(), DiskFault>
-        requires { len ≤ length (D.content self.old.disk) }
-        ensures content { OnOk result (D.content self.new.disk ≡ take len (D.content self.old.disk)) }
-        ensures outcomes { ComesBy (IsCut len) (D.outcome self.old.disk) (D.outcome self.new.disk) }
-        ensures time { GoesOn (D.clock self.old.disk) (D.clock self.new.disk) (D.outcome_since self.old.disk) (D.outcome_since self.new.disk) (D.outcome self.new.disk) }
-        ensures cause { HasCause (D.faults self.old.disk) (D.faults self.new.disk) result }
-        ensures calls { Makes (Cut len) result (D.calls self.old.disk) (D.calls self.new.disk) }
+        requires { len ≤ length (D.device.content self.old.disk) }
+        ensures content { OnOk result (D.device.content self.new.disk ≡ take len (D.device.content self.old.disk)) }
+        ensures outcomes { ComesBy (IsCut len) (D.device.outcome self.old.disk) (D.device.outcome self.new.disk) }
+        ensures time { GoesOn (D.device.clock self.old.disk) (D.device.clock self.new.disk) (D.device.outcome_since self.old.disk) (D.device.outcome_since self.new.disk) (D.device.outcome self.new.disk) }
+        ensures cause { HasCause (D.device.faults self.old.disk) (D.device.faults self.new.disk) result }
+        ensures calls { Makes (Cut len) result (D.device.calls self.old.disk) (D.device.calls self.new.disk) }
         ensures gate { self.new.gate ≡ self.old.gate }
     {
         self.disk.cut(len)
@@ -127,12 +127,12 @@ impl<D: Disk, G: Gate> Disk for GatedDisk<D, G> {
 
 impl<D: StopDisk, G: Gate> StopDisk for GatedDisk<D, G> {
     fn stop(&mut self)
-        ensures content { D.outcome self.old.disk (D.content self.new.disk) }
-        ensures outcomes { NoneNew (D.outcome self.old.disk) (D.outcome self.new.disk) }
-        ensures others { NoneNew (D.outcome self.new.disk) (D.outcome self.old.disk) }
-        ensures time { GoesOn (D.clock self.old.disk) (D.clock self.new.disk) (D.outcome_since self.old.disk) (D.outcome_since self.new.disk) (D.outcome self.new.disk) }
-        ensures faults { D.faults self.new.disk ≡ D.faults self.old.disk }
-        ensures calls { D.calls self.new.disk ≡ D.calls self.old.disk }
+        ensures content { D.device.outcome self.old.disk (D.device.content self.new.disk) }
+        ensures outcomes { NoneNew (D.device.outcome self.old.disk) (D.device.outcome self.new.disk) }
+        ensures others { NoneNew (D.device.outcome self.new.disk) (D.device.outcome self.old.disk) }
+        ensures time { GoesOn (D.device.clock self.old.disk) (D.device.clock self.new.disk) (D.device.outcome_since self.old.disk) (D.device.outcome_since self.new.disk) (D.device.outcome self.new.disk) }
+        ensures faults { D.device.faults self.new.disk ≡ D.device.faults self.old.disk }
+        ensures calls { D.device.calls self.new.disk ≡ D.device.calls self.old.disk }
         ensures gate { self.new.gate ≡ self.old.gate }
     {
         self.disk.stop();

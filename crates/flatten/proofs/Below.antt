@@ -11,7 +11,7 @@ use Rattle.spec_model.specs.Words.{Certificate}
 use Rattle.spec_laws.proofs.Lists.{given_or_none}
 use Rattle.spec_laws.proofs.Meeting.{any_to}
 use Rattle.spec_laws.proofs.Votes.{slot_is}
-use Rattle.dag.specs.Graph.{Graph, IsGraph, slots_in, size_in, has_parent_in, reaches_in, is_parent_of, references_at, references_of}
+use Rattle.dag.specs.Graph.{DagView, IsGraph, slots_in, size_in, has_parent_in, reaches_in, is_parent_of, references_at, references_of}
 use Rattle.dag.proofs.Paths.{in_round}
 use Rattle.dag.proofs.Tests.{same_test, any_from}
 use Rattle.dag.proofs.Walking.{parent_of, one_down, past_on}
@@ -29,7 +29,7 @@ true_not : (b : Bool) → (b ≡ true → ⊥) → not b ≡ true
 true_not true never = absurd (never refl)
 true_not false never = refl
 
-pub are_closed : (graph : Graph) → IsGraph graph → (previous : Option Certificate) (from high top : ℕ) (free : ℕ → ℕ → Bool) → high ≤ top → AreUnordered graph previous from top free → AreClosed graph from high free
+pub are_closed : (graph : DagView) → IsGraph graph → (previous : Option Certificate) (from high top : ℕ) (free : ℕ → ℕ → Bool) → high ≤ top → AreUnordered graph previous from top free → AreClosed graph from high free
 are_closed graph is previous from high top free within unordered round author other above below inside has =
     let found = parent_of graph (round + 1) author round other has in
     let place = slot_is round other found.parent.header (is.placed round other found.parent found.held_parent) in
@@ -44,7 +44,7 @@ are_closed graph is previous from high top free within unordered round author ot
 -- ---- the set of the round below
 
 -- whoever is ordered of a round is a parent of one who is ordered of the round above
-pub set_below : (graph : Graph) → IsGraph graph → (leader leader_author from : ℕ) (free : ℕ → ℕ → Bool) → AreClosed graph from leader free → (round other : ℕ) → from ≤ round → round < leader
+pub set_below : (graph : DagView) → IsGraph graph → (leader leader_author from : ℕ) (free : ℕ → ℕ → Bool) → AreClosed graph from leader free → (round other : ℕ) → from ≤ round → round < leader
     → (is_parent_of graph (round + 1) round (orders_in graph leader leader_author free (round + 1)) other && free round other) ≡ orders_in graph leader leader_author free round other
 set_below graph is leader leader_author from free closed round other above lower =
     let test : ℕ → Bool = λ author. orders_in graph leader leader_author free (round + 1) author && has_parent_in graph (round + 1) author round other in
@@ -68,7 +68,7 @@ set_below graph is leader leader_author from free closed round other above lower
 -- ---- one round more
 
 -- the set that is made of a round
-pub next_orders : (graph : Graph) → IsGraph graph → (leader leader_author from : ℕ) (free : ℕ → ℕ → Bool) → AreClosed graph from leader free → (place : ℕ) (above : ℕ → Bool) → 0 < place → from + place ≤ leader
+pub next_orders : (graph : DagView) → IsGraph graph → (leader leader_author from : ℕ) (free : ℕ → ℕ → Bool) → AreClosed graph from leader free → (place : ℕ) (above : ℕ → Bool) → 0 < place → from + place ≤ leader
     → ((other : ℕ) → above other ≡ orders_in graph leader leader_author free (leader - (place - 1)) other) → (other : ℕ)
     → (is_parent_of graph (leader - place + 1) (leader - place) above other && free (leader - place) other) ≡ orders_in graph leader leader_author free (leader - place) other
 next_orders graph is leader leader_author from free closed place above some within same other =
@@ -78,7 +78,7 @@ next_orders graph is leader leader_author from free closed place above some with
     ∙ set_below graph is leader leader_author from free closed (leader - place) other (omega (arith, within)) (omega (arith, some, within))
 
 -- what was read of it
-pub next_reads : (graph : Graph) (orders : ℕ → ℕ → Bool) (leader place old new : ℕ) (above : ℕ → Bool) → 0 < place → place ≤ leader → ((other : ℕ) → above other ≡ orders (leader - (place - 1)) other)
+pub next_reads : (graph : DagView) (orders : ℕ → ℕ → Bool) (leader place old new : ℕ) (above : ℕ → Bool) → 0 < place → place ≤ leader → ((other : ℕ) → above other ≡ orders (leader - (place - 1)) other)
     → old ≡ sum_by (λ r. references_of graph r (orders r)) (range_with_len (leader + 2 - place) (place - 1)) → new ≡ old + references_of graph (leader - place + 1) above
     → new ≡ sum_by (λ r. references_of graph r (orders r)) (range_with_len (leader + 2 - (place + 1)) (place + 1 - 1))
 next_reads graph orders leader place old new above some within same before more =
@@ -98,7 +98,7 @@ next_reads graph orders leader place old new above some within same before more 
 -- ---- where nobody is left
 
 -- where nobody is ordered of a round, nobody is of a lower one
-pub none_further : (graph : Graph) → IsGraph graph → (leader leader_author from : ℕ) (free : ℕ → ℕ → Bool) → AreClosed graph from leader free → (round : ℕ) → round ≤ leader
+pub none_further : (graph : DagView) → IsGraph graph → (leader leader_author from : ℕ) (free : ℕ → ℕ → Bool) → AreClosed graph from leader free → (round : ℕ) → round ≤ leader
     → ((other : ℕ) → orders_in graph leader leader_author free round other ≡ false) → (down : ℕ) → from + down ≤ round → (other : ℕ) → orders_in graph leader leader_author free (round - down) other ≡ false
 none_further graph is leader leader_author from free closed round within none zero low other =
     let same : round - 0 ≡ round = omega arith in
@@ -113,11 +113,11 @@ none_further graph is leader leader_author from free closed round within none (s
     ∙ ap (λ b. b && free (round - suc down) other) empty
 
 -- of nobody nothing is read
-pub none_read : (graph : Graph) (round : ℕ) (passes : ℕ → Bool) → ((a : ℕ) → passes a ≡ false) → references_of graph round passes ≡ 0
+pub none_read : (graph : DagView) (round : ℕ) (passes : ℕ → Bool) → ((a : ℕ) → passes a ≡ false) → references_of graph round passes ≡ 0
 none_read graph round passes none = sum_zero (λ a. cond (passes a) (references_at graph round a) 0) (numbers (size_in graph)) (λ a. ap (λ b. cond b (references_at graph round a) 0) (none a))
 
 -- what was read so far is all, where nobody is left
-pub all_read : (graph : Graph) (orders : ℕ → ℕ → Bool) (leader place count reads : ℕ) → 0 < place → place ≤ count → count ≤ leader + 1
+pub all_read : (graph : DagView) (orders : ℕ → ℕ → Bool) (leader place count reads : ℕ) → 0 < place → place ≤ count → count ≤ leader + 1
     → ((down other : ℕ) → down < count - place + 1 → orders ((leader - (place - 1)) - down) other ≡ false)
     → reads ≡ sum_by (λ r. references_of graph r (orders r)) (range_with_len (leader + 2 - place) (place - 1))
     → reads ≡ sum_by (λ r. references_of graph r (orders r)) (range_with_len (leader + 2 - count) (count - 1))
@@ -138,7 +138,7 @@ all_read graph orders leader place count reads some within few none so_far =
     omega (arith, so_far, empty, whole)
 
 -- a leader that is held lies at the floor or above
-pub floor_within : (graph : Graph) → IsGraph graph → (leader leader_author : ℕ) → is_some (slots_in graph leader leader_author) ≡ true → graph.floor ≤ leader
+pub floor_within : (graph : DagView) → IsGraph graph → (leader leader_author : ℕ) → is_some (slots_in graph leader leader_author) ≡ true → graph.floor ≤ leader
 floor_within graph is leader leader_author held =
     elim (given_or_none (slots_in graph leader leader_author)) [
       | inl c ↦ is.above leader leader_author c.0 c.1

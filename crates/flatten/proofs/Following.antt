@@ -6,7 +6,7 @@ use Rattle.spec_laws.proofs.Lists.{given_or_none}
 use Rattle.spec_laws.specs.Laws.{last_or}
 use Rattle.spec_model.specs.Ordering.{is_past}
 use Rattle.spec_model.specs.Words.{Author, Certificate}
-use Rattle.dag.specs.Graph.{Graph, IsGraph, slots_in}
+use Rattle.dag.specs.Graph.{DagView, IsGraph, slots_in}
 use Rattle.tusk.specs.Chain.{ledger_in}
 use Rattle.flatten.proofs.Leaders.{has_all, link_above}
 use Rattle.flatten.proofs.Taking.{past_before}
@@ -14,12 +14,12 @@ use Rattle.flatten.specs.Laws.{EachFollows}
 use Rattle.flatten.specs.Segments.{leader_held, AreLinked, IsMarkedPast, IsMarkedFor}
 
 -- those behind a beginning are linked
-linked_behind : (graph : Graph) (previous : Option (ℕ × Author)) (front back : List (ℕ × Author)) → AreLinked graph previous (front ++ back) → AreLinked graph (last_or previous front) back
+linked_behind : (graph : DagView) (previous : Option (ℕ × Author)) (front back : List (ℕ × Author)) → AreLinked graph previous (front ++ back) → AreLinked graph (last_or previous front) back
 linked_behind graph previous [] back linked = linked
 linked_behind graph previous (first ∷ front) back linked = linked_behind graph (Some first) front back linked.2
 
 -- a later leader reaches all that an earlier one does
-all_behind : (graph : Graph) → IsGraph graph → (previous : Option (ℕ × Author)) (front back : List (ℕ × Author)) → AreLinked graph previous (front ++ back) → (round author : ℕ) (e : Certificate) → slots_in graph round author ≡ Some e
+all_behind : (graph : DagView) → IsGraph graph → (previous : Option (ℕ × Author)) (front back : List (ℕ × Author)) → AreLinked graph previous (front ++ back) → (round author : ℕ) (e : Certificate) → slots_in graph round author ≡ Some e
     → is_past (ledger_in graph []) (leader_held graph previous) e ≡ true → is_past (ledger_in graph []) (leader_held graph (last_or previous front)) e ≡ true
 all_behind graph is previous [] back linked round author e held past = past
 all_behind graph is previous (first ∷ front) back linked round author e held past =
@@ -31,7 +31,7 @@ all_behind graph is previous (first ∷ front) back linked round author e held p
     ]
 
 -- and isn't below it
-not_under : (graph : Graph) → IsGraph graph → (first : ℕ × Author) (front rest : List (ℕ × Author)) (leader : ℕ × Author) → AreLinked graph (Some first) (front ++ leader ∷ rest) → first.0 ≤ leader.0
+not_under : (graph : DagView) → IsGraph graph → (first : ℕ × Author) (front rest : List (ℕ × Author)) (leader : ℕ × Author) → AreLinked graph (Some first) (front ++ leader ∷ rest) → first.0 ≤ leader.0
 not_under graph is first [] rest leader linked = link_above graph is first leader linked.1
 not_under graph is first (next ∷ front) rest leader linked =
     let here = link_above graph is first next linked.1 in
@@ -39,7 +39,7 @@ not_under graph is first (next ∷ front) rest leader linked =
     omega (arith, here, later)
 
 -- the marks of the first are those of each
-marks_of : (graph : Graph) → IsGraph graph → (previous : Option (ℕ × Author)) (front rest : List (ℕ × Author)) (leader : ℕ × Author) → AreLinked graph previous (front ++ leader ∷ rest) → IsMarkedFor graph previous (front ++ leader ∷ rest)
+marks_of : (graph : DagView) → IsGraph graph → (previous : Option (ℕ × Author)) (front rest : List (ℕ × Author)) (leader : ℕ × Author) → AreLinked graph previous (front ++ leader ∷ rest) → IsMarkedFor graph previous (front ++ leader ∷ rest)
     → IsMarkedPast graph (leader.0 - graph.charter.depth) (leader_held graph previous)
 marks_of graph is previous [] rest leader linked marks = marks
 marks_of graph is previous (first ∷ front) rest leader linked marks =

@@ -15,7 +15,7 @@ use Rattle.spec_laws.proofs.Growing.{AreInPlace, IsIn, is_in as is_held}
 use Rattle.spec_laws.proofs.Lists.{given_or_none, Contains-made}
 use Rattle.spec_laws.proofs.Meeting.{any_to}
 use Rattle.spec_laws.proofs.Votes.{slot_is}
-use Rattle.dag.specs.Graph.{Graph, IsGraph, slots_in, marked_in, size_in, reaches_in}
+use Rattle.dag.specs.Graph.{DagView, IsGraph, slots_in, marked_in, size_in, reaches_in}
 use Rattle.dag.proofs.Paths.{same_held}
 use Rattle.dag.proofs.Tests.{any_from}
 use Rattle.tusk.specs.Chain.{ledger_in}
@@ -52,7 +52,7 @@ reach_over n slots placed start mid end held held' one other =
     let count : (mid.header.round - end.header.round) + (start.header.round - mid.header.round) ≡ start.header.round - end.header.round = omega (arith, above, below) in
     and_from _ _ (le-leb end.header.round start.header.round (omega (arith, above, below))) (subst (λ k. has_path n slots k start end ≡ true) count path)
 
-pub has_all : (graph : Graph) → IsGraph graph → (before : Option (ℕ × Author)) (leader : ℕ × Author) (c : Certificate) → slots_in graph leader.0 leader.1.0 ≡ Some c
+pub has_all : (graph : DagView) → IsGraph graph → (before : Option (ℕ × Author)) (leader : ℕ × Author) (c : Certificate) → slots_in graph leader.0 leader.1.0 ≡ Some c
     → option_map_or (λ (b : ℕ × Author). reaches_in graph leader.0 leader.1.0 b.0 b.1.0) before true ≡ true → HasAllOf graph (leader_held graph before) c
 has_all graph is None leader c held link = λ round author e there past. absurd cc
 has_all graph is (Some before) leader c held link =
@@ -65,7 +65,7 @@ has_all graph is (Some before) leader c held link =
     subst (λ p. HasAllOf graph p c) (sym down.held_end) all
 
 -- a leader isn't below one that it reaches
-pub link_above : (graph : Graph) → IsGraph graph → (before leader : ℕ × Author) → reaches_in graph leader.0 leader.1.0 before.0 before.1.0 ≡ true → before.0 ≤ leader.0
+pub link_above : (graph : DagView) → IsGraph graph → (before leader : ℕ × Author) → reaches_in graph leader.0 leader.1.0 before.0 before.1.0 ≡ true → before.0 ≤ leader.0
 link_above graph is before leader link =
     let down = reaches_of graph leader.0 leader.1.0 before.0 before.1.0 link in
     let place = slot_is leader.0 leader.1.0 down.start.header (is.placed leader.0 leader.1.0 down.start down.held_start) in
@@ -75,7 +75,7 @@ link_above graph is before leader link =
     omega (arith, within, place.0, place'.0)
 
 -- none lies above the last
-pub all_within : (graph : Graph) → IsGraph graph → (before : Option (ℕ × Author)) (chain : List (ℕ × Author)) (last : ℕ × Author) → AreLinked graph before chain → slice_get chain (length chain - 1) ≡ Some last
+pub all_within : (graph : DagView) → IsGraph graph → (before : Option (ℕ × Author)) (chain : List (ℕ × Author)) (last : ℕ × Author) → AreLinked graph before chain → slice_get chain (length chain - 1) ≡ Some last
     → All (λ (s : ℕ × Author). s.0 ≤ last.0) chain
 all_within graph is before [] last linked at = All-nil (λ (s : ℕ × Author). s.0 ≤ last.0)
 all_within graph is before (leader ∷ []) last linked at =
@@ -93,7 +93,7 @@ all_within graph is before (leader ∷ next ∷ more) last linked at =
 
 -- so many leaders were taken, the last of them was `before`, and the others are left; from where the last one orders on those are
 -- free that are unordered before these; it reaches what is marked; what they order is still to come, and so is what is read for them
-pub record IsBehind (graph : Graph) (total : List Digest) (most high : ℕ) (before : Option (ℕ × Author)) (left : List (ℕ × Author)) (free : ℕ → ℕ → Bool) (digests : List Digest) (reads : ℕ) : Type 0 where
+pub record IsBehind (graph : DagView) (total : List Digest) (most high : ℕ) (before : Option (ℕ × Author)) (left : List (ℕ × Author)) (free : ℕ → ℕ → Bool) (digests : List Digest) (reads : ℕ) : Type 0 where
   pub from : ℕ
   pub next : (leader : ℕ × Author) (more : List (ℕ × Author)) → left ≡ leader ∷ more → from ≤ lowest_in graph leader.0
   pub ends : left ≡ [] → (leader : ℕ × Author) → before ≡ Some leader → (from ≤ lowest_in graph leader.0) × (is_some (slots_in graph leader.0 leader.1.0) ≡ true)
@@ -105,7 +105,7 @@ pub record IsBehind (graph : Graph) (total : List Digest) (most high : ℕ) (bef
   pub counted : min (reads + read_references_by graph (leader_held graph before) (leaders_in graph left)) (2 ^ 64 - 1) ≡ min most (2 ^ 64 - 1)
 
 -- before any is taken
-pub none_taken : (graph : Graph) → IsGraph graph → (previous : Option (ℕ × Author)) (chain : List (ℕ × Author)) (last : ℕ × Author) (free : ℕ → ℕ → Bool) (digests : List Digest) → 0 < length chain → AreLinked graph previous chain → IsMarkedFor graph previous chain
+pub none_taken : (graph : DagView) → IsGraph graph → (previous : Option (ℕ × Author)) (chain : List (ℕ × Author)) (last : ℕ × Author) (free : ℕ → ℕ → Bool) (digests : List Digest) → 0 < length chain → AreLinked graph previous chain → IsMarkedFor graph previous chain
     → slice_get chain (length chain - 1) ≡ Some last
     → ((round author : ℕ) → free round author ≡ is_unmarked_in graph round author) → digests ≡ []
     → IsBehind graph (digests_of (segments (ledger_in graph []) (leader_held graph previous) (leaders_in graph chain))) (read_references_by graph (leader_held graph previous) (leaders_in graph chain)) last.0 previous chain free digests 0
@@ -134,7 +134,7 @@ count_on : (reads one reads' rest later all most : ℕ) → reads' ≡ min (read
 count_on reads one reads' rest later all most counted parts same was = omega (arith, counted, parts, same, was)
 
 -- one more is taken
-pub one_taken : (graph : Graph) → IsGraph graph → (total : List Digest) (most high : ℕ) (before : Option (ℕ × Author)) (leader : ℕ × Author) (more : List (ℕ × Author)) (free free' : ℕ → ℕ → Bool) (digests digests' : List Digest) (reads one reads' : ℕ)
+pub one_taken : (graph : DagView) → IsGraph graph → (total : List Digest) (most high : ℕ) (before : Option (ℕ × Author)) (leader : ℕ × Author) (more : List (ℕ × Author)) (free free' : ℕ → ℕ → Bool) (digests digests' : List Digest) (reads one reads' : ℕ)
     → IsBehind graph total most high before (leader ∷ more) free digests reads → reads' ≡ min (reads + one) (2 ^ 64 - 1)
     → ((c : Certificate) → Leads graph (leader_held graph before) leader high free c → digests' ≡ digests ++ digests_of (segment (ledger_in graph []) (leader_held graph before) c))
     → ((c : Certificate) → Leads graph (leader_held graph before) leader high free c → HasAllOf graph (leader_held graph before) c → AreUnordered graph (Some c) (lowest_in graph leader.0) high free')
@@ -183,7 +183,7 @@ one_taken graph is total most high before leader more free free' digests digests
     ]
 
 -- when all are taken, what they order is written, and the rest is that of the last
-pub all_taken : (graph : Graph) → (total : List Digest) (most : ℕ) (before : Option (ℕ × Author)) (left : List (ℕ × Author)) (last : ℕ × Author) (sets : List MemberSet) (digests : List Digest) (reads : ℕ)
+pub all_taken : (graph : DagView) → (total : List Digest) (most : ℕ) (before : Option (ℕ × Author)) (left : List (ℕ × Author)) (last : ℕ × Author) (sets : List MemberSet) (digests : List Digest) (reads : ℕ)
     → IsBehind graph total most last.0 before left (is_free graph last.0 sets) digests reads → reads < 2 ^ 64
     → left ≡ [] → before ≡ Some last → (digests ≡ total) × FitsTo graph (record { digests = digests; last = last; ordered = sets; reads = reads }) × (reads ≡ min most (2 ^ 64 - 1))
 all_taken graph total most before left last sets digests reads was small none same =
@@ -204,7 +204,7 @@ all_taken graph total most before left last sets digests reads was small none sa
     )
 
 -- no more is read than the references of what is new to each
-pub reads_below : (graph : Graph) (previous : Option Certificate) (leaders : List Certificate) → read_references_by graph previous leaders ≤ references_by graph previous leaders
+pub reads_below : (graph : DagView) (previous : Option Certificate) (leaders : List Certificate) → read_references_by graph previous leaders ≤ references_by graph previous leaders
 reads_below graph previous [] = omega arith
 reads_below graph previous (leader ∷ leaders) =
     let here = reads_few graph previous leader in
@@ -238,6 +238,6 @@ dropped_all (y ∷ ys) zero past = absurd (omega (arith, past))
 dropped_all (y ∷ ys) (suc place) past = dropped_all ys place (omega (arith, past))
 
 -- no coin is asked
-pub no_coin : (graph : Graph) (coins other : List ℕ) (previous : Option Certificate) (leaders : List Certificate) → segments (ledger_in graph coins) previous leaders ≡ segments (ledger_in graph other) previous leaders
+pub no_coin : (graph : DagView) (coins other : List ℕ) (previous : Option Certificate) (leaders : List Certificate) → segments (ledger_in graph coins) previous leaders ≡ segments (ledger_in graph other) previous leaders
 no_coin graph coins other previous [] = refl
 no_coin graph coins other previous (leader ∷ leaders) = ap (λ l. segment (ledger_in graph coins) previous leader ++ l) (no_coin graph coins other (Some leader) leaders)

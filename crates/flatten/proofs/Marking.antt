@@ -13,10 +13,10 @@ use Rattle.spec_laws.proofs.Growing.{and_false}
 use Rattle.spec_laws.proofs.Lists.{given_or_none}
 use Rattle.spec_laws.proofs.Meeting.{same_number}
 use Rattle.dag.specs.Changes.{IsMarked}
-use Rattle.dag.specs.Graph.{Graph, IsGraph, slots_in, marked_in, size_in, reaches_in, end_in}
+use Rattle.dag.specs.Graph.{DagView, IsGraph, slots_in, marked_in, size_in, reaches_in, end_in}
 use Rattle.dag.proofs.Steps.{or_false}
 use Rattle.tusk.specs.Chain.{ledger_in}
-use Rattle.flatten.specs.Lengthening.{Made, FitsTo}
+use Rattle.flatten.specs.Lengthening.{LengtheningView, FitsTo}
 use Rattle.flatten.specs.Segments.{leader_held, IsMarkedPast}
 use Rattle.flatten.specs.Sets.{is_in, lowest_in}
 use Rattle.dag.proofs.Walking.{reaches_by}
@@ -24,7 +24,7 @@ use Rattle.flatten.proofs.Places.{past_end}
 use Rattle.flatten.proofs.Taking.{not_above}
 
 -- of so many rounds from one downwards all that is in the sets is marked too
-pub record IsSoFar (before now : Graph) (top count : ℕ) (sets : List MemberSet) : Type 0 where
+pub record IsSoFar (before now : DagView) (top count : ℕ) (sets : List MemberSet) : Type 0 where
   pub charter : now.charter ≡ before.charter
   pub floor : now.floor ≡ before.floor
   pub base : now.base ≡ before.base
@@ -33,7 +33,7 @@ pub record IsSoFar (before now : Graph) (top count : ℕ) (sets : List MemberSet
   pub marked : (r a : ℕ) → marked_in now r a ≡ (marked_in before r a || ((nat_lt top (r + count) && nat_le r top) && (is_some (slots_in before r a) && is_in sets (top - r) a)))
 
 -- at first nothing more is
-pub none_so_far : (graph : Graph) (top : ℕ) (sets : List MemberSet) → IsSoFar graph graph top 0 sets
+pub none_so_far : (graph : DagView) (top : ℕ) (sets : List MemberSet) → IsSoFar graph graph top 0 sets
 none_so_far graph top sets = record {
   charter = refl;
   floor = refl;
@@ -51,7 +51,7 @@ none_so_far graph top sets = record {
         ]
 
 -- one round more
-pub one_round : (before now next : Graph) (top count : ℕ) (sets : List MemberSet) (authors : ℕ → Bool) → IsSoFar before now top count sets → count ≤ top → IsMarked now next (top - count) authors
+pub one_round : (before now next : DagView) (top count : ℕ) (sets : List MemberSet) (authors : ℕ → Bool) → IsSoFar before now top count sets → count ≤ top → IsMarked now next (top - count) authors
     → ((a : ℕ) → authors a ≡ is_in sets count a) → IsSoFar before next top (count + 1) sets
 one_round before now next top count sets authors was within more each = record {
   charter = more.charter ∙ was.charter;
@@ -102,13 +102,13 @@ one_round before now next top count sets authors was within more each = record {
 -- ---- all rounds
 
 -- a slot that holds nothing isn't reached
-unheld : (graph : Graph) (round author below other : ℕ) (d : Certificate) → slots_in graph round author ≡ Some d → slots_in graph below other ≡ None → reaches_in graph round author below other ≡ false
+unheld : (graph : DagView) (round author below other : ℕ) (d : Certificate) → slots_in graph round author ≡ Some d → slots_in graph below other ≡ None → reaches_in graph round author below other ≡ false
 unheld graph round author below other d held none =
     ap (λ o. option_map_or (λ start. option_map_or (reaches (size_in graph) (slots_in graph) start) (slots_in graph below other) false) o false) held
     ∙ ap (λ o. option_map_or (reaches (size_in graph) (slots_in graph) d) o false) none
 
 -- of the rounds that the last leader orders of, what is in the sets or marked is what it reaches
-left_is_reached : (graph : Graph) → IsGraph graph → (made : Made) → FitsTo graph made → (d : Certificate) → slots_in graph made.last.0 made.last.1.0 ≡ Some d → (count : ℕ) → count ≡ min ((made.last.0 + 1) - lowest_in graph made.last.0) (length made.ordered)
+left_is_reached : (graph : DagView) → IsGraph graph → (made : LengtheningView) → FitsTo graph made → (d : Certificate) → slots_in graph made.last.0 made.last.1.0 ≡ Some d → (count : ℕ) → count ≡ min ((made.last.0 + 1) - lowest_in graph made.last.0) (length made.ordered)
     → (r a : ℕ) → (marked_in graph r a || ((nat_lt made.last.0 (r + count) && nat_le r made.last.0) && (is_some (slots_in graph r a) && is_in made.ordered (made.last.0 - r) a)))
     ≡ (marked_in graph r a || (nat_le (made.last.0 - graph.charter.depth) r && reaches_in graph made.last.0 made.last.1.0 r a))
 left_is_reached graph is made of d leader count all r a =
@@ -173,7 +173,7 @@ left_is_reached graph is made of d leader count all r a =
     joined false false true same = absurd cc
     joined false false false same = refl
 
-pub exact_marks : (before now : Graph) → IsGraph before → (made : Made) → FitsTo before made → (count : ℕ) → count ≡ min ((made.last.0 + 1) - lowest_in before made.last.0) (length made.ordered)
+pub exact_marks : (before now : DagView) → IsGraph before → (made : LengtheningView) → FitsTo before made → (count : ℕ) → count ≡ min ((made.last.0 + 1) - lowest_in before made.last.0) (length made.ordered)
     → IsSoFar before now made.last.0 count made.ordered → (r a : ℕ)
     → marked_in now r a ≡ (marked_in before r a || (nat_le (made.last.0 - before.charter.depth) r && reaches_in before made.last.0 made.last.1.0 r a))
 exact_marks before now is made of count all so_far r a =
@@ -183,7 +183,7 @@ exact_marks before now is made of count all so_far r a =
     ]
 
 -- the marks are those of the last leader
-pub marked_past : (before now : Graph) → IsGraph before → (made : Made) → FitsTo before made → now.charter ≡ before.charter → ((r a : ℕ) → slots_in now r a ≡ slots_in before r a)
+pub marked_past : (before now : DagView) → IsGraph before → (made : LengtheningView) → FitsTo before made → now.charter ≡ before.charter → ((r a : ℕ) → slots_in now r a ≡ slots_in before r a)
     → ((r a : ℕ) → marked_in now r a ≡ (marked_in before r a || (nat_le (made.last.0 - before.charter.depth) r && reaches_in before made.last.0 made.last.1.0 r a)))
     → IsMarkedPast now (made.last.0 - now.charter.depth) (leader_held now (Some made.last))
 marked_past before now is made of charter slots exact r a c above held =

@@ -16,7 +16,7 @@ use Rattle.spec_model.specs.Words.{Author, Certificate, Digest}
 use Rattle.spec_laws.proofs.Lists.{given_or_none}
 use Rattle.spec_laws.proofs.Votes.{slot_is}
 use Rattle.spec_laws.proofs.Growing.{and_false}
-use Rattle.dag.specs.Graph.{Graph, IsGraph, slots_in, marked_in, size_in, reaches_in, references_at, references_of}
+use Rattle.dag.specs.Graph.{DagView, IsGraph, slots_in, marked_in, size_in, reaches_in, references_at, references_of}
 use Rattle.dag.proofs.Walking.{reaches_by}
 use Rattle.tusk.specs.Chain.{ledger_in}
 use Rattle.flatten.specs.Segments.{is_new_to, is_read_for, references_in, read_references_in, digests_of, IsMarkedPast}
@@ -29,7 +29,7 @@ use Rattle.std.proofs.lemmas.Grind.{flat_map-append}
 -- ---- who is free
 
 -- those without a mark are unordered, from the lowest round on that a leader orders of
-pub first_unordered : (graph : Graph) (previous : Option Certificate) (leader high : ℕ) (free : ℕ → ℕ → Bool) → IsMarkedPast graph (leader - graph.charter.depth) previous
+pub first_unordered : (graph : DagView) (previous : Option Certificate) (leader high : ℕ) (free : ℕ → ℕ → Bool) → IsMarkedPast graph (leader - graph.charter.depth) previous
     → ((round author : ℕ) → free round author ≡ is_unmarked_in graph round author) → AreUnordered graph previous (lowest_in graph leader) high free
 first_unordered graph previous leader high free marked unmarked round author c above below held =
     unmarked round author
@@ -37,7 +37,7 @@ first_unordered graph previous leader high free marked unmarked round author c a
     ∙ ap not (marked round author c (omega (arith, above)) held)
 
 -- who is unordered before a leader is closed in the rounds that it orders of
-pub closed_before : (graph : Graph) → IsGraph graph → (previous : Option Certificate) (leader : ℕ × Author) (high : ℕ) (free : ℕ → ℕ → Bool) (c : Certificate) → Leads graph previous leader high free c
+pub closed_before : (graph : DagView) → IsGraph graph → (previous : Option Certificate) (leader : ℕ × Author) (high : ℕ) (free : ℕ → ℕ → Bool) (c : Certificate) → Leads graph previous leader high free c
     → (from : ℕ) → from ≡ lowest_in graph leader.0 → AreClosed graph from leader.0 free
 closed_before graph is previous leader high free c leads from at =
     subst (λ r. AreClosed graph r leader.0 free) (sym at) (are_closed graph is previous (lowest_in graph leader.0) leader.0 high free leads.within leads.unordered)
@@ -101,13 +101,13 @@ digests_by_round test make (r ∷ rounds) =
 -- ---- all of it
 
 -- of a round that it orders of, those are ordered whom it reaches and the leader before doesn't
-orders_new : (graph : Graph) → IsGraph graph → (previous : Option Certificate) (leader : ℕ × Author) (high : ℕ) (free : ℕ → ℕ → Bool) (c : Certificate) → Leads graph previous leader high free c
+orders_new : (graph : DagView) → IsGraph graph → (previous : Option Certificate) (leader : ℕ × Author) (high : ℕ) (free : ℕ → ℕ → Bool) (c : Certificate) → Leads graph previous leader high free c
     → (round author : ℕ) (e : Certificate) → lowest_in graph leader.0 ≤ round → round ≤ leader.0 → slots_in graph round author ≡ Some e → orders_in graph leader.0 leader.1.0 free round author ≡ is_new_to graph previous c e
 orders_new graph is previous leader high free c leads round author e above below held =
     ap (λ b. b && free round author) (reaches_by graph leader.0 leader.1.0 round author c e leads.held held)
     ∙ ap (λ b. reaches (size_in graph) (slots_in graph) c e && b) (leads.unordered round author e above (omega (arith, below, leads.within)) held)
 
-pub segment_is : (graph : Graph) → IsGraph graph → (previous : Option Certificate) (leader : ℕ × Author) (high : ℕ) (free : ℕ → ℕ → Bool) (ordered : List MemberSet) (c : Certificate) → Leads graph previous leader high free c
+pub segment_is : (graph : DagView) → IsGraph graph → (previous : Option Certificate) (leader : ℕ × Author) (high : ℕ) (free : ℕ → ℕ → Bool) (ordered : List MemberSet) (c : Certificate) → Leads graph previous leader high free c
     → (bottom : ℕ) → bottom ≡ lowest_in graph leader.0 → length ordered ≤ leader.0 + 1 - bottom
     → ((place other : ℕ) → place < leader.0 + 1 - bottom → is_in ordered place other ≡ orders_in graph leader.0 leader.1.0 free (leader.0 - place) other)
     → (let first = max (leader.0 + 1 - length ordered) 1 in flat_map (λ r. digests_at graph r (is_in ordered (leader.0 - r))) (range_with_len first (leader.0 + 1 - first)) ≡ digests_of (segment (ledger_in graph []) previous c))
@@ -159,7 +159,7 @@ segment_is graph is previous leader high free ordered c leads bottom lowest long
     ∙ sym (digests_by_round test (round_of n slots) (range_with_len 1 c.header.round))
 
 -- what is read is the references of what passes a test, where that is what a leader orders of the rounds above one, and nothing of the others
-pub reads_are : (graph : Graph) → IsGraph graph → (leader : ℕ × Author) (c : Certificate) → slots_in graph leader.0 leader.1.0 ≡ Some c → (bottom : ℕ) (free : ℕ → ℕ → Bool) (test : Certificate → Bool) → bottom ≤ leader.0
+pub reads_are : (graph : DagView) → IsGraph graph → (leader : ℕ × Author) (c : Certificate) → slots_in graph leader.0 leader.1.0 ≡ Some c → (bottom : ℕ) (free : ℕ → ℕ → Bool) (test : Certificate → Bool) → bottom ≤ leader.0
     → ((r a : ℕ) (e : Certificate) → bottom < r → r ≤ leader.0 → slots_in graph r a ≡ Some e → orders_in graph leader.0 leader.1.0 free r a ≡ test e)
     → ((r a : ℕ) (e : Certificate) → r ≤ bottom → slots_in graph r a ≡ Some e → test e ≡ false)
     → sum_by (λ r. references_of graph r (orders_in graph leader.0 leader.1.0 free r)) (range_with_len (bottom + 1) (leader.0 - bottom)) ≡ sum_by (λ e. cond (test e) (length e.header.parents) 0) (rounds_to (ledger_in graph []) c.header.round)
@@ -195,7 +195,7 @@ reads_are graph is leader c held bottom free test within passes fails =
     nothing false k none = refl
 
 -- what is read for a leader is the references of what it orders, but for the lowest round
-pub reads_ordered : (graph : Graph) → IsGraph graph → (previous : Option Certificate) (leader : ℕ × Author) (top : ℕ) (free : ℕ → ℕ → Bool) (c : Certificate) → Leads graph previous leader top free c
+pub reads_ordered : (graph : DagView) → IsGraph graph → (previous : Option Certificate) (leader : ℕ × Author) (top : ℕ) (free : ℕ → ℕ → Bool) (c : Certificate) → Leads graph previous leader top free c
     → (bottom : ℕ) → bottom ≡ lowest_in graph leader.0
     → sum_by (λ r. references_of graph r (orders_in graph leader.0 leader.1.0 free r)) (range_with_len (bottom + 1) (leader.0 - bottom)) ≡ read_references_in graph previous c
 reads_ordered graph is previous leader top free c leads bottom lowest =
@@ -218,7 +218,7 @@ reads_ordered graph is previous leader top free c leads bottom lowest =
     and_true false = refl
 
 -- that is no more than the references of what is new to the leader
-pub reads_few : (graph : Graph) (previous : Option Certificate) (c : Certificate) → read_references_in graph previous c ≤ references_in graph previous c
+pub reads_few : (graph : DagView) (previous : Option Certificate) (c : Certificate) → read_references_in graph previous c ≤ references_in graph previous c
 reads_few graph previous c =
     sum_less (λ e. cond (is_read_for graph previous c e) (length e.header.parents) 0) (λ e. cond (is_new_to graph previous c e) (length e.header.parents) 0) (rounds_to (ledger_in graph []) c.header.round)
     (λ e. fewer (nat_le c.header.round (e.header.round + graph.charter.depth)) (is_new_to graph previous c e) (nat_lt (lowest_in graph c.header.round) e.header.round) (length e.header.parents))
@@ -231,7 +231,7 @@ reads_few graph previous c =
     fewer false false high k = omega arith
 
 -- behind a leader those are unordered whom it doesn't reach
-pub unordered_next : (graph : Graph) → IsGraph graph → (previous : Option Certificate) (leader : ℕ × Author) (high : ℕ) (free new : ℕ → ℕ → Bool) (c : Certificate) → Leads graph previous leader high free c
+pub unordered_next : (graph : DagView) → IsGraph graph → (previous : Option Certificate) (leader : ℕ × Author) (high : ℕ) (free new : ℕ → ℕ → Bool) (c : Certificate) → Leads graph previous leader high free c
     → ((round other : ℕ) → lowest_in graph leader.0 ≤ round → round ≤ high → new round other ≡ (free round other && not (reaches_in graph leader.0 leader.1.0 round other)))
     → HasAllOf graph previous c → AreUnordered graph (Some c) (lowest_in graph leader.0) high new
 unordered_next graph is previous leader high free new c leads without all round author e from to held =

@@ -15,7 +15,7 @@ use Rattle.spec_laws.proofs.Votes.{slot_is}
 use Rattle.dag.proofs.Paths.{reached_self, in_round}
 use Rattle.dag.proofs.Steps.{or_false}
 use Rattle.dag.proofs.Walking.{parent_of, reaches_by, none_from, past_on}
-use Rattle.dag.specs.Graph.{Graph, IsGraph, slots_in, marked_in, size_in, reaches_in, references_of}
+use Rattle.dag.specs.Graph.{DagView, IsGraph, slots_in, marked_in, size_in, reaches_in, references_of}
 use Rattle.tusk.specs.Chain.{ledger_in}
 use Rattle.flatten.specs.Segments.{leader_held, is_unmarked_past, unmarked_references_in, IsMarkedPast, IsMarkedBefore}
 use Rattle.flatten.specs.Sets.{is_in, is_free, is_unmarked_in, orders_in, lowest_in, is_past_in, AreClosed, AreUnordered, IsTakenFrom, HasAllOf}
@@ -38,7 +38,7 @@ none_there None is = refl
 none_there (Some c) is = absurd (true≢false is)
 
 -- what lies higher isn't reached
-pub not_above : (graph : Graph) → IsGraph graph → (round author below other : ℕ) → round < below → reaches_in graph round author below other ≡ false
+pub not_above : (graph : DagView) → IsGraph graph → (round author below other : ℕ) → round < below → reaches_in graph round author below other ≡ false
 not_above graph is round author below other higher =
     elim (given_or_none (slots_in graph round author)) [
       | inr none ↦ none_from graph round author below other none
@@ -56,7 +56,7 @@ not_above graph is round author below other higher =
     ]
 
 -- a leader that would lie too high isn't held, and so it reaches nothing
-pub never_reached : (graph : Graph) (before : ℕ × Author) (high : ℕ) → (is_some (slots_in graph before.0 before.1.0) ≡ true → before.0 ≤ high) → high < before.0 → (round author : ℕ) → reaches_in graph before.0 before.1.0 round author ≡ false
+pub never_reached : (graph : DagView) (before : ℕ × Author) (high : ℕ) → (is_some (slots_in graph before.0 before.1.0) ≡ true → before.0 ≤ high) → high < before.0 → (round author : ℕ) → reaches_in graph before.0 before.1.0 round author ≡ false
 never_reached graph before high within over round author =
     elim (given_or_none (slots_in graph before.0 before.1.0)) [
       | inr none ↦ none_from graph before.0 before.1.0 round author none
@@ -64,13 +64,13 @@ never_reached graph before high within over round author =
     ]
 
 -- nothing is taken where nothing is reached
-pub untaken : (graph : Graph) (before : ℕ × Author) (round author : ℕ) (inside : Bool) → reaches_in graph before.0 before.1.0 round author ≡ false → inside ≡ (inside && not (is_past_in graph (Some before) round author))
+pub untaken : (graph : DagView) (before : ℕ × Author) (round author : ℕ) (inside : Bool) → reaches_in graph before.0 before.1.0 round author ≡ false → inside ≡ (inside && not (is_past_in graph (Some before) round author))
 untaken graph before round author inside never = sym (ap (λ b. inside && not b) never ∙ and_true inside)
 
 -- ---- what is taken
 
 -- what a leader reaches is no longer free, where it is put into the sets of what was ordered so far
-pub walked_free : (graph : Graph) → IsGraph graph → (leader : ℕ × Author) (bottom top : ℕ) (old new walked : List MemberSet) → leader.0 ≤ top
+pub walked_free : (graph : DagView) → IsGraph graph → (leader : ℕ × Author) (bottom top : ℕ) (old new walked : List MemberSet) → leader.0 ≤ top
     → ((place other : ℕ) → place < leader.0 + 1 - bottom → is_in walked place other ≡ orders_in graph leader.0 leader.1.0 (is_free graph top old) (leader.0 - place) other)
     → ((place author : ℕ) → is_in new place author ≡ (is_in old place author || (nat_le (top - leader.0) place && is_in walked (place - (top - leader.0)) author)))
     → (round other : ℕ) → bottom ≤ round → round ≤ top → is_free graph top new round other ≡ (is_free graph top old round other && not (reaches_in graph leader.0 leader.1.0 round other))
@@ -104,12 +104,12 @@ walked_free graph is leader bottom top old new walked within orders put round ot
 -- ---- those without a mark
 
 -- nothing was ordered so far
-pub bare : (graph : Graph) (top : ℕ) (taken : List MemberSet) → taken ≡ [] → (round author : ℕ) → is_free graph top taken round author ≡ is_unmarked_in graph round author
+pub bare : (graph : DagView) (top : ℕ) (taken : List MemberSet) → taken ≡ [] → (round author : ℕ) → is_free graph top taken round author ≡ is_unmarked_in graph round author
 bare graph top taken none round author =
     ap (λ l. is_unmarked_in graph round author && not (is_in l (top - round) author)) none ∙ and_true (is_unmarked_in graph round author)
 
 -- what has a parent that isn't marked isn't marked either
-pub unmarked_closed : (graph : Graph) (previous : Option Certificate) (from low high : ℕ) (free : ℕ → ℕ → Bool) → IsMarkedBefore graph from previous → from ≤ low
+pub unmarked_closed : (graph : DagView) (previous : Option Certificate) (from low high : ℕ) (free : ℕ → ℕ → Bool) → IsMarkedBefore graph from previous → from ≤ low
     → ((round author : ℕ) → free round author ≡ is_unmarked_in graph round author) → AreClosed graph low high free
 unmarked_closed graph previous from low high free marks least unmarked round author other above below inside has =
     let found = parent_of graph (round + 1) author round other has in
@@ -123,7 +123,7 @@ unmarked_closed graph previous from low high free marks least unmarked round aut
     ]
 
 -- a slot is past exactly where what it holds is in the leader's history
-pub slot_past : (graph : Graph) (previous : Option (ℕ × Author)) (round author : ℕ) (c : Certificate) → slots_in graph round author ≡ Some c → is_past_in graph previous round author ≡ is_past (ledger_in graph []) (leader_held graph previous) c
+pub slot_past : (graph : DagView) (previous : Option (ℕ × Author)) (round author : ℕ) (c : Certificate) → slots_in graph round author ≡ Some c → is_past_in graph previous round author ≡ is_past (ledger_in graph []) (leader_held graph previous) c
 slot_past graph None round author c held = refl
 slot_past graph (Some before) round author c held =
     elim (given_or_none (slots_in graph before.0 before.1.0)) [
@@ -132,7 +132,7 @@ slot_past graph (Some before) round author c held =
     ]
 
 -- without what the leader before reaches those are free that are unordered
-pub unordered_taken : (graph : Graph) → (previous : Option (ℕ × Author)) (leader low : ℕ) (free new : ℕ → ℕ → Bool) → IsMarkedBefore graph (leader - graph.charter.depth) (leader_held graph previous) → low ≡ lowest_in graph leader
+pub unordered_taken : (graph : DagView) → (previous : Option (ℕ × Author)) (leader low : ℕ) (free new : ℕ → ℕ → Bool) → IsMarkedBefore graph (leader - graph.charter.depth) (leader_held graph previous) → low ≡ lowest_in graph leader
     → ((round author : ℕ) → free round author ≡ is_unmarked_in graph round author)
     → ((round author : ℕ) → low ≤ round → round ≤ leader → new round author ≡ (free round author && not (is_past_in graph previous round author)))
     → AreUnordered graph (leader_held graph previous) (lowest_in graph leader) leader new
@@ -150,7 +150,7 @@ unordered_taken graph previous leader low free new marks lowest unmarked without
 -- ---- what is marked
 
 -- what is marked exactly as a leader's history is so before each one that has all of that
-pub past_before : (graph : Graph) → IsGraph graph → (low : ℕ) (one other : Option Certificate) → IsMarkedPast graph low one → ((round author : ℕ) (c : Certificate) → slots_in graph round author ≡ Some c → is_past (ledger_in graph []) one c ≡ true → is_past (ledger_in graph []) other c ≡ true)
+pub past_before : (graph : DagView) → IsGraph graph → (low : ℕ) (one other : Option Certificate) → IsMarkedPast graph low one → ((round author : ℕ) (c : Certificate) → slots_in graph round author ≡ Some c → is_past (ledger_in graph []) one c ≡ true → is_past (ledger_in graph []) other c ≡ true)
     → IsMarkedBefore graph low other
 past_before graph is low one other marks all = record {
   past = λ round author c above held marked. all round author c held (sym (marks round author c above held) ∙ marked);
@@ -165,7 +165,7 @@ past_before graph is low one other marks all = record {
 }
 
 -- a leader that has all that one before has isn't below it
-pub not_below : (graph : Graph) → IsGraph graph → (before leader : ℕ × Author) (c : Certificate) → slots_in graph leader.0 leader.1.0 ≡ Some c → is_some (slots_in graph before.0 before.1.0) ≡ true → HasAllOf graph (leader_held graph (Some before)) c
+pub not_below : (graph : DagView) → IsGraph graph → (before leader : ℕ × Author) (c : Certificate) → slots_in graph leader.0 leader.1.0 ≡ Some c → is_some (slots_in graph before.0 before.1.0) ≡ true → HasAllOf graph (leader_held graph (Some before)) c
     → before.0 ≤ leader.0
 not_below graph is before leader c held some all =
     elim (given_or_none (slots_in graph before.0 before.1.0)) [
@@ -182,7 +182,7 @@ not_below graph is before leader c held some all =
 -- ---- what is read for it
 
 -- of the rounds up to its own the leader before takes whom it reaches and who isn't marked
-takes : (graph : Graph) (before : ℕ × Author) (d : Certificate) (free : ℕ → ℕ → Bool) → slots_in graph before.0 before.1.0 ≡ Some d
+takes : (graph : DagView) (before : ℕ × Author) (d : Certificate) (free : ℕ → ℕ → Bool) → slots_in graph before.0 before.1.0 ≡ Some d
     → ((round author : ℕ) → free round author ≡ is_unmarked_in graph round author)
     → (r a : ℕ) (e : Certificate) → slots_in graph r a ≡ Some e → orders_in graph before.0 before.1.0 free r a ≡ (reaches (size_in graph) (slots_in graph) d e && not (marked_in graph r a))
 takes graph before d free held unmarked r a e there =
@@ -191,7 +191,7 @@ takes graph before d free held unmarked r a e there =
     (unmarked r a ∙ ap (λ (o : Option Certificate). is_some o && not (marked_in graph r a)) there)
 
 -- the references of that are read
-taken_reads : (graph : Graph) → IsGraph graph → (before : ℕ × Author) (d : Certificate) (low : ℕ) (free : ℕ → ℕ → Bool) → slots_in graph before.0 before.1.0 ≡ Some d
+taken_reads : (graph : DagView) → IsGraph graph → (before : ℕ × Author) (d : Certificate) (low : ℕ) (free : ℕ → ℕ → Bool) → slots_in graph before.0 before.1.0 ≡ Some d
     → ((round author : ℕ) → free round author ≡ is_unmarked_in graph round author)
     → sum_by (λ r. references_of graph r (orders_in graph before.0 before.1.0 free r)) (range_with_len (low + 1) (before.0 - low)) ≡ unmarked_references_in graph low (Some d)
 taken_reads graph is before d low free held unmarked =
@@ -223,7 +223,7 @@ taken_reads graph is before d low free held unmarked =
     ]
 
 -- none, where exactly the history of the leader before is marked
-none_taken_read : (graph : Graph) (before : ℕ × Author) (d : Certificate) (low : ℕ) (free : ℕ → ℕ → Bool) → slots_in graph before.0 before.1.0 ≡ Some d
+none_taken_read : (graph : DagView) (before : ℕ × Author) (d : Certificate) (low : ℕ) (free : ℕ → ℕ → Bool) → slots_in graph before.0 before.1.0 ≡ Some d
     → ((round author : ℕ) → free round author ≡ is_unmarked_in graph round author)
     → IsMarkedPast graph low (Some d) → sum_by (λ r. references_of graph r (orders_in graph before.0 before.1.0 free r)) (range_with_len (low + 1) (before.0 - low)) ≡ 0
 none_taken_read graph before d low free held unmarked marks =
@@ -246,48 +246,48 @@ none_taken_read graph before d low free held unmarked marks =
 -- ---- what the leader before is taken from
 
 -- before anything is ordered those are free that aren't marked
-pub record AreFirst (graph : Graph) (leader : ℕ × Author) (c : Certificate) (low : ℕ) (free : ℕ → ℕ → Bool) : Type 0 where
+pub record AreFirst (graph : DagView) (leader : ℕ × Author) (c : Certificate) (low : ℕ) (free : ℕ → ℕ → Bool) : Type 0 where
   pub is : IsGraph graph
   pub held : slots_in graph leader.0 leader.1.0 ≡ Some c
   pub lowest : low ≡ lowest_in graph leader.0
   pub unmarked : (round author : ℕ) → free round author ≡ is_unmarked_in graph round author
 
 -- what the leader before takes of them
-abbrev pub IsWithout : Graph → Option (ℕ × Author) → ℕ → ℕ → (ℕ → ℕ → Bool) → (ℕ → ℕ → Bool) → Type 0
+abbrev pub IsWithout : DagView → Option (ℕ × Author) → ℕ → ℕ → (ℕ → ℕ → Bool) → (ℕ → ℕ → Bool) → Type 0
 IsWithout graph previous low high free new = IsTakenFrom graph previous low high free → (round author : ℕ) → low ≤ round → round ≤ high → new round author ≡ (free round author && not (is_past_in graph previous round author))
 
 -- and what is read for it
-abbrev pub AreReadFor : Graph → Option (ℕ × Author) → ℕ → ℕ → (ℕ → ℕ → Bool) → ℕ → Type 0
+abbrev pub AreReadFor : DagView → Option (ℕ × Author) → ℕ → ℕ → (ℕ → ℕ → Bool) → ℕ → Type 0
 AreReadFor graph previous low high free reads = (before : ℕ × Author) → IsTakenFrom graph previous low high free → previous ≡ Some before → is_some (slots_in graph before.0 before.1.0) ≡ true
     → reads ≡ sum_by (λ r. references_of graph r (orders_in graph before.0 before.1.0 free r)) (range_with_len (low + 1) (before.0 - low))
 
 -- no leader before lies above the leader
-abbrev IsNotAbove : Graph → Option (ℕ × Author) → ℕ → Type 0
+abbrev IsNotAbove : DagView → Option (ℕ × Author) → ℕ → Type 0
 IsNotAbove graph previous high = (slot : ℕ × Author) → previous ≡ Some slot → is_some (slots_in graph slot.0 slot.1.0) ≡ true → slot.0 ≤ high
 
-first_from : (graph : Graph) (previous : Option (ℕ × Author)) (leader : ℕ × Author) (c : Certificate) (low : ℕ) (free : ℕ → ℕ → Bool) → AreFirst graph leader c low free → IsNotAbove graph previous leader.0
+first_from : (graph : DagView) (previous : Option (ℕ × Author)) (leader : ℕ × Author) (c : Certificate) (low : ℕ) (free : ℕ → ℕ → Bool) → AreFirst graph leader c low free → IsNotAbove graph previous leader.0
     → IsMarkedBefore graph (leader.0 - graph.charter.depth) (leader_held graph previous) → IsTakenFrom graph previous low leader.0 free
 first_from graph previous leader c low free first within marks = record {
   within = within;
   closed = unmarked_closed graph (leader_held graph previous) (leader.0 - graph.charter.depth) low leader.0 free marks (let lowest = first.lowest in omega (arith, lowest)) first.unmarked;
 }
 
-chained_within : (graph : Graph) (previous : Option (ℕ × Author)) (leader : ℕ × Author) (c : Certificate) → IsGraph graph → slots_in graph leader.0 leader.1.0 ≡ Some c → HasAllOf graph (leader_held graph previous) c → IsNotAbove graph previous leader.0
+chained_within : (graph : DagView) (previous : Option (ℕ × Author)) (leader : ℕ × Author) (c : Certificate) → IsGraph graph → slots_in graph leader.0 leader.1.0 ≡ Some c → HasAllOf graph (leader_held graph previous) c → IsNotAbove graph previous leader.0
 chained_within graph previous leader c is held all slot same some =
     not_below graph is slot leader c held some (λ r a e there past. all r a e there (subst (λ p. is_past (ledger_in graph []) (leader_held graph p) e ≡ true) (sym same) past))
 
 -- where the leader reaches the one before, without what that takes those are free that are unordered
-pub chained_sets : (graph : Graph) (previous : Option (ℕ × Author)) (leader : ℕ × Author) (c : Certificate) (low : ℕ) (free new : ℕ → ℕ → Bool) → AreFirst graph leader c low free → HasAllOf graph (leader_held graph previous) c
+pub chained_sets : (graph : DagView) (previous : Option (ℕ × Author)) (leader : ℕ × Author) (c : Certificate) (low : ℕ) (free new : ℕ → ℕ → Bool) → AreFirst graph leader c low free → HasAllOf graph (leader_held graph previous) c
     → IsMarkedBefore graph (leader.0 - graph.charter.depth) (leader_held graph previous) → IsWithout graph previous low leader.0 free new → AreUnordered graph (leader_held graph previous) (lowest_in graph leader.0) leader.0 new
 chained_sets graph previous leader c low free new first all marks without =
     unordered_taken graph previous leader.0 low free new marks first.lowest first.unmarked
     (without (first_from graph previous leader c low free first (chained_within graph previous leader c first.is first.held all) marks))
 
-held_some : (graph : Graph) (slot : ℕ × Author) (d : Certificate) → slots_in graph slot.0 slot.1.0 ≡ Some d → is_some (slots_in graph slot.0 slot.1.0) ≡ true
+held_some : (graph : DagView) (slot : ℕ × Author) (d : Certificate) → slots_in graph slot.0 slot.1.0 ≡ Some d → is_some (slots_in graph slot.0 slot.1.0) ≡ true
 held_some graph slot d there = ap (λ (o : Option Certificate). is_some o) there
 
 -- and what the one before reaches without a mark is read
-pub chained_reads : (graph : Graph) (previous : Option (ℕ × Author)) (leader : ℕ × Author) (c : Certificate) (low reads : ℕ) (free : ℕ → ℕ → Bool) → AreFirst graph leader c low free → HasAllOf graph (leader_held graph previous) c
+pub chained_reads : (graph : DagView) (previous : Option (ℕ × Author)) (leader : ℕ × Author) (c : Certificate) (low reads : ℕ) (free : ℕ → ℕ → Bool) → AreFirst graph leader c low free → HasAllOf graph (leader_held graph previous) c
     → IsMarkedBefore graph (leader.0 - graph.charter.depth) (leader_held graph previous) → AreReadFor graph previous low leader.0 free reads → (leader_held graph previous ≡ None → reads ≡ 0)
     → reads ≡ unmarked_references_in graph (lowest_in graph leader.0) (leader_held graph previous)
 chained_reads graph previous leader c low reads free first all marks most unheld =
@@ -306,7 +306,7 @@ chained_reads graph previous leader c low reads free first all marks most unheld
     ]
 
 -- where exactly that is marked which the leader before reaches, there is nothing more to take
-pub first_sets : (graph : Graph) (previous : Option (ℕ × Author)) (leader : ℕ × Author) (c : Certificate) (low : ℕ) (free new : ℕ → ℕ → Bool) → AreFirst graph leader c low free
+pub first_sets : (graph : DagView) (previous : Option (ℕ × Author)) (leader : ℕ × Author) (c : Certificate) (low : ℕ) (free new : ℕ → ℕ → Bool) → AreFirst graph leader c low free
     → IsMarkedPast graph (leader.0 - graph.charter.depth) (leader_held graph previous) → IsWithout graph previous low leader.0 free new
     → (IfSome previous (λ before. leader.0 < before.0) → (round author : ℕ) → new round author ≡ free round author)
     → AreUnordered graph (leader_held graph previous) (lowest_in graph leader.0) leader.0 new
@@ -325,7 +325,7 @@ first_sets graph previous leader c low free new first marks without same =
     ]
 
 -- and nothing is read
-pub first_reads : (graph : Graph) (previous : Option (ℕ × Author)) (leader : ℕ × Author) (c : Certificate) (low reads : ℕ) (free : ℕ → ℕ → Bool) → AreFirst graph leader c low free
+pub first_reads : (graph : DagView) (previous : Option (ℕ × Author)) (leader : ℕ × Author) (c : Certificate) (low reads : ℕ) (free : ℕ → ℕ → Bool) → AreFirst graph leader c low free
     → IsMarkedPast graph (leader.0 - graph.charter.depth) (leader_held graph previous) → AreReadFor graph previous low leader.0 free reads → (leader_held graph previous ≡ None → reads ≡ 0)
     → (IfSome previous (λ before. leader.0 < before.0) → reads ≡ 0) → reads ≡ 0
 first_reads graph previous leader c low reads free first marks most unheld above_all =

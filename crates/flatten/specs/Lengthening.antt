@@ -3,14 +3,14 @@ use Rattle.std.specs.Prelude.{◌≡◌, ℕ, ◌≤◌, List, [], Some, is_some
 use Rattle.committee.specs.declared.sets.MemberSet.{MemberSet}
 use Rattle.spec_model.specs.Ordering.{is_past}
 use Rattle.spec_model.specs.Words.{Author, Certificate, Digest}
-use Rattle.dag.specs.Graph.{Graph, slots_in, marked_in}
+use Rattle.dag.specs.Graph.{DagView, slots_in, marked_in}
 use Rattle.tusk.specs.Chain.{ledger_in}
 use Rattle.flatten.specs.Segments.{leader_held}
 use Rattle.flatten.specs.Sets.{lowest_in, is_free, AreUnordered}
 
 -- what is made of leaders: the digests of what they order, the slot of the last one, of the rounds from its own downwards whose
 -- certificates they order, and how many references to parents were read
-pub record Made : Type 0 where
+pub record LengtheningView : Type 0 where
   pub digests : List Digest
   pub last : ℕ × Author
   pub ordered : List MemberSet
@@ -18,7 +18,7 @@ pub record Made : Type 0 where
 
 -- what was made of a DAG: its last leader, which is held; of the rounds that this orders of, exactly what it reaches is ordered or
 -- marked, and it reaches what is marked
-pub record FitsTo (graph : Graph) (made : Made) : Type 0 where
+pub record FitsTo (graph : DagView) (made : LengtheningView) : Type 0 where
   pub held : is_some (slots_in graph made.last.0 made.last.1.0) ≡ true
   pub unordered : AreUnordered graph (leader_held graph (Some made.last)) (lowest_in graph made.last.0) made.last.0 (is_free graph made.last.0 made.ordered)
   pub marked : (round author : ℕ) (c : Certificate) → lowest_in graph made.last.0 ≤ round → slots_in graph round author ≡ Some c → marked_in graph round author ≡ true

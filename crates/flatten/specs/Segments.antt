@@ -5,54 +5,54 @@ use Rattle.spec_model.specs.Ordering.{is_past, is_ordered_by, rounds_to}
 use Rattle.spec_model.specs.Ordering as ordering
 use Rattle.spec_model.specs.Slots.{certificate_digest}
 use Rattle.spec_model.specs.Words.{Author, Certificate, Digest}
-use Rattle.dag.specs.Graph.{Graph, slots_in, marked_in, has_parent_in, reaches_in}
+use Rattle.dag.specs.Graph.{DagView, slots_in, marked_in, has_parent_in, reaches_in}
 use Rattle.tusk.specs.Chain.{ledger_in}
 use Rattle.flatten.specs.Sets.{lowest_in}
 
 -- what an optional slot holds
-abbrev pub leader_held : Graph → Option (ℕ × Author) → Option Certificate
+abbrev pub leader_held : DagView → Option (ℕ × Author) → Option Certificate
 leader_held graph slot = option_and_then (λ s. slots_in graph s.0 s.1.0) slot
 
 -- from a round on, exactly those certificates are marked that a leader's history has; no coin is asked
-abbrev pub IsMarkedPast : Graph → ℕ → Option Certificate → Type 0
+abbrev pub IsMarkedPast : DagView → ℕ → Option Certificate → Type 0
 IsMarkedPast graph low previous = (round author : ℕ) (c : Certificate) → low ≤ round → slots_in graph round author ≡ Some c
     → marked_in graph round author ≡ is_past (ledger_in graph []) previous c
 
 -- from a round on, a leader's history has each certificate that is marked, and with it what that has as a parent is marked
-pub record IsMarkedBefore (graph : Graph) (low : ℕ) (previous : Option Certificate) : Type 0 where
+pub record IsMarkedBefore (graph : DagView) (low : ℕ) (previous : Option Certificate) : Type 0 where
   pub past : (round author : ℕ) (c : Certificate) → low ≤ round → slots_in graph round author ≡ Some c → marked_in graph round author ≡ true
       → is_past (ledger_in graph []) previous c ≡ true
   pub closed : (round author other : ℕ) → low ≤ round → marked_in graph (round + 1) author ≡ true → has_parent_in graph (round + 1) author round other ≡ true
       → marked_in graph round other ≡ true
 
 -- a leader reaches a certificate that the one before doesn't
-abbrev pub is_new_to : Graph → Option Certificate → Certificate → Certificate → Bool
+abbrev pub is_new_to : DagView → Option Certificate → Certificate → Certificate → Bool
 is_new_to graph previous leader certificate =
     ordering.reaches_in (ledger_in graph []) leader certificate && not (is_past (ledger_in graph []) previous certificate)
 
 -- how many references to parents the certificates name that a leader reaches and the one before doesn't
-abbrev pub references_in : Graph → Option Certificate → Certificate → ℕ
+abbrev pub references_in : DagView → Option Certificate → Certificate → ℕ
 references_in graph previous leader =
     sum_by (λ c. cond (is_new_to graph previous leader c) (length c.header.parents) 0) (rounds_to (ledger_in graph []) leader.header.round)
 
 -- a certificate's references are read for a leader: it orders the certificate, of a round above the lowest that it orders of
-abbrev pub is_read_for : Graph → Option Certificate → Certificate → Certificate → Bool
+abbrev pub is_read_for : DagView → Option Certificate → Certificate → Certificate → Bool
 is_read_for graph previous leader certificate =
     is_ordered_by (ledger_in graph []) previous leader certificate && nat_lt (lowest_in graph leader.header.round) certificate.header.round
 
 -- how many references to parents are read for a leader: those of the certificates that it orders, but for the lowest round that it
 -- orders of, each once
-abbrev pub read_references_in : Graph → Option Certificate → Certificate → ℕ
+abbrev pub read_references_in : DagView → Option Certificate → Certificate → ℕ
 read_references_in graph previous leader =
     sum_by (λ c. cond (is_read_for graph previous leader c) (length c.header.parents) 0) (rounds_to (ledger_in graph []) leader.header.round)
 
 -- a leader's history has a certificate above a round that isn't marked
-abbrev pub is_unmarked_past : Graph → ℕ → Option Certificate → Certificate → Bool
+abbrev pub is_unmarked_past : DagView → ℕ → Option Certificate → Certificate → Bool
 is_unmarked_past graph low leader certificate =
     nat_lt low certificate.header.round && (is_past (ledger_in graph []) leader certificate && not (marked_in graph certificate.header.round certificate.header.author.0))
 
 -- how many references to parents the certificates above a round name that a leader reaches and that aren't marked
-abbrev pub unmarked_references_in : Graph → ℕ → Option Certificate → ℕ
+abbrev pub unmarked_references_in : DagView → ℕ → Option Certificate → ℕ
 unmarked_references_in graph low leader =
     option_map_or (λ c. sum_by (λ d. cond (is_unmarked_past graph low leader d) (length d.header.parents) 0) (rounds_to (ledger_in graph []) c.header.round)) leader 0
 
@@ -63,21 +63,21 @@ digests_of certificates = map (λ c. certificate_digest c.header) certificates
 -- ---- several leaders
 
 -- the certificates of leaders' slots
-abbrev pub leaders_in : Graph → List (ℕ × Author) → List Certificate
+abbrev pub leaders_in : DagView → List (ℕ × Author) → List Certificate
 leaders_in graph slots = filter_map (λ slot. slots_in graph slot.0 slot.1.0) slots
 
 -- how many references to parents the certificates name that leaders reach, each of them those that the one before doesn't
-abbrev pub references_by : Graph → Option Certificate → List Certificate → ℕ
+abbrev pub references_by : DagView → Option Certificate → List Certificate → ℕ
 references_by graph previous [] = 0
 references_by graph previous (leader ∷ leaders) = references_in graph previous leader + references_by graph (Some leader) leaders
 
 -- how many of them are read for leaders
-abbrev pub read_references_by : Graph → Option Certificate → List Certificate → ℕ
+abbrev pub read_references_by : DagView → Option Certificate → List Certificate → ℕ
 read_references_by graph previous [] = 0
 read_references_by graph previous (leader ∷ leaders) = read_references_in graph previous leader + read_references_by graph (Some leader) leaders
 
 -- leaders follow one on the other, the oldest first: each is held, and reaches the one before
-abbrev pub AreLinked : Graph → Option (ℕ × Author) → List (ℕ × Author) → Type 0
+abbrev pub AreLinked : DagView → Option (ℕ × Author) → List (ℕ × Author) → Type 0
 AreLinked graph previous [] = Unit {0}
 AreLinked graph previous (leader ∷ leaders) =
     (is_some (slots_in graph leader.0 leader.1.0) ≡ true)
@@ -85,6 +85,6 @@ AreLinked graph previous (leader ∷ leaders) =
     × AreLinked graph (Some leader) leaders
 
 -- of what the first of leaders may order, exactly that is marked that the leader before them reaches
-abbrev pub IsMarkedFor : Graph → Option (ℕ × Author) → List (ℕ × Author) → Type 0
+abbrev pub IsMarkedFor : DagView → Option (ℕ × Author) → List (ℕ × Author) → Type 0
 IsMarkedFor graph previous [] = Unit {0}
 IsMarkedFor graph previous (first ∷ leaders) = IsMarkedPast graph (first.0 - graph.charter.depth) (leader_held graph previous)

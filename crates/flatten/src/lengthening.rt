@@ -39,9 +39,9 @@ impl Drop for Lengthening {
 }
 
 impl Model for Lengthening {
-    ghost use Rattle.flatten.specs.Lengthening.{Made};
+    ghost use Rattle.flatten.specs.Lengthening.{LengtheningView};
 
-    ghost Value = { Made };
+    ghost Value = { LengtheningView };
 
     ghost view = { λ m. record { digests = m.digests.items; last = m.last; ordered = m.ordered.items; reads = m.reads } };
 }

@@ -7,7 +7,8 @@ use Rattle.std.proofs.lemmas.List.Elements.{All-drop}
 use Rattle.journal.specs.Format.{stands}
 use Rattle.journal.specs.Journal.{stands_with, IsBeforeOrAfter}
 use Rattle.spec_model.specs.Admitting.{IsTaken}
-use Rattle.spec_model.specs.Histories.{History, Begins}
+use Rattle.spec_model.specs.Histories.{History}
+use Rattle.wire.specs.Lists.{Begins}
 use Rattle.spec_model.specs.Nodes.{Node}
 use Rattle.spec_records.specs.Records.{record_of}
 use Rattle.node_seats.specs.Views.{events}

@@ -4,7 +4,8 @@ use Rattle.std.proofs.lemmas.List.{map-append, take-append-drop}
 use Rattle.node_seats.proofs.Beginnings.{begins_trans}
 use Rattle.node_seats.specs.Views.{events}
 use Rattle.node_seats.specs.declared.view.Marked.{Marked}
-use Rattle.spec_model.specs.Histories.{History, Begins}
+use Rattle.spec_model.specs.Histories.{History}
+use Rattle.wire.specs.Lists.{Begins}
 use Rattle.spec_world.specs.Promise.{WhatGoesOutAgrees}
 use Rattle.flusher.specs.Collected.{CollectedIsWithin, CollectedVotesAgree, given_as}
 

@@ -8,16 +8,16 @@ use Rattle.journal.specs.declared.layout.TheConstants.{MAX_JOURNAL_BYTES}
 use Rattle.book.specs.Pending.{IsLongestBeginning}
 use Rattle.spec_model.specs.Admitting.{IsTaken, IsLegal}
 use Rattle.spec_model.specs.Nodes.{Node}
-use Rattle.spec_model.specs.Histories.{Begins}
+use Rattle.wire.specs.Lists.{Begins}
 use Rattle.spec_records.specs.Records.{record_of}
 use Rattle.node_seats.specs.Views.{events}
 use Rattle.node_seats.specs.declared.view.Marked.{Marked}
 use Rattle.node_seats.proofs.Beginnings.{begins_take, take_begins}
-use Rattle.node_shared.specs.Home.{Shared, IsFlushOf, TakesNext, taken_by, group_of, seen_by}
+use Rattle.node_shared.specs.Home.{NodeView, IsFlushOf, TakesNext, taken_by, group_of, seen_by}
 use Rattle.node_shared.specs.declared.flush_seat.FlushSeat.{FlushSeat}
 use Rattle.flusher.specs.Rounds.{records_behind, TakesLongest, HasNoRoom}
 
-module _ {S : Type 0} (node : Shared S) (flush : FlushSeat) (of : IsFlushOf node flush) where
+module _ {S : Type 0} (node : NodeView S) (flush : FlushSeat) (of : IsFlushOf node flush) where
   -- where no more is taken than is settled
   pub rests_at : flush.taken ≡ flush.settled → taken_by flush ≡ flush.seat.view.firm
   rests_at rests =

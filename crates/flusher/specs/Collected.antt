@@ -1,7 +1,8 @@
 -- What callers collected, where it is in what a stop leaves.
 use Rattle.std.specs.Prelude.{◌≡◌, ◌++◌, take, Some}
 use Rattle.spec_model.specs.Admitting.{IsLegal}
-use Rattle.spec_model.specs.Histories.{History, Begins}
+use Rattle.spec_model.specs.Histories.{History}
+use Rattle.wire.specs.Lists.{Begins}
 use Rattle.spec_model.specs.Nodes.{Node}
 use Rattle.spec_model.specs.Words.{Output}
 use Rattle.spec_world.specs.Promise.{Ballot, vote_in, GoesOutWithin}

@@ -4,20 +4,22 @@ use Rattle.journal.specs.Format.{group_bytes}
 use Rattle.journal.specs.Journal.{disk_of, IsAlive}
 use Rattle.journal.specs.declared.journal.Journal.{Journal}
 use Rattle.journal.specs.declared.layout.TheConstants.{MAX_JOURNAL_BYTES}
-use Rattle.spec_model.specs.Histories.{History, Begins}
+use Rattle.spec_model.specs.Histories.{History}
+use Rattle.wire.specs.Lists.{Begins}
 use Rattle.spec_model.specs.Nodes.{Node}
 use Rattle.spec_records.specs.Records.{record_of}
 use Rattle.spec_world.specs.World.{Holds}
 use Rattle.book.specs.Pending.{IsLongestBeginning}
-use Rattle.validator.specs.Setting.{Setting}
-use Rattle.node_seats.specs.Sights.{Sight}
+use Rattle.validator.specs.Setting.{ConfigView, node_of}
+use Rattle.node_seats.specs.Sights.{SeatView}
 use Rattle.node_seats.specs.Views.{events, IsSame}
 use Rattle.node_seats.specs.declared.view.Marked.{Marked}
-use Rattle.node_shared.specs.Home.{Shared, IsFlushOf, taken_by}
+use Rattle.node_shared.specs.Home.{NodeView, IsFlushOf, taken_by}
 use Rattle.node_shared.specs.declared.flush_seat.FlushSeat.{FlushSeat}
-use Rattle.flusher.specs.declared.error.FlushError.{FlushError}
-use Rattle.flusher.specs.declared.error.FlushError.TheVariants.{Memory, Device, Full, Down}
+use Rattle.book.specs.declared.own.error.FlushError.{FlushError}
+use Rattle.book.specs.declared.own.error.FlushError.TheVariants.{Memory, Device, Full, Down}
 use Rattle.flusher.specs.declared.flusher.Flusher.{Flusher}
+use Rattle.sigface.specs.Scheme.{Scheme}
 
 -- ---- what a flusher has
 
@@ -39,16 +41,16 @@ abbrev pub taken_in : {D : Type 0} → Flusher D → List Marked
 taken_in flusher = taken_by (seat_of flusher)
 
 -- a history from where a node began
-abbrev pub from_start : {S : Type 0} → Shared S → List Marked → History
+abbrev pub from_start : {S : Type 0} → NodeView S → List Marked → History
 from_start node marked = node.start ++ events marked
 
 -- A flusher is a node's: its seat is, and unless it took the node down it has taken no more than is settled, and its journal can be
 -- added to and has exactly that.
-pub record IsFlusherOf {S D : Type 0} (node_of : Setting S → Node) (content : D → List ℕ) (outcome : D → List ℕ → Type 0) (node : Shared S) (flusher : Flusher D) : Type 0 where
+pub record IsFlusherOf {S D : Type 0} (scheme : Scheme S) (device : Device D) (node : NodeView S) (flusher : Flusher D) : Type 0 where
   pub seat : IsFlushOf node (seat_of flusher)
   pub rests : is_down flusher ≡ false → (seat_of flusher).taken ≡ (seat_of flusher).settled
-  pub alive : is_down flusher ≡ false → IsAlive content outcome (journal_of flusher)
-  pub holds : is_down flusher ≡ false → Holds (node_of node.setting) (content (disk_of (journal_of flusher))) (from_start node (settled_in flusher))
+  pub alive : is_down flusher ≡ false → IsAlive device (journal_of flusher)
+  pub holds : is_down flusher ≡ false → Holds (node_of scheme node.setting) (device.content (disk_of (journal_of flusher))) (from_start node (settled_in flusher))
 
 -- ---- what a round takes
 
@@ -76,8 +78,8 @@ pub record TakesLongest (seen settled taken : List Marked) : Type 0 where
 -- ---- what it leaves
 
 -- the bytes of a disk are the node's journal with what was settled before the round, or with what the round took
-abbrev pub HoldsEither : {S : Type 0} → (Setting S → Node) → Shared S → List Marked → List Marked → List ℕ → Type 0
-HoldsEither node_of node settled taken left = Holds (node_of node.setting) left (from_start node settled) ⊎ Holds (node_of node.setting) left (from_start node taken)
+abbrev pub HoldsEither : {S : Type 0} → Scheme S → NodeView S → List Marked → List Marked → List ℕ → Type 0
+HoldsEither scheme node settled taken left = Holds (node_of scheme node.setting) left (from_start node settled) ⊎ Holds (node_of scheme node.setting) left (from_start node taken)
 
 -- the group has no place behind a journal of these bytes
 pub record HasNoRoom (content : List ℕ) (settled taken : List Marked) : Type 0 where
@@ -96,7 +98,7 @@ pub record GoesDown {D : Type 0} (before later : Flusher D) (result : Result ℕ
 
 -- Of the seat that it is made with: it is the same one, has seen and knows as settled what it did and perhaps more, and where the round
 -- takes the node down it knows of that.
-pub record IsToldOf (before later : Sight) (result : Result ℕ FlushError) : Type 0 where
+pub record IsToldOf (before later : SeatView) (result : Result ℕ FlushError) : Type 0 where
   pub same : IsSame before later
   pub more : Begins before.view.seen later.view.seen
   pub more_firm : Begins before.view.firm later.view.firm
@@ -106,7 +108,7 @@ pub record IsToldOf (before later : Sight) (result : Result ℕ FlushError) : Ty
 
 -- Of what had seen: it takes a group, and settles all that is taken, which the seat then knows. For want of memory it takes nothing; a
 -- round that fails settles nothing.
-pub record TakesAndSettles {D : Type 0} (seat later_seat : Sight) (before later : Flusher D) (result : Result ℕ FlushError) : Type 0 where
+pub record TakesAndSettles {D : Type 0} (seat later_seat : SeatView) (before later : Flusher D) (result : Result ℕ FlushError) : Type 0 where
   pub takes : IsErrOf result Down ⊎ IsErrOf result Memory ⊎ TakesLongest seat.view.seen (settled_in before) (taken_in later)
   pub memory : IsErrOf result Memory → (journal_of later ≡ journal_of before) × (taken_in later ≡ settled_in before)
   pub size : IfOk result (λ count. length (taken_in later) ≡ length (settled_in before) + count)
@@ -115,8 +117,8 @@ pub record TakesAndSettles {D : Type 0} (seat later_seat : Sight) (before later 
   pub not_settled : OnErr result (settled_in later ≡ settled_in before)
 
 -- it answers Full exactly where the journal has no room for what it took, and leaves the journal then
-pub record TellsRoom {D : Type 0} (content : D → List ℕ) (before later : Flusher D) (result : Result ℕ FlushError) : Type 0 where
-  pub full : is_down before ≡ false → IsErrOf result Full ↔ HasNoRoom (content (disk_of (journal_of before))) (settled_in before) (taken_in later)
+pub record TellsRoom {D : Type 0} (device : Device D) (before later : Flusher D) (result : Result ℕ FlushError) : Type 0 where
+  pub full : is_down before ≡ false → IsErrOf result Full ↔ HasNoRoom (device.content (disk_of (journal_of before))) (settled_in before) (taken_in later)
   pub same : IsErrOf result Full → journal_of later ≡ journal_of before
 
 -- Of another call: what is settled and taken, the journal and whether it is down are as they were.

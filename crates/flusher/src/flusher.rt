@@ -5,7 +5,7 @@ ghost use Rattle.diskmodel.specs.Disk.{AtEachMoment, TellsFault};
 ghost use Rattle.journal.specs.Format.{group_bytes};
 ghost use Rattle.journal.specs.Journal.{disk_of, IsAlive};
 ghost use Rattle.journal.specs.declared.layout.TheConstants.{MAX_JOURNAL_BYTES};
-ghost use Rattle.spec_model.specs.Histories.{Begins};
+ghost use Rattle.wire.specs.Lists.{Begins};
 ghost use Rattle.spec_model.specs.Admitting.{IsLegal};
 ghost use Rattle.spec_world.specs.World.{Holds};
 ghost use Rattle.validator.specs.Setting.{node_of};
@@ -77,18 +77,18 @@ impl<D: Disk> Flusher<D> {
         node: &Node<'a, S>,
         seat: &mut Seat,
     ) -> Result<u64, FlushError>
-        requires flusher { IsFlusherOf (node_of S.own_key S.signature_of) D.content D.outcome node.now self.old }
+        requires flusher { IsFlusherOf S.scheme D.device node.now self.old }
         requires of { IsOf node.now seat.old }
-        ensures flusher { IsFlusherOf (node_of S.own_key S.signature_of) D.content D.outcome node.now self.new }
+        ensures flusher { IsFlusherOf S.scheme D.device node.now self.new }
         ensures of { IsOf node.now seat.new }
         ensures down { GoesDown self.old self.new result }
         ensures told { IsToldOf seat.old seat.new result }
         ensures settles { TakesAndSettles seat.old seat.new self.old self.new result }
-        ensures room { TellsRoom D.content self.old self.new result }
-        ensures cause { TellsFault FlushError.Device (D.faults (disk_of (journal_of self.old))) (D.faults (disk_of (journal_of self.new))) result }
+        ensures room { TellsRoom D.device self.old self.new result }
+        ensures cause { TellsFault FlushError.Device (D.device.faults (disk_of (journal_of self.old))) (D.device.faults (disk_of (journal_of self.new))) result }
 
         // At each moment a stop leaves what was settled, or that with the group; and once it is settled that is so for good.
-        ensures any_moment { IsErrOf result FlushError.Down ⊎ AtEachMoment D.clock D.outcome_since (disk_of (journal_of self.old)) (disk_of (journal_of self.new)) (HoldsEither (node_of S.own_key S.signature_of) node.now (settled_in self.old) (taken_in self.new)) }
+        ensures any_moment { IsErrOf result FlushError.Down ⊎ AtEachMoment D.device (disk_of (journal_of self.old)) (disk_of (journal_of self.new)) (HoldsEither S.scheme node.now (settled_in self.old) (taken_in self.new)) }
     {
         if self.down {
             return Err(FlushError::Down);
@@ -107,9 +107,9 @@ impl<D: Disk> Flusher<D> {
 
     /// A caller's seat is then known to know as settled no more than is settled here. It writes nothing.
     pub fn cover<'a, S: Sign, R: Wait>(&mut self, rt: &R, node: &Node<'a, S>, seat: &mut Seat)
-        requires flusher { IsFlusherOf (node_of S.own_key S.signature_of) D.content D.outcome node.now self.old }
+        requires flusher { IsFlusherOf S.scheme D.device node.now self.old }
         requires of { IsOf node.now seat.old }
-        ensures flusher { IsFlusherOf (node_of S.own_key S.signature_of) D.content D.outcome node.now self.new }
+        ensures flusher { IsFlusherOf S.scheme D.device node.now self.new }
         ensures stays { StaysAsIs self.old self.new }
         ensures seat { seat.new ≡ seat.old }
         ensures covers { Begins seat.old.view.firm (settled_in self.new) }
@@ -127,22 +127,22 @@ impl<D: Disk> Flusher<D> {
     ) -> Result<u64, FlushError>
         requires flush_seat { IsFlushOf node.now (seat_of self.old) }
         requires up { is_down self.old ≡ false }
-        requires alive { IsAlive D.content D.outcome (journal_of self.old) }
-        requires holds { Holds (node_of S.own_key S.signature_of node.now.setting) (D.content (disk_of (journal_of self.old))) (from_start node.now (settled_in self.old)) }
-        requires legal { IsLegal (node_of S.own_key S.signature_of node.now.setting) (seen_by (seat_of self.old).seat) }
+        requires alive { IsAlive D.device (journal_of self.old) }
+        requires holds { Holds (node_of S.scheme node.now.setting) (D.device.content (disk_of (journal_of self.old))) (from_start node.now (settled_in self.old)) }
+        requires legal { IsLegal (node_of S.scheme node.now.setting) (seen_by (seat_of self.old).seat) }
         requires group { group ≡ group_of (seat_of self.old) }
         requires of { IsOf node.now seat.old }
-        ensures flusher { IsFlusherOf (node_of S.own_key S.signature_of) D.content D.outcome node.now self.new }
+        ensures flusher { IsFlusherOf S.scheme D.device node.now self.new }
         ensures taken { taken_in self.new ≡ taken_in self.old }
-        ensures any_moment { AtEachMoment D.clock D.outcome_since (disk_of (journal_of self.old)) (disk_of (journal_of self.new)) (HoldsEither (node_of S.own_key S.signature_of) node.now (settled_in self.old) (taken_in self.old)) }
+        ensures any_moment { AtEachMoment D.device (disk_of (journal_of self.old)) (disk_of (journal_of self.new)) (HoldsEither S.scheme node.now (settled_in self.old) (taken_in self.old)) }
         ensures ok { IfOk result (λ count. (count ≡ length group) × (settled_in self.new ≡ taken_in self.old) × (is_down self.new ≡ false)) }
         ensures err { OnErr result ((settled_in self.new ≡ settled_in self.old) × (is_down self.new ≡ true)) }
         ensures seat { OnOk result (seat.new ≡ seat.old) }
         ensures seat_err { OnErr result (seat.new ≡ record seat.old { view = with_down seat.old.view }) }
         ensures errors { IfErr result (λ error. (error ≡ FlushError.Device) ⊎ (error ≡ FlushError.Full)) }
-        ensures full { IsErrOf result FlushError.Full ↔ (MAX_JOURNAL_BYTES < length (D.content (disk_of (journal_of self.old))) + length (group_bytes group)) }
+        ensures full { IsErrOf result FlushError.Full ↔ (MAX_JOURNAL_BYTES < length (D.device.content (disk_of (journal_of self.old))) + length (group_bytes group)) }
         ensures full_same { IsErrOf result FlushError.Full → journal_of self.new ≡ journal_of self.old }
-        ensures cause { TellsFault FlushError.Device (D.faults (disk_of (journal_of self.old))) (D.faults (disk_of (journal_of self.new))) result }
+        ensures cause { TellsFault FlushError.Device (D.device.faults (disk_of (journal_of self.old))) (D.device.faults (disk_of (journal_of self.new))) result }
     {
         let count = group.records_count();
         match self.journal.append(group) {

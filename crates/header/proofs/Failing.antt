@@ -19,7 +19,7 @@ use Rattle.wire.specs.declared.votes.VoteEntry.{VoteEntry}
 use Rattle.wire.specs.declared.message.Message.{Message}
 use Rattle.wire.specs.declared.message.Message.TheVariants as message
 use Rattle.wire.specs.declared.message.BatchAck.{BatchAck}
-use Rattle.wire.specs.Batches.{Contents}
+use Rattle.wire.specs.Batches.{BatchView}
 use Rattle.wire.specs.Digests.{header_digest_of}
 use Rattle.wire.specs.Events.{Event}
 use Rattle.header.specs.declared.error.CheckError.{CheckError}
@@ -72,7 +72,7 @@ certificate_signed-by_members : (charter : Charter) (certificate : Certificate) 
 certificate_signed-by_members charter certificate rest never h = grind (arith, never)
 
 -- a batch has no signature
-batch_unsigned : (charter : Charter) (sender : Author) (batch : Contents) → first_failing (batch_tests charter sender batch) ≡ Some BadSignature → ⊥
+batch_unsigned : (charter : Charter) (sender : Author) (batch : BatchView) → first_failing (batch_tests charter sender batch) ≡ Some BadSignature → ⊥
 batch_unsigned charter sender batch h = grind arith
 
 -- nor has an acknowledgement

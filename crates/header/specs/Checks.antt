@@ -3,7 +3,7 @@ use Rattle.std.specs.Prelude.{◌≡◌, Bool, true, false, ◌==◌, nat_lt, na
 use Rattle.std.specs.List.{list_all}
 use Rattle.std.specs.Option.{option_map_or}
 use Rattle.committee.specs.Charter.{Charter, IsCharter, quorum_of}
-use Rattle.wire.specs.Batches.{Contents}
+use Rattle.wire.specs.Batches.{BatchView}
 use Rattle.wire.specs.Digests.{header_digest_of, certificate_digest_of}
 use Rattle.wire.specs.Events.{Event}
 use Rattle.wire.specs.declared.header.Certificate.{Certificate}
@@ -78,7 +78,7 @@ body_tests charter body =
     ∷ []
 
 -- of a batch, from its author
-abbrev pub batch_tests : Charter → Author → Contents → List Test
+abbrev pub batch_tests : Charter → Author → BatchView → List Test
 batch_tests charter sender batch =
     test (is_member charter batch.author) UnknownAuthor
     ∷ test (batch.author.0 == sender.0) BadSender

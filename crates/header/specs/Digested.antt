@@ -1,6 +1,6 @@
 -- The digests of a message.
 use Rattle.std.specs.Prelude.{Option, Some, None}
-use Rattle.wire.specs.Batches.{Contents}
+use Rattle.wire.specs.Batches.{BatchView}
 use Rattle.wire.specs.Digests.{batch_digest_of, header_digest_of, certificate_digest_of}
 use Rattle.wire.specs.declared.header.HeaderBody.{HeaderBody}
 use Rattle.wire.specs.declared.keys.Digest.{Digest}
@@ -9,7 +9,7 @@ use Rattle.wire.specs.declared.message.Message.TheVariants as message
 use Rattle.header.specs.declared.digested.Digested.{Digested}
 use Rattle.header.specs.declared.digested.Digested.TheVariants.{Nothing, Batch, Header, Certificate}
 
-abbrev pub digest_of_batch : Contents → Digest
+abbrev pub digest_of_batch : BatchView → Digest
 digest_of_batch batch = record { 0 = batch_digest_of batch }
 
 abbrev pub digest_of_header : HeaderBody → Digest

@@ -62,7 +62,7 @@ pub fn make<S: Sign>(
     batches: &[BatchReference],
     parents: &[ParentReference],
 ) -> Result<Header, WireError>
-    ensures ok { IfOk result (λ header. header ≡ signed_by (S.signature_of signer.now) (body_of author round batches.now parents.now)) }
+    ensures ok { IfOk result (λ header. header ≡ signed_by (S.scheme.signature_of signer.now) (body_of author round batches.now parents.now)) }
     ensures err { IfErr result (λ error. (error ≡ Memory) ⊎ (first_fault (batches_fault batches.now) (parents_fault parents.now) ≡ Some error)) }
 {
     let batches = batches_of(alloc, batches)?;

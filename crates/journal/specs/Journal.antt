@@ -1,6 +1,6 @@
 -- What a journal on a disk is, and what a stop of the machine leaves of it.
 use Rattle.std.specs.Prelude.{◌≡◌, ◌≢◌, ◌⊎◌, ℕ, ◌+◌, ◌-◌, ◌<◌, ◌≤◌, List, [], ◌∷◌, ◌++◌, length, take, Result, Ok, Err, IfOk, IfErr}
-use Rattle.diskmodel.specs.Disk.{LeavesOnly}
+use Rattle.diskmodel.specs.Disk.{LeavesOnly, Device}
 use Rattle.diskmodel.specs.declared.call.Call.{Call}
 use Rattle.diskmodel.specs.declared.call.Call.TheVariants.{Wrote, Synced}
 use Rattle.journal.specs.declared.error.Failed.{Failed}
@@ -27,10 +27,10 @@ pub record EndsClosed (file : List ℕ) : Type 0 where
   pub some : 0 < length file
 
 -- A journal that can be added to: its file ends with its closed gate and is firm, and its length is kept.
-pub record IsAlive {D : Type 0} (content : D → List ℕ) (outcome : D → List ℕ → Type 0) (journal : Journal D) : Type 0 where
-  pub ends_closed : EndsClosed (content (disk_of journal))
-  pub len : journal.len ≡ length (content (disk_of journal))
-  pub firm : LeavesOnly (content (disk_of journal)) (outcome (disk_of journal))
+pub record IsAlive {D : Type 0} (device : Device D) (journal : Journal D) : Type 0 where
+  pub ends_closed : EndsClosed (device.content (disk_of journal))
+  pub len : journal.len ≡ length (device.content (disk_of journal))
+  pub firm : LeavesOnly (device.content (disk_of journal)) (device.outcome (disk_of journal))
 
 -- the calls that add a group of these records to a file of this length: it is written behind the file's closed gate, and synced; then
 -- that gate is opened, in a write of its own, and synced

@@ -8,11 +8,12 @@ use Rattle.spec_model.specs.Nodes.{Node}
 use Rattle.spec_model.specs.Words.{Digest, Signature}
 use Rattle.wire.specs.declared.keys.Key.{Key}
 use Rattle.admission.specs.declared.tables.Tables.{Tables}
-use Rattle.validator.specs.Setting.{Setting, node_of}
+use Rattle.validator.specs.Setting.{ConfigView, node_of}
 use Rattle.validator.specs.Standing.{AreAtSound}
 use Rattle.spec_world.specs.World.{Holds}
 use Rattle.opening.specs.Laws.{HoldsAt}
 use Rattle.opening.specs.Told.{told}
+use Rattle.sigface.specs.Scheme.{Scheme}
 
 -- what was read, or nothing
 abbrev pub read_or_none : {E : Type 0} → Result History E → History
@@ -32,9 +33,9 @@ begins_at node bytes tables held =
     (record { told_as = held.told_as; holds = held.holds; legal = held.legal; at = held.at })
 
 -- so it is of a validator that is set up as the node is
-pub begins_behind : {S : Type 0} (own_key : S → Key) (signature_of : S → Digest → Signature) (config setting : Setting S) (bytes : List ℕ) (tables : Tables)
-    → setting ≡ config → HoldsAt (node_of own_key signature_of config) bytes tables
-    → BeginsAt (node_of own_key signature_of setting) bytes tables (read_or_none (told (node_of own_key signature_of setting) bytes))
-begins_behind own_key signature_of config setting bytes tables same held =
-    subst (λ s. BeginsAt (node_of own_key signature_of s) bytes tables (read_or_none (told (node_of own_key signature_of s) bytes))) (sym same)
-    (begins_at (node_of own_key signature_of config) bytes tables held)
+pub begins_behind : {S : Type 0} (scheme : Scheme S) (config setting : ConfigView S) (bytes : List ℕ) (tables : Tables)
+    → setting ≡ config → HoldsAt (node_of scheme config) bytes tables
+    → BeginsAt (node_of scheme setting) bytes tables (read_or_none (told (node_of scheme setting) bytes))
+begins_behind scheme config setting bytes tables same held =
+    subst (λ s. BeginsAt (node_of scheme s) bytes tables (read_or_none (told (node_of scheme s) bytes))) (sym same)
+    (begins_at (node_of scheme config) bytes tables held)

@@ -1,28 +1,28 @@
 -- What threads call a node with.
 use Rattle.std.specs.Prelude.{◌≡◌}
-use Rattle.node_seats.specs.Sights.{Sight}
-use Rattle.validator.specs.Setting.{Setting}
-use Rattle.node_shared.specs.Home.{Shared, IsOf}
+use Rattle.node_seats.specs.Sights.{SeatView}
+use Rattle.validator.specs.Setting.{ConfigView}
+use Rattle.node_shared.specs.Home.{NodeView, IsOf}
 use Rattle.flusher.specs.declared.flusher.Flusher.{Flusher}
 
 -- what contracts see of a caller: the configuration, the node, and the seat that it calls with
-pub record Calling (S : Type 0) : Type 0 where
-  pub setting : Setting S
-  pub node : Shared S
-  pub seat : Sight
+pub record CallerView (S : Type 0) : Type 0 where
+  pub setting : ConfigView S
+  pub node : NodeView S
+  pub seat : SeatView
 
 -- its seat is one of the node's, which is set up as the configuration says
-pub record IsCalling {S : Type 0} (caller : Calling S) : Type 0 where
+pub record IsCalling {S : Type 0} (caller : CallerView S) : Type 0 where
   pub of_node : IsOf caller.node caller.seat
   pub setting : caller.node.setting ≡ caller.setting
 
 -- behind a call it is at the same node
-pub record StaysWith {S : Type 0} (before later : Calling S) : Type 0 where
+pub record StaysWith {S : Type 0} (before later : CallerView S) : Type 0 where
   pub setting : later.setting ≡ before.setting
   pub node : later.node ≡ before.node
 
 -- what contracts see of a flusher with its seat: the node, the seat that it calls with, and the flusher
-pub record Flushing (S D : Type 0) : Type 0 where
-  pub node : Shared S
-  pub seat : Sight
+pub record RoundsView (S D : Type 0) : Type 0 where
+  pub node : NodeView S
+  pub seat : SeatView
   pub flusher : Flusher D

@@ -40,9 +40,9 @@ impl<'n, 'a, S: Sign> Drop for Caller<'n, 'a, S> {
 }
 
 impl<'n, 'a, S: Sign> Model for Caller<'n, 'a, S> {
-    ghost use Rattle.node.specs.Callers.{Calling, IsCalling};
+    ghost use Rattle.node.specs.Callers.{CallerView, IsCalling};
 
-    ghost Value = { Calling S };
+    ghost Value = { CallerView S };
 
     ghost view = { λ c. record { setting = c.config.now; node = c.node.now; seat = c.seat } };
 
@@ -85,8 +85,8 @@ impl<'n, 'a, S: Sign> Caller<'n, 'a, S> {
     pub fn submit<R: Wait>(&mut self, rt: &R, event: Checked) -> Result<Receipt, Refusal>
         requires passed { fault_of self.old.setting.charter accepts_all event ≡ None }
         ensures stays { StaysWith self.old self.new }
-        ensures brought { Brought (node_of S.own_key S.signature_of) self.old.node self.old.seat self.new.seat }
-        ensures submits { Submits (node_of S.own_key S.signature_of self.old.node.setting) event self.old.seat.view self.new.seat.view result }
+        ensures brought { Brought S.scheme self.old.node self.old.seat self.new.seat }
+        ensures submits { Submits (node_of S.scheme self.old.node.setting) event self.old.seat.view self.new.seat.view result }
         ensures down { IsErrOf result Refusal.Down ↔ IsTrue self.new.seat.view.down }
     {
         self.node.submit(rt, &mut self.seat, event)
@@ -95,9 +95,9 @@ impl<'n, 'a, S: Sign> Caller<'n, 'a, S> {
     /// The next output that may go out; none where the node is down.
     pub fn collect<R: Wait>(&mut self, rt: &R) -> Option<Output>
         ensures stays { StaysWith self.old self.new }
-        ensures learned { Learned (node_of S.own_key S.signature_of) self.old.node self.old.seat self.new.seat }
+        ensures learned { Learned S.scheme self.old.node self.old.seat self.new.seat }
         ensures down { IsTrue self.new.seat.view.down → IsNone result }
-        ensures gives { IfSome result (λ output. Gives (node_of S.own_key S.signature_of self.old.node.setting) self.new.seat output) }
+        ensures gives { IfSome result (λ output. Gives (node_of S.scheme self.old.node.setting) self.new.seat output) }
     {
         self.node.collect(rt, &mut self.seat)
     }
@@ -105,9 +105,9 @@ impl<'n, 'a, S: Sign> Caller<'n, 'a, S> {
     /// The settled order from a place on.
     pub fn order<R: Wait>(&mut self, rt: &R, from: u64) -> Result<Vec<Digest>, Refusal>
         ensures stays { StaysWith self.old self.new }
-        ensures learned { Learned (node_of S.own_key S.signature_of) self.old.node self.old.seat self.new.seat }
+        ensures learned { Learned S.scheme self.old.node self.old.seat self.new.seat }
         ensures down { IsErrOf result Refusal.Down ↔ IsTrue self.new.seat.view.down }
-        ensures order { IfOk result (λ digests. digests.items ≡ drop from (order_of (node_of S.own_key S.signature_of self.old.node.setting) (firm_by self.new.seat))) }
+        ensures order { IfOk result (λ digests. digests.items ≡ drop from (order_of (node_of S.scheme self.old.node.setting) (firm_by self.new.seat))) }
         ensures errors { IfErr result (λ refusal. (refusal ≡ Refusal.Down) ⊎ (refusal ≡ Refusal.Memory)) }
     {
         self.node.order(rt, &mut self.seat, from)
@@ -116,8 +116,8 @@ impl<'n, 'a, S: Sign> Caller<'n, 'a, S> {
     /// The header that has the vote of an author and round, unless that is low.
     pub fn peek_voted<R: Wait>(&mut self, rt: &R, author: Author, round: Round) -> Option<Digest>
         ensures stays { StaysWith self.old self.new }
-        ensures looked { Looked (node_of S.own_key S.signature_of) self.old.node self.old.seat self.new.seat }
-        ensures voted { result ≡ unless_low (floor_of (node_of S.own_key S.signature_of self.old.node.setting) (seen_by self.new.seat)) round (voted_digest (seen_by self.new.seat) round author.0) }
+        ensures looked { Looked S.scheme self.old.node self.old.seat self.new.seat }
+        ensures voted { result ≡ unless_low (floor_of (node_of S.scheme self.old.node.setting) (seen_by self.new.seat)) round (voted_digest (seen_by self.new.seat) round author.0) }
     {
         self.node.peek_voted(rt, &mut self.seat, author, round)
     }
@@ -125,8 +125,8 @@ impl<'n, 'a, S: Sign> Caller<'n, 'a, S> {
     /// The round behind all that was accepted.
     pub fn round_now<R: Wait>(&mut self, rt: &R) -> u64
         ensures stays { StaysWith self.old self.new }
-        ensures looked { Looked (node_of S.own_key S.signature_of) self.old.node self.old.seat self.new.seat }
-        ensures round { result ≡ round_of (node_of S.own_key S.signature_of self.old.node.setting) (seen_by self.new.seat) }
+        ensures looked { Looked S.scheme self.old.node self.old.seat self.new.seat }
+        ensures round { result ≡ round_of (node_of S.scheme self.old.node.setting) (seen_by self.new.seat) }
     {
         self.node.round_now(rt, &mut self.seat)
     }
@@ -135,8 +135,8 @@ impl<'n, 'a, S: Sign> Caller<'n, 'a, S> {
     pub fn ready<R: Wait>(&mut self, rt: &R, event: &Checked) -> bool
         requires passed { fault_of self.old.setting.charter accepts_all event.now ≡ None }
         ensures stays { StaysWith self.old self.new }
-        ensures looked { Looked (node_of S.own_key S.signature_of) self.old.node self.old.seat self.new.seat }
-        ensures ready { result ≡ not (is_missing_parents (admit (node_of S.own_key S.signature_of self.old.node.setting) (seen_by self.new.seat) event.now)) }
+        ensures looked { Looked S.scheme self.old.node self.old.seat self.new.seat }
+        ensures ready { result ≡ not (is_missing_parents (admit (node_of S.scheme self.old.node.setting) (seen_by self.new.seat) event.now)) }
     {
         self.node.ready(rt, &mut self.seat, event)
     }
@@ -144,8 +144,8 @@ impl<'n, 'a, S: Sign> Caller<'n, 'a, S> {
     /// The header that the validator proposes, if it proposes one.
     pub fn propose<R: Wait>(&mut self, rt: &R) -> Result<Option<Header>, AllocError>
         ensures stays { StaysWith self.old self.new }
-        ensures looked { Looked (node_of S.own_key S.signature_of) self.old.node self.old.seat self.new.seat }
-        ensures header { IfOk result (λ found. found ≡ propose_of (node_of S.own_key S.signature_of self.old.node.setting) (seen_by self.new.seat)) }
+        ensures looked { Looked S.scheme self.old.node self.old.seat self.new.seat }
+        ensures header { IfOk result (λ found. found ≡ propose_of (node_of S.scheme self.old.node.setting) (seen_by self.new.seat)) }
     {
         self.node.propose(rt, &mut self.seat)
     }
@@ -153,7 +153,7 @@ impl<'n, 'a, S: Sign> Caller<'n, 'a, S> {
     /// How many events were accepted since the node began, all of which the caller has then seen. It waits for nobody.
     pub fn accepted(&mut self) -> u64
         ensures stays { StaysWith self.old self.new }
-        ensures looked { Looked (node_of S.own_key S.signature_of) self.old.node self.old.seat self.new.seat }
+        ensures looked { Looked S.scheme self.old.node self.old.seat self.new.seat }
         ensures count { result ≡ length self.new.seat.view.seen }
     {
         self.node.accepted(&mut self.seat)
@@ -162,7 +162,7 @@ impl<'n, 'a, S: Sign> Caller<'n, 'a, S> {
     /// How many of these are settled, which the caller then knows. It waits for nobody.
     pub fn synced(&mut self) -> u64
         ensures stays { StaysWith self.old self.new }
-        ensures learned { Learned (node_of S.own_key S.signature_of) self.old.node self.old.seat self.new.seat }
+        ensures learned { Learned S.scheme self.old.node self.old.seat self.new.seat }
         ensures count { result ≡ length self.new.seat.view.firm }
     {
         self.node.synced(&mut self.seat)

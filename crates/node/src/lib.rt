@@ -42,34 +42,34 @@ pub fn start<'a, S: Sign, D: Disk>(
     disk: D,
 ) -> Result<(Node<'a, S>, Seat, Flusher<D>), Failed<JournalError, D>>
     ensures setting { IfOk result (λ started. started.0.setting ≡ config.now) }
-    ensures begins { IfOk result (λ started. told (node_of S.own_key S.signature_of config.now) (D.content disk) ≡ Ok started.0.start) }
+    ensures begins { IfOk result (λ started. told (node_of S.scheme config.now) (D.device.content disk) ≡ Ok started.0.start) }
     ensures seat { IfOk result (λ started. IsOf started.0 started.1) }
     ensures nothing { IfOk result (λ started. HasNothing started.1) }
-    ensures flusher { IfOk result (λ started. IsFlusherOf (node_of S.own_key S.signature_of) D.content D.outcome started.0 started.2) }
+    ensures flusher { IfOk result (λ started. IsFlusherOf S.scheme D.device started.0 started.2) }
     ensures up { IfOk result (λ started. is_down started.2 ≡ false) }
     ensures nothing_settled { IfOk result (λ started. (settled_in started.2 ≡ []) × (taken_in started.2 ≡ [])) }
 
     // Each refusal but those of memory and of the disk is what the bytes are told as.
-    ensures err { IfErr result (λ failed. failed.error ≢ JournalError.Device → Tells failed.error (told (node_of S.own_key S.signature_of config.now) (D.content disk))) }
+    ensures err { IfErr result (λ failed. failed.error ≢ JournalError.Device → Tells failed.error (told (node_of S.scheme config.now) (D.device.content disk))) }
     ensures never_full { IfErr result (λ failed. failed.error ≢ JournalError.Full) }
 
     // It answers Device exactly where the disk has failed.
-    ensures cause { TellsFaultBack D.faults (λ started. disk_of (journal_of started.2)) JournalError.Device disk result }
+    ensures cause { TellsFaultBack D.device (λ started. disk_of (journal_of started.2)) JournalError.Device disk result }
 
     // Only a failure of the disk or of the memory leaves other bytes than there were, but for those behind the closed gate.
-    ensures unchanged { IfErr result (λ failed. failed.error ≢ JournalError.Device → failed.error ≢ JournalError.Memory → (D.content failed.disk ≡ D.content disk) ⊎ IsClosedUp (D.content disk) (D.content failed.disk)) }
+    ensures unchanged { IfErr result (λ failed. failed.error ≢ JournalError.Device → failed.error ≢ JournalError.Memory → (D.device.content failed.disk ≡ D.device.content disk) ⊎ IsClosedUp (D.device.content disk) (D.device.content failed.disk)) }
 
     // A stop at any moment of the call leaves what is told as one outcome from before it is.
-    ensures any_moment { IfOk result (λ started. AtEachMoment D.clock D.outcome_since disk (disk_of (journal_of started.2)) (IsToldAsOneOf (node_of S.own_key S.signature_of config.now) (D.outcome disk))) }
-    ensures any_moment_err { IfErr result (λ failed. AtEachMoment D.clock D.outcome_since disk failed.disk (IsToldAsOneOf (node_of S.own_key S.signature_of config.now) (D.outcome disk))) }
+    ensures any_moment { IfOk result (λ started. AtEachMoment D.device disk (disk_of (journal_of started.2)) (IsToldAsOneOf (node_of S.scheme config.now) (D.device.outcome disk))) }
+    ensures any_moment_err { IfErr result (λ failed. AtEachMoment D.device disk failed.disk (IsToldAsOneOf (node_of S.scheme config.now) (D.device.outcome disk))) }
 
     // It leaves the records, whoever's they are and whatever it answers, or where there are none the configuration alone.
     // What it leaves that stands for no records is an outcome from before it, byte for byte.
-    ensures keeps { IfOk result (λ started. AtEachMoment D.clock D.outcome_since disk (disk_of (journal_of started.2)) (KeepsRecords (node_of S.own_key S.signature_of config.now) (D.outcome disk))) }
-    ensures keeps_err { IfErr result (λ failed. AtEachMoment D.clock D.outcome_since disk failed.disk (KeepsRecords (node_of S.own_key S.signature_of config.now) (D.outcome disk))) }
+    ensures keeps { IfOk result (λ started. AtEachMoment D.device disk (disk_of (journal_of started.2)) (KeepsRecords (node_of S.scheme config.now) (D.device.outcome disk))) }
+    ensures keeps_err { IfErr result (λ failed. AtEachMoment D.device disk failed.disk (KeepsRecords (node_of S.scheme config.now) (D.device.outcome disk))) }
 
     // What a stop leaves in a world of this node is never refused.
-    ensures never_refused { IfErr result (λ failed. IsLeft (node_of S.own_key S.signature_of config.now) (D.content disk) → IsNoRefusal failed.error) }
+    ensures never_refused { IfErr result (λ failed. IsLeft (node_of S.scheme config.now) (D.device.content disk) → IsNoRefusal failed.error) }
 {
     let (validator, journal) = reopen(alloc, config, disk)?;
     begin::<Brand, S, D>(alloc, validator, journal)
@@ -81,15 +81,15 @@ fn begin<'a, H: Start, S: Sign, D: Disk>(
     validator: Validator<'a, S>,
     journal: Journal<D>,
 ) -> Result<(Node<'a, S>, Seat, Flusher<D>), Failed<JournalError, D>>
-    requires legal { IsLegal (node_of S.own_key S.signature_of validator.setting) H.history }
-    requires at { let node = node_of S.own_key S.signature_of validator.setting in AreAtSound node validator.tables (kept node H.history) }
-    requires alive { IsAlive D.content D.outcome journal }
-    requires holds { Holds (node_of S.own_key S.signature_of validator.setting) (D.content (disk_of journal)) H.history }
+    requires legal { IsLegal (node_of S.scheme validator.setting) H.history }
+    requires at { let node = node_of S.scheme validator.setting in AreAtSound node validator.tables (kept node H.history) }
+    requires alive { IsAlive D.device journal }
+    requires holds { Holds (node_of S.scheme validator.setting) (D.device.content (disk_of journal)) H.history }
     ensures setting { IfOk result (λ started. started.0.setting ≡ validator.entry.setting) }
     ensures begins { IfOk result (λ started. started.0.start ≡ H.history) }
     ensures seat { IfOk result (λ started. IsOf started.0 started.1) }
     ensures nothing { IfOk result (λ started. HasNothing started.1) }
-    ensures flusher { IfOk result (λ started. IsFlusherOf (node_of S.own_key S.signature_of) D.content D.outcome started.0 started.2) }
+    ensures flusher { IfOk result (λ started. IsFlusherOf S.scheme D.device started.0 started.2) }
     ensures up { IfOk result (λ started. is_down started.2 ≡ false) }
     ensures nothing_settled { IfOk result (λ started. (settled_in started.2 ≡ []) × (taken_in started.2 ≡ [])) }
     ensures journal { IfOk result (λ started. journal_of started.2 ≡ journal) }

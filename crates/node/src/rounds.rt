@@ -3,7 +3,7 @@
 ghost use Rattle.std.specs.Prelude.{◌≡◌, ◌⊎◌, IsOk, IfOk, IsErrOf};
 ghost use Rattle.diskmodel.specs.Disk.{AtEachMoment, TellsFault};
 ghost use Rattle.journal.specs.Journal.{disk_of};
-ghost use Rattle.spec_model.specs.Histories.{Begins};
+ghost use Rattle.wire.specs.Lists.{Begins};
 ghost use Rattle.validator.specs.Setting.{node_of};
 ghost use Rattle.node_shared.specs.Calls.{IsBeside};
 ghost use Rattle.node_shared.specs.Home.{IsOf};
@@ -40,20 +40,20 @@ impl<'n, 'a, S: Sign, D: Disk> Model for Rounds<'n, 'a, S, D> {
     ghost use Rattle.validator.specs.Setting.{node_of};
     ghost use Rattle.node_shared.specs.Home.{IsOf};
     ghost use Rattle.flusher.specs.Rounds.{IsFlusherOf};
-    ghost use Rattle.node.specs.Callers.{Flushing};
+    ghost use Rattle.node.specs.Callers.{RoundsView};
 
-    ghost Value = { Flushing S D };
+    ghost Value = { RoundsView S D };
 
     ghost view = { λ r. record { node = r.node.now; seat = r.seat; flusher = r.flusher } };
 
-    ghost invariant = { λ r. IsOf r.node.now r.seat × IsFlusherOf (node_of S.own_key S.signature_of) D.content D.outcome r.node.now r.flusher };
+    ghost invariant = { λ r. IsOf r.node.now r.seat × IsFlusherOf S.scheme D.device r.node.now r.flusher };
 }
 
 impl<'n, 'a, S: Sign, D: Disk> Rounds<'n, 'a, S, D> {
     /// The flusher of a node, with a seat of the node.
     pub fn new(node: &'n Node<'a, S>, seat: Seat, flusher: Flusher<D>) -> Rounds<'n, 'a, S, D>
         requires of { IsOf node.now seat }
-        requires flusher { IsFlusherOf (node_of S.own_key S.signature_of) D.content D.outcome node.now flusher }
+        requires flusher { IsFlusherOf S.scheme D.device node.now flusher }
         ensures node { result.node ≡ node.now }
         ensures seat { result.seat ≡ seat }
         ensures flusher { result.flusher ≡ flusher }
@@ -84,9 +84,9 @@ impl<'n, 'a, S: Sign, D: Disk> Rounds<'n, 'a, S, D> {
         ensures down { GoesDown self.old.flusher self.new.flusher result }
         ensures told { IsToldOf self.old.seat self.new.seat result }
         ensures settles { TakesAndSettles self.old.seat self.new.seat self.old.flusher self.new.flusher result }
-        ensures room { TellsRoom D.content self.old.flusher self.new.flusher result }
-        ensures cause { TellsFault FlushError.Device (D.faults (disk_of (journal_of self.old.flusher))) (D.faults (disk_of (journal_of self.new.flusher))) result }
-        ensures any_moment { IsErrOf result FlushError.Down ⊎ AtEachMoment D.clock D.outcome_since (disk_of (journal_of self.old.flusher)) (disk_of (journal_of self.new.flusher)) (HoldsEither (node_of S.own_key S.signature_of) self.old.node (settled_in self.old.flusher) (taken_in self.new.flusher)) }
+        ensures room { TellsRoom D.device self.old.flusher self.new.flusher result }
+        ensures cause { TellsFault FlushError.Device (D.device.faults (disk_of (journal_of self.old.flusher))) (D.device.faults (disk_of (journal_of self.new.flusher))) result }
+        ensures any_moment { IsErrOf result FlushError.Down ⊎ AtEachMoment D.device (disk_of (journal_of self.old.flusher)) (disk_of (journal_of self.new.flusher)) (HoldsEither S.scheme self.old.node (settled_in self.old.flusher) (taken_in self.new.flusher)) }
     {
         self.flusher.round(rt, self.node, &mut self.seat)
     }

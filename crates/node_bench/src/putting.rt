@@ -5,7 +5,7 @@ use crate::fold::Fold;
 use crate::messages::{PEER, small_batch};
 use crate::task::Task;
 use batchstore::{BatchStore, Put, StoreRefusal};
-use seed::TableSeed;
+use sigface::TableSeed;
 use sigface::HashSign;
 use std::alloc::Global;
 use validator::Config;

@@ -49,8 +49,8 @@ fn append(
     journal: &mut Journal<MemDisk>,
     records: Vec<Vec<u8>>,
 ) -> Result<u64, Ending>
-    requires { IsAlive ⟦<MemDisk as Disk>⟧.content ⟦<MemDisk as Disk>⟧.outcome journal.old }
-    ensures { OnOk result (IsAlive ⟦<MemDisk as Disk>⟧.content ⟦<MemDisk as Disk>⟧.outcome journal.new) }
+    requires { IsAlive ⟦<MemDisk as Disk>⟧.device journal.old }
+    ensures { OnOk result (IsAlive ⟦<MemDisk as Disk>⟧.device journal.new) }
 {
     match Group::new(alloc, records)? {
         Some(group) => Ok(journal.append(group)?.records()),
@@ -60,7 +60,7 @@ fn append(
 
 // A journal on a disk of its own.
 fn empty_journal(alloc: Global) -> Result<Journal<MemDisk>, Ending>
-    ensures { IfOk result (λ journal. IsAlive ⟦<MemDisk as Disk>⟧.content ⟦<MemDisk as Disk>⟧.outcome journal) }
+    ensures { IfOk result (λ journal. IsAlive ⟦<MemDisk as Disk>⟧.device journal) }
 {
     let (journal, _) = Journal::open(alloc, empty_disk(alloc)?)?;
     Ok(journal)

@@ -155,7 +155,7 @@ impl<'a> Play<'a> {
 
 // An empty disk for each member.
 fn empty_disks(alloc: Global) -> Result<Vec<MemDisk>, AllocError>
-    ensures { IfOk result (λ disks. All (λ disk. ⟦<MemDisk as Disk>⟧.content disk ≡ []) disks.items) }
+    ensures { IfOk result (λ disks. All (λ disk. ⟦<MemDisk as Disk>⟧.device.content disk ≡ []) disks.items) }
 {
     let mut disks = Vec::new(alloc);
     for _ in 0..MEMBERS {

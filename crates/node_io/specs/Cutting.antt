@@ -38,7 +38,7 @@ end_behind Memory = ends.Memory
 end_behind error = ends.Broken
 
 -- what contracts see of a stream of frames: what it is read from, what is held of the next frame, and why no more frames come
-pub record Stream (I : Type 0) : Type 0 where
+pub record InputView (I : Type 0) : Type 0 where
   pub reader : I
   pub held : List ℕ
   pub end : Option End
@@ -52,12 +52,12 @@ pub record Cuts (held piece : List ℕ) (bodies : List (List ℕ)) (later : List
   pub never : end ≡ Some ends.Whole → ⊥
 
 -- one piece was read, and cut
-pub record ReadsAndCuts {I : Type 0} (remaining : I → Option (List ℕ)) (before later : Stream I) (bodies : List (List ℕ)) : Type 0 where
+pub record ReadsAndCuts {I : Type 0} (remaining : I → Option (List ℕ)) (before later : InputView I) (bodies : List (List ℕ)) : Type 0 where
   pub piece : List ℕ
   pub read : Consumes (remaining before.reader) (remaining later.reader) piece
   pub cut : Cuts before.held piece bodies later.held later.end
 
 -- nothing of the stream was taken: no byte was read, and of the next frame the same is held
-pub record TakesNothing {I : Type 0} (remaining : I → Option (List ℕ)) (before later : Stream I) : Type 0 where
+pub record TakesNothing {I : Type 0} (remaining : I → Option (List ℕ)) (before later : InputView I) : Type 0 where
   pub read : Consumes (remaining before.reader) (remaining later.reader) []
   pub held : later.held ≡ before.held

@@ -50,9 +50,9 @@ impl<I: Read + Drop> Drop for Input<I> {
 
 impl<I: Read + Drop> Model for Input<I> {
     ghost use Rattle.std.specs.Prelude.{◌<◌, vec_len};
-    ghost use Rattle.node_io.specs.Cutting.{Stream};
+    ghost use Rattle.node_io.specs.Cutting.{InputView};
 
-    ghost Value = { Stream I };
+    ghost Value = { InputView I };
 
     ghost view = { λ i. record { reader = i.reader; held = i.frames; end = i.end } };
 

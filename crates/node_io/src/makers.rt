@@ -1,7 +1,7 @@
 //! The makers of the node's own batches.
 
 ghost use Rattle.std.specs.Prelude.{◌≡◌, ◌≢◌, ◌≤◌, ◌<◌, ◌↔◌, [], Some, IfOk, IfErr, IsErr, IsErrOf, OnErr, length, slice_get};
-ghost use Rattle.wire.specs.Batches.{Contents};
+ghost use Rattle.wire.specs.Batches.{BatchView};
 ghost use Rattle.wire.specs.declared.limits.TheConstants.{MAX_TRANSACTION_BYTES};
 ghost use Rattle.node_io.specs.Makers.{fresh_makers, IsPushed, IsSealed};
 
@@ -25,9 +25,9 @@ impl Drop for Makers {
 
 impl Model for Makers {
     ghost use Rattle.std.specs.Prelude.{List};
-    ghost use Rattle.wire.specs.Batches.{Contents};
+    ghost use Rattle.wire.specs.Batches.{BatchView};
 
-    ghost Value = { List Contents };
+    ghost Value = { List BatchView };
 
     ghost view = { λ m. m.makers.items };
 }
@@ -72,7 +72,7 @@ impl Makers {
     pub fn seal(&mut self, worker: u16) -> Result<Option<Batch>, AllocError>
         requires { worker < length self.old }
         ensures ok { IfOk result (λ sealed. IsSealed worker sealed self.old self.new) }
-        ensures memory { OnErr result ((maker : Contents) → slice_get self.old worker ≡ Some maker → maker.transactions ≢ []) }
+        ensures memory { OnErr result ((maker : BatchView) → slice_get self.old worker ≡ Some maker → maker.transactions ≢ []) }
         ensures err { OnErr result (self.new ≡ self.old) }
     {
         self.makers[worker as usize].seal()

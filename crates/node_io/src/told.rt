@@ -7,7 +7,7 @@ ghost use Rattle.wire.specs.declared.error.WireError.TheVariants.{Memory};
 
 use batchmaker::MakeError;
 use header::CheckError;
-use spec_model::Refusal;
+use header::Refusal;
 use std::alloc::AllocError;
 use thiserror::Error;
 use wire::WireError;

@@ -4,10 +4,10 @@ use Rattle.std.specs.Coded.{Coded, code_by, coded×}
 use Rattle.atomic_table.specs.Seated.{TableId, table_id_coded}
 
 -- which lock it is, and the key that it was made with
-pub record Door (K : Type 0) : Type 0 where
+pub record LockView (K : Type 0) : Type 0 where
   pub id : TableId
   pub key : K
 
 -- a lock is stored as the pair of these
-abbrev pub coded_door : {K : Type 0} → Coded K → Coded (Door K)
+abbrev pub coded_door : {K : Type 0} → Coded K → Coded (LockView K)
 coded_door key = code_by (TableId × _) (coded× table_id_coded key) (λ door. (door.id, door.key)) (λ pair. record { id = pair.0; key = pair.1 }) (λ _. refl)

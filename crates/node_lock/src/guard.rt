@@ -46,9 +46,9 @@ impl<T: Drop, K: Drop, F: Fits<T, K>> Drop for Lock<T, K, F> {
 
 impl<T, K, F: Fits<T, K>> Model for Lock<T, K, F> {
     ghost use Rattle.std.specs.Prelude.{◌≡◌};
-    ghost use Rattle.node_lock.specs.Doors.{Door, coded_door};
+    ghost use Rattle.node_lock.specs.Doors.{LockView, coded_door};
 
-    ghost Value = { Door K };
+    ghost Value = { LockView K };
 
     ghost coded = { coded_door K.code };
 

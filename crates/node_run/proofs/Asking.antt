@@ -22,9 +22,9 @@ use Rattle.spec_model.specs.Ordering.{floor_by}
 use Rattle.spec_model.specs.Proposing.{nameable, as_parent, propose, signed, to_name}
 use Rattle.spec_model.specs.Slots.{is_of_slot, round_of, same_digest, slots_of}
 use Rattle.spec_model.specs.States.{State, batch_in, has_own_batch, holds, is_available, whole}
-use Rattle.spec_model.specs.Words.{Author, BatchAck, BatchReference, Certificate, Coin, Contents, Digest, Event, Header, Output, Vote}
-use Rattle.spec_model.specs.declared.admission.Admission.TheVariants.{New, Refused}
-use Rattle.spec_model.specs.declared.refusal.Refusal.TheVariants.{TooOld, MissingParents}
+use Rattle.spec_model.specs.Words.{Author, BatchAck, BatchReference, Certificate, Coin, BatchView, Digest, Event, Header, Output, Vote}
+use Rattle.header.specs.declared.admission.Admission.TheVariants.{New, Refused}
+use Rattle.header.specs.declared.refusal.Refusal.TheVariants.{TooOld, MissingParents}
 use Rattle.node_run.specs.Asking.{LeavesProposal, LeavesWaiting}
 
 -- ---- the certificates, by what a history has of each kind
@@ -102,7 +102,7 @@ waits_alike node history later from certificate same same-coins =
 -- ---- what is proposed, by what a history has of each kind
 
 -- a state of which only what names batches is known
-abbrev state_of : List Contents → (Digest → ℕ → Bool) → (Digest → Bool) → State
+abbrev state_of : List BatchView → (Digest → ℕ → Bool) → (Digest → Bool) → State
 state_of held acked named = record {
   batches = held;
   acked = acked;
@@ -138,7 +138,7 @@ names_it node digest header = (header.body.author.0 == node.own.0) && list_any (
 abbrev named_by : Node → List Header → Digest → Bool
 named_by node proposed digest = list_any (names_it node digest) proposed
 
-abbrev propose_from : Node → List Certificate → List Contents → List BatchAck → List Header → Option Header
+abbrev propose_from : Node → List Certificate → List BatchView → List BatchAck → List Header → Option Header
 propose_from node there held told proposed =
     propose_by node there (own_at node proposed) (nameable node (state_of held (acked_by told) (named_by node proposed)))
 
@@ -166,7 +166,7 @@ module _ (node : Node) (header : Header) (other : (header.body.author.0 == node.
   named_stays : (proposed : List Header) → named_by node (proposed ++ header ∷ []) ≡ named_by node proposed
   named_stays proposed = fun_ext (λ digest. list_any-append (names_it node digest) proposed (header ∷ []) ∙ or_not (named_by node proposed digest) digest)
 
-  proposes_past : (there : List Certificate) (held : List Contents) (told : List BatchAck) (proposed : List Header)
+  proposes_past : (there : List Certificate) (held : List BatchView) (told : List BatchAck) (proposed : List Header)
       → propose_from node there held told (proposed ++ header ∷ []) ≡ propose_from node there held told proposed
   proposes_past there held told proposed =
       ap (λ own. propose_by node there own (nameable node (state_of held (acked_by told) (named_by node (proposed ++ header ∷ []))))) (own_stays proposed)
@@ -174,21 +174,21 @@ module _ (node : Node) (header : Header) (other : (header.body.author.0 == node.
 
 -- ---- the batch of another member
 
-module _ (node : Node) (batch : Contents) (other : (batch.author.0 == node.own.0) ≡ false) (held : List Contents) (acked : Digest → ℕ → Bool) (named : Digest → Bool) where
+module _ (node : Node) (batch : BatchView) (other : (batch.author.0 == node.own.0) ≡ false) (held : List BatchView) (acked : Digest → ℕ → Bool) (named : Digest → Bool) where
   abbrev before : State
   before = state_of held acked named
 
   abbrev later : State
   later = state_of (held ++ batch ∷ []) acked named
 
-  abbrev is_own : Contents → Bool
+  abbrev is_own : BatchView → Bool
   is_own found = found.author.0 == node.own.0
 
   not_own : (same : Bool) → option_map_or is_own (cond same (Some batch) None) false ≡ false
   not_own true = other
   not_own false = refl
 
-  own_or : (found : Option Contents) (same : Bool) → option_map_or is_own (option_or found (cond same (Some batch) None)) false ≡ option_map_or is_own found false
+  own_or : (found : Option BatchView) (same : Bool) → option_map_or is_own (option_or found (cond same (Some batch) None)) false ≡ option_map_or is_own found false
   own_or (Some first) same = refl
   own_or None same = not_own same
 
@@ -197,7 +197,7 @@ module _ (node : Node) (batch : Contents) (other : (batch.author.0 == node.own.0
       ap (λ found. option_map_or is_own found false) (find-append (λ b. same_digest (batch_digest b) digest) held (batch ∷ []))
       ∙ own_or (batch_in before digest) (same_digest (batch_digest batch) digest)
 
-  abbrev naming : Contents → Bool → Option BatchReference
+  abbrev naming : BatchView → Bool → Option BatchReference
   naming one own =
       if (one.author.0 == node.own.0) && ((own && nat_le (quorum node) (weight node.charter (holds node before (batch_digest one)))) && not (named (batch_digest one)))
       then Some (record { digest = batch_digest one; worker = one.worker }) else None
@@ -247,7 +247,7 @@ module _ (node : Node) (history : History) (event : Event) where
   no_coin none = more.of_coins ∙ ap (λ o. coins history ++ option_to_list o) none ∙ append-nil (coins history)
 
   -- what is proposed, where the certificates stay
-  proposes : (held : List Contents) (told : List BatchAck) (proposed : List Header) → certificates node after ≡ certificates node history
+  proposes : (held : List BatchView) (told : List BatchAck) (proposed : List Header) → certificates node after ≡ certificates node history
       → batches after ≡ held → acks after ≡ told → headers after ≡ proposed
       → propose_from node (certificates node history) held told proposed ≡ propose node history → propose node after ≡ propose node history
   proposes held told proposed same is-held is-told is-proposed holds =
@@ -270,7 +270,7 @@ module _ (node : Node) (history : History) (event : Event) where
 as_own : (node : Node) (own author : Author) → node.own ≡ own → (author.0 == own.0) ≡ false → (author.0 == node.own.0) ≡ false
 as_own node own author same is = ap (λ (it : Author). author.0 == it.0) same ∙ is
 
-pub batch_waits : (own : Author) (batch : Contents) → LeavesWaiting own (message.Batch batch)
+pub batch_waits : (own : Author) (batch : BatchView) → LeavesWaiting own (message.Batch batch)
 batch_waits own batch node history sender from certificate same =
     let event : Event = record { sender = sender; message = message.Batch batch } in
     waits_alike node history (after node history event) from certificate (quiet node history event refl refl refl) (no_coin node history event refl)
@@ -286,7 +286,7 @@ header_waits own header other node history sender from certificate same =
     waits_alike node history (after node history event) from certificate (foreign node history event header refl (as_own node own header.body.author same other) refl refl)
     (no_coin node history event refl)
 
-pub batch_proposes : (own : Author) (batch : Contents) → (batch.author.0 == own.0) ≡ false → LeavesProposal own (message.Batch batch)
+pub batch_proposes : (own : Author) (batch : BatchView) → (batch.author.0 == own.0) ≡ false → LeavesProposal own (message.Batch batch)
 batch_proposes own batch other node history sender same =
     let event : Event = record { sender = sender; message = message.Batch batch } in
     proposes node history event (batches history ++ batch ∷ []) (acks history) (headers history) (quiet node history event refl refl refl)

@@ -6,10 +6,10 @@ use Rattle.header.specs.Digested.{certificate_digest_in}
 use Rattle.header.specs.declared.error.CheckError.{CheckError}
 use Rattle.spec_model.specs.Nodes.{Node}
 use Rattle.spec_model.specs.Words.{Event}
-use Rattle.spec_model.specs.declared.refusal.Refusal.{Refusal}
+use Rattle.header.specs.declared.refusal.Refusal.{Refusal}
 use Rattle.node_io.specs.declared.told.Told.{Told}
 use Rattle.node_io.specs.declared.told.Told.TheVariants.{Unchecked}
-use Rattle.node.specs.Callers.{Calling}
+use Rattle.node.specs.Callers.{CallerView}
 use Rattle.node_run.specs.Bringing.{Brings, CantWait, Enters}
 use Rattle.node_run.specs.Taking.{Handles, OnlyLooks, told_as}
 use Rattle.node_run.specs.declared.caller.Taken.{Taken}
@@ -24,7 +24,7 @@ never_waits : (certificate : Event) (answer : Result Receipt Refusal) → told_a
 never_waits certificate (Ok receipt) is = either_way certificate receipt.new is
 never_waits certificate (Err why) is = absurd cc
 
-module _ {S : Type 0} (node : Node) (fault : Option CheckError) (event : Event) (before later : Calling S) (old new : List Event) (told : Result Taken Told) (handles : Handles node fault event before later told) where
+module _ {S : Type 0} (node : Node) (fault : Option CheckError) (event : Event) (before later : CallerView S) (old new : List Event) (told : Result Taken Told) (handles : Handles node fault event before later told) where
   pub brings_new : told ≡ Ok New → new ≡ old → Brings node fault event before later old new (Ok true)
   brings_new is same = record {
     told = told;
@@ -61,7 +61,7 @@ module _ {S : Type 0} (node : Node) (fault : Option CheckError) (event : Event) 
         (ap Err one, same, refl);
   }
 
-  pub brings_waiting : (now : Calling S) (certificate : Event) (result : Result Bool Told) → OnlyLooks later.seat now.seat → told ≡ Ok (Waits certificate) → result ≢ Ok true → OnOk result (Enters certificate old new) → OnErr result (new ≡ old) → IfErr result (CantWait certificate old)
+  pub brings_waiting : (now : CallerView S) (certificate : Event) (result : Result Bool Told) → OnlyLooks later.seat now.seat → told ≡ Ok (Waits certificate) → result ≢ Ok true → OnOk result (Enters certificate old new) → OnErr result (new ≡ old) → IfErr result (CantWait certificate old)
       → Brings node fault event before now old new result
   brings_waiting now certificate (Ok found) looks is never enters same why = record {
     told = told;

@@ -4,11 +4,11 @@ use Rattle.std.specs.Prelude.{◌⊎◌, ◌↔◌, IfOk, OnOk, IsErrOf, IsSome,
 use Rattle.flusher.specs.Rounds.{TakesLongest}
 use Rattle.node_io.specs.Endings.{first_of}
 use Rattle.node_run.specs.Ends.{TellsRounds, TellsJournal}
-use Rattle.flusher.specs.declared.error.FlushError.{FlushError}
-use Rattle.flusher.specs.declared.error.FlushError.TheVariants as flush
+use Rattle.book.specs.declared.own.error.FlushError.{FlushError}
+use Rattle.book.specs.declared.own.error.FlushError.TheVariants as flush
 use Rattle.journal.specs.declared.error.JournalError.{JournalError}
 use Rattle.journal.specs.declared.error.JournalError.TheVariants as journal
-use Rattle.spec_model.specs.Histories.{Begins}
+use Rattle.wire.specs.Lists.{Begins}
 use Rattle.node_seats.proofs.Beginnings.{begins_trans, begins_whole}
 use Rattle.node_seats.specs.declared.view.Marked.{Marked}
 

@@ -2,20 +2,21 @@
 use Rattle.std.proofs.Common.{◌≡◌, ℕ, Bool, true, false, List, Result, Ok, refl, sym, ap, subst, ◌∙◌, inl, inr}
 use Rattle.std.specs.Prelude.{◌⊎◌, IsErrOf, IsTrue}
 use Rattle.diskmodel.proofs.Clock.{weaker, joins}
-use Rattle.diskmodel.specs.Disk.{AtEachMoment}
+use Rattle.diskmodel.specs.Disk.{AtEachMoment, Device}
 use Rattle.flusher.specs.Rounds.{journal_of, is_down, settled_in, taken_in, from_start, HoldsEither, TakesLongest}
 use Rattle.flusher.specs.declared.flusher.Flusher.{Flusher}
 use Rattle.journal.specs.Journal.{disk_of}
 use Rattle.spec_world.specs.World.{Holds}
-use Rattle.flusher.specs.declared.error.FlushError.{FlushError}
-use Rattle.flusher.specs.declared.error.FlushError.TheVariants as flush
+use Rattle.book.specs.declared.own.error.FlushError.{FlushError}
+use Rattle.book.specs.declared.own.error.FlushError.TheVariants as flush
 use Rattle.node_seats.proofs.Beginnings.{begins_same, begins_trans}
 use Rattle.node_seats.specs.declared.view.Marked.{Marked}
-use Rattle.node_shared.specs.Home.{Shared}
-use Rattle.spec_model.specs.Histories.{Begins}
+use Rattle.node_shared.specs.Home.{NodeView}
+use Rattle.wire.specs.Lists.{Begins}
 use Rattle.spec_model.specs.Nodes.{Node}
-use Rattle.validator.specs.Setting.{Setting}
+use Rattle.validator.specs.Setting.{ConfigView, node_of}
 use Rattle.node_run.specs.Runs.{HoldsMore}
+use Rattle.sigface.specs.Scheme.{Scheme}
 
 -- a round that isn't of a node which is down takes what is settled first
 pub begins_taken : (seen settled taken : List Marked) (round : Result ℕ FlushError) → (IsErrOf round flush.Down → ⊥)
@@ -32,19 +33,19 @@ ok_is_up round count is down = let bad : IsErrOf {T = ℕ} (Ok count) flush.Down
 pub up_is_up : (Down : Type 0) (was now : Bool) → now ≡ was → was ≡ false → (Down → IsTrue now) → Down → ⊥
 up_is_up Down was now same up fell down = let bad : false ≡ true = sym (same ∙ up) ∙ fell down in cc
 
-module _ {S D : Type 0} (node_of : Setting S → Node) (clock : D → ℕ) (since : D → ℕ → List ℕ → Type 0) where
+module _ {S D : Type 0} (scheme : Scheme S) (device : Device D) where
   abbrev pub disk : Flusher D → D
   disk flusher = disk_of (journal_of flusher)
 
   -- at each moment from one to the other there is what was settled, and perhaps more behind it
-  abbrev pub Leaves : Shared S → Flusher D → Flusher D → Type 0
-  Leaves node first later = AtEachMoment clock since (disk first) (disk later) (HoldsMore node_of node (settled_in first))
+  abbrev pub Leaves : NodeView S → Flusher D → Flusher D → Type 0
+  Leaves node first later = AtEachMoment device (disk first) (disk later) (HoldsMore scheme node (settled_in first))
 
   -- a round behind others
-  pub round_on : (node at : Shared S) (seen : List Marked) (first now later : Flusher D) (round : Result ℕ FlushError) → at ≡ node → (IsErrOf round flush.Down → ⊥)
+  pub round_on : (node at : NodeView S) (seen : List Marked) (first now later : Flusher D) (round : Result ℕ FlushError) → at ≡ node → (IsErrOf round flush.Down → ⊥)
       → Begins (settled_in first) (settled_in now) → IsErrOf round flush.Down ⊎ IsErrOf round flush.Memory ⊎ TakesLongest seen (settled_in now) (taken_in later)
       → (IsErrOf round flush.Memory → (journal_of later ≡ journal_of now) × (taken_in later ≡ settled_in now))
-      → IsErrOf round flush.Down ⊎ AtEachMoment clock since (disk now) (disk later) (HoldsEither node_of at (settled_in now) (taken_in later))
+      → IsErrOf round flush.Down ⊎ AtEachMoment device (disk now) (disk later) (HoldsEither scheme at (settled_in now) (taken_in later))
       → (now ≡ first) ⊎ Leaves node first now → Leaves node first later
   round_on node at seen first now later round here up begins takes memory (inl down) so_far = absurd (up down)
   round_on node at seen first now later round here up begins takes memory (inr leaves) so_far = behind so_far
@@ -52,34 +53,34 @@ module _ {S D : Type 0} (node_of : Setting S → Node) (clock : D → ℕ) (sinc
       taken : Begins (settled_in now) (taken_in later)
       taken = begins_taken seen (settled_in now) (taken_in later) round up takes (λ none. (memory none).1)
 
-      more : (c : List ℕ) → HoldsEither node_of at (settled_in now) (taken_in later) c → HoldsMore node_of node (settled_in first) c
-      more c (inl holds) = record { more = settled_in now; begins = begins; holds = subst (λ n. Holds (node_of n.setting) c (from_start n (settled_in now))) here holds }
+      more : (c : List ℕ) → HoldsEither scheme at (settled_in now) (taken_in later) c → HoldsMore scheme node (settled_in first) c
+      more c (inl holds) = record { more = settled_in now; begins = begins; holds = subst (λ n. Holds (node_of scheme n.setting) c (from_start n (settled_in now))) here holds }
       more c (inr holds) = record {
         more = taken_in later;
         begins = begins_trans (settled_in first) (settled_in now) (taken_in later) begins taken;
-        holds = subst (λ n. Holds (node_of n.setting) c (from_start n (taken_in later))) here holds;
+        holds = subst (λ n. Holds (node_of scheme n.setting) c (from_start n (taken_in later))) here holds;
       }
 
       behind : (now ≡ first) ⊎ Leaves node first now → Leaves node first later
-      behind (inl same) = subst (λ f. AtEachMoment clock since (disk f) (disk later) (HoldsMore node_of node (settled_in first))) same
-          (weaker clock since (disk now) (disk later) (HoldsMore node_of node (settled_in first)) (HoldsEither node_of at (settled_in now) (taken_in later)) leaves more)
-      behind (inr before) = joins clock since (disk first) (disk now) (disk later) (HoldsMore node_of node (settled_in first)) (HoldsEither node_of at (settled_in now) (taken_in later)) before leaves more
+      behind (inl same) = subst (λ f. AtEachMoment device (disk f) (disk later) (HoldsMore scheme node (settled_in first))) same
+          (weaker device (disk now) (disk later) (HoldsMore scheme node (settled_in first)) (HoldsEither scheme at (settled_in now) (taken_in later)) leaves more)
+      behind (inr before) = joins device (disk first) (disk now) (disk later) (HoldsMore scheme node (settled_in first)) (HoldsEither scheme at (settled_in now) (taken_in later)) before leaves more
 
   -- rounds until nothing is pending, behind others; a node that is down stays so, and its disk as it is
-  pub all_on : (node at : Shared S) (first now later : Flusher D) → at ≡ node → Begins (settled_in first) (settled_in now) → (now ≡ first) ⊎ (is_down first ≡ false → Leaves node first now)
+  pub all_on : (node at : NodeView S) (first now later : Flusher D) → at ≡ node → Begins (settled_in first) (settled_in now) → (now ≡ first) ⊎ (is_down first ≡ false → Leaves node first now)
       → (IsTrue (is_down now) → later ≡ now) → (is_down now ≡ false → Leaves at now later) → is_down first ≡ false → Leaves node first later
   all_on node at first now later here begins so_far stays leaves up = behind (is_down now) refl so_far
     where
-      more : (c : List ℕ) → HoldsMore node_of at (settled_in now) c → HoldsMore node_of node (settled_in first) c
+      more : (c : List ℕ) → HoldsMore scheme at (settled_in now) c → HoldsMore scheme node (settled_in first) c
       more c it = record {
         more = it.more;
         begins = begins_trans (settled_in first) (settled_in now) it.more begins it.begins;
-        holds = subst (λ n. Holds (node_of n.setting) c (from_start n it.more)) here it.holds;
+        holds = subst (λ n. Holds (node_of scheme n.setting) c (from_start n it.more)) here it.holds;
       }
 
       behind : (down : Bool) → is_down now ≡ down → (now ≡ first) ⊎ (is_down first ≡ false → Leaves node first now) → Leaves node first later
       behind true is (inl same) = absurd (let bad : true ≡ false = sym is ∙ ap (λ f. is_down f) same ∙ up in cc)
       behind true is (inr before) = subst (λ f. Leaves node first f) (sym (stays is)) (before up)
-      behind false is (inl same) = subst (λ f. AtEachMoment clock since (disk f) (disk later) (HoldsMore node_of node (settled_in first))) same
-          (weaker clock since (disk now) (disk later) (HoldsMore node_of node (settled_in first)) (HoldsMore node_of at (settled_in now)) (leaves is) more)
-      behind false is (inr before) = joins clock since (disk first) (disk now) (disk later) (HoldsMore node_of node (settled_in first)) (HoldsMore node_of at (settled_in now)) (before up) (leaves is) more
+      behind false is (inl same) = subst (λ f. AtEachMoment device (disk f) (disk later) (HoldsMore scheme node (settled_in first))) same
+          (weaker device (disk now) (disk later) (HoldsMore scheme node (settled_in first)) (HoldsMore scheme at (settled_in now)) (leaves is) more)
+      behind false is (inr before) = joins device (disk first) (disk now) (disk later) (HoldsMore scheme node (settled_in first)) (HoldsMore scheme at (settled_in now)) (before up) (leaves is) more

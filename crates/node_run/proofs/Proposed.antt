@@ -7,19 +7,20 @@ use Rattle.committee.specs.Charter.{Charter}
 use Rattle.header.specs.Checks.{fault_of, accepts_all}
 use Rattle.header.specs.declared.error.CheckError.{CheckError}
 use Rattle.spec_laws.specs.Laws.{own_event}
-use Rattle.spec_model.specs.Histories.{History, Begins}
+use Rattle.spec_model.specs.Histories.{History}
+use Rattle.wire.specs.Lists.{Begins}
 use Rattle.spec_model.specs.Nodes.{Node}
 use Rattle.spec_model.specs.Proposing.{propose}
 use Rattle.spec_model.specs.Words.{Author, Event, Header}
-use Rattle.spec_model.specs.declared.refusal.Refusal.{Refusal}
-use Rattle.spec_model.specs.declared.refusal.Refusal.TheVariants.{Memory}
+use Rattle.header.specs.declared.refusal.Refusal.{Refusal}
+use Rattle.header.specs.declared.refusal.Refusal.TheVariants.{Memory}
 use Rattle.node_io.specs.declared.told.Told.{Told}
 use Rattle.node_io.specs.declared.told.Told.TheVariants.{Refused}
 use Rattle.node_seats.specs.Views.{events}
 use Rattle.node_seats.proofs.Beginnings.{begins_same}
 use Rattle.node_shared.specs.Answers.{Submits}
 use Rattle.node_shared.specs.Home.{seen_by}
-use Rattle.node.specs.Callers.{Calling}
+use Rattle.node.specs.Callers.{CallerView}
 use Rattle.wire.specs.declared.message.Message.TheVariants as message
 use Rattle.node_run.specs.declared.caller.Taken.{Taken}
 use Rattle.node_run.specs.Taking.{IsProposed, IsSubmitted, is_told_new, told_as}
@@ -31,7 +32,7 @@ own_fault node charter own header fault same_charter same_own is =
     subst (λ (it : Author). fault_of node.charter accepts_all (record { sender = it; message = message.Header header }) ≡ fault) same_own
     (subst (λ (it : Charter). fault_of it accepts_all (record { sender = own; message = message.Header header }) ≡ fault) same_charter is)
 
-module _ {S : Type 0} (node : Node) (before mid : Calling S) (mine : mid.seat.view.mine ≡ before.seat.view.mine) (start : mid.seat.view.start ≡ before.seat.view.start) (more : Begins before.seat.view.seen mid.seat.view.seen) where
+module _ {S : Type 0} (node : Node) (before mid : CallerView S) (mine : mid.seat.view.mine ≡ before.seat.view.mine) (start : mid.seat.view.start ≡ before.seat.view.start) (more : Begins before.seat.view.seen mid.seat.view.seen) where
   there : (found : Option Header) → found ≡ propose node (seen_by mid.seat) → propose node (before.seat.view.start ++ events mid.seat.view.seen) ≡ found
   there found is = sym (is ∙ ap (λ (first : History). propose node (first ++ events mid.seat.view.seen)) start)
 
@@ -60,7 +61,7 @@ module _ {S : Type 0} (node : Node) (before mid : Calling S) (mine : mid.seat.vi
     failed = λ _ _ _ _. (refl, mine);
   }
 
-  pub was_proposed : (later : Calling S) (found : Option Header) (header : Header) (event : Event) (told : Result Taken Told) (newness : Result Bool AllocError)
+  pub was_proposed : (later : CallerView S) (found : Option Header) (header : Header) (event : Event) (told : Result Taken Told) (newness : Result Bool AllocError)
       → found ≡ propose node (seen_by mid.seat) → found ≡ Some header → event ≡ own_event node header → fault_of node.charter accepts_all event ≡ None → Begins mid.seat.view.seen later.seat.view.seen → IsSubmitted node event before later told
       → IfOk newness (λ new. new ≡ is_told_new told) → IfOk newness (λ new. IsProposed node before later new)
   was_proposed later found header event told newness is some own passed less done = on_ok newness
@@ -88,13 +89,13 @@ module _ {S : Type 0} (node : Node) (before mid : Calling S) (mine : mid.seat.vi
       on_ok (Err error) newly = tt
 
 -- what is refused is no event of one's own
-refused_mine : {S : Type 0} (node : Node) (event : Event) (before later : Calling S) (why : Told) (answer : Result Receipt Refusal)
+refused_mine : {S : Type 0} (node : Node) (event : Event) (before later : CallerView S) (why : Told) (answer : Result Receipt Refusal)
     → Submits node event before.seat.view later.seat.view answer → told_as answer ≡ Err why → later.seat.view.mine ≡ before.seat.view.mine
 refused_mine node event before later why (Ok receipt) submits is = absurd cc
 refused_mine node event before later why (Err refusal) submits is = let same = submits.same in same.1
 
 -- want of memory is told only where nothing was accepted
-pub lacked_memory : {S : Type 0} (node : Node) (event : Event) (before mid later : Calling S) (told : Result Taken Told) (newness : Result Bool AllocError)
+pub lacked_memory : {S : Type 0} (node : Node) (event : Event) (before mid later : CallerView S) (told : Result Taken Told) (newness : Result Bool AllocError)
     → mid.seat.view.mine ≡ before.seat.view.mine → IsSubmitted node event mid later told → OnErr newness (told ≡ Err (Refused Memory)) → OnErr newness (later.seat.view.mine ≡ before.seat.view.mine)
 lacked_memory node event before mid later told (Ok new) mine done why = tt
 lacked_memory node event before mid later told (Err error) mine done why = refused_mine node event mid later (Refused Memory) done.answer done.submits (sym done.is ∙ why) ∙ mine

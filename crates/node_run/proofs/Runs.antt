@@ -4,7 +4,7 @@ use Rattle.std.proofs.lemmas.Option.{none-some}
 use Rattle.std.specs.Option.{option_map_or}
 use Rattle.std.specs.Prelude.{◌≢◌, ◌⊎◌, Ok, IfSome, if◌then◌else◌}
 use Rattle.diskmodel.proofs.Clock.{weaker, joins}
-use Rattle.diskmodel.specs.Disk.{AtEachMoment}
+use Rattle.diskmodel.specs.Disk.{AtEachMoment, Device}
 use Rattle.flusher.specs.Rounds.{from_start}
 use Rattle.journal.specs.declared.error.JournalError.{JournalError}
 use Rattle.journal.specs.declared.error.JournalError.TheVariants as journal
@@ -13,17 +13,18 @@ use Rattle.node_io.specs.declared.ending.Ending.{Ending}
 use Rattle.node_io.specs.declared.ending.Ending.TheVariants as ends
 use Rattle.node_io.specs.declared.faults.Faults.{Faults}
 use Rattle.node_seats.specs.Views.{events}
-use Rattle.node_shared.specs.Home.{Shared}
+use Rattle.node_shared.specs.Home.{NodeView}
 use Rattle.opening.specs.Laws.{IsLeft, IsNoRefusal}
 use Rattle.opening.specs.Told.{told, Tells, IsToldAsOneOf}
 use Rattle.spec_model.specs.Nodes.{Node}
 use Rattle.spec_world.specs.World.{Holds}
-use Rattle.validator.specs.Setting.{Setting}
+use Rattle.validator.specs.Setting.{ConfigView, node_of}
 use Rattle.node_run.specs.Ends.{TellsRounds}
 use Rattle.wire.specs.declared.keys.Key.{Key}
 use Rattle.node_run.specs.Members.{IsConfigOf, RefusesOpening}
 use Rattle.node_run.specs.Runs.{HoldsMore, GoesOn, RunsOver, RunsAs}
 use Rattle.node_run.specs.Writing.{no_memory}
+use Rattle.sigface.specs.Scheme.{Scheme}
 
 -- ---- endings
 
@@ -79,34 +80,34 @@ not_refused : (error named : JournalError) → of_journal error ≡ ends.Journal
 not_refused error named is (inl device) = inl (sym (opening_told error named is) ∙ device)
 not_refused error named is (inr memory) = absurd (none-some named (ap fault_in (ap of_journal (sym memory) ∙ is)))
 
-module _ {S D : Type 0} (node_of : Setting S → Node) (content : D → List ℕ) (outcome : D → List ℕ → Type 0) (clock : D → ℕ) (since : D → ℕ → List ℕ → Type 0) (faults : D → ℕ) where
+module _ {S D : Type 0} (scheme : Scheme S) (device : Device D) where
   -- what a stop may leave
   abbrev May : Node → D → List ℕ → Type 0
-  May node disk bytes = IsToldAsOneOf node (outcome disk) bytes ⊎ GoesOn node (content disk) bytes
+  May node disk bytes = IsToldAsOneOf node (device.outcome disk) bytes ⊎ GoesOn node (device.content disk) bytes
 
-  from_opening : (node : Node) (disk later : D) → AtEachMoment clock since disk later (IsToldAsOneOf node (outcome disk)) → AtEachMoment clock since disk later (May node disk)
-  from_opening node disk later leaves = weaker clock since disk later (May node disk) (IsToldAsOneOf node (outcome disk)) leaves (λ bytes it. inl it)
+  from_opening : (node : Node) (disk later : D) → AtEachMoment device disk later (IsToldAsOneOf node (device.outcome disk)) → AtEachMoment device disk later (May node disk)
+  from_opening node disk later leaves = weaker device disk later (May node disk) (IsToldAsOneOf node (device.outcome disk)) leaves (λ bytes it. inl it)
 
   some_left : (later : D) (ending : Ending) → Some later ≡ None → ending ≡ ends.Memory
   some_left later ending none = absurd (none-some later (sym none))
 
   -- the node wasn't opened
-  pub not_opened : (node : Node) (disk later : D) (error : JournalError) → (error ≢ journal.Device → Tells error (told node (content disk)))
-      → (error ≡ journal.Device → faults disk < faults later) × (error ≢ journal.Device → faults later ≡ faults disk)
-      → AtEachMoment clock since disk later (IsToldAsOneOf node (outcome disk)) → (IsLeft node (content disk) → IsNoRefusal error)
-      → RunsOver node content outcome clock since faults disk (of_journal error) (Some later)
+  pub not_opened : (node : Node) (disk later : D) (error : JournalError) → (error ≢ journal.Device → Tells error (told node (device.content disk)))
+      → (error ≡ journal.Device → device.faults disk < device.faults later) × (error ≢ journal.Device → device.faults later ≡ device.faults disk)
+      → AtEachMoment device disk later (IsToldAsOneOf node (device.outcome disk)) → (IsLeft node (device.content disk) → IsNoRefusal error)
+      → RunsOver node device disk (of_journal error) (Some later)
   not_opened node disk later error tells cause leaves never_refused = record {
     device = λ is. cause.0 (opening_told error journal.Device is);
     no_fault = λ other. cause.1 (λ is. other (ap of_journal is));
-    told_as = λ named is. subst (IsOfRun node (content disk)) (opening_told error named is) (kind_of node (content disk) error tells);
+    told_as = λ named is. subst (IsOfRun node (device.content disk)) (opening_told error named is) (kind_of node (device.content disk) error tells);
     never_refused = λ left named is. not_refused error named is (never_refused left);
     lost = some_left later (of_journal error);
     any_moment = from_opening node disk later leaves;
   }
 
   -- it was opened, and memory was refused then
-  pub not_run : (node : Node) (disk now : D) → faults now ≡ faults disk → AtEachMoment clock since disk now (IsToldAsOneOf node (outcome disk))
-      → RunsOver node content outcome clock since faults disk ends.Memory (Some now)
+  pub not_run : (node : Node) (disk now : D) → device.faults now ≡ device.faults disk → AtEachMoment device disk now (IsToldAsOneOf node (device.outcome disk))
+      → RunsOver node device disk ends.Memory (Some now)
   not_run node disk now same leaves = record {
     device = λ is. absurd (none-some journal.Device (ap fault_in is));
     no_fault = λ other. same;
@@ -117,7 +118,7 @@ module _ {S D : Type 0} (node_of : Setting S → Node) (content : D → List ℕ
   }
 
   -- the disk was lost
-  run_lost : (node : Node) (disk : D) (told_of : Faults) → told_of ≡ no_memory → RunsOver node content outcome clock since faults disk (ending_of told_of) None
+  run_lost : (node : Node) (disk : D) (told_of : Faults) → told_of ≡ no_memory → RunsOver node device disk (ending_of told_of) None
   run_lost node disk told_of is = record {
     device = λ device. tt;
     no_fault = λ other. tt;
@@ -131,22 +132,22 @@ module _ {S D : Type 0} (node_of : Setting S → Node) (content : D → List ℕ
       ends_so = ap ending_of is
 
   -- it ran
-  has_run : (shared : Shared S) (node : Node) (disk now later : D) (told_of : Faults) → node_of shared.setting ≡ node → told node (content disk) ≡ Ok shared.start → faults now ≡ faults disk
-      → TellsRounds (faults now) (faults later) told_of.journal → AtEachMoment clock since disk now (IsToldAsOneOf node (outcome disk))
-      → AtEachMoment clock since now later (HoldsMore node_of shared []) → RunsOver node content outcome clock since faults disk (ending_of told_of) (Some later)
+  has_run : (shared : NodeView S) (node : Node) (disk now later : D) (told_of : Faults) → node_of scheme shared.setting ≡ node → told node (device.content disk) ≡ Ok shared.start → device.faults now ≡ device.faults disk
+      → TellsRounds (device.faults now) (device.faults later) told_of.journal → AtEachMoment device disk now (IsToldAsOneOf node (device.outcome disk))
+      → AtEachMoment device now later (HoldsMore scheme shared []) → RunsOver node device disk (ending_of told_of) (Some later)
   has_run shared node disk now later told_of of_node begins same tells opening leaves = record {
-    device = λ is. subst (λ n. n < faults later) same (tells.disk.device (told_of_journal told_of journal.Device is));
+    device = λ is. subst (λ n. n < device.faults later) same (tells.disk.device (told_of_journal told_of journal.Device is));
     no_fault = λ other. tells.disk.no_fault (λ is. other (ends_with_device told_of.journal _ is)) ∙ same;
     told_as = λ named is. elim (which named is) [ inl device ↦ inl device | inr full ↦ inr (inl full) ];
     never_refused = λ left. which;
     lost = some_left later (ending_of told_of);
-    any_moment = joins clock since disk now later (May node disk) (HoldsMore node_of shared []) (from_opening node disk now opening) leaves more;
+    any_moment = joins device disk now later (May node disk) (HoldsMore scheme shared []) (from_opening node disk now opening) leaves more;
   }
     where
       which : (named : JournalError) → ending_of told_of ≡ ends.Journal named → (named ≡ journal.Device) ⊎ (named ≡ journal.Full)
       which named is = subst (λ (f : Option JournalError). IfSome f (λ error. (error ≡ journal.Device) ⊎ (error ≡ journal.Full))) (told_of_journal told_of named is) tells.which
 
-      more : (bytes : List ℕ) → HoldsMore node_of shared [] bytes → May node disk bytes
+      more : (bytes : List ℕ) → HoldsMore scheme shared [] bytes → May node disk bytes
       more bytes it = inr (record {
         history = shared.start;
         is_told = begins;
@@ -155,17 +156,17 @@ module _ {S D : Type 0} (node_of : Setting S → Node) (content : D → List ℕ
       })
 
   -- its threads have ended
-  pub ended : (shared : Shared S) (node : Node) (disk now : D) (told_of : Faults) (left : Option D) → node_of shared.setting ≡ node → told node (content disk) ≡ Ok shared.start → faults now ≡ faults disk
-      → IfSome left (λ later. TellsRounds (faults now) (faults later) told_of.journal) → (left ≡ None → told_of ≡ no_memory) → AtEachMoment clock since disk now (IsToldAsOneOf node (outcome disk))
-      → IfSome left (λ later. AtEachMoment clock since now later (HoldsMore node_of shared [])) → RunsOver node content outcome clock since faults disk (ending_of told_of) left
+  pub ended : (shared : NodeView S) (node : Node) (disk now : D) (told_of : Faults) (left : Option D) → node_of scheme shared.setting ≡ node → told node (device.content disk) ≡ Ok shared.start → device.faults now ≡ device.faults disk
+      → IfSome left (λ later. TellsRounds (device.faults now) (device.faults later) told_of.journal) → (left ≡ None → told_of ≡ no_memory) → AtEachMoment device disk now (IsToldAsOneOf node (device.outcome disk))
+      → IfSome left (λ later. AtEachMoment device now later (HoldsMore scheme shared [])) → RunsOver node device disk (ending_of told_of) left
   ended shared node disk now told_of None of_node begins same tells lost opening leaves = run_lost node disk told_of (lost refl)
   ended shared node disk now told_of (Some later) of_node begins same tells lost opening leaves = has_run shared node disk now later told_of of_node begins same tells opening leaves
 
 -- a member whom a number names ran
-pub run_as : {O D : Type 0} (node_in : Setting Key → Node) (content : D → List ℕ) (outcome : D → List ℕ → Type 0) (clock : D → ℕ) (since : D → ℕ → List ℕ → Type 0) (faults : D → ℕ)
-    (named : Option O) (bytes_of : O → List ℕ) (config : Setting Key) (disk : D) (ending : Ending) (left : Option D) → (text : List ℕ) → IfSome named (λ own. IsConfigOf text (bytes_of own) config)
-    → RunsOver (node_in config) content outcome clock since faults disk ending left
-    → IfSome named (λ own. RefusesOpening (bytes_of own) ending ⊎ RunsAs node_in content outcome clock since faults (bytes_of own) ending)
-run_as node_in content outcome clock since faults None bytes_of config disk ending left text is_of ran = tt
-run_as node_in content outcome clock since faults (Some own) bytes_of config disk ending left text is_of ran =
+pub run_as : {O D : Type 0} (scheme : Scheme Key) (device : Device D)
+    (named : Option O) (bytes_of : O → List ℕ) (config : ConfigView Key) (disk : D) (ending : Ending) (left : Option D) → (text : List ℕ) → IfSome named (λ own. IsConfigOf text (bytes_of own) config)
+    → RunsOver (node_of scheme config) device disk ending left
+    → IfSome named (λ own. RefusesOpening (bytes_of own) ending ⊎ RunsAs scheme device (bytes_of own) ending)
+run_as scheme device None bytes_of config disk ending left text is_of ran = tt
+run_as scheme device (Some own) bytes_of config disk ending left text is_of ran =
     inr (record { text = text; config = config; is_of = is_of; disk = disk; left = left; ran = ran })

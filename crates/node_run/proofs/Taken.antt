@@ -7,10 +7,11 @@ use Rattle.node_seats.specs.Views.{events, IsSame}
 use Rattle.node_shared.specs.Home.{seen_by}
 use Rattle.book.specs.declared.book.Receipt.{Receipt}
 use Rattle.spec_model.specs.Admitting.{admit}
-use Rattle.spec_model.specs.Histories.{History, Begins}
+use Rattle.spec_model.specs.Histories.{History}
+use Rattle.wire.specs.Lists.{Begins}
 use Rattle.spec_model.specs.Nodes.{Node}
 use Rattle.spec_model.specs.Words.{Event}
-use Rattle.spec_model.specs.declared.refusal.Refusal.{Refusal}
+use Rattle.header.specs.declared.refusal.Refusal.{Refusal}
 use Rattle.node_seats.specs.declared.view.View.{View}
 use Rattle.node_seats.proofs.Beginnings.{begins_same, begins_trans, begins_more}
 use Rattle.node_seats.specs.Views.{mark}
@@ -18,7 +19,7 @@ use Rattle.node_shared.specs.Answers.{Submits}
 use Rattle.header.specs.declared.error.CheckError.{CheckError}
 use Rattle.node_io.specs.declared.told.Told.{Told}
 use Rattle.node_io.specs.declared.told.Told.TheVariants.{Unchecked}
-use Rattle.node.specs.Callers.{Calling}
+use Rattle.node.specs.Callers.{CallerView}
 use Rattle.node_run.specs.declared.caller.Taken.{Taken}
 use Rattle.node_run.specs.declared.caller.Taken.TheVariants.{Waits}
 use Rattle.node_run.specs.Taking.{Handles, IsSubmitted, LacksParents, MayBeSubmitted}
@@ -75,7 +76,7 @@ submits_more node event before later (Ok receipt) submits = by receipt.new refl
 submits_more node event before later (Err refusal) submits = let same = submits.same in subst (Begins before.seen) (sym same.0) submits.more
 
 -- the checks' first fault is told
-pub unchecked : {S : Type 0} (node : Node) (event : Event) (before : Calling S) (fault : Option CheckError) (error : CheckError)
+pub unchecked : {S : Type 0} (node : Node) (event : Event) (before : CallerView S) (fault : Option CheckError) (error : CheckError)
     → fault ≡ Some error → Handles node fault event before before (Err (Unchecked error))
 unchecked node event before fault error is = record {
   unchecked = λ other there.
@@ -86,7 +87,7 @@ unchecked node event before fault error is = record {
 }
 
 -- a certificate that lacks a parent waits
-pub waits : {S : Type 0} (node : Node) (event : Event) (before later : Calling S) (fault : Option CheckError)
+pub waits : {S : Type 0} (node : Node) (event : Event) (before later : CallerView S) (fault : Option CheckError)
     → fault ≡ None → LacksParents node event later → IsSame before.seat later.seat → Handles node fault event before later (Ok (Waits event))
 waits node event before later fault is lacks same = record {
   unchecked = λ other there. let bad : Some other ≡ None = sym there ∙ is in absurd cc;
@@ -94,7 +95,7 @@ waits node event before later fault is lacks same = record {
 }
 
 -- any other event is submitted
-pub submitted : {S : Type 0} (node : Node) (event : Event) (before later : Calling S) (fault : Option CheckError) (told : Result Taken Told)
+pub submitted : {S : Type 0} (node : Node) (event : Event) (before later : CallerView S) (fault : Option CheckError) (told : Result Taken Told)
     → fault ≡ None → MayBeSubmitted node event before later → IsSubmitted node event before later told → Handles node fault event before later told
 submitted node event before later fault told is goes done = record {
   unchecked = λ other there. let bad : Some other ≡ None = sym there ∙ is in absurd cc;
@@ -102,7 +103,7 @@ submitted node event before later fault told is goes done = record {
 }
 
 -- behind a look
-pub submitted_since : {S : Type 0} (node : Node) (event : Event) (before mid later : Calling S) (told : Result Taken Told)
+pub submitted_since : {S : Type 0} (node : Node) (event : Event) (before mid later : CallerView S) (told : Result Taken Told)
     → mid.seat.view.start ≡ before.seat.view.start → mid.seat.view.number ≡ before.seat.view.number → mid.seat.view.mine ≡ before.seat.view.mine
     → Begins before.seat.view.seen mid.seat.view.seen → IsSubmitted node event mid later told → IsSubmitted node event before later told
 submitted_since node event before mid later told start number mine more done = record {
@@ -112,7 +113,7 @@ submitted_since node event before mid later told start number mine more done = r
 }
 
 -- no certificate has to be looked for
-pub other_goes : {S : Type 0} (node : Node) (event : Event) (before : Calling S) → certificate_digest_in event.message ≡ None → MayBeSubmitted node event before before
+pub other_goes : {S : Type 0} (node : Node) (event : Event) (before : CallerView S) → certificate_digest_in event.message ≡ None → MayBeSubmitted node event before before
 other_goes node event before none = record {
   looked = before.seat.view.seen;
   more = begins_same before.seat.view.seen;
@@ -121,7 +122,7 @@ other_goes node event before none = record {
 }
 
 -- what lacked no parent when the caller looked may go
-pub ready_goes : {S : Type 0} (node : Node) (event : Event) (before later : Calling S) → later.seat.view.start ≡ before.seat.view.start → Begins before.seat.view.seen later.seat.view.seen
+pub ready_goes : {S : Type 0} (node : Node) (event : Event) (before later : CallerView S) → later.seat.view.start ≡ before.seat.view.start → Begins before.seat.view.seen later.seat.view.seen
     → is_missing_parents (admit node (seen_by later.seat) event) ≡ false → MayBeSubmitted node event before later
 ready_goes node event before later start more lacks_none = record {
   looked = later.seat.view.seen;
@@ -131,7 +132,7 @@ ready_goes node event before later start more lacks_none = record {
 }
 
 -- a look counts for a call that goes on behind it
-pub goes_yet : {S : Type 0} (node : Node) (event : Event) (before mid later : Calling S) → MayBeSubmitted node event before mid → Begins mid.seat.view.seen later.seat.view.seen
+pub goes_yet : {S : Type 0} (node : Node) (event : Event) (before mid later : CallerView S) → MayBeSubmitted node event before mid → Begins mid.seat.view.seen later.seat.view.seen
     → MayBeSubmitted node event before later
 goes_yet node event before mid later goes more = record {
   looked = goes.looked;

@@ -7,7 +7,8 @@ use Rattle.std.proofs.lemmas.List.Concat.{flat_map-append}
 use Rattle.std.proofs.lemmas.List.Elements.{All-nil, All-append, All-push, All-weaker}
 use Rattle.std.specs.Prelude.{All}
 use Rattle.spec_model.specs.Giving.{MayGive}
-use Rattle.spec_model.specs.Histories.{History, Begins}
+use Rattle.spec_model.specs.Histories.{History}
+use Rattle.wire.specs.Lists.{Begins}
 use Rattle.spec_model.specs.Nodes.{Node}
 use Rattle.spec_model.specs.Words.{Output}
 use Rattle.node_io.specs.declared.faults.Faults.{Faults}
@@ -16,7 +17,7 @@ use Rattle.node_seats.specs.Views.{events}
 use Rattle.node_seats.specs.declared.view.View.{View}
 use Rattle.node_shared.specs.Answers.{IsPutOutBy}
 use Rattle.spec_world.specs.Promise.{GoesOut}
-use Rattle.spec_world.specs.Text.{frame_of}
+use Rattle.wire.specs.Outputs.{frame_of}
 use Rattle.spec_world.specs.World.{put_out}
 use Rattle.node_run.specs.Writing.{AppendsSome, Puts, MayGo, WritesOnly}
 use Rattle.wire_write.proofs.Appending.{keeps_appends}

@@ -3,13 +3,13 @@ use Rattle.std.specs.Prelude.{◌≡◌, ◌≢◌, ◌⊎◌, Bool, true, false
 use Rattle.header.specs.declared.error.CheckError.{CheckError}
 use Rattle.spec_model.specs.Nodes.{Node}
 use Rattle.spec_model.specs.Words.{Author, Event}
-use Rattle.spec_model.specs.declared.refusal.Refusal.TheVariants as refusal
+use Rattle.header.specs.declared.refusal.Refusal.TheVariants as refusal
 use Rattle.node_io.specs.declared.told.Told.{Told}
 use Rattle.node_io.specs.declared.told.Told.TheVariants.{Refused}
-use Rattle.node.specs.Callers.{Calling}
+use Rattle.node.specs.Callers.{CallerView}
 use Rattle.waiter.specs.Waiting as waiting
 use Rattle.waiter.specs.declared.waiter.TheConstants.{MAX_WAITING}
-use Rattle.wire.specs.Batches.{Contents}
+use Rattle.wire.specs.Batches.{BatchView}
 use Rattle.wire.specs.declared.message.Message.TheVariants as message
 use Rattle.node_run.specs.Taking.{Handles, OnlyLooks}
 use Rattle.node_run.specs.declared.caller.Taken.{Taken}
@@ -28,9 +28,9 @@ CantWait event held why =
 
 -- What the caller made of it is told: whether it was a new record, or why it was refused. One that has to wait does so, or can't. Behind
 -- that the caller's seat stays as it is, but for a look where it waits.
-pub record Brings {S : Type 0} (node : Node) (fault : Option CheckError) (event : Event) (before now : Calling S) (old new : List Event) (result : Result Bool Told) : Type 0 where
+pub record Brings {S : Type 0} (node : Node) (fault : Option CheckError) (event : Event) (before now : CallerView S) (old new : List Event) (result : Result Bool Told) : Type 0 where
   pub told : Result Taken Told
-  pub later : Calling S
+  pub later : CallerView S
   pub handles : Handles node fault event before later told
   pub is_new : told ≡ Ok New → (result ≡ Ok true) × (new ≡ old) × (now ≡ later)
   pub is_known : told ≡ Ok Known → (result ≡ Ok false) × (new ≡ old) × (now ≡ later)
@@ -39,5 +39,5 @@ pub record Brings {S : Type 0} (node : Node) (fault : Option CheckError) (event 
   pub refused : (why : Told) → told ≡ Err why → (result ≡ Err why) × (new ≡ old) × (now ≡ later)
 
 -- a batch of the node's own, as the event that it is
-abbrev pub own_batch : Author → Contents → Event
+abbrev pub own_batch : Author → BatchView → Event
 own_batch own batch = record { sender = own; message = message.Batch batch }

@@ -1,10 +1,10 @@
 -- What is told of a round that fails, and of a certificate that can't wait.
 use Rattle.std.specs.Prelude.{◌≡◌, ◌≢◌, ◌⊎◌, ◌<◌, ℕ, Bool, true, false, Option, Some, None, IsSome, IfSome, IsTrue}
-use Rattle.flusher.specs.declared.error.FlushError.{FlushError}
-use Rattle.flusher.specs.declared.error.FlushError.TheVariants as flush
+use Rattle.book.specs.declared.own.error.FlushError.{FlushError}
+use Rattle.book.specs.declared.own.error.FlushError.TheVariants as flush
 use Rattle.journal.specs.declared.error.JournalError.{JournalError}
 use Rattle.journal.specs.declared.error.JournalError.TheVariants as journal
-use Rattle.spec_model.specs.declared.refusal.Refusal.TheVariants as refusal
+use Rattle.header.specs.declared.refusal.Refusal.TheVariants as refusal
 use Rattle.node_io.specs.declared.faults.Faults.{Faults}
 use Rattle.node_io.specs.declared.told.Told.{Told}
 use Rattle.node_io.specs.declared.told.Told.TheVariants.{Refused}

@@ -10,11 +10,11 @@ use Rattle.node_io.specs.declared.ending.Ending.{Ending}
 use Rattle.node_io.specs.declared.ending.Ending.TheVariants.{Usage, Config, Journal, Memory}
 use Rattle.toml.specs.Errors.{IsBlank}
 use Rattle.toml.specs.Parse.{parse_document}
-use Rattle.validator.specs.Setting.{Setting}
+use Rattle.validator.specs.Setting.{ConfigView}
 use Rattle.wire.specs.declared.keys.Key.{Key}
 
 -- a configuration is that of the committee that a file's text makes, of the member of this number, and of its key
-pub record IsConfigOf (text own : List ℕ) (config : Setting Key) : Type 0 where
+pub record IsConfigOf (text own : List ℕ) (config : ConfigView Key) : Type 0 where
   pub committee : answer_to (parse_document text) ≡ Ok config.charter
   pub digits : All IsDigit own
   pub some : own ≢ []
@@ -52,5 +52,5 @@ abbrev pub RefusesOpening : List ℕ → Ending → Type 0
 RefusesOpening own Memory = ⊤
 RefusesOpening own Usage = ⊤
 RefusesOpening own (Config error) = (text : List ℕ) × MakesNone text error
-RefusesOpening own (Journal error) = (error ≡ Device) × ((text : List ℕ) × (config : Setting Key) × IsConfigOf text own config)
+RefusesOpening own (Journal error) = (error ≡ Device) × ((text : List ℕ) × (config : ConfigView Key) × IsConfigOf text own config)
 RefusesOpening own other = ⊥

@@ -10,29 +10,31 @@ use Rattle.node_io.specs.declared.ending.Ending.{Ending}
 use Rattle.node_io.specs.declared.faults.Faults.{Faults}
 use Rattle.node_io.specs.declared.ending.Ending.TheVariants.{Journal, Memory}
 use Rattle.node_seats.specs.declared.view.Marked.{Marked}
-use Rattle.node_shared.specs.Home.{Shared}
+use Rattle.node_shared.specs.Home.{NodeView}
 use Rattle.opening.specs.Laws.{IsLeft}
 use Rattle.opening.specs.Told.{told, Tells, IsToldAsOneOf}
-use Rattle.spec_model.specs.Histories.{History, Begins}
+use Rattle.spec_model.specs.Histories.{History}
+use Rattle.wire.specs.Lists.{Begins}
 use Rattle.spec_model.specs.Nodes.{Node}
 use Rattle.spec_world.specs.World.{Holds}
-use Rattle.validator.specs.Setting.{Setting}
+use Rattle.validator.specs.Setting.{ConfigView, node_of}
 use Rattle.wire.specs.declared.keys.Key.{Key}
 use Rattle.node_run.specs.Ends.{TellsRounds}
 use Rattle.node_run.specs.Members.{IsConfigOf}
+use Rattle.sigface.specs.Scheme.{Scheme}
 
 -- bytes are a node's journal with what was settled, and perhaps more behind it
-pub record HoldsMore {S : Type 0} (node_of : Setting S → Node) (node : Shared S) (settled : List Marked) (left : List ℕ) : Type 0 where
+pub record HoldsMore {S : Type 0} (scheme : Scheme S) (node : NodeView S) (settled : List Marked) (left : List ℕ) : Type 0 where
   pub more : List Marked
   pub begins : Begins settled more
-  pub holds : Holds (node_of node.setting) left (from_start node more)
+  pub holds : Holds (node_of scheme node.setting) left (from_start node more)
 
 -- a node's rounds told these faults: of its journal as rounds do, and none of outputs or of the input; a stop at any moment leaves what was
 -- settled, and perhaps more behind it
-pub record HasFlushed {S D : Type 0} (node_of : Setting S → Node) (clock : D → ℕ) (outcome_since : D → ℕ → List ℕ → Type 0) (faults : D → ℕ) (node : Shared S) (flusher : Flusher D) (tells : Faults) (left : D) : Type 0 where
-  pub told : TellsRounds (faults (disk_of (journal_of flusher))) (faults left) tells.journal
+pub record HasFlushed {S D : Type 0} (scheme : Scheme S) (device : Device D) (node : NodeView S) (flusher : Flusher D) (tells : Faults) (left : D) : Type 0 where
+  pub told : TellsRounds (device.faults (disk_of (journal_of flusher))) (device.faults left) tells.journal
   pub others : (tells.output ≡ false) × (tells.input ≡ false)
-  pub any_moment : is_down flusher ≡ false → AtEachMoment clock outcome_since (disk_of (journal_of flusher)) left (HoldsMore node_of node (settled_in flusher))
+  pub any_moment : is_down flusher ≡ false → AtEachMoment device (disk_of (journal_of flusher)) left (HoldsMore scheme node (settled_in flusher))
 
 -- a disk was told as a history, and bytes are the node's journal with that, and perhaps more behind it
 pub record GoesOn (node : Node) (before left : List ℕ) : Type 0 where
@@ -45,21 +47,21 @@ pub record GoesOn (node : Node) (before left : List ℕ) : Type 0 where
 -- where it counted one. Of the journal's other faults a full one is told behind the opening, and what the opening refused. That is what
 -- the disk was told as, and nothing that a stop leaves in a world of the node. The disk is lost only with a thread that couldn't be made.
 -- A stop at any moment leaves what is told as an outcome from before it is, or what the disk was told as with more behind it.
-pub record RunsOver {D : Type 0} (node : Node) (content : D → List ℕ) (outcome : D → List ℕ → Type 0) (clock : D → ℕ) (outcome_since : D → ℕ → List ℕ → Type 0)
-    (faults : D → ℕ) (disk : D) (ending : Ending) (left : Option D) : Type 0 where
-  pub device : ending ≡ Journal Device → IfSome left (λ later. faults disk < faults later)
-  pub no_fault : ending ≢ Journal Device → IfSome left (λ later. faults later ≡ faults disk)
-  pub told_as : (error : JournalError) → ending ≡ Journal error → (error ≡ Device) ⊎ (error ≡ Full) ⊎ Tells error (told node (content disk))
-  pub never_refused : IsLeft node (content disk) → (error : JournalError) → ending ≡ Journal error → (error ≡ Device) ⊎ (error ≡ Full)
+pub record RunsOver {D : Type 0} (node : Node) (device : Device D)
+    (device : Device D) (disk : D) (ending : Ending) (left : Option D) : Type 0 where
+  pub device : ending ≡ Journal Device → IfSome left (λ later. device.faults disk < device.faults later)
+  pub no_fault : ending ≢ Journal Device → IfSome left (λ later. device.faults later ≡ device.faults disk)
+  pub told_as : (error : JournalError) → ending ≡ Journal error → (error ≡ Device) ⊎ (error ≡ Full) ⊎ Tells error (told node (device.content disk))
+  pub never_refused : IsLeft node (device.content disk) → (error : JournalError) → ending ≡ Journal error → (error ≡ Device) ⊎ (error ≡ Full)
   pub lost : left ≡ None → ending ≡ Memory
-  pub any_moment : IfSome left (λ later. AtEachMoment clock outcome_since disk later (λ bytes. IsToldAsOneOf node (outcome disk) bytes ⊎ GoesOn node (content disk) bytes))
+  pub any_moment : IfSome left (λ later. AtEachMoment device disk later (λ bytes. IsToldAsOneOf node (device.outcome disk) bytes ⊎ GoesOn node (device.content disk) bytes))
 
 -- the member whom a number names in the committee of some text ran over some disk until this ending
-pub record RunsAs {D : Type 0} (node_in : Setting Key → Node) (content : D → List ℕ) (outcome : D → List ℕ → Type 0) (clock : D → ℕ) (outcome_since : D → ℕ → List ℕ → Type 0) (faults : D → ℕ)
+pub record RunsAs {D : Type 0} (scheme : Scheme Key) (device : Device D)
     (own : List ℕ) (ending : Ending) : Type 0 where
   pub text : List ℕ
-  pub config : Setting Key
+  pub config : ConfigView Key
   pub is_of : IsConfigOf text own config
   pub disk : D
   pub left : Option D
-  pub ran : RunsOver (node_in config) content outcome clock outcome_since faults disk ending left
+  pub ran : RunsOver (node_of scheme config) device disk ending left

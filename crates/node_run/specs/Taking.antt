@@ -5,21 +5,21 @@ use Rattle.header.specs.Checks.{fault_of, accepts_all}
 use Rattle.header.specs.Digested.{certificate_digest_in}
 use Rattle.header.specs.declared.error.CheckError.{CheckError}
 use Rattle.spec_laws.specs.Laws.{own_event}
-use Rattle.spec_model.specs.Histories.{Begins}
+use Rattle.wire.specs.Lists.{Begins}
 use Rattle.spec_machine.specs.Machine.{is_missing_parents}
 use Rattle.spec_model.specs.Admitting.{admit}
 use Rattle.spec_model.specs.Nodes.{Node}
 use Rattle.spec_model.specs.Proposing.{propose}
 use Rattle.spec_model.specs.Words.{Event, Header}
-use Rattle.spec_model.specs.declared.refusal.Refusal.{Refusal}
+use Rattle.header.specs.declared.refusal.Refusal.{Refusal}
 use Rattle.node_io.specs.declared.told.Told.{Told}
 use Rattle.node_io.specs.declared.told.Told.TheVariants.{Unchecked, Refused}
-use Rattle.node_seats.specs.Sights.{Sight}
+use Rattle.node_seats.specs.Sights.{SeatView}
 use Rattle.node_seats.specs.Views.{events, IsSame}
 use Rattle.node_seats.specs.declared.view.Marked.{Marked}
 use Rattle.node_shared.specs.Answers.{Submits}
 use Rattle.node_shared.specs.Home.{seen_by}
-use Rattle.node.specs.Callers.{Calling}
+use Rattle.node.specs.Callers.{CallerView}
 use Rattle.node_run.specs.declared.caller.Taken.{Taken}
 use Rattle.node_run.specs.declared.caller.Taken.TheVariants.{New, Known, Waits}
 
@@ -29,18 +29,18 @@ told_as (Ok receipt) = Ok (if receipt.new then New else Known)
 told_as (Err refusal) = Err (Refused refusal)
 
 -- an event was submitted, and this is told of the answer
-pub record IsSubmitted {S : Type 0} (node : Node) (event : Event) (before later : Calling S) (told : Result Taken Told) : Type 0 where
+pub record IsSubmitted {S : Type 0} (node : Node) (event : Event) (before later : CallerView S) (told : Result Taken Told) : Type 0 where
   pub answer : Result Receipt Refusal
   pub submits : Submits node event before.seat.view later.seat.view answer
   pub is : told ≡ told_as answer
 
 -- an event is a certificate, and behind all that was accepted, which the caller has then seen, it lacks a parent
-pub record LacksParents {S : Type 0} (node : Node) (event : Event) (later : Calling S) : Type 0 where
+pub record LacksParents {S : Type 0} (node : Node) (event : Event) (later : CallerView S) : Type 0 where
   pub certificate : is_some (certificate_digest_in event.message) ≡ true
   pub lacks : is_missing_parents (admit node (seen_by later.seat) event) ≡ true
 
 -- an event is no certificate, or one that lacks no parent behind what the caller had seen when it looked, during a call
-pub record MayBeSubmitted {S : Type 0} (node : Node) (event : Event) (before later : Calling S) : Type 0 where
+pub record MayBeSubmitted {S : Type 0} (node : Node) (event : Event) (before later : CallerView S) : Type 0 where
   pub looked : List Marked
   pub more : Begins before.seat.view.seen looked
   pub less : Begins looked later.seat.view.seen
@@ -48,20 +48,20 @@ pub record MayBeSubmitted {S : Type 0} (node : Node) (event : Event) (before lat
 
 -- A call only looked: the seat is the same, with the events that it brought, has seen all that it had, and knows all as settled that it
 -- knew, which is of what it has seen. That no output was taken out it doesn't say.
-pub record OnlyLooks (before later : Sight) : Type 0 where
+pub record OnlyLooks (before later : SeatView) : Type 0 where
   pub same : IsSame before later
   pub seen : Begins before.view.seen later.view.seen
   pub firm : Begins before.view.firm later.view.firm
   pub within : Begins later.view.firm later.view.seen
 
 -- What came of an event: the first fault of the checks is told, or it waits, or it might go and was submitted.
-pub record Handles {S : Type 0} (node : Node) (fault : Option CheckError) (event : Event) (before later : Calling S) (told : Result Taken Told) : Type 0 where
+pub record Handles {S : Type 0} (node : Node) (fault : Option CheckError) (event : Event) (before later : CallerView S) (told : Result Taken Told) : Type 0 where
   pub unchecked : (error : CheckError) → fault ≡ Some error → (told ≡ Err (Unchecked error)) × (later ≡ before)
   pub checked : fault ≡ None → (LacksParents node event later × IsSame before.seat later.seat × (told ≡ Ok (Waits event)))
       ⊎ (MayBeSubmitted node event before later × IsSubmitted node event before later told)
 
 -- what came of an event that has waited: the first fault of the checks is told, or it was submitted
-pub record HandlesAgain {S : Type 0} (node : Node) (fault : Option CheckError) (event : Event) (before later : Calling S) (told : Result Taken Told) : Type 0 where
+pub record HandlesAgain {S : Type 0} (node : Node) (fault : Option CheckError) (event : Event) (before later : CallerView S) (told : Result Taken Told) : Type 0 where
   pub unchecked : (error : CheckError) → fault ≡ Some error → (told ≡ Err (Unchecked error)) × (later ≡ before)
   pub checked : fault ≡ None → IsSubmitted node event before later told
 
@@ -72,7 +72,7 @@ is_told_new other = false
 
 -- What came of what is proposed behind what the caller had seen when it looked, during the call: a header that passes the checks was
 -- submitted, and this says whether it was new; else nothing was.
-pub record IsProposed {S : Type 0} (node : Node) (before later : Calling S) (new : Bool) : Type 0 where
+pub record IsProposed {S : Type 0} (node : Node) (before later : CallerView S) (new : Bool) : Type 0 where
   pub looked : List Marked
   pub more : Begins before.seat.view.seen looked
   pub less : Begins looked later.seat.view.seen

@@ -2,7 +2,7 @@
 use Rattle.std.specs.Prelude.{◌≤◌, length, take, ◌≡◌, ◌⊎◌, ℕ, true, false, List, ◌++◌, Option, None, All}
 use Rattle.std.specs.List.{flat_map}
 use Rattle.std.specs.Io.KnownBytes.{Keeps, Appends}
-use Rattle.spec_model.specs.Histories.{Begins}
+use Rattle.wire.specs.Lists.{Begins}
 use Rattle.spec_model.specs.Giving.{MayGive}
 use Rattle.spec_model.specs.Nodes.{Node}
 use Rattle.spec_model.specs.Words.{Output}
@@ -11,7 +11,7 @@ use Rattle.node_seats.specs.Views.{events}
 use Rattle.node_seats.specs.declared.view.Marked.{Marked}
 use Rattle.node_seats.specs.declared.view.View.{View}
 use Rattle.spec_world.specs.Promise.{GoesOut}
-use Rattle.spec_world.specs.Text.{frame_of}
+use Rattle.wire.specs.Outputs.{frame_of}
 use Rattle.spec_world.specs.World.{put_out}
 
 -- nothing has gone wrong

@@ -3,7 +3,7 @@
 ghost use Rattle.std.specs.Prelude.{◌≡◌, ◌↔◌, true, false, Some, None, IsSome, IsTrue};
 ghost use Rattle.diskmodel.specs.Disk.{AtEachMoment};
 ghost use Rattle.journal.specs.Journal.{disk_of};
-ghost use Rattle.spec_model.specs.Histories.{Begins};
+ghost use Rattle.wire.specs.Lists.{Begins};
 ghost use Rattle.validator.specs.Setting.{node_of};
 ghost use Rattle.flusher.specs.Rounds.{journal_of, is_down, settled_in, taken_in, HasNoRoom, TakesLongest};
 ghost use Rattle.node_run.specs.Ends.{faults_behind, TellsRounds, TellsJournal};
@@ -25,11 +25,11 @@ pub(crate) fn flush_all<S: Sign, D: Disk, R: Wait>(
     pending: &Bell,
     settled: &Bell,
 ) -> Faults
-    ensures journal { TellsJournal (D.faults (disk_of (journal_of rounds.old.flusher))) (D.faults (disk_of (journal_of rounds.new.flusher))) (is_down rounds.old.flusher) (is_down rounds.new.flusher) result.journal (HasNoRoom (D.content (disk_of (journal_of rounds.new.flusher))) (settled_in rounds.new.flusher) (taken_in rounds.new.flusher)) }
+    ensures journal { TellsJournal (D.device.faults (disk_of (journal_of rounds.old.flusher))) (D.device.faults (disk_of (journal_of rounds.new.flusher))) (is_down rounds.old.flusher) (is_down rounds.new.flusher) result.journal (HasNoRoom (D.device.content (disk_of (journal_of rounds.new.flusher))) (settled_in rounds.new.flusher) (taken_in rounds.new.flusher)) }
     ensures others { (result.output ≡ false) × (result.input ≡ false) }
     ensures node { rounds.new.node ≡ rounds.old.node }
     // A stop at any moment leaves what was settled, and perhaps more behind it.
-    ensures any_moment { is_down rounds.old.flusher ≡ false → AtEachMoment D.clock D.outcome_since (disk_of (journal_of rounds.old.flusher)) (disk_of (journal_of rounds.new.flusher)) (HoldsMore (node_of S.own_key S.signature_of) rounds.old.node (settled_in rounds.old.flusher)) }
+    ensures any_moment { is_down rounds.old.flusher ≡ false → AtEachMoment D.device (disk_of (journal_of rounds.old.flusher)) (disk_of (journal_of rounds.new.flusher)) (HoldsMore S.scheme rounds.old.node (settled_in rounds.old.flusher)) }
 {
     let mut faults = Faults::none();
     for _ in rt.forever() {
@@ -49,12 +49,12 @@ fn flush_pending<S: Sign, D: Disk, R: Wait>(
     rounds: &mut Rounds<'_, '_, S, D>,
     settled: &Bell,
 ) -> Faults
-    ensures rounds { TellsRounds (D.faults (disk_of (journal_of rounds.old.flusher))) (D.faults (disk_of (journal_of rounds.new.flusher))) result.journal }
+    ensures rounds { TellsRounds (D.device.faults (disk_of (journal_of rounds.old.flusher))) (D.device.faults (disk_of (journal_of rounds.new.flusher))) result.journal }
 
     // A round that takes the node down is told as the journal's fault: the disk's, or that the group has no place.
     ensures down { is_down rounds.old.flusher ≡ false → IsSome result.journal ↔ IsTrue (is_down rounds.new.flusher) }
     ensures stays { IsTrue (is_down rounds.old.flusher) → (result.journal ≡ None) × (rounds.new.flusher ≡ rounds.old.flusher) }
-    ensures full { is_down rounds.old.flusher ≡ false → result.journal ≡ Some JournalError.Full → HasNoRoom (D.content (disk_of (journal_of rounds.new.flusher))) (settled_in rounds.new.flusher) (taken_in rounds.new.flusher) }
+    ensures full { is_down rounds.old.flusher ≡ false → result.journal ≡ Some JournalError.Full → HasNoRoom (D.device.content (disk_of (journal_of rounds.new.flusher))) (settled_in rounds.new.flusher) (taken_in rounds.new.flusher) }
 
     // Unless the node is down or memory was refused, of some list of what was accepted, with all of it that the seat had seen before,
     // nothing more fits a group behind what is settled.
@@ -64,7 +64,7 @@ fn flush_pending<S: Sign, D: Disk, R: Wait>(
     ensures others { (result.output ≡ false) × (result.input ≡ false) }
     ensures node { rounds.new.node ≡ rounds.old.node }
     ensures more { Begins (settled_in rounds.old.flusher) (settled_in rounds.new.flusher) }
-    ensures any_moment { is_down rounds.old.flusher ≡ false → AtEachMoment D.clock D.outcome_since (disk_of (journal_of rounds.old.flusher)) (disk_of (journal_of rounds.new.flusher)) (HoldsMore (node_of S.own_key S.signature_of) rounds.old.node (settled_in rounds.old.flusher)) }
+    ensures any_moment { is_down rounds.old.flusher ≡ false → AtEachMoment D.device (disk_of (journal_of rounds.old.flusher)) (disk_of (journal_of rounds.new.flusher)) (HoldsMore S.scheme rounds.old.node (settled_in rounds.old.flusher)) }
 {
     for _ in rt.forever() {
         let round = rounds.round(rt);

@@ -18,7 +18,7 @@ use crate::caller::{Caller, Taken};
 use crate::due::{Due, due_behind};
 use header::Checked;
 use node_io::{Makers, Request, Told, request_of};
-use seed::TableSeed;
+use sigface::TableSeed;
 use sigface::Sign;
 use std::alloc::{AllocError, Global};
 use std::io::Write;
@@ -150,7 +150,7 @@ impl<'n, 'a, S: Sign> Intake<'n, 'a, S> {
         ensures stays { StaysWith self.old.caller self.new.caller }
         ensures none { batch ≡ None → (result ≡ Ok false) × (self.new ≡ self.old) }
         ensures due { IfSome batch (λ given. IsDueBehind self.old.caller.setting.own (message.Batch given) self.old.due self.new.due result) }
-        ensures some { IfSome batch (λ given. Brings (node_of S.own_key S.signature_of self.old.caller.node.setting) (fault_of self.old.caller.setting.charter is_pair_signature (own_batch self.old.caller.setting.own given)) (own_batch self.old.caller.setting.own given) self.old.caller self.new.caller self.old.waiter self.new.waiter result) }
+        ensures some { IfSome batch (λ given. Brings (node_of S.scheme self.old.caller.node.setting) (fault_of self.old.caller.setting.charter is_pair_signature (own_batch self.old.caller.setting.own given)) (own_batch self.old.caller.setting.own given) self.old.caller self.new.caller self.old.waiter self.new.waiter result) }
     {
         match batch {
             Some(batch) => {
@@ -167,7 +167,7 @@ impl<'n, 'a, S: Sign> Intake<'n, 'a, S> {
         ensures makers { self.new.makers ≡ self.old.makers }
         ensures mark { self.new.was_refused_memory ≡ self.old.was_refused_memory }
         ensures stays { StaysWith self.old.caller self.new.caller }
-        ensures brings { Brings (node_of S.own_key S.signature_of self.old.caller.node.setting) (fault_of self.old.caller.setting.charter is_pair_signature (record { sender = sender; message = message })) (record { sender = sender; message = message }) self.old.caller self.new.caller self.old.waiter self.new.waiter result }
+        ensures brings { Brings (node_of S.scheme self.old.caller.node.setting) (fault_of self.old.caller.setting.charter is_pair_signature (record { sender = sender; message = message })) (record { sender = sender; message = message }) self.old.caller self.new.caller self.old.waiter self.new.waiter result }
     {
         let behind = due_behind(self.caller.config().own(), &message);
         match self.caller.take(rt, sender, message) {
@@ -213,7 +213,7 @@ impl<'n, 'a, S: Sign> Intake<'n, 'a, S> {
         ensures memory { self.new.was_refused_memory ≢ self.old.was_refused_memory → self.new.caller.seat.view.mine ≡ self.old.caller.seat.view.mine }
         ensures stays { self.old.was_refused_memory ≡ true → self.new.was_refused_memory ≡ true }
         ensures idle { self.old.due.proposal ≡ false → self.new ≡ self.old }
-        ensures asked { self.old.due.proposal ≡ true → self.new.due.proposal ≡ false → IsProposed (node_of S.own_key S.signature_of self.old.caller.node.setting) self.old.caller self.new.caller false }
+        ensures asked { self.old.due.proposal ≡ true → self.new.due.proposal ≡ false → IsProposed (node_of S.scheme self.old.caller.node.setting) self.old.caller self.new.caller false }
         ensures waiting { self.old.due.waiting ≡ true → self.new.due.waiting ≡ true }
     {
         if !self.due.proposal {

@@ -34,7 +34,7 @@ where
     I: Read + Drop,
     W: Write + Drop + Send,
     E: Write,
-    ensures { RunsOver (node_of S.own_key S.signature_of config.now) D.content D.outcome D.clock D.outcome_since D.faults disk result.0 result.1 }
+    ensures { RunsOver (node_of S.scheme config.now) D.device disk result.0 result.1 }
 {
     let (node, seat, flusher) = match start(alloc, config, disk) {
         Ok(started) => started,

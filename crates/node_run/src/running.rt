@@ -2,7 +2,7 @@
 
 ghost use Rattle.std.specs.Prelude.{◌≡◌, ◌≢◌, ◌⊎◌, Some, IfSome, length, slice_get, string_bytes};
 ghost use Rattle.wire.specs.declared.keys.Key.{Key};
-ghost use Rattle.validator.specs.Setting.{Setting, node_of};
+ghost use Rattle.validator.specs.Setting.{ConfigView, node_of};
 ghost use Rattle.node_io.specs.Endings.{status_of};
 ghost use Rattle.node_io.specs.declared.ending.Ending.{Ending as Ended};
 ghost use Rattle.node_run.specs.Members.{IsConfigOf, RefusesConfig, RefusesOpening};
@@ -40,7 +40,7 @@ where
     ensures arguments { length args.now ≢ 3 → result ≡ 2 }
     // Either the ending says why nothing was opened, or the member of that number ran over a disk.
     ensures ending { (ending : Ended) × (result ≡ status_of ending) × IfSome (slice_get args.now 1) (λ own. RefusesOpening (string_bytes own) ending
-        ⊎ RunsAs (node_of ⟦<HashSign as Sign>⟧.own_key ⟦<HashSign as Sign>⟧.signature_of) ⟦<FileDisk as Disk>⟧.content ⟦<FileDisk as Disk>⟧.outcome ⟦<FileDisk as Disk>⟧.clock ⟦<FileDisk as Disk>⟧.outcome_since ⟦<FileDisk as Disk>⟧.faults (string_bytes own) ending) }
+        ⊎ RunsAs ⟦<HashSign as Sign>⟧.scheme ⟦<FileDisk as Disk>⟧.device (string_bytes own) ending) }
 {
     let ending = run_named(rt, alloc, args, reader, writer, errors);
     ending.write_to(errors);
@@ -63,7 +63,7 @@ where
     E: Write,
     ensures arguments { length args.now ≢ 3 → result ≡ Ending.Usage }
     ensures named { IfSome (slice_get args.now 1) (λ own. RefusesOpening (string_bytes own) result
-        ⊎ RunsAs (node_of ⟦<HashSign as Sign>⟧.own_key ⟦<HashSign as Sign>⟧.signature_of) ⟦<FileDisk as Disk>⟧.content ⟦<FileDisk as Disk>⟧.outcome ⟦<FileDisk as Disk>⟧.clock ⟦<FileDisk as Disk>⟧.outcome_since ⟦<FileDisk as Disk>⟧.faults (string_bytes own) result) }
+        ⊎ RunsAs ⟦<HashSign as Sign>⟧.scheme ⟦<FileDisk as Disk>⟧.device (string_bytes own) result) }
 {
     let (config, disk) = match open_all(rt, alloc, args) {
         Ok(opened) => opened,
@@ -91,7 +91,7 @@ where
     W: Write + Drop + Send,
     E: Write,
     // Either the text and the number make a configuration, with which it runs; or the ending says why not, and the disk is as it was.
-    ensures { ((config : Setting Key) × IsConfigOf named.entry.0.now named.entry.1.now config × RunsOver (node_of ⟦<HashSign as Sign>⟧.own_key ⟦<HashSign as Sign>⟧.signature_of config) D.content D.outcome D.clock D.outcome_since D.faults disk result.0 result.1)
+    ensures { ((config : ConfigView Key) × IsConfigOf named.entry.0.now named.entry.1.now config × RunsOver (node_of ⟦<HashSign as Sign>⟧.scheme config) D.device disk result.0 result.1)
         ⊎ (RefusesConfig named.entry.0.now named.entry.1.now result.0 × (result.1 ≡ Some disk)) }
 {
     let (text, own) = named;

@@ -42,7 +42,7 @@ impl<'n, 'a, R: Wait, S: Sign, D: Disk> Work<R, (Faults, D)> for Flushing<'n, 'a
     ghost use Rattle.validator.specs.Setting.{node_of};
     ghost use Rattle.node_run.specs.Runs.{HasFlushed};
 
-    ghost does = { λ work result. HasFlushed (node_of S.own_key S.signature_of) D.clock D.outcome_since D.faults work.rounds.node work.rounds.flusher result.0 result.1 };
+    ghost does = { λ work result. HasFlushed S.scheme D.device work.rounds.node work.rounds.flusher result.0 result.1 };
 
     fn work(self, rt: &R) -> (Faults, D) {
         let Flushing {
@@ -66,12 +66,12 @@ struct Writing<'n, 'a, S: Sign, W: Write + Drop> {
 impl<'n, 'a, R: Wait, S: Sign, W: Write + Drop> Work<R, Sink<W>> for Writing<'n, 'a, S, W> {
     ghost use Rattle.std.specs.Io.Buffered.{writer_contents};
     ghost use Rattle.node_seats.specs.declared.view.View.{View};
-    ghost use Rattle.spec_model.specs.Histories.{Begins};
+    ghost use Rattle.wire.specs.Lists.{Begins};
     ghost use Rattle.validator.specs.Setting.{node_of};
     ghost use Rattle.node_run.specs.Writing.{MayGo, WritesOnly};
 
     ghost does = { λ work sink. (view : View) × Begins work.caller.seat.view.firm view.firm
-        × WritesOnly (MayGo (node_of S.own_key S.signature_of work.caller.node.setting) view) work.sink.faults sink.faults (writer_contents W.contents work.sink.writer) (writer_contents W.contents sink.writer) };
+        × WritesOnly (MayGo (node_of S.scheme work.caller.node.setting) view) work.sink.faults sink.faults (writer_contents W.contents work.sink.writer) (writer_contents W.contents sink.writer) };
 
     fn work(self, rt: &R) -> Sink<W> {
         let Writing {
@@ -176,10 +176,10 @@ where
     W: Write + Drop + Send,
     E: Write,
     requires { desks.writing.sink.faults ≡ no_faults }
-    ensures told { IfSome result.1 (λ left. TellsRounds (D.faults (disk_of (journal_of rounds.entry.flusher))) (D.faults left) result.0.journal) }
+    ensures told { IfSome result.1 (λ left. TellsRounds (D.device.faults (disk_of (journal_of rounds.entry.flusher))) (D.device.faults left) result.0.journal) }
     ensures lost { result.1 ≡ None → result.0 ≡ no_memory }
     // A stop at any moment leaves what was settled, and perhaps more behind it.
-    ensures any_moment { is_down rounds.entry.flusher ≡ false → IfSome result.1 (λ left. AtEachMoment D.clock D.outcome_since (disk_of (journal_of rounds.entry.flusher)) left (HoldsMore (node_of S.own_key S.signature_of) rounds.entry.node (settled_in rounds.entry.flusher))) }
+    ensures any_moment { is_down rounds.entry.flusher ≡ false → IfSome result.1 (λ left. AtEachMoment D.device (disk_of (journal_of rounds.entry.flusher)) left (HoldsMore S.scheme rounds.entry.node (settled_in rounds.entry.flusher))) }
 {
     let Desks {
         reading,

@@ -1,7 +1,7 @@
 -- Beginnings of lists.
 use Rattle.std.proofs.Common.{◌≡◌, ℕ, ◌≤◌, List, [], ◌∷◌, ◌++◌, length, take, drop, refl, ap, sym, ◌∙◌, min, length-take, arith, append_assoc, length-append, take-append-drop}
 use Rattle.std.proofs.lemmas.List.{append-nil, take_at, take-append-le}
-use Rattle.spec_model.specs.Histories.{Begins}
+use Rattle.wire.specs.Lists.{Begins}
 
 pub begins_same : {X : Type 0} (xs : List X) → Begins xs xs
 begins_same xs = record { rest = []; parts = sym (append-nil xs) }

@@ -1,14 +1,14 @@
 -- What stays of a seat over several steps.
 use Rattle.std.proofs.Common.{◌≡◌, ◌≤◌, Bool, true, false, refl, length, sym, ap, ◌∙◌, arith}
 use Rattle.std.specs.Prelude.{◌||◌}
-use Rattle.spec_model.specs.Histories.{Begins}
-use Rattle.node_seats.specs.Sights.{Sight}
+use Rattle.wire.specs.Lists.{Begins}
+use Rattle.node_seats.specs.Sights.{SeatView}
 use Rattle.node_seats.specs.Views.{IsSame, informed}
 use Rattle.node_seats.specs.declared.view.View.{View}
 use Rattle.node_seats.proofs.Beginnings.{begins_length}
 
 -- two steps leave a seat the same that each of them leaves the same
-pub same_then : (one two three : Sight) → IsSame one two → IsSame two three → IsSame one three
+pub same_then : (one two three : SeatView) → IsSame one two → IsSame two three → IsSame one three
 same_then one two three first second = record {
   table = second.table ∙ first.table;
   id = second.id ∙ first.id;
@@ -21,7 +21,7 @@ same_then one two three first second = record {
 }
 
 -- a seat that has seen more, and knows more as settled, is the same
-pub same_seat : (before later : Sight) → (later.table ≡ before.table) × (later.id ≡ before.id) → later.view ≡ record before.view { seen = later.view.seen; firm = later.view.firm } → IsSame before later
+pub same_seat : (before later : SeatView) → (later.table ≡ before.table) × (later.id ≡ before.id) → later.view ≡ record before.view { seen = later.view.seen; firm = later.view.firm } → IsSame before later
 same_seat before later of rest = record {
   table = of.0;
   id = of.1;
@@ -34,7 +34,7 @@ same_seat before later of rest = record {
 }
 
 -- and one that was told what another knows
-pub same_told : (before later : Sight) (other : View) → later ≡ record before { view = informed before.view other } → IsSame before later
+pub same_told : (before later : SeatView) (other : View) → later ≡ record before { view = informed before.view other } → IsSame before later
 same_told before later other told = record {
   table = ap (λ s. s.table) told;
   id = ap (λ s. s.id) told;

@@ -1,6 +1,7 @@
 -- What each kind of step tells the seat that makes it.
 use Rattle.std.specs.Prelude.{◌≡◌, ◌≢◌, ◌≤◌, ℕ, true, [], ◌∷◌, ◌++◌, length, take}
-use Rattle.spec_model.specs.Histories.{History, Begins}
+use Rattle.spec_model.specs.Histories.{History}
+use Rattle.wire.specs.Lists.{Begins}
 use Rattle.spec_model.specs.Words.{Event}
 use Rattle.node_seats.specs.declared.view.View.{View}
 use Rattle.node_seats.specs.Views.{events, mark, flag, HasOwn}

@@ -4,12 +4,12 @@ use Rattle.atomic_table.specs.Seated.{TableId}
 use Rattle.node_seats.specs.declared.view.View.{View}
 
 -- whose words they are, the seat's number there, and what it knows
-pub record Sight : Type 0 where
+pub record SeatView : Type 0 where
   pub table : TableId
   pub id : ℕ
   pub view : View
 
 -- which words they are, and what they were made with
-pub record Place (K : Type 0) : Type 0 where
+pub record WordsView (K : Type 0) : Type 0 where
   pub table : TableId
   pub key : K

@@ -4,7 +4,7 @@ use Rattle.std.specs.List.{filter}
 use Rattle.spec_model.specs.Histories.{History}
 use Rattle.spec_model.specs.Words.{Event}
 use Rattle.wire.specs.declared.message.Message.TheVariants as message
-use Rattle.node_seats.specs.Sights.{Sight}
+use Rattle.node_seats.specs.Sights.{SeatView}
 use Rattle.node_seats.specs.declared.view.Marked.{Marked}
 use Rattle.node_seats.specs.declared.view.View.{View}
 
@@ -55,7 +55,7 @@ no_event = record { sender = record { 0 = 0 }; message = message.Coin (record { 
 -- ---- what a step leaves of a seat
 
 -- it is the same seat, at the same words, with the events that it brought, and knows that the node is down if it did
-pub record IsSame (before later : Sight) : Type 0 where
+pub record IsSame (before later : SeatView) : Type 0 where
   pub table : later.table ≡ before.table
   pub id : later.id ≡ before.id
   pub live : later.view.live ≡ before.view.live

@@ -16,9 +16,9 @@ impl Drop for Seat {
 
 impl Model for Seat {
     ghost use Rattle.std.specs.Prelude.{◌≡◌, []};
-    ghost use Rattle.node_seats.specs.Sights.{Sight};
+    ghost use Rattle.node_seats.specs.Sights.{SeatView};
 
-    ghost Value = { Sight };
+    ghost Value = { SeatView };
 
     ghost view = { λ s. record { table = s.place.table_id; id = s.place.id; view = s.place.me.0 } };
 

@@ -1,7 +1,8 @@
 //! How two seats come to know the same.
 
 ghost use Rattle.std.specs.Prelude.{◌≡◌, ◌≤◌, ◌<◌, ◌+◌, ◌^◌, ◌++◌, ◌∷◌, [], true, length, take};
-ghost use Rattle.spec_model.specs.Histories.{History, Begins};
+ghost use Rattle.spec_model.specs.Histories.{History};
+ghost use Rattle.wire.specs.Lists.{Begins};
 ghost use Rattle.node_seats.specs.Views.{events, mark, HasOwn, IsSame};
 
 use crate::plays::{Anything, Call, Judge};

@@ -4,7 +4,7 @@ ghost use Rattle.std.specs.Prelude.{◌≡◌, ◌+◌, ◌≤◌, ◌<◌, ◌^
 ghost use Rattle.spec_model.specs.Histories.{History};
 ghost use Rattle.node_seats.specs.Views.{events, HasOwn, first_view, fresh_view, newcomer, informed};
 ghost use Rattle.node_seats.specs.Plays.{Looks, Reads, ReadsDown, Accepts, Settles, with_down};
-ghost use Rattle.node_seats.specs.Sights.{Sight};
+ghost use Rattle.node_seats.specs.Sights.{SeatView};
 
 use crate::plays::{
     Accepted, Call, DownRead, Downed, Judge, Looked, Numbers, Opens, Read, Settled, Start, Tells,
@@ -37,9 +37,9 @@ impl<K: Drop, L: Law<K>> Drop for Words<K, L> {
 
 impl<K, L: Law<K>> Model for Words<K, L> {
     ghost use Rattle.std.specs.Prelude.{◌≡◌};
-    ghost use Rattle.node_seats.specs.Sights.{Place};
+    ghost use Rattle.node_seats.specs.Sights.{WordsView};
 
-    ghost Value = { Place K };
+    ghost Value = { WordsView K };
 
     ghost view = { λ w. record { table = w.table.shared.table_id; key = w.table.shared.key } };
 

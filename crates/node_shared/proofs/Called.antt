@@ -3,28 +3,30 @@ use Rattle.std.proofs.Common.{◌≡◌, Bool, true, [], ◌∷◌, ◌++◌, re
 use Rattle.std.specs.Prelude.{Option, Some, None, IfSome}
 use Rattle.spec_model.specs.Admitting.{IsLegal}
 use Rattle.spec_model.specs.Giving.{MayGive}
-use Rattle.spec_model.specs.Histories.{History, Begins}
+use Rattle.spec_model.specs.Histories.{History}
+use Rattle.wire.specs.Lists.{Begins}
 use Rattle.spec_model.specs.Nodes.{Node}
 use Rattle.spec_model.specs.Words.{Event, Output}
-use Rattle.validator.specs.Setting.{Setting}
-use Rattle.node_seats.specs.Sights.{Sight}
+use Rattle.validator.specs.Setting.{ConfigView, node_of}
+use Rattle.node_seats.specs.Sights.{SeatView}
 use Rattle.node_seats.specs.Views.{events, events_by, mark, HasOwn, informed}
 use Rattle.node_seats.specs.declared.view.View.{View}
 use Rattle.node_seats.proofs.Marks.{by_same, events_push}
 use Rattle.node_seats.proofs.Same.{same_then, same_told}
 use Rattle.node_shared.specs.Answers.{IsPutOutBy, Gives}
 use Rattle.node_shared.specs.Calls.{Looked, Learned, Brought, Stays}
-use Rattle.node_shared.specs.Home.{Shared, firm_by}
+use Rattle.node_shared.specs.Home.{NodeView, firm_by}
 use Rattle.node_shared.proofs.Standing.{of_same}
+use Rattle.sigface.specs.Scheme.{Scheme}
 
-own_stays : (before later : Sight) → Stays before later → HasOwn before.view → HasOwn later.view
+own_stays : (before later : SeatView) → Stays before later → HasOwn before.view → HasOwn later.view
 own_stays before later stays own = (λ i. events_by (stays.same.number i) (stays.seen i)) ∙ own ∙ sym stays.same.mine
 
 -- what stays of a seat that was told something, and of one that read whether the node is down
-pub stays_told : (before later : Sight) (other : View) → later ≡ record before { view = informed before.view other } → Stays before later
+pub stays_told : (before later : SeatView) (other : View) → later ≡ record before { view = informed before.view other } → Stays before later
 stays_told before later other told = record { same = same_told before later other told; seen = ap (λ s. s.view.seen) told; firm = ap (λ s. s.view.firm) told }
 
-pub stays_read : (before later : Sight) (down : Bool) → later ≡ record before { view = record before.view { down = down } } → (before.view.down ≡ true → down ≡ true) → Stays before later
+pub stays_read : (before later : SeatView) (down : Bool) → later ≡ record before { view = record before.view { down = down } } → (before.view.down ≡ true → down ≡ true) → Stays before later
 stays_read before later down is keeps = record {
   same = record {
     table = ap (λ s. s.table) is;
@@ -40,33 +42,33 @@ stays_read before later down is keeps = record {
   firm = ap (λ s. s.view.firm) is;
 }
 
-pub stays_same : (seat : Sight) → Stays seat seat
+pub stays_same : (seat : SeatView) → Stays seat seat
 stays_same seat = record {
   same = record { table = refl; id = refl; live = refl; numbered = refl; number = refl; start = refl; mine = refl; down = λ was. was };
   seen = refl;
   firm = refl;
 }
 
-pub stays_then : (one two three : Sight) → Stays one two → Stays two three → Stays one three
+pub stays_then : (one two three : SeatView) → Stays one two → Stays two three → Stays one three
 stays_then one two three first second = record {
   same = same_then one two three first.same second.same;
   seen = second.seen ∙ first.seen;
   firm = second.firm ∙ first.firm;
 }
 
-module _ {S : Type 0} (node_of : Setting S → Node) (shared : Shared S) where
+module _ {S : Type 0} (scheme : Scheme S) (shared : NodeView S) where
   -- where nothing is seen or settled behind a call, the seat is as behind the call
-  pub looked_stays : (before mid later : Sight) → Looked node_of shared before mid → Stays mid later → Looked node_of shared before later
+  pub looked_stays : (before mid later : SeatView) → Looked scheme shared before mid → Stays mid later → Looked scheme shared before later
   looked_stays before mid later looked stays = record {
     of_node = of_same shared mid later looked.of_node stays.same;
     same = same_then before mid later looked.same stays.same;
     firm = stays.firm ∙ looked.firm;
     more = subst (λ l. Begins before.view.seen l) (sym stays.seen) looked.more;
     own = own_stays mid later stays looked.own;
-    legal = subst (λ h. IsLegal (node_of shared.setting) h) (λ i. sym stays.same.start i ++ events (sym stays.seen i)) looked.legal;
+    legal = subst (λ h. IsLegal (node_of scheme shared.setting) h) (λ i. sym stays.same.start i ++ events (sym stays.seen i)) looked.legal;
   }
 
-  pub learned_stays : (before mid later : Sight) → Learned node_of shared before mid → Stays mid later → Learned node_of shared before later
+  pub learned_stays : (before mid later : SeatView) → Learned scheme shared before mid → Stays mid later → Learned scheme shared before later
   learned_stays before mid later learned stays = record {
     of_node = of_same shared mid later learned.of_node stays.same;
     same = same_then before mid later learned.same stays.same;
@@ -74,11 +76,11 @@ module _ {S : Type 0} (node_of : Setting S → Node) (shared : Shared S) where
     seen = subst (λ l. Begins before.view.seen l) (sym stays.seen) learned.seen;
     within = subst (λ l. Begins later.view.firm l) (sym stays.seen) (subst (λ l. Begins l mid.view.seen) (sym stays.firm) learned.within);
     own = own_stays mid later stays learned.own;
-    legal = subst (λ h. IsLegal (node_of shared.setting) h) (λ i. sym stays.same.start i ++ events (sym stays.firm i)) learned.legal;
+    legal = subst (λ h. IsLegal (node_of scheme shared.setting) h) (λ i. sym stays.same.start i ++ events (sym stays.firm i)) learned.legal;
   }
 
   -- a seat whose event isn't new looked
-  pub brought_none : (before later : Sight) → Looked node_of shared before later → Brought node_of shared before later
+  pub brought_none : (before later : SeatView) → Looked scheme shared before later → Brought scheme shared before later
   brought_none before later looked = record {
     of_node = looked.of_node;
     id = looked.same.id;
@@ -90,10 +92,10 @@ module _ {S : Type 0} (node_of : Setting S → Node) (shared : Shared S) where
   }
 
   -- and one whose event is new has it behind that
-  pub brought_new : (before mid later : Sight) (event : Event) → Looked node_of shared before mid
+  pub brought_new : (before mid later : SeatView) (event : Event) → Looked scheme shared before mid
       → (later.table ≡ mid.table) × (later.id ≡ mid.id) × (later.view.live ≡ true) × (later.view.numbered ≡ true) × (later.view.number ≡ mid.view.number) × (later.view.start ≡ mid.view.start)
       → later.view.down ≡ mid.view.down → later.view.firm ≡ mid.view.firm → later.view.seen ≡ mid.view.seen ++ mark mid.view.number event ∷ [] → later.view.mine ≡ mid.view.mine ++ event ∷ []
-      → IsLegal (node_of shared.setting) (mid.view.start ++ (events mid.view.seen ++ event ∷ [])) → Brought node_of shared before later
+      → IsLegal (node_of scheme shared.setting) (mid.view.start ++ (events mid.view.seen ++ event ∷ [])) → Brought scheme shared before later
   brought_new before mid later event looked same down firm seen mine legal = record {
     of_node = record { table = same.0 ∙ looked.of_node.table; live = same.2; numbered = same.3; start = same.5 ∙ looked.of_node.start };
     id = same.1 ∙ looked.same.id;
@@ -101,12 +103,12 @@ module _ {S : Type 0} (node_of : Setting S → Node) (shared : Shared S) where
     down = λ is. down ∙ looked.same.down is;
     firm = firm ∙ looked.firm;
     own = (λ i. events_by (same.4 i) (seen i)) ∙ by_same mid.view.number event mid.view.seen ∙ ap (λ (h : History). h ++ event ∷ []) looked.own ∙ sym mine;
-    legal = subst (λ h. IsLegal (node_of shared.setting) h)
+    legal = subst (λ h. IsLegal (node_of scheme shared.setting) h)
         (ap (λ (h : History). mid.view.start ++ h) (sym (events_push mid.view.number event mid.view.seen)) ∙ λ i. sym same.5 i ++ events (sym seen i)) legal;
   }
 
 -- an output of which both are said
-pub gives_both : (node : Node) (seat : Sight) (output : Option Output) → IfSome output (λ one. MayGive node (firm_by seat) one) → IfSome output (λ one. IsPutOutBy node seat.view one)
+pub gives_both : (node : Node) (seat : SeatView) (output : Option Output) → IfSome output (λ one. MayGive node (firm_by seat) one) → IfSome output (λ one. IsPutOutBy node seat.view one)
     → IfSome output (λ one. Gives node seat one)
 gives_both node seat None may out = may
 gives_both node seat (Some one) may out = record { may = may; put_out = out }

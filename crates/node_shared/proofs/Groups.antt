@@ -1,19 +1,21 @@
 -- Groups that a flush seat takes and settles.
 use Rattle.std.proofs.Common.{◌≡◌, ℕ, ◌+◌, ◌-◌, ◌≤◌, List, [], length, map, take, drop, refl, sym, ap, ◌∙◌, subst, arith}
 use Rattle.std.proofs.lemmas.List.{take_at, take-append-le, take-map, take_all, length-map, length-drop}
-use Rattle.spec_model.specs.Histories.{History, Begins}
+use Rattle.spec_model.specs.Histories.{History}
+use Rattle.wire.specs.Lists.{Begins}
 use Rattle.spec_model.specs.Nodes.{Node}
 use Rattle.spec_records.specs.Records.{record_of}
-use Rattle.validator.specs.Setting.{Setting}
-use Rattle.node_seats.specs.Sights.{Sight}
+use Rattle.validator.specs.Setting.{ConfigView, node_of}
+use Rattle.node_seats.specs.Sights.{SeatView}
 use Rattle.node_seats.specs.Views.{events, IsSame}
 use Rattle.node_seats.specs.declared.view.Marked.{Marked}
 use Rattle.node_seats.proofs.Beginnings.{begins_length, begins_whole, begins_same}
-use Rattle.book.specs.Book.{Shown, Run, Stands, with_taken, with_settled, SettlesNext}
+use Rattle.book.specs.Book.{BookView, Run, Stands, with_taken, with_settled, SettlesNext}
 use Rattle.book.specs.Pending.{IsLongestBeginning}
-use Rattle.node_shared.specs.Home.{Shared, IsAtHome, IsFlushOf, IsTied, TakesNext, taken_by, group_of, run_of}
+use Rattle.node_shared.specs.Home.{NodeView, IsAtHome, IsFlushOf, IsTied, TakesNext, taken_by, group_of, run_of}
 use Rattle.node_shared.specs.declared.flush_seat.FlushSeat.{FlushSeat}
 use Rattle.node_shared.proofs.Standing.{of_same, at_home}
+use Rattle.sigface.specs.Scheme.{Scheme}
 
 -- what begins a list is so many of its first elements
 begins_is_take : {X : Type 0} (one all : List X) (count : ℕ) → Begins one all → length one ≡ count → one ≡ take count all
@@ -28,7 +30,7 @@ pub same_front : {X : Type 0} (one other : List X) (count : ℕ) → Begins one 
 same_front one other count begins within =
     ap (take count) begins.parts ∙ take-append-le count one begins.rest within
 
-module _ {S : Type 0} (shared : Shared S) (node_of : Setting S → Node) (seat : Sight) (book : Shown S) (flush : FlushSeat) (home : IsAtHome node_of shared seat book) (tied : IsTied shared seat book flush) where
+module _ {S : Type 0} (shared : NodeView S) (scheme : Scheme S) (seat : SeatView) (book : BookView S) (flush : FlushSeat) (home : IsAtHome scheme shared seat book) (tied : IsTied shared seat book flush) where
   -- the run at which the book stands
   abbrev pub run : Run
   run = run_of seat.view home.taken
@@ -52,19 +54,19 @@ module _ {S : Type 0} (shared : Shared S) (node_of : Setting S → Node) (seat :
       ∙ take-map (λ (one : Marked). one.event) flush.taken flush.seat.view.seen
 
   -- a group that the book hands over is the next one
-  module _ (later : Shown S) (group : List (List ℕ)) (rests : flush.taken ≡ flush.settled) (longest : IsLongestBeginning book.pending group later.pending)
+  module _ (later : BookView S) (group : List (List ℕ)) (rests : flush.taken ≡ flush.settled) (longest : IsLongestBeginning book.pending group later.pending)
       (is : later ≡ record book { pending = later.pending; taken = book.taken + length group })
-      (stands : (run : Run) → Stands (node_of book.validator.setting) run book → Stands (node_of book.validator.setting) (with_taken run (length group)) later)
-      (records : (run : Run) → Stands (node_of book.validator.setting) run book → group ≡ map record_of (drop (length run.taken) (with_taken run (length group)).taken)) where
-    behind : Stands (node_of shared.setting) (with_taken run (length group)) later
+      (stands : (run : Run) → Stands (node_of scheme book.validator.setting) run book → Stands (node_of scheme book.validator.setting) (with_taken run (length group)) later)
+      (records : (run : Run) → Stands (node_of scheme book.validator.setting) run book → group ≡ map record_of (drop (length run.taken) (with_taken run (length group)).taken)) where
+    behind : Stands (node_of scheme shared.setting) (with_taken run (length group)) later
     behind =
-        subst (λ (s : Setting S). (r : Run) → Stands (node_of s) r book → Stands (node_of s) (with_taken r (length group)) later) home.setting stands run home.stands
+        subst (λ (s : ConfigView S). (r : Run) → Stands (node_of scheme s) r book → Stands (node_of scheme s) (with_taken r (length group)) later) home.setting stands run home.stands
 
     counted : later.taken ≡ flush.settled + length group
-    counted = ap (λ (b : Shown S). b.taken) is ∙ ap (λ (n : ℕ). n + length group) (tied.taken ∙ rests)
+    counted = ap (λ (b : BookView S). b.taken) is ∙ ap (λ (n : ℕ). n + length group) (tied.taken ∙ rests)
 
-    pub home_taken : IsAtHome node_of shared seat later
-    home_taken = at_home shared node_of seat later (with_taken run (length group)) (ap (λ (b : Shown S). b.validator.setting) is ∙ home.setting) home.of_node behind refl refl refl (λ down. home.down (sym (ap (λ (b : Shown S). b.down) is) ∙ down))
+    pub home_taken : IsAtHome scheme shared seat later
+    home_taken = at_home shared scheme seat later (with_taken run (length group)) (ap (λ (b : BookView S). b.validator.setting) is ∙ home.setting) home.of_node behind refl refl refl (λ down. home.down (sym (ap (λ (b : BookView S). b.down) is) ∙ down))
 
     within : later.taken ≤ length flush.seat.view.seen
     within =
@@ -86,7 +88,7 @@ module _ {S : Type 0} (shared : Shared S) (node_of : Setting S → Node) (seat :
       longest = subst (λ (l : List (List ℕ)). IsLongestBeginning l group later.pending) (home.stands.pending ∙ λ i. map record_of (drop ((taken_size ∙ rests) i) (sym seen_events i))) longest;
       counts = counted;
       is =
-          subst (λ (s : Setting S). (r : Run) → Stands (node_of s) r book → group ≡ map record_of (drop (length r.taken) (with_taken r (length group)).taken)) home.setting records run home.stands
+          subst (λ (s : ConfigView S). (r : Run) → Stands (node_of scheme s) r book → group ≡ map record_of (drop (length r.taken) (with_taken r (length group)).taken)) home.setting records run home.stands
           ∙ (λ i. map record_of (drop ((taken_size ∙ rests) i) (take (length home.taken + length group) (sym seen_events i))))
           ∙ ap (λ (n : ℕ). map record_of (drop flush.settled (take n (events flush.seat.view.seen)))) (ap (λ (n : ℕ). n + length group) (taken_size ∙ rests) ∙ sym counted)
           ∙ ap (λ (l : History). map record_of (drop flush.settled l)) (take-map (λ (one : Marked). one.event) later.taken flush.seat.view.seen);
@@ -106,8 +108,8 @@ module _ {S : Type 0} (shared : Shared S) (node_of : Setting S → Node) (seat :
     begins : Begins synced (map record_of (drop (length run.settled) run.taken))
     begins = subst (λ (l : List (List ℕ)). Begins synced l) are (begins_same synced)
 
-    pub settles_next : SettlesNext (node_of book.validator.setting) book synced
-    settles_next = subst (λ (s : Setting S). SettlesNext (node_of s) book synced) (sym home.setting) (run, home.stands, begins)
+    pub settles_next : SettlesNext (node_of scheme book.validator.setting) book synced
+    settles_next = subst (λ (s : ConfigView S). SettlesNext (node_of scheme s) book synced) (sym home.setting) (run, home.stands, begins)
 
     all_of_it : take (length run.settled + length synced) run.taken ≡ events (taken_by flush)
     all_of_it =
@@ -117,11 +119,11 @@ module _ {S : Type 0} (shared : Shared S) (node_of : Setting S → Node) (seat :
         take_all (length run.settled + length synced) run.taken (omega (arith, less, count, left)) ∙ taken_is
 
     -- and the book is at home again once its seat knows it
-    pub home_settled : (later : Shown S) (behind : Sight) → later.validator.setting ≡ book.validator.setting → later.down ≡ book.down
-        → ((run : Run) → Stands (node_of book.validator.setting) run book → Begins synced (map record_of (drop (length run.settled) run.taken)) → Stands (node_of book.validator.setting) (with_settled run (length synced)) later)
-        → IsSame seat behind → behind.view.seen ≡ seat.view.seen → behind.view.firm ≡ taken_by flush → IsAtHome node_of shared behind later
+    pub home_settled : (later : BookView S) (behind : SeatView) → later.validator.setting ≡ book.validator.setting → later.down ≡ book.down
+        → ((run : Run) → Stands (node_of scheme book.validator.setting) run book → Begins synced (map record_of (drop (length run.settled) run.taken)) → Stands (node_of scheme book.validator.setting) (with_settled run (length synced)) later)
+        → IsSame seat behind → behind.view.seen ≡ seat.view.seen → behind.view.firm ≡ taken_by flush → IsAtHome scheme shared behind later
     home_settled later behind setting down stands same seen firm =
-        let there = subst (λ (s : Setting S). (r : Run) → Stands (node_of s) r book → Begins synced (map record_of (drop (length r.settled) r.taken)) → Stands (node_of s) (with_settled r (length synced)) later)
+        let there = subst (λ (s : ConfigView S). (r : Run) → Stands (node_of scheme s) r book → Begins synced (map record_of (drop (length r.settled) r.taken)) → Stands (node_of scheme s) (with_settled r (length synced)) later)
         home.setting stands run home.stands begins in
-        at_home shared node_of behind later (with_settled run (length synced)) (setting ∙ home.setting) (of_same shared seat behind home.of_node same) there (sym same.start)
+        at_home shared scheme behind later (with_settled run (length synced)) (setting ∙ home.setting) (of_same shared seat behind home.of_node same) there (sym same.start)
         (ap events (sym seen)) (all_of_it ∙ ap events (sym firm)) (λ is. same.down (home.down (sym down ∙ is)))

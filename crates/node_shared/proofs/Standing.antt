@@ -2,16 +2,17 @@
 use Rattle.std.proofs.Common.{◌≡◌, Bool, true, false, List, refl, sym, ap, ◌∙◌, subst, if◌then◌else◌}
 use Rattle.spec_world.specs.World.{Waiting}
 use Rattle.spec_model.specs.Nodes.{Node}
-use Rattle.validator.specs.Setting.{Setting}
-use Rattle.node_seats.specs.Sights.{Sight}
+use Rattle.validator.specs.Setting.{ConfigView, node_of}
+use Rattle.node_seats.specs.Sights.{SeatView}
 use Rattle.node_seats.specs.Views.{events, IsSame}
-use Rattle.book.specs.Book.{Shown, Run, Stands}
+use Rattle.book.specs.Book.{BookView, Run, Stands}
 use Rattle.node_shared.specs.Calls.{Stays}
-use Rattle.node_shared.specs.Home.{Shared, IsOf, IsAtHome, run_of}
+use Rattle.node_shared.specs.Home.{NodeView, IsOf, IsAtHome, run_of}
+use Rattle.sigface.specs.Scheme.{Scheme}
 
-module _ {S : Type 0} (shared : Shared S) where
+module _ {S : Type 0} (shared : NodeView S) where
   -- a step leaves a seat at its node
-  pub of_same : (before later : Sight) → IsOf shared before → IsSame before later → IsOf shared later
+  pub of_same : (before later : SeatView) → IsOf shared before → IsSame before later → IsOf shared later
   of_same before later of_node same = record {
     table = same.table ∙ of_node.table;
     live = same.live ∙ of_node.live;
@@ -19,50 +20,50 @@ module _ {S : Type 0} (shared : Shared S) where
     start = same.start ∙ of_node.start;
   }
 
-  module _ (node_of : Setting S → Node) where
+  module _ (scheme : Scheme S) where
     -- a book stands at home where it stands at this run
-    pub at_home : (seat : Sight) (book : Shown S) (run : Run) → book.validator.setting ≡ shared.setting → IsOf shared seat → Stands (node_of shared.setting) run book
-        → run.began ≡ seat.view.start → run.accepted ≡ events seat.view.seen → run.settled ≡ events seat.view.firm → (book.down ≡ true → seat.view.down ≡ true) → IsAtHome node_of shared seat book
+    pub at_home : (seat : SeatView) (book : BookView S) (run : Run) → book.validator.setting ≡ shared.setting → IsOf shared seat → Stands (node_of scheme shared.setting) run book
+        → run.began ≡ seat.view.start → run.accepted ≡ events seat.view.seen → run.settled ≡ events seat.view.firm → (book.down ≡ true → seat.view.down ≡ true) → IsAtHome scheme shared seat book
     at_home seat book run setting of_node stands began accepted settled down = record {
       setting = setting;
       of_node = of_node;
       taken = run.taken;
-      stands = subst (λ (r : Run). Stands (node_of shared.setting) r book) (λ i. record { began = began i; accepted = accepted i; taken = run.taken; settled = settled i }) stands;
+      stands = subst (λ (r : Run). Stands (node_of scheme shared.setting) r book) (λ i. record { began = began i; accepted = accepted i; taken = run.taken; settled = settled i }) stands;
       down = down;
     }
 
     -- a book that is at home stays so where its seat sees and knows the same
-    pub stays_home : (seat later : Sight) (book : Shown S) → IsAtHome node_of shared seat book → IsSame seat later → later.view.seen ≡ seat.view.seen → later.view.firm ≡ seat.view.firm
-        → IsAtHome node_of shared later book
+    pub stays_home : (seat later : SeatView) (book : BookView S) → IsAtHome scheme shared seat book → IsSame seat later → later.view.seen ≡ seat.view.seen → later.view.firm ≡ seat.view.firm
+        → IsAtHome scheme shared later book
     stays_home seat later book home same seen firm =
         at_home later book (run_of seat.view home.taken) home.setting (of_same seat later home.of_node same) home.stands (sym same.start) (ap events (sym seen)) (ap events (sym firm)) (λ is. same.down (home.down is))
 
     -- and where it stands wherever it stood
-    pub home_where : (seat : Sight) (book later : Shown S) → IsAtHome node_of shared seat book → later.validator.setting ≡ book.validator.setting → (later.down ≡ true → book.down ≡ true)
-        → ((run : Run) → Stands (node_of book.validator.setting) run book → Stands (node_of book.validator.setting) run later) → IsAtHome node_of shared seat later
+    pub home_where : (seat : SeatView) (book later : BookView S) → IsAtHome scheme shared seat book → later.validator.setting ≡ book.validator.setting → (later.down ≡ true → book.down ≡ true)
+        → ((run : Run) → Stands (node_of scheme book.validator.setting) run book → Stands (node_of scheme book.validator.setting) run later) → IsAtHome scheme shared seat later
     home_where seat book later home setting down stands =
-        let there = subst (λ (s : Setting S). (run : Run) → Stands (node_of s) run book → Stands (node_of s) run later) home.setting stands in
+        let there = subst (λ (s : ConfigView S). (run : Run) → Stands (node_of scheme s) run book → Stands (node_of scheme s) run later) home.setting stands in
         record { setting = setting ∙ home.setting; of_node = home.of_node; taken = home.taken; stands = there (run_of seat.view home.taken) home.stands; down = λ is. home.down (down is) }
 
     -- a book that is taken down is at home where its seat knows of it
-    pub home_down : (seat behind : Sight) (book later : Shown S) → IsAtHome node_of shared seat book → later ≡ record book { down = true }
-        → ((run : Run) → Stands (node_of book.validator.setting) run book → Stands (node_of book.validator.setting) run later)
-        → Stays seat behind → behind.view.down ≡ true → IsAtHome node_of shared behind later
+    pub home_down : (seat behind : SeatView) (book later : BookView S) → IsAtHome scheme shared seat book → later ≡ record book { down = true }
+        → ((run : Run) → Stands (node_of scheme book.validator.setting) run book → Stands (node_of scheme book.validator.setting) run later)
+        → Stays seat behind → behind.view.down ≡ true → IsAtHome scheme shared behind later
     home_down seat behind book later home is stands stays down =
-        let there = subst (λ (s : Setting S). (run : Run) → Stands (node_of s) run book → Stands (node_of s) run later) home.setting stands in
-        at_home behind later (run_of seat.view home.taken) (ap (λ (b : Shown S). b.validator.setting) is ∙ home.setting) (of_same seat behind home.of_node stays.same)
+        let there = subst (λ (s : ConfigView S). (run : Run) → Stands (node_of scheme s) run book → Stands (node_of scheme s) run later) home.setting stands in
+        at_home behind later (run_of seat.view home.taken) (ap (λ (b : BookView S). b.validator.setting) is ∙ home.setting) (of_same seat behind home.of_node stays.same)
         (there (run_of seat.view home.taken) home.stands) (sym stays.same.start) (ap events (sym stays.seen)) (ap events (sym stays.firm)) (λ _. down)
 
 -- a book without the first of its outputs, or as it was, is set up as it was
-pub queue_setting : {S : Type 0} (book later : Shown S) (queue : List Waiting) (given : Bool) → later ≡ (if given then record book { queue = queue } else book) → later.validator.setting ≡ book.validator.setting
+pub queue_setting : {S : Type 0} (book later : BookView S) (queue : List Waiting) (given : Bool) → later ≡ (if given then record book { queue = queue } else book) → later.validator.setting ≡ book.validator.setting
 queue_setting book later queue true is = ap (λ b. b.validator.setting) is
 queue_setting book later queue false is = ap (λ b. b.validator.setting) is
 
-pub queue_down : {S : Type 0} (book later : Shown S) (queue : List Waiting) (given : Bool) → later ≡ (if given then record book { queue = queue } else book) → later.down ≡ book.down
+pub queue_down : {S : Type 0} (book later : BookView S) (queue : List Waiting) (given : Bool) → later ≡ (if given then record book { queue = queue } else book) → later.down ≡ book.down
 queue_down book later queue true is = ap (λ b. b.down) is
 queue_down book later queue false is = ap (λ b. b.down) is
 
-pub queue_left : {S : Type 0} (book later : Shown S) (queue : List Waiting) (given : Bool) → later ≡ (if given then record book { queue = queue } else book) → later.queue ≡ (if given then queue else book.queue)
+pub queue_left : {S : Type 0} (book later : BookView S) (queue : List Waiting) (given : Bool) → later ≡ (if given then record book { queue = queue } else book) → later.queue ≡ (if given then queue else book.queue)
 queue_left book later queue true is = ap (λ b. b.queue) is
 queue_left book later queue false is = ap (λ b. b.queue) is
 
@@ -71,5 +72,5 @@ not_true : (one : Bool) → (one ≡ true → ⊥) → one ≡ false
 not_true true bad = absurd (bad refl)
 not_true false bad = refl
 
-pub stays_up : {S : Type 0} (book : Shown S) → (book.down ≡ true → ⊥) → book ≡ record book { down = false }
+pub stays_up : {S : Type 0} (book : BookView S) → (book.down ≡ true → ⊥) → book ≡ record book { down = false }
 stays_up book bad = λ i. record book { down = not_true book.down bad i }

@@ -3,56 +3,58 @@ use Rattle.std.proofs.Common.{◌≡◌, inl, inr, ℕ, ◌+◌, ◌≤◌, true
 use Rattle.std.proofs.lemmas.List.{length-map}
 use Rattle.std.specs.Prelude.{◌↔◌, Result, IsErrOf, IsTrue}
 use Rattle.spec_model.specs.Admitting.{admit, IsLegal}
-use Rattle.spec_model.specs.Histories.{History, Begins}
+use Rattle.spec_model.specs.Histories.{History}
+use Rattle.wire.specs.Lists.{Begins}
 use Rattle.spec_model.specs.Nodes.{Node}
 use Rattle.spec_model.specs.Words.{Event}
-use Rattle.spec_model.specs.declared.refusal.Refusal.{Refusal}
-use Rattle.spec_model.specs.declared.refusal.Refusal.TheVariants.{Memory, Down, TooOld, MissingParents, MissingBatch, Equivocation, CertConflict, DigestClash, AlreadyProposed, NotOurs, CoinOutOfTurn, CoinEarly, CoinConflict, StoreFull}
-use Rattle.validator.specs.Setting.{Setting}
-use Rattle.node_seats.specs.Sights.{Sight}
+use Rattle.header.specs.declared.refusal.Refusal.{Refusal}
+use Rattle.header.specs.declared.refusal.Refusal.TheVariants.{Memory, Down, TooOld, MissingParents, MissingBatch, Equivocation, CertConflict, DigestClash, AlreadyProposed, NotOurs, CoinOutOfTurn, CoinEarly, CoinConflict, StoreFull}
+use Rattle.validator.specs.Setting.{ConfigView, node_of}
+use Rattle.node_seats.specs.Sights.{SeatView}
 use Rattle.node_seats.specs.Views.{events, mark, IsSame}
 use Rattle.node_seats.specs.declared.view.Marked.{Marked}
 use Rattle.node_seats.specs.declared.view.View.{View}
 use Rattle.node_seats.proofs.Marks.{events_push}
-use Rattle.book.specs.Book.{Shown, Run, Stands, TakesNew, TakesKnown, MayRefuse, with_accepted}
+use Rattle.book.specs.Book.{BookView, Run, Stands, TakesNew, TakesKnown, MayRefuse, with_accepted}
 use Rattle.book.specs.declared.book.Receipt.{Receipt}
 use Rattle.book.specs.declared.book.TheConstants.{MAX_ACCEPTED}
-use Rattle.node_shared.specs.Home.{Shared, IsAtHome, run_of}
+use Rattle.node_shared.specs.Home.{NodeView, IsAtHome, run_of}
 use Rattle.node_shared.specs.Answers.{Submits, MayRefuseAt}
 use Rattle.node_shared.proofs.Standing.{of_same, at_home}
+use Rattle.sigface.specs.Scheme.{Scheme}
 
-module _ {S : Type 0} (shared : Shared S) (node_of : Setting S → Node) (seat : Sight) (book later : Shown S) (event : Event) (home : IsAtHome node_of shared seat book) where
+module _ {S : Type 0} (shared : NodeView S) (scheme : Scheme S) (seat : SeatView) (book later : BookView S) (event : Event) (home : IsAtHome scheme shared seat book) where
   -- the run at which the book stood
   abbrev pub run : Run
   run = run_of seat.view home.taken
 
-  module _ (takes : TakesNew (node_of book.validator.setting) book later event) where
-    pub here : TakesNew (node_of shared.setting) book later event
-    here = subst (λ (s : Setting S). TakesNew (node_of s) book later event) home.setting takes
+  module _ (takes : TakesNew (node_of scheme book.validator.setting) book later event) where
+    pub here : TakesNew (node_of scheme shared.setting) book later event
+    here = subst (λ (s : ConfigView S). TakesNew (node_of scheme s) book later event) home.setting takes
 
     -- with it all that was accepted is legal
-    pub legal_with : (start : History) (seen : List Marked) → start ≡ seat.view.start → seen ≡ seat.view.seen → IsLegal (node_of shared.setting) (start ++ (events seen ++ event ∷ []))
+    pub legal_with : (start : History) (seen : List Marked) → start ≡ seat.view.start → seen ≡ seat.view.seen → IsLegal (node_of scheme shared.setting) (start ++ (events seen ++ event ∷ []))
     legal_with start seen began same =
-        subst (λ (h : History). IsLegal (node_of shared.setting) (h ++ (events seen ++ event ∷ []))) (sym began)
-        (subst (λ (l : List Marked). IsLegal (node_of shared.setting) (seat.view.start ++ (events l ++ event ∷ []))) (sym same) (here.stands run home.stands).legal)
+        subst (λ (h : History). IsLegal (node_of scheme shared.setting) (h ++ (events seen ++ event ∷ []))) (sym began)
+        (subst (λ (l : List Marked). IsLegal (node_of scheme shared.setting) (seat.view.start ++ (events l ++ event ∷ []))) (sym same) (here.stands run home.stands).legal)
 
     -- and the book is at home again once its seat has seen it
-    pub home_with : (behind : Sight) (by : ℕ) → later.validator.setting ≡ book.validator.setting → IsSame seat behind → behind.view.seen ≡ seat.view.seen ++ mark by event ∷ [] → behind.view.firm ≡ seat.view.firm → (later.down ≡ true → ⊥)
-        → IsAtHome node_of shared behind later
+    pub home_with : (behind : SeatView) (by : ℕ) → later.validator.setting ≡ book.validator.setting → IsSame seat behind → behind.view.seen ≡ seat.view.seen ++ mark by event ∷ [] → behind.view.firm ≡ seat.view.firm → (later.down ≡ true → ⊥)
+        → IsAtHome scheme shared behind later
     home_with behind by setting same seen firm up =
-        at_home shared node_of behind later (with_accepted run event) (setting ∙ home.setting) (of_same shared seat behind home.of_node same) (here.stands run home.stands) (sym same.start)
+        at_home shared scheme behind later (with_accepted run event) (setting ∙ home.setting) (of_same shared seat behind home.of_node same) (here.stands run home.stands) (sym same.start)
         (sym (events_push by event seat.view.seen) ∙ ap events (sym seen)) (ap events (sym firm)) (λ down. absurd (up down))
 
     -- the answer
     pub submits_new : (before behind : View) (receipt : Receipt) → before.start ≡ seat.view.start → Begins before.seen seat.view.seen → receipt.new ≡ true → receipt.ticket ≡ later.accepted → receipt.ticket ≤ MAX_ACCEPTED
         → behind.seen ≡ seat.view.seen ++ mark before.number event ∷ [] → behind.mine ≡ before.mine ++ event ∷ []
-        → Submits (node_of shared.setting) event before behind (Ok receipt)
+        → Submits (node_of scheme shared.setting) event before behind (Ok receipt)
     submits_new before behind receipt began more is_new ticket limit seen mine = record {
       all = seat.view.seen;
       more = more;
       new = λ _. record {
         outputs = here.outputs;
-        answer = ap (λ (h : History). admit (node_of shared.setting) (h ++ events seat.view.seen) event) began ∙ here.answer run home.stands;
+        answer = ap (λ (h : History). admit (node_of scheme shared.setting) (h ++ events seat.view.seen) event) began ∙ here.answer run home.stands;
         room =
             let stood : book.accepted ≡ length (events seat.view.seen) = home.stands.accepted in
             let same : length (events seat.view.seen) ≡ length seat.view.seen = length-map seat.view.seen (λ (one : Marked). one.event) in
@@ -71,36 +73,36 @@ module _ {S : Type 0} (shared : Shared S) (node_of : Setting S → Node) (seat :
     }
 
   -- a known one
-  module _ (takes : TakesKnown (node_of book.validator.setting) book later event) where
-    pub was : TakesKnown (node_of shared.setting) book later event
-    was = subst (λ (s : Setting S). TakesKnown (node_of s) book later event) home.setting takes
+  module _ (takes : TakesKnown (node_of scheme book.validator.setting) book later event) where
+    pub was : TakesKnown (node_of scheme shared.setting) book later event
+    was = subst (λ (s : ConfigView S). TakesKnown (node_of scheme s) book later event) home.setting takes
 
-    pub home_known : IsAtHome node_of shared seat later
+    pub home_known : IsAtHome scheme shared seat later
     home_known = record {
-      setting = ap (λ (b : Shown S). b.validator.setting) was.is ∙ home.setting;
+      setting = ap (λ (b : BookView S). b.validator.setting) was.is ∙ home.setting;
       of_node = home.of_node;
       taken = home.taken;
       stands = was.stands run home.stands;
-      down = λ is. home.down (sym (ap (λ (b : Shown S). b.down) was.is) ∙ is);
+      down = λ is. home.down (sym (ap (λ (b : BookView S). b.down) was.is) ∙ is);
     }
 
     pub submits_known : (before behind : View) (receipt : Receipt) → before.start ≡ seat.view.start → Begins before.seen seat.view.seen → receipt.new ≡ false → receipt.ticket ≡ later.accepted
         → behind.seen ≡ seat.view.seen → behind.mine ≡ before.mine
-        → Submits (node_of shared.setting) event before behind (Ok receipt)
+        → Submits (node_of scheme shared.setting) event before behind (Ok receipt)
     submits_known before behind receipt began more is_known ticket seen mine = record {
       all = seat.view.seen;
       more = more;
       new = λ new. let bad : false ≡ true = sym is_known ∙ new in absurd cc;
       known = λ _. record {
         outputs = was.outputs;
-        answer = ap (λ (h : History). admit (node_of shared.setting) (h ++ events seat.view.seen) event) began ∙ was.answer run home.stands;
+        answer = ap (λ (h : History). admit (node_of scheme shared.setting) (h ++ events seat.view.seen) event) began ∙ was.answer run home.stands;
         seen = seen;
         mine = mine;
         ticket =
             let size : length behind.seen ≡ length seat.view.seen = ap length seen in
             let stood : book.accepted ≡ length (events seat.view.seen) = home.stands.accepted in
             let same : length (events seat.view.seen) ≡ length seat.view.seen = length-map seat.view.seen (λ (one : Marked). one.event) in
-            let kept : later.accepted ≡ book.accepted = ap (λ (b : Shown S). b.accepted) was.is in
+            let kept : later.accepted ≡ book.accepted = ap (λ (b : BookView S). b.accepted) was.is in
             omega (arith, size, stood, same, ticket, kept);
       };
       refused = tt;
@@ -108,7 +110,7 @@ module _ {S : Type 0} (shared : Shared S) (node_of : Setting S → Node) (seat :
     }
 
   -- a refusal
-  may_refuse : (refusal : Refusal) → MayRefuse (node_of shared.setting) run book event refusal → MayRefuseAt (node_of shared.setting) (seat.view.start ++ events seat.view.seen) (length seat.view.seen) event refusal
+  may_refuse : (refusal : Refusal) → MayRefuse (node_of scheme shared.setting) run book event refusal → MayRefuseAt (node_of scheme shared.setting) (seat.view.start ++ events seat.view.seen) (length seat.view.seen) event refusal
   may_refuse Memory may = tt
   may_refuse Down may = tt
   may_refuse StoreFull may =
@@ -128,22 +130,22 @@ module _ {S : Type 0} (shared : Shared S) (node_of : Setting S → Node) (seat :
   may_refuse CoinEarly may = may
   may_refuse CoinConflict may = may
 
-  pub submits_refused : (before behind : View) (refusal : Refusal) → ((run : Run) → Stands (node_of book.validator.setting) run book → MayRefuse (node_of book.validator.setting) run book event refusal)
+  pub submits_refused : (before behind : View) (refusal : Refusal) → ((run : Run) → Stands (node_of scheme book.validator.setting) run book → MayRefuse (node_of scheme book.validator.setting) run book event refusal)
       → before.start ≡ seat.view.start → Begins before.seen seat.view.seen → behind.seen ≡ seat.view.seen → behind.mine ≡ before.mine
-      → Submits (node_of shared.setting) event before behind (Err refusal)
+      → Submits (node_of scheme shared.setting) event before behind (Err refusal)
   submits_refused before behind refusal refused began more seen mine =
-      let there = subst (λ (s : Setting S). (run : Run) → Stands (node_of s) run book → MayRefuse (node_of s) run book event refusal) home.setting refused in
+      let there = subst (λ (s : ConfigView S). (run : Run) → Stands (node_of scheme s) run book → MayRefuse (node_of scheme s) run book event refusal) home.setting refused in
       record {
         all = seat.view.seen;
         more = more;
         new = tt;
         known = tt;
-        refused = subst (λ (h : History). MayRefuseAt (node_of shared.setting) (h ++ events seat.view.seen) (length seat.view.seen) event refusal) (sym began) (may_refuse refusal (there run home.stands));
+        refused = subst (λ (h : History). MayRefuseAt (node_of scheme shared.setting) (h ++ events seat.view.seen) (length seat.view.seen) event refusal) (sym began) (may_refuse refusal (there run home.stands));
         same = (seen, mine);
       }
 
 -- a book that answers anything but Down isn't down
-pub is_up : {S R : Type 0} (result : Result R Refusal) (receipt : R) → result ≡ Ok receipt → (book later : Shown S) → later.down ≡ book.down → IsErrOf result Down ↔ IsTrue book.down → later.down ≡ true → ⊥
+pub is_up : {S R : Type 0} (result : Result R Refusal) (receipt : R) → result ≡ Ok receipt → (book later : BookView S) → later.down ≡ book.down → IsErrOf result Down ↔ IsTrue book.down → later.down ≡ true → ⊥
 is_up result receipt is book later same exactly down =
     let none = subst (λ r. IsErrOf r Down ↔ IsTrue book.down) is exactly in
     let bad : Ok receipt ≡ Err Down = none.1 (sym same ∙ down) in absurd cc

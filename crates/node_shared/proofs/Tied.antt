@@ -1,6 +1,6 @@
 -- What a flush seat knows as settled.
 use Rattle.std.proofs.Common.{◌≡◌, ℕ, List, length, sym, arith}
-use Rattle.spec_model.specs.Histories.{Begins}
+use Rattle.wire.specs.Lists.{Begins}
 use Rattle.node_seats.proofs.Beginnings.{begins_whole}
 
 -- what is settled is the same list where it is as many

@@ -2,17 +2,18 @@
 use Rattle.std.specs.Prelude.{◌≡◌, ◌≤◌, ◌<◌, ◌⊎◌, ⊤, ℕ, true, false, List, [], ◌∷◌, ◌++◌, length, take, IsTrue, Result, IfOk, IfErr}
 use Rattle.spec_model.specs.Admitting.{admit, is_new}
 use Rattle.spec_model.specs.Giving.{MayGive}
-use Rattle.spec_model.specs.Histories.{History, Begins}
+use Rattle.spec_model.specs.Histories.{History}
+use Rattle.wire.specs.Lists.{Begins}
 use Rattle.spec_model.specs.Nodes.{Node}
 use Rattle.spec_model.specs.Words.{Event, Output}
-use Rattle.spec_model.specs.declared.admission.Admission.TheVariants.{New, Known, Refused}
-use Rattle.spec_model.specs.declared.refusal.Refusal.{Refusal}
-use Rattle.spec_model.specs.declared.refusal.Refusal.TheVariants.{Memory, Down, StoreFull}
+use Rattle.header.specs.declared.admission.Admission.TheVariants.{New, Known, Refused}
+use Rattle.header.specs.declared.refusal.Refusal.{Refusal}
+use Rattle.header.specs.declared.refusal.Refusal.TheVariants.{Memory, Down, StoreFull}
 use Rattle.spec_world.specs.Promise.{GoesOut}
 use Rattle.spec_world.specs.World.{put_out}
 use Rattle.book.specs.declared.book.Receipt.{Receipt}
 use Rattle.book.specs.declared.book.TheConstants.{MAX_ACCEPTED}
-use Rattle.node_seats.specs.Sights.{Sight}
+use Rattle.node_seats.specs.Sights.{SeatView}
 use Rattle.node_seats.specs.declared.view.Marked.{Marked}
 use Rattle.node_seats.specs.declared.view.View.{View}
 use Rattle.node_seats.specs.Views.{events, mark}
@@ -65,6 +66,6 @@ pub record IsPutOutBy (node : Node) (view : View) (output : Output) : Type 0 whe
   pub goes_out : GoesOut node (view.start ++ events (take count view.firm)) (put_out output)
 
 -- an output may be given out behind what a seat knows as settled, of which an event put it out
-pub record Gives (node : Node) (seat : Sight) (output : Output) : Type 0 where
+pub record Gives (node : Node) (seat : SeatView) (output : Output) : Type 0 where
   pub may : MayGive node (firm_by seat) output
   pub put_out : IsPutOutBy node seat.view output

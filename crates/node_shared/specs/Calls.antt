@@ -1,60 +1,61 @@
 -- What a call of a shared node does to the seats that it is made with.
 use Rattle.std.specs.Prelude.{◌≡◌, true, List, [], ℕ, Option, IsNone, Result, IfOk, IfSome, OnErr}
-use Rattle.spec_model.specs.Histories.{Begins}
+use Rattle.wire.specs.Lists.{Begins}
 use Rattle.spec_model.specs.Admitting.{IsLegal}
 use Rattle.spec_model.specs.Nodes.{Node}
-use Rattle.validator.specs.Setting.{Setting}
-use Rattle.node_seats.specs.Sights.{Sight}
+use Rattle.validator.specs.Setting.{ConfigView, node_of}
+use Rattle.node_seats.specs.Sights.{SeatView}
 use Rattle.node_seats.specs.Views.{HasOwn, IsSame}
-use Rattle.node_shared.specs.Home.{Shared, IsOf, IsFlushOf, TakesNext, taken_by, seen_by, firm_by}
+use Rattle.node_shared.specs.Home.{NodeView, IsOf, IsFlushOf, TakesNext, taken_by, seen_by, firm_by}
 use Rattle.node_shared.specs.declared.flush_seat.FlushSeat.{FlushSeat}
+use Rattle.sigface.specs.Scheme.{Scheme}
 
 -- A seat looked: it is the same one of the node, and knows as settled what it did. It has seen what it had and perhaps more, all of which
 -- is legal, and its own events are those of that which are marked with its number.
-pub record Looked {S : Type 0} (node_of : Setting S → Node) (node : Shared S) (before later : Sight) : Type 0 where
+pub record Looked {S : Type 0} (scheme : Scheme S) (node : NodeView S) (before later : SeatView) : Type 0 where
   pub of_node : IsOf node later
   pub same : IsSame before later
   pub firm : later.view.firm ≡ before.view.firm
   pub more : Begins before.view.seen later.view.seen
   pub own : HasOwn later.view
-  pub legal : IsLegal (node_of node.setting) (seen_by later)
+  pub legal : IsLegal (node_of scheme node.setting) (seen_by later)
 
 -- A seat was told what is settled: it is the same one of the node, and has seen what it had and perhaps more. Of that it knows as settled
 -- what it did and perhaps more, which is legal, and its own events are those of what it has seen that are marked with its number.
-pub record Learned {S : Type 0} (node_of : Setting S → Node) (node : Shared S) (before later : Sight) : Type 0 where
+pub record Learned {S : Type 0} (scheme : Scheme S) (node : NodeView S) (before later : SeatView) : Type 0 where
   pub of_node : IsOf node later
   pub same : IsSame before later
   pub more : Begins before.view.firm later.view.firm
   pub seen : Begins before.view.seen later.view.seen
   pub within : Begins later.view.firm later.view.seen
   pub own : HasOwn later.view
-  pub legal : IsLegal (node_of node.setting) (firm_by later)
+  pub legal : IsLegal (node_of scheme node.setting) (firm_by later)
 
 -- A seat brought an event, which is new or isn't: it is the same one of the node but for that, knows as settled what it did, and that the
 -- node is down if it did. What it has seen is legal, and its own events are those of that which are marked with its number.
-pub record Brought {S : Type 0} (node_of : Setting S → Node) (node : Shared S) (before later : Sight) : Type 0 where
+pub record Brought {S : Type 0} (scheme : Scheme S) (node : NodeView S) (before later : SeatView) : Type 0 where
   pub of_node : IsOf node later
   pub id : later.id ≡ before.id
   pub number : later.view.number ≡ before.view.number
   pub down : before.view.down ≡ true → later.view.down ≡ true
   pub firm : later.view.firm ≡ before.view.firm
   pub own : HasOwn later.view
-  pub legal : IsLegal (node_of node.setting) (seen_by later)
+  pub legal : IsLegal (node_of scheme node.setting) (seen_by later)
 
 -- A seat is the same one, and has seen and knows as settled just what it did.
-pub record Stays (before later : Sight) : Type 0 where
+pub record Stays (before later : SeatView) : Type 0 where
   pub same : IsSame before later
   pub seen : later.view.seen ≡ before.view.seen
   pub firm : later.view.firm ≡ before.view.firm
 
 -- a seat that has seen nothing since its node began
-pub record HasNothing (seat : Sight) : Type 0 where
+pub record HasNothing (seat : SeatView) : Type 0 where
   pub seen : seat.view.seen ≡ []
   pub firm : seat.view.firm ≡ []
   pub mine : seat.view.mine ≡ []
 
 -- a seat of the node beside another knows what that one does, and has brought no event
-pub record IsBeside {S : Type 0} (node : Shared S) (seat other : Sight) : Type 0 where
+pub record IsBeside {S : Type 0} (node : NodeView S) (seat other : SeatView) : Type 0 where
   pub of_node : IsOf node other
   pub seen : other.view.seen ≡ seat.view.seen
   pub firm : other.view.firm ≡ seat.view.firm
@@ -71,7 +72,7 @@ pub record Takes {E : Type 0} (before later : FlushSeat) (result : Result (Optio
   pub err : OnErr result (later.taken ≡ before.taken)
 
 -- all that it had taken is settled
-pub record SettlesTaken {S : Type 0} (node : Shared S) (before later : FlushSeat) : Type 0 where
+pub record SettlesTaken {S : Type 0} (node : NodeView S) (before later : FlushSeat) : Type 0 where
   pub flush_of : IsFlushOf node later
   pub same : IsSame before.seat later.seat
   pub firm : later.seat.view.firm ≡ taken_by before

@@ -1,40 +1,42 @@
 -- A shared node, its seats, and the book under its lock.
 use Rattle.std.specs.Prelude.{◌≡◌, ◌≤◌, ℕ, ◌+◌, ◌++◌, List, length, map, take, drop, true}
 use Rattle.atomic_table.specs.Seated.{TableId}
-use Rattle.spec_model.specs.Histories.{History, Begins}
+use Rattle.spec_model.specs.Histories.{History}
+use Rattle.wire.specs.Lists.{Begins}
 use Rattle.spec_model.specs.Nodes.{Node}
 use Rattle.spec_records.specs.Records.{record_of}
-use Rattle.validator.specs.Setting.{Setting}
-use Rattle.node_seats.specs.Sights.{Sight}
+use Rattle.validator.specs.Setting.{ConfigView, node_of}
+use Rattle.node_seats.specs.Sights.{SeatView}
 use Rattle.node_seats.specs.Views.{events}
 use Rattle.node_seats.specs.declared.view.Marked.{Marked}
 use Rattle.node_seats.specs.declared.view.View.{View}
-use Rattle.book.specs.Book.{Shown, Run, Stands}
+use Rattle.book.specs.Book.{BookView, Run, Stands}
 use Rattle.book.specs.Pending.{IsLongestBeginning}
 use Rattle.node_shared.specs.declared.flush_seat.FlushSeat.{FlushSeat}
+use Rattle.sigface.specs.Scheme.{Scheme}
 
 -- what contracts see of a shared node: which words it has, what its validator is set up with, and at which history it began
-pub record Shared (S : Type 0) : Type 0 where
+pub record NodeView (S : Type 0) : Type 0 where
   pub table : TableId
-  pub setting : Setting S
+  pub setting : ConfigView S
   pub start : History
 
 -- a seat is one of a node's: it is at its words, is no one that another took in, knows its number, and where the node began
-pub record IsOf {S : Type 0} (node : Shared S) (seat : Sight) : Type 0 where
+pub record IsOf {S : Type 0} (node : NodeView S) (seat : SeatView) : Type 0 where
   pub table : seat.table ≡ node.table
   pub live : seat.view.live ≡ true
   pub numbered : seat.view.numbered ≡ true
   pub start : seat.view.start ≡ node.start
 
 -- all that a seat has seen, and of that all that it knows as settled, behind where the node began
-abbrev pub seen_by : Sight → History
+abbrev pub seen_by : SeatView → History
 seen_by seat = seat.view.start ++ events seat.view.seen
 
-abbrev pub firm_by : Sight → History
+abbrev pub firm_by : SeatView → History
 firm_by seat = seat.view.start ++ events seat.view.firm
 
 -- A flush seat is a node's: its seat is, so many of the events that this has seen are settled, which it knows, and so many are taken.
-pub record IsFlushOf {S : Type 0} (node : Shared S) (flush : FlushSeat) : Type 0 where
+pub record IsFlushOf {S : Type 0} (node : NodeView S) (flush : FlushSeat) : Type 0 where
   pub of_node : IsOf node flush.seat
   pub settled : flush.settled ≡ length flush.seat.view.firm
   pub rising : flush.settled ≤ flush.taken
@@ -62,15 +64,15 @@ run_of view taken = record { began = view.start; accepted = events view.seen; ta
 
 -- A book is at home in a node: it is set up as the node is, its own seat is one of the node's, which knows that the node is down if the
 -- book is, and it stands at exactly what that seat has seen and knows as settled, for some list between that was taken.
-pub record IsAtHome {S : Type 0} (node_of : Setting S → Node) (node : Shared S) (seat : Sight) (book : Shown S) : Type 0 where
+pub record IsAtHome {S : Type 0} (scheme : Scheme S) (node : NodeView S) (seat : SeatView) (book : BookView S) : Type 0 where
   pub setting : book.validator.setting ≡ node.setting
   pub of_node : IsOf node seat
   pub taken : History
-  pub stands : Stands (node_of node.setting) (run_of seat.view taken) book
+  pub stands : Stands (node_of scheme node.setting) (run_of seat.view taken) book
   pub down : book.down ≡ true → seat.view.down ≡ true
 
 -- A flush seat is tied to a book at home and its seat: it knows just what that one does, and counts as the book does.
-pub record IsTied {S : Type 0} (node : Shared S) (seat : Sight) (book : Shown S) (flush : FlushSeat) : Type 0 where
+pub record IsTied {S : Type 0} (node : NodeView S) (seat : SeatView) (book : BookView S) (flush : FlushSeat) : Type 0 where
   pub flush_of : IsFlushOf node flush
   pub seen : flush.seat.view.seen ≡ seat.view.seen
   pub firm : flush.seat.view.firm ≡ seat.view.firm

@@ -1,7 +1,7 @@
 //! What a node hands over for its disk, and what it is told of that.
 
 ghost use Rattle.std.specs.Prelude.{◌≡◌, ◌≤◌, true};
-ghost use Rattle.spec_model.specs.Histories.{Begins};
+ghost use Rattle.wire.specs.Lists.{Begins};
 ghost use Rattle.spec_model.specs.Admitting.{IsLegal};
 ghost use Rattle.validator.specs.Setting.{node_of};
 ghost use Rattle.node_seats.specs.Views.{IsSame};
@@ -35,9 +35,9 @@ impl<'a, S: Sign> Node<'a, S> {
         ensures flush_same { IsSame flush.old.seat flush.new.seat }
         ensures flush_firm { flush.new.seat.view.firm ≡ flush.old.seat.view.firm }
         ensures flush_settled { flush.new.settled ≡ flush.old.settled }
-        ensures looked { Looked (node_of S.own_key S.signature_of) self.now seat.old seat.new }
+        ensures looked { Looked S.scheme self.now seat.old seat.new }
         ensures seen { Begins seat.new.view.seen flush.new.seat.view.seen }
-        ensures legal { IsLegal (node_of S.own_key S.signature_of self.now.setting) (seen_by flush.new.seat) }
+        ensures legal { IsLegal (node_of S.scheme self.now.setting) (seen_by flush.new.seat) }
         ensures takes { Takes flush.old flush.new result }
     {
         self.meet(seat, &mut flush.seat);
@@ -78,7 +78,7 @@ impl<'a, S: Sign> Node<'a, S> {
         requires flush { IsFlushOf self.now flush.old }
         requires of { IsOf self.now seat.old }
         ensures flush { flush.new ≡ flush.old }
-        ensures learned { Learned (node_of S.own_key S.signature_of) self.now seat.old seat.new }
+        ensures learned { Learned S.scheme self.now seat.old seat.new }
         ensures firm { seat.new.view.firm ≡ flush.old.seat.view.firm }
     {
         let count = flush.settled;
@@ -112,7 +112,7 @@ impl<'a, S: Sign> Node<'a, S> {
     // The flush seat then knows what the book's seat does. The answer is whether it counts as the book does, which it will at once
     // or never.
     fn tie<R: Wait>(&self, rt: &R, locked: &mut Locked<'a, S>, flush: &mut FlushSeat) -> bool
-        requires home { IsAtHome (node_of S.own_key S.signature_of) self.now locked.old.seat locked.old.book }
+        requires home { IsAtHome S.scheme self.now locked.old.seat locked.old.book }
         requires of { IsOf self.now flush.old.seat }
         requires rising { flush.old.settled ≤ flush.old.taken }
         ensures locked { locked.new ≡ locked.old }
@@ -121,7 +121,7 @@ impl<'a, S: Sign> Node<'a, S> {
         ensures counts { CountsAs flush.old flush.new }
         ensures firm { Begins flush.old.seat.view.firm flush.new.seat.view.firm }
         ensures seen { Begins flush.old.seat.view.seen flush.new.seat.view.seen }
-        ensures legal { IsLegal (node_of S.own_key S.signature_of self.now.setting) (seen_by flush.new.seat) }
+        ensures legal { IsLegal (node_of S.scheme self.now.setting) (seen_by flush.new.seat) }
         ensures tied { result ≡ true → IsTied self.now locked.old.seat locked.old.book flush.new }
     {
         self.know_all(rt, locked, &mut flush.seat);
@@ -134,10 +134,10 @@ impl<'a, S: Sign> Node<'a, S> {
         locked: &mut Locked<'a, S>,
         flush: &mut FlushSeat,
     ) -> Result<Option<Group>, AllocError>
-        requires home { IsAtHome (node_of S.own_key S.signature_of) self.now locked.old.seat locked.old.book }
+        requires home { IsAtHome S.scheme self.now locked.old.seat locked.old.book }
         requires tied { IsTied self.now locked.old.seat locked.old.book flush.old }
         requires rests { flush.old.taken ≡ flush.old.settled }
-        ensures home { IsAtHome (node_of S.own_key S.signature_of) self.now locked.new.seat locked.new.book }
+        ensures home { IsAtHome S.scheme self.now locked.new.seat locked.new.book }
         ensures flush { IsFlushOf self.now flush.new }
         ensures same { (flush.new.seat ≡ flush.old.seat) × (flush.new.settled ≡ flush.old.settled) }
         ensures takes { Takes flush.old flush.new result }
@@ -156,10 +156,10 @@ impl<'a, S: Sign> Node<'a, S> {
         flush: &mut FlushSeat,
         synced: Synced,
     )
-        requires home { IsAtHome (node_of S.own_key S.signature_of) self.now locked.old.seat locked.old.book }
+        requires home { IsAtHome S.scheme self.now locked.old.seat locked.old.book }
         requires tied { IsTied self.now locked.old.seat locked.old.book flush.old }
         requires synced { synced ≡ group_of flush.old }
-        ensures home { IsAtHome (node_of S.own_key S.signature_of) self.now locked.new.seat locked.new.book }
+        ensures home { IsAtHome S.scheme self.now locked.new.seat locked.new.book }
         ensures settles { SettlesTaken self.now flush.old flush.new }
     {
         locked.book.settle(synced);

@@ -13,7 +13,7 @@ impl<'a, S: Sign> Law<Validator<'a, S>> for Legal {
     ghost use Rattle.spec_model.specs.Admitting.{IsLegal};
     ghost use Rattle.validator.specs.Setting.{node_of};
 
-    ghost legal = { λ validator history. IsLegal (node_of S.own_key S.signature_of validator.setting) history };
+    ghost legal = { λ validator history. IsLegal (node_of S.scheme validator.setting) history };
 }
 
 pub(crate) type Counts<'a, S> = Words<Validator<'a, S>, Legal>;
@@ -39,5 +39,5 @@ impl<'a, S: Sign> Fits<Box<Locked<'a, S>>, Key<'a, S>> for AtHome {
     ghost use Rattle.validator.specs.Setting.{node_of};
     ghost use Rattle.node_shared.specs.Home.{IsAtHome};
 
-    ghost fits = { λ key locked. IsAtHome (node_of S.own_key S.signature_of) (record { table = key.words.table; setting = key.words.key.setting; start = key.seat.view.start }) locked.value.seat locked.value.book };
+    ghost fits = { λ key locked. IsAtHome S.scheme (record { table = key.words.table; setting = key.words.key.setting; start = key.seat.view.start }) locked.value.seat locked.value.book };
 }

@@ -32,9 +32,9 @@ impl<'a, S: Sign> Drop for Node<'a, S> {
 
 impl<'a, S: Sign> Model for Node<'a, S> {
     ghost use Rattle.std.specs.Prelude.{◌≡◌};
-    ghost use Rattle.node_shared.specs.Home.{Shared};
+    ghost use Rattle.node_shared.specs.Home.{NodeView};
 
-    ghost Value = { Shared S };
+    ghost Value = { NodeView S };
 
     ghost view = { λ n. record { table = n.words.table; setting = n.words.key.setting; start = n.lock.key.seat.view.start } };
 
@@ -48,8 +48,8 @@ impl<'a, S: Sign> Node<'a, S> {
         alloc: Global,
         validator: Validator<'a, S>,
     ) -> Result<(Node<'a, S>, Seat, FlushSeat), AllocError>
-        requires legal { IsLegal (node_of S.own_key S.signature_of validator.setting) H.history }
-        requires at { let node = node_of S.own_key S.signature_of validator.setting in AreAtSound node validator.tables (kept node H.history) }
+        requires legal { IsLegal (node_of S.scheme validator.setting) H.history }
+        requires at { let node = node_of S.scheme validator.setting in AreAtSound node validator.tables (kept node H.history) }
         ensures setting { IfOk result (λ made. made.0.setting ≡ validator.entry.setting) }
         ensures start { IfOk result (λ made. made.0.start ≡ H.history) }
         ensures seat { IfOk result (λ made. IsOf made.0 made.1) }

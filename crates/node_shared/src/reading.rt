@@ -3,7 +3,7 @@
 ghost use Rattle.std.specs.Prelude.{◌≡◌, ◌⊎◌, ◌↔◌, true, None, not, drop, length, is_some, if◌then◌else◌, IsNone, IsTrue, IsErrOf, IfOk, IfErr, IfSome};
 ghost use Rattle.book.specs.Book.{releasable};
 ghost use Rattle.header.specs.Checks.{fault_of, accepts_all};
-ghost use Rattle.spec_model.specs.Histories.{Begins};
+ghost use Rattle.wire.specs.Lists.{Begins};
 ghost use Rattle.spec_machine.specs.Machine.{is_missing_parents};
 ghost use Rattle.spec_model.specs.Admitting.{admit};
 ghost use Rattle.spec_model.specs.Giving.{unless_low};
@@ -30,7 +30,7 @@ impl<'a, S: Sign> Node<'a, S> {
     /// memory.
     pub fn accepted(&self, seat: &mut Seat) -> u64
         requires of { IsOf self.now seat.old }
-        ensures looked { Looked (node_of S.own_key S.signature_of) self.now seat.old seat.new }
+        ensures looked { Looked S.scheme self.now seat.old seat.new }
         ensures count { result ≡ length seat.new.view.seen }
     {
         self.words.look::<Brand>(seat)
@@ -39,7 +39,7 @@ impl<'a, S: Sign> Node<'a, S> {
     /// How many of these are settled, all of which the seat then knows as settled. It waits for nobody and takes no memory.
     pub fn synced(&self, seat: &mut Seat) -> u64
         requires of { IsOf self.now seat.old }
-        ensures learned { Learned (node_of S.own_key S.signature_of) self.now seat.old seat.new }
+        ensures learned { Learned S.scheme self.now seat.old seat.new }
         ensures count { result ≡ length seat.new.view.firm }
     {
         self.words.read::<Brand>(seat)
@@ -50,8 +50,8 @@ impl<'a, S: Sign> Node<'a, S> {
     pub fn meet(&self, first: &mut Seat, second: &mut Seat) -> u64
         requires first { IsOf self.now first.old }
         requires second { IsOf self.now second.old }
-        ensures first { Looked (node_of S.own_key S.signature_of) self.now first.old first.new }
-        ensures second { Looked (node_of S.own_key S.signature_of) self.now second.old second.new }
+        ensures first { Looked S.scheme self.now first.old first.new }
+        ensures second { Looked S.scheme self.now second.old second.new }
         ensures meets { Begins first.new.view.seen second.new.view.seen }
         ensures down { first.old.view.down ≡ true → second.new.view.down ≡ true }
         ensures count { result ≡ length second.new.view.seen }
@@ -61,10 +61,10 @@ impl<'a, S: Sign> Node<'a, S> {
 
     // The seat has then seen exactly what was accepted.
     pub(crate) fn see_all<R: Wait>(&self, rt: &R, locked: &mut Locked<'a, S>, seat: &mut Seat)
-        requires home { IsAtHome (node_of S.own_key S.signature_of) self.now locked.old.seat locked.old.book }
+        requires home { IsAtHome S.scheme self.now locked.old.seat locked.old.book }
         requires of { IsOf self.now seat.old }
         ensures locked { locked.new ≡ locked.old }
-        ensures looked { Looked (node_of S.own_key S.signature_of) self.now seat.old seat.new }
+        ensures looked { Looked S.scheme self.now seat.old seat.new }
         ensures seen { seat.new.view.seen ≡ locked.old.seat.view.seen }
     {
         let count = locked.book.accepted();
@@ -74,10 +74,10 @@ impl<'a, S: Sign> Node<'a, S> {
 
     // The seat then knows as settled exactly what is.
     pub(crate) fn know_all<R: Wait>(&self, rt: &R, locked: &mut Locked<'a, S>, seat: &mut Seat)
-        requires home { IsAtHome (node_of S.own_key S.signature_of) self.now locked.old.seat locked.old.book }
+        requires home { IsAtHome S.scheme self.now locked.old.seat locked.old.book }
         requires of { IsOf self.now seat.old }
         ensures locked { locked.new ≡ locked.old }
-        ensures learned { Learned (node_of S.own_key S.signature_of) self.now seat.old seat.new }
+        ensures learned { Learned S.scheme self.now seat.old seat.new }
         ensures firm { seat.new.view.firm ≡ locked.old.seat.view.firm }
     {
         let count = locked.book.settled();
@@ -87,9 +87,9 @@ impl<'a, S: Sign> Node<'a, S> {
 
     // The seat then knows whether the node is down, and the book is just where the seat knows that.
     pub(crate) fn know_down(&self, locked: &mut Locked<'a, S>, seat: &mut Seat)
-        requires home { IsAtHome (node_of S.own_key S.signature_of) self.now locked.old.seat locked.old.book }
+        requires home { IsAtHome S.scheme self.now locked.old.seat locked.old.book }
         requires of { IsOf self.now seat.old }
-        ensures home { IsAtHome (node_of S.own_key S.signature_of) self.now locked.new.seat locked.new.book }
+        ensures home { IsAtHome S.scheme self.now locked.new.seat locked.new.book }
         ensures book { locked.new.book ≡ record locked.old.book { down = seat.new.view.down } }
         ensures stays_locked { Stays locked.old.seat locked.new.seat }
         ensures stays { Stays seat.old seat.new }
@@ -105,9 +105,9 @@ impl<'a, S: Sign> Node<'a, S> {
     /// out there, and it may be given out. None where the node is down, which the seat then knows.
     pub fn collect<R: Wait>(&self, rt: &R, seat: &mut Seat) -> Option<Output>
         requires of { IsOf self.now seat.old }
-        ensures learned { Learned (node_of S.own_key S.signature_of) self.now seat.old seat.new }
+        ensures learned { Learned S.scheme self.now seat.old seat.new }
         ensures down { IsTrue seat.new.view.down → IsNone result }
-        ensures gives { IfSome result (λ output. Gives (node_of S.own_key S.signature_of self.now.setting) seat.new output) }
+        ensures gives { IfSome result (λ output. Gives (node_of S.scheme self.now.setting) seat.new output) }
     {
         let (turn, mut home) = self.lock.acquire(rt);
         let locked = &mut *home;
@@ -118,12 +118,12 @@ impl<'a, S: Sign> Node<'a, S> {
 
     // The same, under the lock.
     fn give<R: Wait>(&self, rt: &R, locked: &mut Locked<'a, S>, seat: &mut Seat) -> Option<Output>
-        requires home { IsAtHome (node_of S.own_key S.signature_of) self.now locked.old.seat locked.old.book }
+        requires home { IsAtHome S.scheme self.now locked.old.seat locked.old.book }
         requires of { IsOf self.now seat.old }
-        ensures home { IsAtHome (node_of S.own_key S.signature_of) self.now locked.new.seat locked.new.book }
-        ensures learned { Learned (node_of S.own_key S.signature_of) self.now seat.old seat.new }
+        ensures home { IsAtHome S.scheme self.now locked.new.seat locked.new.book }
+        ensures learned { Learned S.scheme self.now seat.old seat.new }
         ensures down { IsTrue seat.new.view.down → IsNone result }
-        ensures gives { IfSome result (λ output. Gives (node_of S.own_key S.signature_of self.now.setting) seat.new output) }
+        ensures gives { IfSome result (λ output. Gives (node_of S.scheme self.now.setting) seat.new output) }
         // Unless the node is down it is the book's next one, which the book then lets go of.
         ensures next { result ≡ releasable (record locked.old.book { down = seat.new.view.down }) }
         ensures queue { locked.new.book.queue ≡ (if is_some result then drop 1 locked.old.book.queue else locked.old.book.queue) }
@@ -140,9 +140,9 @@ impl<'a, S: Sign> Node<'a, S> {
     /// `Down` where the node is down, which the seat then knows, `Memory` where a growth was refused.
     pub fn order<R: Wait>(&self, rt: &R, seat: &mut Seat, from: u64) -> Result<Vec<Digest>, Refusal>
         requires of { IsOf self.now seat.old }
-        ensures learned { Learned (node_of S.own_key S.signature_of) self.now seat.old seat.new }
+        ensures learned { Learned S.scheme self.now seat.old seat.new }
         ensures down { IsErrOf result Refusal.Down ↔ IsTrue seat.new.view.down }
-        ensures order { IfOk result (λ digests. digests.items ≡ drop from (order_of (node_of S.own_key S.signature_of self.now.setting) (firm_by seat.new))) }
+        ensures order { IfOk result (λ digests. digests.items ≡ drop from (order_of (node_of S.scheme self.now.setting) (firm_by seat.new))) }
         ensures errors { IfErr result (λ refusal. (refusal ≡ Refusal.Down) ⊎ (refusal ≡ Refusal.Memory)) }
     {
         let (turn, mut home) = self.lock.acquire(rt);
@@ -164,8 +164,8 @@ impl<'a, S: Sign> Node<'a, S> {
         round: Round,
     ) -> Option<Digest>
         requires of { IsOf self.now seat.old }
-        ensures looked { Looked (node_of S.own_key S.signature_of) self.now seat.old seat.new }
-        ensures voted { result ≡ unless_low (floor_of (node_of S.own_key S.signature_of self.now.setting) (seen_by seat.new)) round (voted_digest (seen_by seat.new) round author.0) }
+        ensures looked { Looked S.scheme self.now seat.old seat.new }
+        ensures voted { result ≡ unless_low (floor_of (node_of S.scheme self.now.setting) (seen_by seat.new)) round (voted_digest (seen_by seat.new) round author.0) }
     {
         let (turn, mut home) = self.lock.acquire(rt);
         let locked = &mut *home;
@@ -178,8 +178,8 @@ impl<'a, S: Sign> Node<'a, S> {
     /// The validator's round, behind all that was accepted, which the seat has then seen.
     pub fn round_now<R: Wait>(&self, rt: &R, seat: &mut Seat) -> u64
         requires of { IsOf self.now seat.old }
-        ensures looked { Looked (node_of S.own_key S.signature_of) self.now seat.old seat.new }
-        ensures round { result ≡ round_of (node_of S.own_key S.signature_of self.now.setting) (seen_by seat.new) }
+        ensures looked { Looked S.scheme self.now seat.old seat.new }
+        ensures round { result ≡ round_of (node_of S.scheme self.now.setting) (seen_by seat.new) }
     {
         let (turn, mut home) = self.lock.acquire(rt);
         let locked = &mut *home;
@@ -194,8 +194,8 @@ impl<'a, S: Sign> Node<'a, S> {
     pub fn ready<R: Wait>(&self, rt: &R, seat: &mut Seat, event: &Checked) -> bool
         requires of { IsOf self.now seat.old }
         requires passed { fault_of self.now.setting.charter accepts_all event.now ≡ None }
-        ensures looked { Looked (node_of S.own_key S.signature_of) self.now seat.old seat.new }
-        ensures ready { result ≡ not (is_missing_parents (admit (node_of S.own_key S.signature_of self.now.setting) (seen_by seat.new) event.now)) }
+        ensures looked { Looked S.scheme self.now seat.old seat.new }
+        ensures ready { result ≡ not (is_missing_parents (admit (node_of S.scheme self.now.setting) (seen_by seat.new) event.now)) }
     {
         let (turn, mut home) = self.lock.acquire(rt);
         let locked = &mut *home;
@@ -209,8 +209,8 @@ impl<'a, S: Sign> Node<'a, S> {
     /// proposes none. `AllocError` where a growth was refused.
     pub fn propose<R: Wait>(&self, rt: &R, seat: &mut Seat) -> Result<Option<Header>, AllocError>
         requires of { IsOf self.now seat.old }
-        ensures looked { Looked (node_of S.own_key S.signature_of) self.now seat.old seat.new }
-        ensures header { IfOk result (λ found. found ≡ propose_of (node_of S.own_key S.signature_of self.now.setting) (seen_by seat.new)) }
+        ensures looked { Looked S.scheme self.now seat.old seat.new }
+        ensures header { IfOk result (λ found. found ≡ propose_of (node_of S.scheme self.now.setting) (seen_by seat.new)) }
     {
         let (turn, mut home) = self.lock.acquire(rt);
         let locked = &mut *home;

@@ -27,8 +27,8 @@ impl<'a, S: Sign> Node<'a, S> {
     ) -> Result<Receipt, Refusal>
         requires of { IsOf self.now seat.old }
         requires passed { fault_of self.now.setting.charter accepts_all event ≡ None }
-        ensures brought { Brought (node_of S.own_key S.signature_of) self.now seat.old seat.new }
-        ensures submits { Submits (node_of S.own_key S.signature_of self.now.setting) event seat.old.view seat.new.view result }
+        ensures brought { Brought S.scheme self.now seat.old seat.new }
+        ensures submits { Submits (node_of S.scheme self.now.setting) event seat.old.view seat.new.view result }
         ensures down { IsErrOf result Refusal.Down ↔ IsTrue seat.new.view.down }
     {
         let (turn, mut home) = self.lock.acquire(rt);
@@ -46,13 +46,13 @@ impl<'a, S: Sign> Node<'a, S> {
         seat: &mut Seat,
         event: Checked,
     ) -> Result<Receipt, Refusal>
-        requires home { IsAtHome (node_of S.own_key S.signature_of) self.now locked.old.seat locked.old.book }
+        requires home { IsAtHome S.scheme self.now locked.old.seat locked.old.book }
         requires of { IsOf self.now seat.old }
         requires passed { fault_of self.now.setting.charter accepts_all event ≡ None }
         requires call { C.event ≡ event }
-        ensures home { IsAtHome (node_of S.own_key S.signature_of) self.now locked.new.seat locked.new.book }
-        ensures brought { Brought (node_of S.own_key S.signature_of) self.now seat.old seat.new }
-        ensures submits { Submits (node_of S.own_key S.signature_of self.now.setting) event seat.old.view seat.new.view result }
+        ensures home { IsAtHome S.scheme self.now locked.new.seat locked.new.book }
+        ensures brought { Brought S.scheme self.now seat.old seat.new }
+        ensures submits { Submits (node_of S.scheme self.now.setting) event seat.old.view seat.new.view result }
         ensures down { IsErrOf result Refusal.Down ↔ IsTrue seat.new.view.down }
     {
         self.see_all(rt, locked, seat);

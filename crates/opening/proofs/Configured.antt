@@ -12,8 +12,8 @@ use Rattle.std.proofs.lemmas.Option.{same_Some}
 use Rattle.committee.specs.Charter.{Charter, IsCharter, total_of}
 use Rattle.committee.proofs.StakeLemmas.{sum-bounds}
 use Rattle.spec_records.specs.Records.{number_of, configuration_of, CanTell}
-use Rattle.spec_records.specs.declared.version.Version.{Version}
-use Rattle.spec_records.specs.declared.version.Version.TheVariants.{First, Second}
+use Rattle.journal.specs.declared.version.Version.{Version}
+use Rattle.journal.specs.declared.version.Version.TheVariants.{First, Second}
 use Rattle.opening.specs.Told.{members_in, size_in, has_ones, can_tell, has_front, is_configuration, shaped_version}
 use Rattle.wire.specs.declared.keys.Author.{Author}
 

@@ -9,7 +9,7 @@ use Rattle.journal.specs.declared.record.Record.{Record}
 use Rattle.journal.proofs.Walks.{walk_closed, body_stands}
 use Rattle.spec_model.specs.Nodes.{Node}
 use Rattle.spec_records.specs.Records.{configuration_of}
-use Rattle.spec_records.specs.declared.version.Version.{Version}
+use Rattle.journal.specs.declared.version.Version.{Version}
 use Rattle.opening.specs.Told.{KeepsOrBegins}
 
 abbrev Found : Type 0

@@ -17,8 +17,8 @@ use Rattle.spec_model.specs.Admitting.{IsTaken, IsLegal}
 use Rattle.spec_model.specs.Histories.{History}
 use Rattle.spec_model.specs.Nodes.{Node, IsNode}
 use Rattle.spec_records.specs.Records.{stakes_of, configuration_of, CanTell}
-use Rattle.spec_records.specs.declared.version.Version.{Version}
-use Rattle.spec_records.specs.declared.version.Version.TheVariants.{First, Second}
+use Rattle.journal.specs.declared.version.Version.{Version}
+use Rattle.journal.specs.declared.version.Version.TheVariants.{First, Second}
 use Rattle.wire.specs.Fields as fields
 use Rattle.wire.specs.declared.keys.Key.{Key}
 use Rattle.spec_world.specs.Promise.{NothingTakenBack}
@@ -123,7 +123,7 @@ told_stands_for only node bytes history sound are is = found_by only node bytes 
 
 -- a key has 32 bytes
 abbrev IsKey : Key → Type 0
-IsKey key = fields.AreBytes 32 key.0
+IsKey key = fields.HasBytes 32 key.0
 
 keys_long : (keys : List Key) → All IsKey keys → length (flat_map (λ key. key.0) keys) ≡ 32 * length keys
 keys_long [] each = refl

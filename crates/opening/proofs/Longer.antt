@@ -19,7 +19,7 @@ use Rattle.spec_model.specs.Histories.{History}
 use Rattle.spec_model.specs.Nodes.{Node, IsNode}
 use Rattle.spec_model.specs.Words.{Event}
 use Rattle.spec_records.specs.Records.{record_of}
-use Rattle.spec_records.specs.declared.version.Version.{Version}
+use Rattle.journal.specs.declared.version.Version.{Version}
 use Rattle.wire_read.proofs.Messages.{is_read}
 use Rattle.opening.specs.Told.{checked_in, if_passed, sender_in, event_in, read_event, read_events, unless, shaped_version, is_alone, is_own, first_fault, told}
 use Rattle.opening.proofs.Telling.{event_is, read_new, read_nil, read_ok, read_err, journal_cons, told_records, told_damaged, ok_told, by_version}

@@ -17,14 +17,14 @@ use Rattle.spec_model.specs.Giving.{kept}
 use Rattle.spec_model.specs.Histories.{History}
 use Rattle.spec_model.specs.Nodes.{Node, IsNode}
 use Rattle.spec_model.specs.Words.{Author, Event, Message}
-use Rattle.spec_model.specs.declared.admission.Admission.{Admission}
-use Rattle.spec_model.specs.declared.refusal.Refusal.{Refusal}
+use Rattle.header.specs.declared.admission.Admission.{Admission}
+use Rattle.header.specs.declared.refusal.Refusal.{Refusal}
 use Rattle.admission.specs.Answers.{IsAnswer, is_new_step}
 use Rattle.admission.specs.declared.step.Step.{Step}
 use Rattle.admission.specs.declared.step.Step.TheVariants.{New, Known}
 use Rattle.spec_machine.specs.Machine.{fresh}
 use Rattle.spec_records.specs.Records.{configuration_of, CanTell}
-use Rattle.spec_records.specs.declared.version.Version.{Version}
+use Rattle.journal.specs.declared.version.Version.{Version}
 use Rattle.admission.specs.declared.tables.Tables.{Tables}
 use Rattle.validator.specs.Standing.{AreAtSound}
 use Rattle.wire.specs.Reading.{Faults, message_of}

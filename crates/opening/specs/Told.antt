@@ -19,11 +19,11 @@ use Rattle.spec_model.specs.Giving.{kept}
 use Rattle.spec_model.specs.Histories.{History}
 use Rattle.spec_model.specs.Nodes.{Node}
 use Rattle.spec_model.specs.Words.{Author, Event, Message}
-use Rattle.spec_model.specs.declared.refusal.Refusal.{Refusal}
-use Rattle.spec_model.specs.declared.refusal.Refusal.TheVariants as refusals
+use Rattle.header.specs.declared.refusal.Refusal.{Refusal}
+use Rattle.header.specs.declared.refusal.Refusal.TheVariants as refusals
 use Rattle.spec_records.specs.Records.{number_of, configuration_of}
-use Rattle.spec_records.specs.declared.version.Version.{Version}
-use Rattle.spec_records.specs.declared.version.Version.TheVariants.{First, Second}
+use Rattle.journal.specs.declared.version.Version.{Version}
+use Rattle.journal.specs.declared.version.Version.TheVariants.{First, Second}
 use Rattle.opening.specs.declared.configuration.TheConstants.{SETTINGS_BYTES, KEY_BYTES, STAKE_BYTES}
 use Rattle.opening.specs.declared.events.TheConstants.{EVENT, FRONT_BYTES}
 use Rattle.admission.specs.declared.tables.Tables.{Tables}

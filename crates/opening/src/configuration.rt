@@ -3,10 +3,10 @@
 ghost use Rattle.std.specs.Prelude.{◌≡◌, ◌+◌, ◌*◌, ◌≤◌, true, length};
 ghost use Rattle.spec_records.specs.Records.{number_of, CanTell};
 ghost use Rattle.opening.specs.Told.{has_ones as told_ones, can_tell as told_by_version, stakes_size, size_in, has_front, is_configuration as told_configuration, shaped_version as told_version};
-ghost use Rattle.wire.specs.Fields.{EachIsByte};
+ghost use Rattle.wire.specs.Fields.{AreBytes};
 
 use committee::Committee;
-use spec_records::Version;
+use journal::Version;
 
 /// The kind of a record that has a configuration.
 pub const CONFIGURATION: u8 = 0;
@@ -83,7 +83,7 @@ fn stakes_size(version: Version, members: u16) -> usize
 
 /// What holds of bytes. The call does nothing.
 pub fn are_bytes(bytes: &[u8])
-    ensures { EachIsByte bytes.now }
+    ensures { AreBytes bytes.now }
 {
     let _ = bytes;
 }

@@ -74,10 +74,10 @@ fn take_event<S: Sign>(
     one: &Record,
 ) -> Result<(), JournalError>
     ensures setting { validator.new.setting ≡ validator.old.setting }
-    ensures ok { let node = node_of S.own_key S.signature_of validator.old.setting in OnOk result ((history : History) → IsLegal node history
+    ensures ok { let node = node_of S.scheme validator.old.setting in OnOk result ((history : History) → IsLegal node history
         → AreAtSound node validator.old.tables (kept node history)
         → StandsAt node (read_event node history one.now) validator.new.tables) }
-    ensures err { let node = node_of S.own_key S.signature_of validator.old.setting in IfErr result (λ error. (history : History) → IsLegal node history
+    ensures err { let node = node_of S.scheme validator.old.setting in IfErr result (λ error. (history : History) → IsLegal node history
         → AreAtSound node validator.old.tables (kept node history)
         → FailsAs error (read_event node history one.now)) }
 {
@@ -116,8 +116,8 @@ pub fn replay<'a, S: Sign>(
     records: &[Record],
 ) -> Result<Validator<'a, S>, JournalError>
     ensures setting { IfOk result (λ validator. validator.setting ≡ config.now) }
-    ensures ok { let node = node_of S.own_key S.signature_of config.now in IfOk result (λ validator. StandsAt node (read_events node [] records.now) validator.tables) }
-    ensures err { IfErr result (λ error. FailsAs error (read_events (node_of S.own_key S.signature_of config.now) [] records.now)) }
+    ensures ok { let node = node_of S.scheme config.now in IfOk result (λ validator. StandsAt node (read_events node [] records.now) validator.tables) }
+    ensures err { IfErr result (λ error. FailsAs error (read_events (node_of S.scheme config.now) [] records.now)) }
     ensures texts { OnOk result (All IsText records.now) }
 {
     spec_machine::starts_fresh();

@@ -17,7 +17,7 @@ use crate::standing::worlds_are_told;
 use diskmodel::Disk;
 use journal::{Failed, Journal, JournalError, Record};
 use sigface::Sign;
-use spec_records::Version;
+use journal::Version;
 use std::alloc::{AllocError, Global};
 use validator::{Config, Validator};
 
@@ -36,34 +36,34 @@ pub fn reopen<'a, S: Sign, D: Disk>(
 ) -> Result<(Validator<'a, S>, Journal<D>), Failed<JournalError, D>>
     // The validator stands at what the bytes are told as, and so is what they are then.
     ensures setting { IfOk result (λ opened. opened.0.setting ≡ config.now) }
-    ensures stands { let node = node_of S.own_key S.signature_of config.now in IfOk result (λ opened. StandsAt node (told node (D.content disk)) opened.0.tables) }
-    ensures same { let node = node_of S.own_key S.signature_of config.now in IfOk result (λ opened. told node (D.content (disk_of opened.1)) ≡ told node (D.content disk)) }
-    ensures alive { IfOk result (λ opened. IsAlive D.content D.outcome opened.1) }
-    ensures configured { IfOk result (λ opened. stands (D.content (disk_of opened.1)) ≢ Ok []) }
+    ensures stands { let node = node_of S.scheme config.now in IfOk result (λ opened. StandsAt node (told node (D.device.content disk)) opened.0.tables) }
+    ensures same { let node = node_of S.scheme config.now in IfOk result (λ opened. told node (D.device.content (disk_of opened.1)) ≡ told node (D.device.content disk)) }
+    ensures alive { IfOk result (λ opened. IsAlive D.device opened.1) }
+    ensures configured { IfOk result (λ opened. stands (D.device.content (disk_of opened.1)) ≢ Ok []) }
 
     // It stands at the history for which the bytes stand.
-    ensures stands_for { IfOk result (λ opened. StandsForAt (node_of S.own_key S.signature_of config.now) (D.content disk) opened.0.tables) }
+    ensures stands_for { IfOk result (λ opened. StandsForAt (node_of S.scheme config.now) (D.device.content disk) opened.0.tables) }
     // The disk has the node's journal of it then.
-    ensures holds { IfOk result (λ opened. HoldsAt (node_of S.own_key S.signature_of config.now) (D.content (disk_of opened.1)) opened.0.tables) }
+    ensures holds { IfOk result (λ opened. HoldsAt (node_of S.scheme config.now) (D.device.content (disk_of opened.1)) opened.0.tables) }
 
     // Each refusal but those of memory and of the disk is what the bytes are told as.
-    ensures err { IfErr result (λ failed. failed.error ≢ JournalError.Device → Tells failed.error (told (node_of S.own_key S.signature_of config.now) (D.content disk))) }
+    ensures err { IfErr result (λ failed. failed.error ≢ JournalError.Device → Tells failed.error (told (node_of S.scheme config.now) (D.device.content disk))) }
     ensures never_full { IfErr result (λ failed. failed.error ≢ JournalError.Full) }
     // It answers Device exactly where the disk has failed.
-    ensures cause { TellsFaultBack D.faults (λ opened. disk_of opened.1) JournalError.Device disk result }
+    ensures cause { TellsFaultBack D.device (λ opened. disk_of opened.1) JournalError.Device disk result }
     // Only a failure of the disk leaves other bytes than there were, but for those behind the closed gate.
-    ensures unchanged { IfErr result (λ failed. failed.error ≢ JournalError.Device → (D.content failed.disk ≡ D.content disk) ⊎ IsClosedUp (D.content disk) (D.content failed.disk)) }
+    ensures unchanged { IfErr result (λ failed. failed.error ≢ JournalError.Device → (D.device.content failed.disk ≡ D.device.content disk) ⊎ IsClosedUp (D.device.content disk) (D.device.content failed.disk)) }
 
     // A stop at any moment of the call leaves what is told as one outcome from before it is.
-    ensures any_moment { IfOk result (λ opened. AtEachMoment D.clock D.outcome_since disk (disk_of opened.1) (IsToldAsOneOf (node_of S.own_key S.signature_of config.now) (D.outcome disk))) }
-    ensures any_moment_err { IfErr result (λ failed. AtEachMoment D.clock D.outcome_since disk failed.disk (IsToldAsOneOf (node_of S.own_key S.signature_of config.now) (D.outcome disk))) }
+    ensures any_moment { IfOk result (λ opened. AtEachMoment D.device disk (disk_of opened.1) (IsToldAsOneOf (node_of S.scheme config.now) (D.device.outcome disk))) }
+    ensures any_moment_err { IfErr result (λ failed. AtEachMoment D.device disk failed.disk (IsToldAsOneOf (node_of S.scheme config.now) (D.device.outcome disk))) }
     // It leaves the records, whoever's they are and whatever it answers, or where there are none the configuration alone.
     // What it leaves that stands for no records is an outcome from before it, byte for byte.
-    ensures keeps { IfOk result (λ opened. AtEachMoment D.clock D.outcome_since disk (disk_of opened.1) (KeepsRecords (node_of S.own_key S.signature_of config.now) (D.outcome disk))) }
-    ensures keeps_err { IfErr result (λ failed. AtEachMoment D.clock D.outcome_since disk failed.disk (KeepsRecords (node_of S.own_key S.signature_of config.now) (D.outcome disk))) }
+    ensures keeps { IfOk result (λ opened. AtEachMoment D.device disk (disk_of opened.1) (KeepsRecords (node_of S.scheme config.now) (D.device.outcome disk))) }
+    ensures keeps_err { IfErr result (λ failed. AtEachMoment D.device disk failed.disk (KeepsRecords (node_of S.scheme config.now) (D.device.outcome disk))) }
 
     // What a stop leaves in a world of this node is never refused.
-    ensures never_refused { IfErr result (λ failed. IsLeft (node_of S.own_key S.signature_of config.now) (D.content disk) → IsNoRefusal failed.error) }
+    ensures never_refused { IfErr result (λ failed. IsLeft (node_of S.scheme config.now) (D.device.content disk) → IsNoRefusal failed.error) }
 {
     outcomes_are_told(config);
     let (mut journal, records) = Journal::open(alloc, disk)?;
@@ -78,7 +78,7 @@ pub fn reopen<'a, S: Sign, D: Disk>(
 
 // Whatever a stop leaves in a world of this node is told as a history. It looks at the keys, and does nothing.
 fn outcomes_are_told<S: Sign>(config: &Config<S>)
-    ensures { AreLeftTold (node_of S.own_key S.signature_of config.now) }
+    ensures { AreLeftTold (node_of S.scheme config.now) }
 {
     worlds_are_told();
     config.limits_hold();
@@ -92,22 +92,22 @@ fn validator_on<'a, S: Sign, D: Disk>(
     journal: &mut Journal<D>,
     records: &[Record],
 ) -> Result<Validator<'a, S>, JournalError>
-    requires alive { IsAlive D.content D.outcome journal.old }
-    requires records { stands (D.content (disk_of journal.old)) ≡ Ok records.now }
+    requires alive { IsAlive D.device journal.old }
+    requires records { stands (D.device.content (disk_of journal.old)) ≡ Ok records.now }
 
     ensures setting { IfOk result (λ validator. validator.setting ≡ config.now) }
-    ensures stands { let node = node_of S.own_key S.signature_of config.now in IfOk result (λ validator. StandsAt node (told node (D.content (disk_of journal.old))) validator.tables) }
-    ensures same { let node = node_of S.own_key S.signature_of config.now in OnOk result (told node (D.content (disk_of journal.new)) ≡ told node (D.content (disk_of journal.old))) }
-    ensures alive { OnOk result (IsAlive D.content D.outcome journal.new) }
-    ensures configured { OnOk result (stands (D.content (disk_of journal.new)) ≢ Ok []) }
-    ensures err { IfErr result (λ error. error ≢ JournalError.Device → Tells error (told (node_of S.own_key S.signature_of config.now) (D.content (disk_of journal.old)))) }
-    ensures cause { TellsFault JournalError.Device (D.faults (disk_of journal.old)) (D.faults (disk_of journal.new)) result }
+    ensures stands { let node = node_of S.scheme config.now in IfOk result (λ validator. StandsAt node (told node (D.device.content (disk_of journal.old))) validator.tables) }
+    ensures same { let node = node_of S.scheme config.now in OnOk result (told node (D.device.content (disk_of journal.new)) ≡ told node (D.device.content (disk_of journal.old))) }
+    ensures alive { OnOk result (IsAlive D.device journal.new) }
+    ensures configured { OnOk result (stands (D.device.content (disk_of journal.new)) ≢ Ok []) }
+    ensures err { IfErr result (λ error. error ≢ JournalError.Device → Tells error (told (node_of S.scheme config.now) (D.device.content (disk_of journal.old)))) }
+    ensures cause { TellsFault JournalError.Device (D.device.faults (disk_of journal.old)) (D.device.faults (disk_of journal.new)) result }
     ensures never_full { IfErr result (λ error. error ≢ JournalError.Full) }
-    ensures unchanged { IfErr result (λ error. error ≢ JournalError.Device → D.content (disk_of journal.new) ≡ D.content (disk_of journal.old)) }
-    ensures any_moment { let node = node_of S.own_key S.signature_of config.now in AtEachMoment D.clock D.outcome_since (disk_of journal.old) (disk_of journal.new) (λ left. told node left ≡ told node (D.content (disk_of journal.old))) }
-    ensures keeps { AtEachMoment D.clock D.outcome_since (disk_of journal.old) (disk_of journal.new) (KeepsOrBegins Version.Second (node_of S.own_key S.signature_of config.now) (D.content (disk_of journal.old))) }
+    ensures unchanged { IfErr result (λ error. error ≢ JournalError.Device → D.device.content (disk_of journal.new) ≡ D.device.content (disk_of journal.old)) }
+    ensures any_moment { let node = node_of S.scheme config.now in AtEachMoment D.device (disk_of journal.old) (disk_of journal.new) (λ left. told node left ≡ told node (D.device.content (disk_of journal.old))) }
+    ensures keeps { AtEachMoment D.device (disk_of journal.old) (disk_of journal.new) (KeepsOrBegins Version.Second (node_of S.scheme config.now) (D.device.content (disk_of journal.old))) }
     ensures texts { OnOk result (All IsText (drop 1 records.now)) }
-    ensures texts_left { OnOk result (HasTexts (D.content (disk_of journal.new))) }
+    ensures texts_left { OnOk result (HasTexts (D.device.content (disk_of journal.new))) }
 {
     let validator = validator_after(alloc, config, records)?;
     if records.is_empty() {
@@ -123,8 +123,8 @@ fn validator_after<'a, S: Sign>(
     records: &[Record],
 ) -> Result<Validator<'a, S>, JournalError>
     ensures setting { IfOk result (λ validator. validator.setting ≡ config.now) }
-    ensures stands { let node = node_of S.own_key S.signature_of config.now in IfOk result (λ validator. StandsAt node (read_journal node records.now) validator.tables) }
-    ensures err { IfErr result (λ error. Tells error (read_journal (node_of S.own_key S.signature_of config.now) records.now)) }
+    ensures stands { let node = node_of S.scheme config.now in IfOk result (λ validator. StandsAt node (read_journal node records.now) validator.tables) }
+    ensures err { IfErr result (λ error. Tells error (read_journal (node_of S.scheme config.now) records.now)) }
     ensures never { IfErr result (λ error. (error ≢ JournalError.Device) × (error ≢ JournalError.Full)) }
     ensures texts { OnOk result (All IsText (drop 1 records.now)) }
 {
@@ -140,8 +140,8 @@ fn fresh_validator<'a, S: Sign>(
     config: &'a Config<S>,
 ) -> Result<Validator<'a, S>, JournalError>
     ensures setting { IfOk result (λ validator. validator.setting ≡ config.now) }
-    ensures stands { let node = node_of S.own_key S.signature_of config.now in IfOk result (λ validator. StandsAt node (read_journal node []) validator.tables) }
-    ensures err { IfErr result (λ error. Tells error (read_journal (node_of S.own_key S.signature_of config.now) [])) }
+    ensures stands { let node = node_of S.scheme config.now in IfOk result (λ validator. StandsAt node (read_journal node []) validator.tables) }
+    ensures err { IfErr result (λ error. Tells error (read_journal (node_of S.scheme config.now) [])) }
     ensures never { IfErr result (λ error. (error ≢ JournalError.Device) × (error ≢ JournalError.Full)) }
 {
     replay(alloc, config, &[])
@@ -155,8 +155,8 @@ fn validator_behind<'a, S: Sign>(
     events: &[Record],
 ) -> Result<Validator<'a, S>, JournalError>
     ensures setting { IfOk result (λ validator. validator.setting ≡ config.now) }
-    ensures stands { let node = node_of S.own_key S.signature_of config.now in IfOk result (λ validator. StandsAt node (read_journal node (first.now ∷ events.now)) validator.tables) }
-    ensures err { IfErr result (λ error. Tells error (read_journal (node_of S.own_key S.signature_of config.now) (first.now ∷ events.now))) }
+    ensures stands { let node = node_of S.scheme config.now in IfOk result (λ validator. StandsAt node (read_journal node (first.now ∷ events.now)) validator.tables) }
+    ensures err { IfErr result (λ error. Tells error (read_journal (node_of S.scheme config.now) (first.now ∷ events.now))) }
     ensures never { IfErr result (λ error. (error ≢ JournalError.Device) × (error ≢ JournalError.Full)) }
     ensures texts { OnOk result (All IsText events.now) }
 {
@@ -195,7 +195,7 @@ fn is_own<S: Sign>(
     version: Version,
     bytes: &[u8],
 ) -> Result<bool, AllocError>
-    ensures { IfOk result (λ own. own ≡ told_own (node_of S.own_key S.signature_of config.now) bytes.now version) }
+    ensures { IfOk result (λ own. own ≡ told_own (node_of S.scheme config.now) bytes.now version) }
 {
     let own = configuration(alloc, version, config.committee(), config.own())?;
     Ok(can_tell(version, config.committee()) && bytes == own.as_slice())
@@ -208,19 +208,19 @@ pub fn write_configuration<S: Sign, D: Disk>(
     config: &Config<S>,
     journal: &mut Journal<D>,
 ) -> Result<(), JournalError>
-    requires alive { IsAlive D.content D.outcome journal.old }
-    requires empty { stands (D.content (disk_of journal.old)) ≡ Ok [] }
+    requires alive { IsAlive D.device journal.old }
+    requires empty { stands (D.device.content (disk_of journal.old)) ≡ Ok [] }
     requires can_tell { CanTell version config.now.charter }
 
-    ensures alive { OnOk result (IsAlive D.content D.outcome journal.new) }
-    ensures configured { OnOk result (stands (D.content (disk_of journal.new)) ≢ Ok []) }
-    ensures texts { OnOk result (HasTexts (D.content (disk_of journal.new))) }
-    ensures same { let node = node_of S.own_key S.signature_of config.now in OnOk result (told node (D.content (disk_of journal.new)) ≡ told node (D.content (disk_of journal.old))) }
+    ensures alive { OnOk result (IsAlive D.device journal.new) }
+    ensures configured { OnOk result (stands (D.device.content (disk_of journal.new)) ≢ Ok []) }
+    ensures texts { OnOk result (HasTexts (D.device.content (disk_of journal.new))) }
+    ensures same { let node = node_of S.scheme config.now in OnOk result (told node (D.device.content (disk_of journal.new)) ≡ told node (D.device.content (disk_of journal.old))) }
     ensures errors { IfErr result (λ error. (error ≡ JournalError.Device) ⊎ (error ≡ JournalError.Memory)) }
-    ensures cause { TellsFault JournalError.Device (D.faults (disk_of journal.old)) (D.faults (disk_of journal.new)) result }
+    ensures cause { TellsFault JournalError.Device (D.device.faults (disk_of journal.old)) (D.device.faults (disk_of journal.new)) result }
     ensures unchanged { IfErr result (λ error. error ≡ JournalError.Memory → journal.new ≡ journal.old) }
-    ensures any_moment { let node = node_of S.own_key S.signature_of config.now in AtEachMoment D.clock D.outcome_since (disk_of journal.old) (disk_of journal.new) (λ left. told node left ≡ told node (D.content (disk_of journal.old))) }
-    ensures keeps { AtEachMoment D.clock D.outcome_since (disk_of journal.old) (disk_of journal.new) (KeepsOrBegins version (node_of S.own_key S.signature_of config.now) (D.content (disk_of journal.old))) }
+    ensures any_moment { let node = node_of S.scheme config.now in AtEachMoment D.device (disk_of journal.old) (disk_of journal.new) (λ left. told node left ≡ told node (D.device.content (disk_of journal.old))) }
+    ensures keeps { AtEachMoment D.device (disk_of journal.old) (disk_of journal.new) (KeepsOrBegins version (node_of S.scheme config.now) (D.device.content (disk_of journal.old))) }
 {
     let group = configuration_group(alloc, version, config.committee(), config.own())?;
     let _ = journal.append(group)?.records();

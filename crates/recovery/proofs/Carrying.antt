@@ -9,7 +9,7 @@ use Rattle.journal.specs.declared.journal.Journal.{Journal}
 use Rattle.spec_model.specs.Histories.{History}
 use Rattle.spec_model.specs.Nodes.{Node}
 use Rattle.spec_world.specs.Text as script
-use Rattle.book.specs.Book.{Shown}
+use Rattle.book.specs.Book.{BookView}
 use Rattle.committee.specs.Charter.{Charter}
 use Rattle.recovery.specs.Script.{said, script_of, Passes, IsOf, IsOpenedOf, HasRun, Breaks, IsCutShort}
 use Rattle.opening.specs.Told.{told}
@@ -18,35 +18,36 @@ use Rattle.recovery.specs.declared.driving.Command.{Command}
 use Rattle.recovery.specs.declared.driving.DriveError.{DriveError}
 use Rattle.journal.specs.Journal.{disk_of}
 use Rattle.recovery.proofs.Scripts.{text_push, desk_push, text_nil, desk_nil}
+use Rattle.diskmodel.specs.Disk.{Device}
 
 -- the first of the commands were carried out
-pub record IsCarriedOut {S D : Type 0} (node : Node) (content : D → List ℕ) (outcome : D → List ℕ → Type 0) (before : List ℕ) (done : List script.Command) (book : Shown S) (journal : Journal D) (old new : Option (List ℕ)) : Type 0 where
+pub record IsCarriedOut {S D : Type 0} (node : Node) (device : Device D) (before : List ℕ) (done : List script.Command) (book : BookView S) (journal : Journal D) (old new : Option (List ℕ)) : Type 0 where
   pub history : History
   pub told_first : told node before ≡ Ok history
-  pub is_of : IsOf node content outcome (script.desk_behind node (script.desk_on history) done) book journal
+  pub is_of : IsOf node device (script.desk_behind node (script.desk_on history) done) book journal
   pub writes : Appends old new (script.text node (script.desk_on history) done)
 
-module _ {S D : Type 0} (node : Node) (content : D → List ℕ) (outcome : D → List ℕ → Type 0) (before : List ℕ) where
+module _ {S D : Type 0} (node : Node) (device : Device D) (before : List ℕ) where
   -- none at first
-  pub first_carried : (book : Shown S) (journal : Journal D) (old : Option (List ℕ)) → IsOpenedOf node content outcome before book journal → IsCarriedOut node content outcome before [] book journal old old
+  pub first_carried : (book : BookView S) (journal : Journal D) (old : Option (List ℕ)) → IsOpenedOf node device before book journal → IsCarriedOut node device before [] book journal old old
   first_carried book journal old opened = record {
     history = opened.history;
     told_first = opened.told_first;
-    is_of = subst (λ (d : script.Desk). IsOf node content outcome d book journal) (sym (desk_nil node (script.desk_on opened.history))) opened.is_of;
+    is_of = subst (λ (d : script.Desk). IsOf node device d book journal) (sym (desk_nil node (script.desk_on opened.history))) opened.is_of;
     writes = subst (Appends old old) (sym (text_nil node (script.desk_on opened.history))) (Appends-nil old);
   }
 
-  module _ (done : List script.Command) (next : script.Command) (book : Shown S) (journal : Journal D) (old mid : Option (List ℕ)) (so_far : IsCarriedOut node content outcome before done book journal old mid) where
+  module _ (done : List script.Command) (next : script.Command) (book : BookView S) (journal : Journal D) (old mid : Option (List ℕ)) (so_far : IsCarriedOut node device before done book journal old mid) where
     abbrev desk : script.Desk
     desk = script.desk_behind node (script.desk_on so_far.history) done
 
     -- one more
-    pub next_carried : (later : Shown S) (new_journal : Journal D) (new : Option (List ℕ)) → IsOf node content outcome (script.carried_out node desk next) later new_journal
-        → Appends mid new (script.frames (script.due (script.after node desk next))) → IsCarriedOut node content outcome before (done ++ next ∷ []) later new_journal old new
+    pub next_carried : (later : BookView S) (new_journal : Journal D) (new : Option (List ℕ)) → IsOf node device (script.carried_out node desk next) later new_journal
+        → Appends mid new (script.frames (script.due (script.after node desk next))) → IsCarriedOut node device before (done ++ next ∷ []) later new_journal old new
     next_carried later new_journal new is appends = record {
       history = so_far.history;
       told_first = so_far.told_first;
-      is_of = subst (λ (d : script.Desk). IsOf node content outcome d later new_journal) (sym (desk_push node (script.desk_on so_far.history) done next)) is;
+      is_of = subst (λ (d : script.Desk). IsOf node device d later new_journal) (sym (desk_push node (script.desk_on so_far.history) done next)) is;
       writes = subst (Appends old new) (sym (text_push node (script.desk_on so_far.history) done next))
           (Appends-trans old mid new (script.text node (script.desk_on so_far.history) done) (script.frames (script.due (script.after node desk next))) so_far.writes appends);
     }
@@ -79,8 +80,8 @@ module _ {S D : Type 0} (node : Node) (content : D → List ℕ) (outcome : D �
         }
 
   -- all of them
-  pub all_carried : (commands done : List script.Command) (book : Shown S) (journal : Journal D) (old new : Option (List ℕ)) → commands ≡ done → IsCarriedOut node content outcome before done book journal old new
-      → HasRun node commands before (content (disk_of journal)) (outcome (disk_of journal)) old new
+  pub all_carried : (commands done : List script.Command) (book : BookView S) (journal : Journal D) (old new : Option (List ℕ)) → commands ≡ done → IsCarriedOut node device before done book journal old new
+      → HasRun node commands before (device.content (disk_of journal)) (device.outcome (disk_of journal)) old new
   all_carried commands done book journal old new same so_far = record {
     history = so_far.history;
     told_first = so_far.told_first;

@@ -6,7 +6,7 @@ use Rattle.journal.specs.declared.journal.Journal.{Journal}
 use Rattle.spec_model.specs.Histories.{History}
 use Rattle.spec_model.specs.Nodes.{Node}
 use Rattle.spec_world.specs.Text.{Desk, desk_on, settled_in, stop, after}
-use Rattle.book.specs.Book.{Shown}
+use Rattle.book.specs.Book.{BookView}
 use Rattle.recovery.specs.Faults.{ended_by}
 use Rattle.opening.specs.Laws.{IsNoRefusal}
 use Rattle.recovery.specs.Script.{IsOf, IsOpenedOf, IsNotOpened, MayEnd, Breaks}
@@ -39,9 +39,9 @@ after_stop : (node : Node) (desk : Desk) → after node desk stop ≡ desk_on (s
 unfolding after
 after_stop node desk = refl
 
-module _ {S D : Type 0} (node : Node) (content : D → List ℕ) (outcome : D → List ℕ → Type 0) where
+module _ {S D : Type 0} (node : Node) (device : Device D) where
   -- a desk that was opened is one that has done nothing
-  pub opened_of : (bytes : List ℕ) (desk : desks.Shown S D) → desks.IsOpened node content outcome bytes desk → IsOpenedOf node content outcome bytes desk.book desk.journal
+  pub opened_of : (bytes : List ℕ) (desk : desks.DeskView S D) → desks.IsOpened node device bytes desk → IsOpenedOf node device bytes desk.book desk.journal
   opened_of bytes desk opened =
       let up = opened.is_of.up opened.up in
       record {
@@ -59,10 +59,10 @@ module _ {S D : Type 0} (node : Node) (content : D → List ℕ) (outcome : D �
 
   module _ (desk : Desk) (bytes : List ℕ) (is : told node bytes ≡ Ok (settled_in desk)) where
     -- what is settled begins the next run
-    pub stopped_of : (book : Shown S) (journal : Journal D) → IsOpenedOf node content outcome bytes book journal → IsOf node content outcome (after node desk stop) book journal
+    pub stopped_of : (book : BookView S) (journal : Journal D) → IsOpenedOf node device bytes book journal → IsOf node device (after node desk stop) book journal
     stopped_of book journal opened =
         let same : opened.history ≡ settled_in desk = ok_is opened.history (settled_in desk) (sym opened.told_first ∙ is) in
-        subst (λ (d : Desk). IsOf node content outcome d book journal) (ap desk_on same ∙ sym (after_stop node desk)) opened.is_of
+        subst (λ (d : Desk). IsOf node device d book journal) (ap desk_on same ∙ sym (after_stop node desk)) opened.is_of
 
 -- where nothing is refused a stop ends for want of memory, or by a fault of the disk
 ends_stop : (cause : JournalError) → IsNoRefusal cause → MayEnd stop (ended_by cause)

@@ -10,13 +10,14 @@ use Rattle.journal.specs.declared.journal.Journal.{Journal}
 use Rattle.journal.specs.declared.layout.TheConstants.{MAX_JOURNAL_BYTES}
 use Rattle.spec_laws.proofs.Legal.{legal-begins}
 use Rattle.spec_model.specs.Admitting.{admit, IsLegal}
-use Rattle.spec_model.specs.Histories.{History, Begins}
+use Rattle.spec_model.specs.Histories.{History}
+use Rattle.wire.specs.Lists.{Begins}
 use Rattle.spec_model.specs.Nodes.{Node}
 use Rattle.spec_model.specs.Words.{Event}
-use Rattle.spec_model.specs.declared.admission.Admission.{Admission}
-use Rattle.spec_model.specs.declared.admission.Admission.TheVariants.{New, Known, Refused}
-use Rattle.spec_model.specs.declared.refusal.Refusal.{Refusal}
-use Rattle.spec_model.specs.declared.refusal.Refusal.TheVariants.{Memory, Down, StoreFull}
+use Rattle.header.specs.declared.admission.Admission.{Admission}
+use Rattle.header.specs.declared.admission.Admission.TheVariants.{New, Known, Refused}
+use Rattle.header.specs.declared.refusal.Refusal.{Refusal}
+use Rattle.header.specs.declared.refusal.Refusal.TheVariants.{Memory, Down, StoreFull}
 use Rattle.spec_records.specs.Records.{record_of}
 use Rattle.spec_world.specs.Steps.{ticketed}
 use Rattle.spec_world.specs.Text.{Command, take_in, flush, Desk, settled_in, with_answer, group_of, flushed, after}
@@ -24,7 +25,7 @@ use Rattle.book.specs.declared.book.TheConstants.{MAX_ACCEPTED}
 use Rattle.book.specs.declared.book.Receipt.{Receipt}
 use Rattle.book.specs.OnTheWay.{Flushes, FindsNoRoom, IsWithOrWithout}
 use Rattle.book.specs.Pending.{IsLongestBeginning}
-use Rattle.book.specs.Book.{Shown, Run, Stands, with_taken, with_settled, TakesNew, TakesKnown, MayRefuse}
+use Rattle.book.specs.Book.{BookView, Run, Stands, with_taken, with_settled, TakesNew, TakesKnown, MayRefuse}
 use Rattle.recovery.specs.Script.{run_of, IsOf, MayEnd, Breaks}
 use Rattle.opening.specs.Told.{told}
 use Rattle.recovery.specs.declared.driving.DriveError.{DriveError}
@@ -32,6 +33,7 @@ use Rattle.recovery.specs.declared.driving.DriveError.TheVariants as ends
 use Rattle.opening.proofs.Longer.{told_more, some_more}
 use Rattle.desk.proofs.Groups.{group_is, group_none}
 use Rattle.opening.proofs.Telling.{told_same}
+use Rattle.diskmodel.specs.Disk.{Device}
 
 after_take_in : (node : Node) (desk : Desk) (event : Event) → after node desk (take_in event) ≡ with_answer desk event (admit node (desk.began ++ desk.accepted) event)
 unfolding after
@@ -41,9 +43,9 @@ after_flush : (node : Node) (desk : Desk) → after node desk flush ≡ flushed 
 unfolding after
 after_flush node desk = refl
 
-module _ {S D : Type 0} (node : Node) (content : D → List ℕ) (outcome : D → List ℕ → Type 0) (desk : Desk) (before later : Shown S) (journal : Journal D) (is : IsOf node content outcome desk before journal) where
+module _ {S D : Type 0} (node : Node) (device : Device D) (desk : Desk) (before later : BookView S) (journal : Journal D) (is : IsOf node device desk before journal) where
   abbrev Later : Desk → Type 0
-  Later next = IsOf node content outcome next later journal
+  Later next = IsOf node device next later journal
 
   -- ---- events
 
@@ -67,8 +69,8 @@ module _ {S D : Type 0} (node : Node) (content : D → List ℕ) (outcome : D �
   with_known_event event takes =
       answered_as event (Known takes.outputs) (takes.answer (run_of desk) is.stands_at) (record {
         stands_at = takes.stands (run_of desk) is.stands_at;
-        waits = ap (λ (b : Shown S). b.queue) takes.is ∙ (λ i. is.waits i ++ ticketed (is.stands_at.accepted i) takes.outputs);
-        up = ap (λ (b : Shown S). b.down) takes.is ∙ is.up;
+        waits = ap (λ (b : BookView S). b.queue) takes.is ∙ (λ i. is.waits i ++ ticketed (is.stands_at.accepted i) takes.outputs);
+        up = ap (λ (b : BookView S). b.down) takes.is ∙ is.up;
         alive = is.alive;
         configured = is.configured;
         told_as = is.told_as;
@@ -87,7 +89,7 @@ module _ {S D : Type 0} (node : Node) (content : D → List ℕ) (outcome : D �
   pub with_refused_event : (event : Event) (refusal : Refusal) → refusal ≢ Memory → before.accepted < MAX_ACCEPTED → MayRefuse node (run_of desk) before event refusal → later ≡ before
       → Later (after node desk (take_in event))
   with_refused_event event refusal other room may same =
-      answered_as event (Refused refusal) (refused_as event refusal other room may) (subst (λ (b : Shown S). IsOf node content outcome desk b journal) (sym same) is)
+      answered_as event (Refused refusal) (refused_as event refusal other room may) (subst (λ (b : BookView S). IsOf node device desk b journal) (sym same) is)
 
 -- ---- a flush
 
@@ -104,7 +106,7 @@ settled_more {X} (x ∷ settled) (y ∷ accepted) count begins =
     head_is : (a b : X) (p q : List X) → a ∷ p ≡ b ∷ q → a ≡ b
     head_is a b p q same = cc
 
-module _ {S D : Type 0} (node : Node) (content : D → List ℕ) (outcome : D → List ℕ → Type 0) (desk : Desk) (before : Shown S) (old : Journal D) (is : IsOf node content outcome desk before old) where
+module _ {S D : Type 0} (node : Node) (device : Device D) (desk : Desk) (before : BookView S) (old : Journal D) (is : IsOf node device desk before old) where
   abbrev pending : History
   pending = drop (length desk.settled) desk.accepted
 
@@ -112,7 +114,7 @@ module _ {S D : Type 0} (node : Node) (content : D → List ℕ) (outcome : D �
   events = group_of pending
 
   -- the records that the book took are those of the group
-  module _ (taken : Shown S) (group : List (List ℕ)) (longest : IsLongestBeginning before.pending group taken.pending) where
+  module _ (taken : BookView S) (group : List (List ℕ)) (longest : IsLongestBeginning before.pending group taken.pending) where
     longest_pending : IsLongestBeginning (map record_of pending) group taken.pending
     longest_pending = subst (λ (l : List (List ℕ)). IsLongestBeginning l group taken.pending) is.stands_at.pending longest
 
@@ -139,82 +141,82 @@ module _ {S D : Type 0} (node : Node) (content : D → List ℕ) (outcome : D �
         (legal-begins node (desk.began ++ take count desk.accepted) (drop count desk.accepted) (subst (IsLegal node) parts is.stands_at.legal))
 
     -- what bytes with the group more are told as
-    pub told_flushed : (bytes : List ℕ) → stands bytes ≡ stands_with (content (disk_of old)) group → told node bytes ≡ Ok (settled_in (flushed desk))
+    pub told_flushed : (bytes : List ℕ) → stands bytes ≡ stands_with (device.content (disk_of old)) group → told node bytes ≡ Ok (settled_in (flushed desk))
     told_flushed bytes with_it =
-        told_more node (content (disk_of old)) bytes (desk.began ++ desk.settled) is.configured is.told_as events
-        (with_it ∙ ap (stands_with (content (disk_of old))) group_are) legal
+        told_more node (device.content (disk_of old)) bytes (desk.began ++ desk.settled) is.configured is.told_as events
+        (with_it ∙ ap (stands_with (device.content (disk_of old))) group_are) legal
         ∙ ap Ok whole
 
     -- behind the flush
-    pub flushed_is : (later : Shown S) (new : Journal D) → Stands node (with_settled (with_taken (run_of desk) (length group)) (length group)) later
-        → later.queue ≡ before.queue → later.down ≡ before.down → IsAlive content outcome new → stands (content (disk_of new)) ≡ stands_with (content (disk_of old)) group
-        → IsOf node content outcome (after node desk flush) later new
+    pub flushed_is : (later : BookView S) (new : Journal D) → Stands node (with_settled (with_taken (run_of desk) (length group)) (length group)) later
+        → later.queue ≡ before.queue → later.down ≡ before.down → IsAlive device new → stands (device.content (disk_of new)) ≡ stands_with (device.content (disk_of old)) group
+        → IsOf node device (after node desk flush) later new
     flushed_is later new stands queue down alive with_it =
         let count = length desk.settled + length group in
         let twice : take count (take count desk.accepted) ≡ desk.settled ++ events = take-take count count desk.accepted (omega arith) ∙ settled_are in
         let runs : with_settled (with_taken (run_of desk) (length group)) (length group) ≡ run_of (flushed desk) =
         (λ i. record { began = desk.began; accepted = desk.accepted; taken = settled_are i; settled = twice i }) in
-        subst (λ (d : Desk). IsOf node content outcome d later new) (sym (after_flush node desk)) (record {
+        subst (λ (d : Desk). IsOf node device d later new) (sym (after_flush node desk)) (record {
           stands_at = subst (λ (r : Run). Stands node r later) runs stands;
           waits = queue ∙ is.waits;
           up = down ∙ is.up;
           alive = alive;
-          configured = some_more node (content (disk_of old)) (content (disk_of new)) (desk.began ++ desk.settled) is.configured is.told_as group with_it;
-          told_as = told_flushed (content (disk_of new)) with_it;
+          configured = some_more node (device.content (disk_of old)) (device.content (disk_of new)) (desk.began ++ desk.settled) is.configured is.told_as group with_it;
+          told_as = told_flushed (device.content (disk_of new)) with_it;
         })
 
   -- whatever a stop leaves while a group is written
-  pub left_by_flush : (bytes : List ℕ) → IsWithOrWithout before.pending (content (disk_of old)) bytes
+  pub left_by_flush : (bytes : List ℕ) → IsWithOrWithout before.pending (device.content (disk_of old)) bytes
       → (told node bytes ≡ Ok (settled_in desk)) ⊎ (told node bytes ≡ Ok (settled_in (after node desk flush)))
-  left_by_flush bytes (inl same) = inl (told_same node bytes (content (disk_of old)) same ∙ is.told_as)
+  left_by_flush bytes (inl same) = inl (told_same node bytes (device.content (disk_of old)) same ∙ is.told_as)
   left_by_flush bytes (inr with_it) =
       inr (told_flushed (record before { pending = with_it.1 }) with_it.0 with_it.2 bytes with_it.3 ∙ ap (λ (d : Desk). Ok (settled_in d)) (sym (after_flush node desk)))
 
   -- behind a round that settled a group
-  pub flushes_is : (later : Shown S) (new : Journal D) (old_bytes new_bytes : List ℕ) (count : ℕ) → content (disk_of old) ≡ old_bytes → content (disk_of new) ≡ new_bytes → Flushes node before later old_bytes new_bytes count
-      → IsAlive content outcome new → IsOf node content outcome (after node desk flush) later new
+  pub flushes_is : (later : BookView S) (new : Journal D) (old_bytes new_bytes : List ℕ) (count : ℕ) → device.content (disk_of old) ≡ old_bytes → device.content (disk_of new) ≡ new_bytes → Flushes node before later old_bytes new_bytes count
+      → IsAlive device new → IsOf node device (after node desk flush) later new
   flushes_is later new old_bytes new_bytes count old_is new_is round alive =
       flushed_is later round.group round.takes later new (round.stands (run_of desk) is.stands_at)
-      (ap (λ (b : Shown S). b.queue) round.is) (ap (λ (b : Shown S). b.down) round.is) alive
+      (ap (λ (b : BookView S). b.queue) round.is) (ap (λ (b : BookView S). b.down) round.is) alive
       (ap stands new_is ∙ round.records ∙ ap (λ (l : List ℕ). stands_with l round.group) (sym old_is))
 
   -- a flush with nothing pending changes nothing
-  pub nothing_flushed : before.pending ≡ [] → IsOf node content outcome (after node desk flush) before old
+  pub nothing_flushed : before.pending ≡ [] → IsOf node device (after node desk flush) before old
   nothing_flushed none =
       let empty : events ≡ [] = group_none pending (sym is.stands_at.pending ∙ none) in
       let same : flushed desk ≡ desk = (λ i. record { began = desk.began; accepted = desk.accepted; settled = (ap (λ (l : History). desk.settled ++ l) empty ∙ append-nil desk.settled) i; waiting = desk.waiting }) in
-      subst (λ (d : Desk). IsOf node content outcome d before old) (sym (after_flush node desk ∙ same)) is
+      subst (λ (d : Desk). IsOf node device d before old) (sym (after_flush node desk ∙ same)) is
 
   -- a firm disk is told as what is settled
-  pub left_firm : (bytes : List ℕ) → outcome (disk_of old) bytes → told node bytes ≡ Ok (settled_in desk)
+  pub left_firm : (bytes : List ℕ) → device.outcome (disk_of old) bytes → told node bytes ≡ Ok (settled_in desk)
   left_firm bytes left = ap (told node) (is.alive.firm bytes left) ∙ is.told_as
 
 -- ---- what comes of an event
 
-module _ {S D : Type 0} (node : Node) (content : D → List ℕ) (outcome : D → List ℕ → Type 0) (desk : Desk) (before later : Shown S) (journal : Journal D) (is : IsOf node content outcome desk before journal) (event : Event) where
+module _ {S D : Type 0} (node : Node) (device : Device D) (desk : Desk) (before later : BookView S) (journal : Journal D) (is : IsOf node device desk before journal) (event : Event) where
   -- unless memory was refused, a book that took an event is that of the desk behind it
   pub accepted_is : (answer : Result Receipt Refusal) → before.accepted < MAX_ACCEPTED
       → IfOk answer (λ receipt. receipt.new ≡ true → TakesNew node before later event) → IfOk answer (λ receipt. receipt.new ≡ false → TakesKnown node before later event)
       → IfErr answer (λ refusal. (run : Run) → Stands node run before → MayRefuse node run before event refusal) → OnErr answer (later ≡ before) → (IsErrOf answer Memory → ⊥)
-      → IsOf node content outcome (after node desk (take_in event)) later journal
+      → IsOf node device (after node desk (take_in event)) later journal
   accepted_is (Ok receipt) room new known refused same memory =
       elim (cases_Bool receipt.new) [
-        | inl so ↦ with_new_event node content outcome desk before later journal is event (new so)
-        | inr off ↦ with_known_event node content outcome desk before later journal is event (known off)
+        | inl so ↦ with_new_event node device desk before later journal is event (new so)
+        | inr off ↦ with_known_event node device desk before later journal is event (known off)
       ]
   accepted_is (Err refusal) room new known refused same memory =
-      with_refused_event node content outcome desk before later journal is event refusal (λ other. memory (ap (λ (r : Refusal). Err r) other)) room (refused (run_of desk) is.stands_at) same
+      with_refused_event node device desk before later journal is event refusal (λ other. memory (ap (λ (r : Refusal). Err r) other)) room (refused (run_of desk) is.stands_at) same
 
 -- it accepted one event at most
-pub count_is : {S : Type 0} (node : Node) (before later : Shown S) (event : Event) (answer : Result Receipt Refusal)
+pub count_is : {S : Type 0} (node : Node) (before later : BookView S) (event : Event) (answer : Result Receipt Refusal)
     → IfOk answer (λ receipt. receipt.new ≡ true → TakesNew node before later event) → IfOk answer (λ receipt. receipt.new ≡ false → TakesKnown node before later event)
     → OnErr answer (later ≡ before) → later.accepted ≤ before.accepted + 1
 count_is {S} node before later event (Ok receipt) new known same =
     elim (cases_Bool receipt.new) [
       | inl so ↦ let takes = new so in omega (arith, takes.accepted)
-      | inr off ↦ let takes = known off in omega (arith, ap (λ (b : Shown S). b.accepted) takes.is)
+      | inr off ↦ let takes = known off in omega (arith, ap (λ (b : BookView S). b.accepted) takes.is)
     ]
-count_is {S} node before later event (Err refusal) new known same = omega (arith, ap (λ (b : Shown S). b.accepted) same)
+count_is {S} node before later event (Err refusal) new known same = omega (arith, ap (λ (b : BookView S). b.accepted) same)
 
 -- ---- what a stop leaves behind an error
 
@@ -232,49 +234,49 @@ ends_any : (command : Command) (error : DriveError) → (error ≡ ends.Memory) 
 ends_any command error (inl memory) = subst (MayEnd command) (sym memory) tt
 ends_any command error (inr output) = subst (MayEnd command) (sym output) tt
 
-module _ {S D : Type 0} (node : Node) (content : D → List ℕ) (outcome : D → List ℕ → Type 0) (desk : Desk) (book : Shown S) (old : Journal D) (is : IsOf node content outcome desk book old) where
+module _ {S D : Type 0} (node : Node) (device : Device D) (desk : Desk) (book : BookView S) (old : Journal D) (is : IsOf node device desk book old) where
   -- behind want of memory, which changed nothing on the disk
-  pub same_breaks : (command : Command) (error : DriveError) → error ≡ ends.Memory → Breaks node desk command error (content (disk_of old)) (outcome (disk_of old))
+  pub same_breaks : (command : Command) (error : DriveError) → error ≡ ends.Memory → Breaks node desk command error (device.content (disk_of old)) (device.outcome (disk_of old))
   same_breaks command error memory = record {
-    left = λ bytes left. inl (left_firm node content outcome desk book old is bytes left);
+    left = λ bytes left. inl (left_firm node device desk book old is bytes left);
     errors = ends_any command error (inl memory);
     full = λ full. absurd (not_full error (inl memory) full);
   }
 
   -- behind a disk that failed
-  pub device_breaks : (pending : List (List ℕ)) → pending ≡ book.pending → (new : Journal D) → ((bytes : List ℕ) → outcome (disk_of new) bytes → IsWithOrWithout pending (content (disk_of old)) bytes)
-      → Breaks node desk flush ends.Device (content (disk_of new)) (outcome (disk_of new))
+  pub device_breaks : (pending : List (List ℕ)) → pending ≡ book.pending → (new : Journal D) → ((bytes : List ℕ) → device.outcome (disk_of new) bytes → IsWithOrWithout pending (device.content (disk_of old)) bytes)
+      → Breaks node desk flush ends.Device (device.content (disk_of new)) (device.outcome (disk_of new))
   device_breaks pending same new left = record {
-    left = λ bytes may. left_by_flush node content outcome desk book old is bytes (subst (λ (l : List (List ℕ)). IsWithOrWithout l (content (disk_of old)) bytes) same (left bytes may));
+    left = λ bytes may. left_by_flush node device desk book old is bytes (subst (λ (l : List (List ℕ)). IsWithOrWithout l (device.content (disk_of old)) bytes) same (left bytes may));
     errors = tt;
     full = λ so. absurd (cc);
   }
 
   -- behind a group for which the journal has no room
-  pub full_breaks : (later : Shown S) (new : Journal D) → new ≡ old → FindsNoRoom node book later (content (disk_of old)) → Breaks node desk flush ends.Full (content (disk_of new)) (outcome (disk_of new))
-  full_breaks later new same no_room = subst (λ (j : Journal D). Breaks node desk flush ends.Full (content (disk_of j)) (outcome (disk_of j))) (sym same) (record {
-    left = λ bytes left. inl (left_firm node content outcome desk book old is bytes left);
+  pub full_breaks : (later : BookView S) (new : Journal D) → new ≡ old → FindsNoRoom node book later (device.content (disk_of old)) → Breaks node desk flush ends.Full (device.content (disk_of new)) (device.outcome (disk_of new))
+  full_breaks later new same no_room = subst (λ (j : Journal D). Breaks node desk flush ends.Full (device.content (disk_of j)) (device.outcome (disk_of j))) (sym same) (record {
+    left = λ bytes left. inl (left_firm node device desk book old is bytes left);
     errors = refl;
     full = λ _. record {
       flushes = refl;
-      too_long = subst (λ (l : List (List ℕ)). MAX_JOURNAL_BYTES < length (content (disk_of old)) + length (group_bytes l))
-          (group_are node content outcome desk book old is later no_room.0.group no_room.0.takes) (lt_of_not-le no_room.1);
+      too_long = subst (λ (l : List (List ℕ)). MAX_JOURNAL_BYTES < length (device.content (disk_of old)) + length (group_bytes l))
+          (group_are node device desk book old is later no_room.0.group no_room.0.takes) (lt_of_not-le no_room.1);
     };
   })
 
 -- behind an error in writing what a command made due
-pub behind_breaks : {S D : Type 0} (node : Node) (content : D → List ℕ) (outcome : D → List ℕ → Type 0) (desk : Desk) (command : Command) (book : Shown S) (new : Journal D)
-    → IsOf node content outcome (after node desk command) book new → (error : DriveError) → (error ≡ ends.Memory) ⊎ (error ≡ ends.Output)
-    → Breaks node desk command error (content (disk_of new)) (outcome (disk_of new))
-behind_breaks {S} {D} node content outcome desk command book new is error either = record {
-  left = λ bytes left. inr (left_firm node content outcome (after node desk command) book new is bytes left);
+pub behind_breaks : {S D : Type 0} (node : Node) (device : Device D) (desk : Desk) (command : Command) (book : BookView S) (new : Journal D)
+    → IsOf node device (after node desk command) book new → (error : DriveError) → (error ≡ ends.Memory) ⊎ (error ≡ ends.Output)
+    → Breaks node desk command error (device.content (disk_of new)) (device.outcome (disk_of new))
+behind_breaks {S} {D} node device desk command book new is error either = record {
+  left = λ bytes left. inr (left_firm node device (after node desk command) book new is bytes left);
   errors = ends_any command error either;
   full = λ full. absurd (not_full error either full);
 }
 
 -- of an error and a disk that are these
-pub breaks_at : {D : Type 0} (node : Node) (content : D → List ℕ) (outcome : D → List ℕ → Type 0) (desk : Desk) (command : Command) (error is : DriveError) (disk end : D) → error ≡ is → disk ≡ end
-    → Breaks node desk command is (content end) (outcome end) → Breaks node desk command error (content disk) (outcome disk)
-breaks_at {D} node content outcome desk command error is disk end same ends_at breaks =
-    subst (λ (e : DriveError). Breaks node desk command e (content disk) (outcome disk)) (sym same)
-    (subst (λ (d : D). Breaks node desk command is (content d) (outcome d)) (sym ends_at) breaks)
+pub breaks_at : {D : Type 0} (node : Node) (device : Device D) (desk : Desk) (command : Command) (error is : DriveError) (disk end : D) → error ≡ is → disk ≡ end
+    → Breaks node desk command is (device.content end) (device.outcome end) → Breaks node desk command error (device.content disk) (device.outcome disk)
+breaks_at {D} node device desk command error is disk end same ends_at breaks =
+    subst (λ (e : DriveError). Breaks node desk command e (device.content disk) (device.outcome disk)) (sym same)
+    (subst (λ (d : D). Breaks node desk command is (device.content d) (device.outcome d)) (sym ends_at) breaks)

@@ -10,13 +10,15 @@ use Rattle.journal.specs.declared.journal.Journal.{Journal}
 use Rattle.spec_model.specs.Nodes.{Node}
 use Rattle.spec_model.specs.Words.{Output}
 use Rattle.spec_world.specs.World.{Waiting}
-use Rattle.spec_world.specs.Text.{Desk, due, without_due, frame_of, frames}
+use Rattle.spec_world.specs.Text.{Desk, due, without_due, frames}
+use Rattle.wire.specs.Outputs.{frame_of}
 use Rattle.book.specs.Queue.{settled_head, TicketsRise}
-use Rattle.book.specs.Book.{Shown, Run, Stands, releasable}
+use Rattle.book.specs.Book.{BookView, Run, Stands, releasable}
 use Rattle.recovery.specs.Script.{run_of, IsOf}
 use Rattle.recovery.specs.Writing.{WritesFirst, WritesNone, WritesPartOfFirst}
 use Rattle.wire_write.proofs.Appending.{part_behind, part_front}
 use Rattle.wire_write.specs.Frames.{AppendsLess}
+use Rattle.diskmodel.specs.Disk.{Device}
 
 -- what is ready at so many settled records, and what isn't
 abbrev pub ready : ℕ → List Waiting → List Waiting
@@ -102,7 +104,7 @@ unready_more settled queue output head =
 -- ---- the loop
 
 -- a book gave out some of what is ready, and that was written
-pub record HasWritten {S : Type 0} (node : Node) (before now : Shown S) (old new : Option (List ℕ)) : Type 0 where
+pub record HasWritten {S : Type 0} (node : Node) (before now : BookView S) (old new : Option (List ℕ)) : Type 0 where
   pub same : now ≡ record before { queue = now.queue }
   pub stands : (run : Run) → Stands node run before → Stands node run now
   pub part : List ℕ
@@ -110,7 +112,7 @@ pub record HasWritten {S : Type 0} (node : Node) (before now : Shown S) (old new
   pub parts : frames (ready before.settled before.queue) ≡ part ++ frames (ready before.settled now.queue)
   pub left : unready before.settled before.queue ≡ unready before.settled now.queue
 
-pub nothing_written : {S : Type 0} (node : Node) (before : Shown S) (old : Option (List ℕ)) → HasWritten node before before old old
+pub nothing_written : {S : Type 0} (node : Node) (before : BookView S) (old : Option (List ℕ)) → HasWritten node before before old old
 nothing_written {S} node before old = record {
   same = refl;
   stands = λ run at. at;
@@ -120,19 +122,19 @@ nothing_written {S} node before old = record {
   left = refl;
 }
 
-module _ {S : Type 0} (node : Node) (before now : Shown S) (old mid : Option (List ℕ)) (so_far : HasWritten node before now old mid) (up : before.down ≡ false) where
+module _ {S : Type 0} (node : Node) (before now : BookView S) (old mid : Option (List ℕ)) (so_far : HasWritten node before now old mid) (up : before.down ≡ false) where
   -- what may go out of it
   head_now : releasable now ≡ settled_head before.settled now.queue
   head_now =
-      (λ i. cond (ap (λ (b : Shown S). b.down) so_far.same i) None (settled_head (ap (λ (b : Shown S). b.settled) so_far.same i) now.queue))
+      (λ i. cond (ap (λ (b : BookView S). b.down) so_far.same i) None (settled_head (ap (λ (b : BookView S). b.settled) so_far.same i) now.queue))
       ∙ ap (λ (b : Bool). cond b None (settled_head before.settled now.queue)) up
 
   -- one more
-  pub one_written : (later : Shown S) (output : Output) (new : Option (List ℕ)) → releasable now ≡ Some output → later ≡ record now { queue = drop 1 now.queue }
+  pub one_written : (later : BookView S) (output : Output) (new : Option (List ℕ)) → releasable now ≡ Some output → later ≡ record now { queue = drop 1 now.queue }
       → ((run : Run) → Stands node run now → Stands node run later) → Appends mid new (frame_of output) → HasWritten node before later old new
   one_written later output new out next stands appends =
       let head : settled_head before.settled now.queue ≡ Some output = sym head_now ∙ out in
-      let queue : later.queue ≡ drop 1 now.queue = ap (λ (b : Shown S). b.queue) next in
+      let queue : later.queue ≡ drop 1 now.queue = ap (λ (b : BookView S). b.queue) next in
       record {
         same = next ∙ (λ i. record (so_far.same i) { queue = sym queue i });
         stands = λ run at. stands run (so_far.stands run at);
@@ -144,7 +146,7 @@ module _ {S : Type 0} (node : Node) (before now : Shown S) (old mid : Option (Li
         left = so_far.left ∙ unready_more before.settled now.queue output head ∙ ap (unready before.settled) (sym queue);
       }
 
-  module _ {D : Type 0} (content : D → List ℕ) (outcome : D → List ℕ → Type 0) (journal : Journal D) (desk : Desk) (is : IsOf node content outcome desk before journal) where
+  module _ {D : Type 0} (device : Device D) (journal : Journal D) (desk : Desk) (is : IsOf node device desk before journal) where
     -- what is ready is what is due
     due_is : ready before.settled before.queue ≡ due desk
     due_is = (λ i. ready (is.stands_at.settled i) (is.waits i))
@@ -162,11 +164,11 @@ module _ {S : Type 0} (node : Node) (before now : Shown S) (old mid : Option (Li
         sym (append-nil so_far.part) ∙ ap (λ (q : List Waiting). so_far.part ++ frames q) (sym (none_ready before.settled now.queue (late none))) ∙ sym so_far.parts ∙ ap frames due_is in
         subst (Appends old mid) whole so_far.appends
 
-    pub none_due : releasable now ≡ None → IsOf node content outcome (without_due desk) now journal
+    pub none_due : releasable now ≡ None → IsOf node device (without_due desk) now journal
     none_due none = record {
       stands_at = so_far.stands (run_of desk) is.stands_at;
       waits = sym (all_unready before.settled now.queue (late none)) ∙ sym so_far.left ∙ left_is;
-      up = ap (λ (b : Shown S). b.down) so_far.same ∙ up;
+      up = ap (λ (b : BookView S). b.down) so_far.same ∙ up;
       alive = is.alive;
       configured = is.configured;
       told_as = is.told_as;
@@ -185,7 +187,7 @@ module _ {S : Type 0} (node : Node) (before now : Shown S) (old mid : Option (Li
 
 -- ---- one call
 
-module _ {S : Type 0} (before later : Shown S) (out : Option Output) (is : out ≡ releasable before) (queue : later ≡ (if is_some out then record before { queue = drop 1 before.queue } else before)) where
+module _ {S : Type 0} (before later : BookView S) (out : Option Output) (is : out ≡ releasable before) (queue : later ≡ (if is_some out then record before { queue = drop 1 before.queue } else before)) where
   released : (o : Option Output) → out ≡ o → later ≡ (if is_some o then record before { queue = drop 1 before.queue } else before)
   released o same = queue ∙ ap (λ (x : Option Output). if is_some x then record before { queue = drop 1 before.queue } else before) same
 
@@ -207,7 +209,7 @@ module _ {S : Type 0} (before later : Shown S) (out : Option Output) (is : out �
   writes_part output old new some appends = record { output = output; is = sym is ∙ some; appends = appends }
 
 -- with an output that went out the queue is shorter
-pub queue_falls : {S : Type 0} (before later : Shown S) (old new : Option (List ℕ)) → WritesFirst before later old new → length later.queue < length before.queue
+pub queue_falls : {S : Type 0} (before later : BookView S) (old new : Option (List ℕ)) → WritesFirst before later old new → length later.queue < length before.queue
 queue_falls {S} before later old new writes = falls before.queue (heads before.down writes.is)
   where
     heads : (down : Bool) → cond down None (settled_head before.settled before.queue) ≡ Some writes.output → settled_head before.settled before.queue ≡ Some writes.output
@@ -217,9 +219,9 @@ queue_falls {S} before later old new writes = falls before.queue (heads before.d
     falls : (queue : List Waiting) → settled_head before.settled before.queue ≡ Some writes.output → length later.queue < length before.queue
     falls queue head =
         let first = first_of_queue before.settled before.queue writes.output head in
-        omega (arith, ap (λ (b : Shown S). length b.queue) writes.left, ap (λ (q : List Waiting). length (drop 1 q)) first.parts, ap (λ (q : List Waiting). length q) first.parts)
+        omega (arith, ap (λ (b : BookView S). length b.queue) writes.left, ap (λ (q : List Waiting). length (drop 1 q)) first.parts, ap (λ (q : List Waiting). length q) first.parts)
 
 -- one more was written, of a book that isn't down
-pub goes_on : {S : Type 0} (node : Node) (before now later : Shown S) (old mid new : Option (List ℕ)) → HasWritten node before now old mid → before.down ≡ false
+pub goes_on : {S : Type 0} (node : Node) (before now later : BookView S) (old mid new : Option (List ℕ)) → HasWritten node before now old mid → before.down ≡ false
     → ((run : Run) → Stands node run now → Stands node run later) → WritesFirst now later mid new → HasWritten node before later old new
 goes_on {S} node before now later old mid new so_far up stands writes = one_written node before now old mid so_far up later writes.output new writes.is writes.left stands writes.appends

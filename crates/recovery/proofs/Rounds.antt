@@ -13,16 +13,17 @@ use Rattle.recovery.specs.Script.{IsOf, Breaks}
 use Rattle.recovery.specs.declared.driving.DriveError.{DriveError}
 use Rattle.recovery.specs.declared.driving.DriveError.TheVariants as ends
 use Rattle.recovery.proofs.Desks.{flushes_is, nothing_flushed, same_breaks, device_breaks, full_breaks}
+use Rattle.diskmodel.specs.Disk.{Device}
 
-module _ {S D : Type 0} (node : Node) (content : D → List ℕ) (outcome : D → List ℕ → Type 0) (script : Desk) (before later : desks.Shown S D) (is : IsOf node content outcome script before.book before.journal) where
+module _ {S D : Type 0} (node : Node) (device : Device D) (script : Desk) (before later : desks.DeskView S D) (is : IsOf node device script before.book before.journal) where
   by_pending : (pending : List (List ℕ)) (count : ℕ) → before.book.pending ≡ pending → (before.book.pending ≡ [] → later ≡ before)
-      → (before.book.pending ≢ [] → Flushes node before.book later.book (content (disk_of before.journal)) (content (disk_of later.journal)) count) → IsAlive content outcome later.journal
-      → IsOf node content outcome (after node script flush) later.book later.journal
+      → (before.book.pending ≢ [] → Flushes node before.book later.book (device.content (disk_of before.journal)) (device.content (disk_of later.journal)) count) → IsAlive device later.journal
+      → IsOf node device (after node script flush) later.book later.journal
   by_pending [] count none idle flushes alive =
-      subst (λ (d : desks.Shown S D). IsOf node content outcome (after node script flush) d.book d.journal) (sym (idle none))
-      (nothing_flushed node content outcome script before.book before.journal is none)
+      subst (λ (d : desks.DeskView S D). IsOf node device (after node script flush) d.book d.journal) (sym (idle none))
+      (nothing_flushed node device script before.book before.journal is none)
   by_pending (first ∷ rest) count some idle flushes alive =
-      flushes_is node content outcome script before.book before.journal is later.book later.journal (content (disk_of before.journal)) (content (disk_of later.journal)) count refl refl
+      flushes_is node device script before.book before.journal is later.book later.journal (device.content (disk_of before.journal)) (device.content (disk_of later.journal)) count refl refl
       (flushes (λ none. some_none (sym some ∙ none))) alive
     where
       some_none : first ∷ rest ≡ [] → ⊥
@@ -30,8 +31,8 @@ module _ {S D : Type 0} (node : Node) (content : D → List ℕ) (outcome : D �
 
   -- behind one that succeeded
   pub round_is : (answer : Result ℕ FlushError) → IsOk answer → OnOk answer (before.book.pending ≡ [] → (answer ≡ Ok 0) × (later ≡ before))
-      → IfOk answer (λ count. before.book.pending ≢ [] → Flushes node before.book later.book (content (disk_of before.journal)) (content (disk_of later.journal)) count)
-      → OnOk answer (IsAlive content outcome later.journal) → IsOf node content outcome (after node script flush) later.book later.journal
+      → IfOk answer (λ count. before.book.pending ≢ [] → Flushes node before.book later.book (device.content (disk_of before.journal)) (device.content (disk_of later.journal)) count)
+      → OnOk answer (IsAlive device later.journal) → IsOf node device (after node script flush) later.book later.journal
   round_is (Ok count) ok idle flushes alive = by_pending before.book.pending count refl (λ none. (idle none).1) flushes alive
   round_is (Err error) ok idle flushes alive = absurd cc
 
@@ -39,31 +40,31 @@ module _ {S D : Type 0} (node : Node) (content : D → List ℕ) (outcome : D �
   pub round_breaks : (answer : Result ℕ FlushError) (error : DriveError) → (error ≡ ends.Memory) ⊎ ((error ≡ ends.Device) ⊎ (error ≡ ends.Full))
       → (error ≡ ends.Memory → IsErrOf answer errors.Memory) → (error ≡ ends.Device → IsErrOf answer errors.Device) → (error ≡ ends.Full → IsErrOf answer errors.Full)
       → IfErr answer (λ e. (e ≡ errors.Down) ⊎ (e ≡ errors.Memory) → later ≡ before)
-      → (IsErrOf answer errors.Full → FindsNoRoom node before.book later.book (content (disk_of before.journal))) → (IsErrOf answer errors.Full → later.journal ≡ before.journal)
-      → ((bytes : List ℕ) → outcome (disk_of later.journal) bytes → IsWithOrWithout before.book.pending (content (disk_of before.journal)) bytes)
-      → Breaks node script flush error (content (disk_of later.journal)) (outcome (disk_of later.journal))
+      → (IsErrOf answer errors.Full → FindsNoRoom node before.book later.book (device.content (disk_of before.journal))) → (IsErrOf answer errors.Full → later.journal ≡ before.journal)
+      → ((bytes : List ℕ) → device.outcome (disk_of later.journal) bytes → IsWithOrWithout before.book.pending (device.content (disk_of before.journal)) bytes)
+      → Breaks node script flush error (device.content (disk_of later.journal)) (device.outcome (disk_of later.journal))
   round_breaks answer error (inl so) memory device full unchanged no_room same left =
       let answered = memory so in
       let kept = subst (λ (r : Result ℕ FlushError). IfErr r (λ e. (e ≡ errors.Down) ⊎ (e ≡ errors.Memory) → later ≡ before)) answered unchanged (inr refl) in
-      subst (λ (d : desks.Shown S D). Breaks node script flush error (content (disk_of d.journal)) (outcome (disk_of d.journal))) (sym kept)
-      (same_breaks node content outcome script before.book before.journal is flush error so)
+      subst (λ (d : desks.DeskView S D). Breaks node script flush error (device.content (disk_of d.journal)) (device.outcome (disk_of d.journal))) (sym kept)
+      (same_breaks node device script before.book before.journal is flush error so)
   round_breaks answer error (inr (inl so)) memory device full unchanged no_room same left =
-      subst (λ (e : DriveError). Breaks node script flush e (content (disk_of later.journal)) (outcome (disk_of later.journal))) (sym so)
-      (device_breaks node content outcome script before.book before.journal is before.book.pending refl later.journal left)
+      subst (λ (e : DriveError). Breaks node script flush e (device.content (disk_of later.journal)) (device.outcome (disk_of later.journal))) (sym so)
+      (device_breaks node device script before.book before.journal is before.book.pending refl later.journal left)
   round_breaks answer error (inr (inr so)) memory device full unchanged no_room same left =
-      subst (λ (e : DriveError). Breaks node script flush e (content (disk_of later.journal)) (outcome (disk_of later.journal))) (sym so)
-      (full_breaks node content outcome script before.book before.journal is later.book later.journal (same (full so)) (no_room (full so)))
+      subst (λ (e : DriveError). Breaks node script flush e (device.content (disk_of later.journal)) (device.outcome (disk_of later.journal))) (sym so)
+      (full_breaks node device script before.book before.journal is later.book later.journal (same (full so)) (no_room (full so)))
 
 -- the faults of a disk that it left as it was
-pub faults_same : {S D : Type 0} (faults : D → ℕ) (before later : desks.Shown S D) (answer : Result ℕ FlushError) (error : DriveError) → (error ≡ ends.Memory) ⊎ ((error ≡ ends.Device) ⊎ (error ≡ ends.Full))
+pub faults_same : {S D : Type 0} (device : Device D) (before later : desks.DeskView S D) (answer : Result ℕ FlushError) (error : DriveError) → (error ≡ ends.Memory) ⊎ ((error ≡ ends.Device) ⊎ (error ≡ ends.Full))
     → (error ≡ ends.Memory → IsErrOf answer errors.Memory) → (error ≡ ends.Full → IsErrOf answer errors.Full)
     → IfErr answer (λ e. (e ≡ errors.Down) ⊎ (e ≡ errors.Memory) → later ≡ before) → (IsErrOf answer errors.Full → later.journal ≡ before.journal)
-    → error ≢ ends.Device → faults (disk_of later.journal) ≡ faults (disk_of before.journal)
-faults_same {S} {D} faults before later answer error (inl so) memory full unchanged same other =
-    ap (λ (d : desks.Shown S D). faults (disk_of d.journal))
+    → error ≢ ends.Device → device.faults (disk_of later.journal) ≡ device.faults (disk_of before.journal)
+faults_same {S} {D} device before later answer error (inl so) memory full unchanged same other =
+    ap (λ (d : desks.DeskView S D). device.faults (disk_of d.journal))
     (subst (λ (r : Result ℕ FlushError). IfErr r (λ e. (e ≡ errors.Down) ⊎ (e ≡ errors.Memory) → later ≡ before)) (memory so) unchanged (inr refl))
-faults_same {S} {D} faults before later answer error (inr (inl so)) memory full unchanged same other = absurd (other so)
-faults_same {S} {D} faults before later answer error (inr (inr so)) memory full unchanged same other = ap (λ (j : Journal D). faults (disk_of j)) (same (full so))
+faults_same {S} {D} device before later answer error (inr (inl so)) memory full unchanged same other = absurd (other so)
+faults_same {S} {D} device before later answer error (inr (inr so)) memory full unchanged same other = ap (λ (j : Journal D). device.faults (disk_of j)) (same (full so))
 
 -- what holds of an error where the call answered it
 pub err_with : {A E : Type 0} (r : Result A E) (P Q : E → Type 0) → ((error : E) → r ≡ Err error → P error → Q error) → IfErr r P → IfErr r Q

@@ -3,9 +3,10 @@ use Rattle.std.proofs.Common.{◌≡◌, ℕ, List, [], ◌∷◌, ◌++◌, Opt
 use Rattle.std.proofs.KnownBytes.{Appends-trans}
 use Rattle.std.specs.Prelude.{All}
 use Rattle.std.specs.Io.KnownBytes.{Keeps, Appends}
-use Rattle.book.specs.Book.{Shown}
+use Rattle.book.specs.Book.{BookView}
 use Rattle.journal.specs.declared.journal.Journal.{Journal}
-use Rattle.spec_model.specs.Histories.{History, Begins}
+use Rattle.spec_model.specs.Histories.{History}
+use Rattle.wire.specs.Lists.{Begins}
 use Rattle.spec_model.specs.Nodes.{Node, IsNode}
 use Rattle.spec_world.specs.World.{World}
 use Rattle.spec_world.specs.Steps.{Move, IsRun}
@@ -22,6 +23,7 @@ use Rattle.wire_write.proofs.Appending.{keeps_appends}
 use Rattle.recovery.proofs.Carrying.{IsCarriedOut}
 use Rattle.recovery.proofs.DeskOpening.{ok_is}
 use Rattle.recovery.proofs.Scripts.{text_push, text_nil, desk_nil}
+use Rattle.diskmodel.specs.Disk.{Device}
 
 -- an event that passed the checks, within all limits, is one that the node takes
 pub taken_in : (node : Node) (command : Command) → Passes node.charter command → IsWithinLimits command → IsTakenIn node (said command)
@@ -38,9 +40,9 @@ module _ (node : Node) (sound : IsNode node) where
       (subst (λ (w : World). IsAtDesk w (script.desk_on history)) (sym begun.is) (scripts_begin world.bytes_at_start history world.given)) taken
 
   -- and gives out what was written
-  pub run_given : (commands : List script.Command) (before later : List ℕ) (outcome : List ℕ → Type 0) (old new : Option (List ℕ)) → All (IsTakenIn node) commands → HasRun node commands before later outcome old new
+  pub run_given : (commands : List script.Command) (before later : List ℕ) (device.outcome : List ℕ → Type 0) (old new : Option (List ℕ)) → All (IsTakenIn node) commands → HasRun node commands before later device old new
       → EachRunOn node before (GivesOut node commands old new)
-  run_given commands before later outcome old new taken run = λ history moves world is begun.
+  run_given commands before later device old new taken run = λ history moves world is begun.
       let goes = goes_on history moves world commands taken begun in
       let same : run.history ≡ history = ok_is run.history history (sym run.told_first ∙ is) in
       record {
@@ -49,11 +51,11 @@ module _ (node : Node) (sound : IsNode node) where
       }
 
   -- also where the next command failed
-  pub cut_given : {S D : Type 0} (content : D → List ℕ) (outcome : D → List ℕ → Type 0) (before : List ℕ) (done : List script.Command) (next : script.Command) (book : Shown S) (journal : Journal D) (old mid new : Option (List ℕ))
-      (so_far : IsCarriedOut node content outcome before done book journal old mid) (commands rest : List script.Command) (error : DriveError) → commands ≡ done ++ next ∷ rest
+  pub cut_given : {S D : Type 0} (device : Device D) (before : List ℕ) (done : List script.Command) (next : script.Command) (book : BookView S) (journal : Journal D) (old mid new : Option (List ℕ))
+      (so_far : IsCarriedOut node device before done book journal old mid) (commands rest : List script.Command) (error : DriveError) → commands ≡ done ++ next ∷ rest
       → AppendsPart error mid new (script.frames (script.due (script.after node (script.desk_behind node (script.desk_on so_far.history) done) next))) → All (IsTakenIn node) (done ++ next ∷ [])
       → EachRunOn node before (GivesOutNoLess node commands old new)
-  cut_given content outcome before done next book journal old mid new so_far commands rest error parts appends taken = λ history moves world is begun.
+  cut_given device before done next book journal old mid new so_far commands rest error parts appends taken = λ history moves world is begun.
       let some = done ++ next ∷ [] in
       let first = script.desk_on so_far.history in
       let text_done = script.text node first done in

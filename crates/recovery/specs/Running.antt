@@ -1,7 +1,8 @@
 -- That what is written is what runs of the node give out.
 use Rattle.std.specs.Prelude.{◌≡◌, ⊤, ℕ, List, Option, Ok}
 use Rattle.std.specs.Io.KnownBytes.{Appends}
-use Rattle.spec_model.specs.Histories.{History, Begins}
+use Rattle.spec_model.specs.Histories.{History}
+use Rattle.wire.specs.Lists.{Begins}
 use Rattle.spec_model.specs.Nodes.{Node}
 use Rattle.spec_world.specs.World.{World, run_on}
 use Rattle.spec_world.specs.Steps.{Move, IsRun}

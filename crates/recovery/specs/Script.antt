@@ -1,7 +1,7 @@
 -- What a node with one owner does with a script of commands.
 use Rattle.std.specs.Prelude.{◌≡◌, ◌≢◌, ◌⊎◌, ⊤, ℕ, ◌+◌, ◌<◌, false, List, [], ◌∷◌, ◌++◌, length, map, drop, Option, None, Ok}
 use Rattle.std.specs.Io.KnownBytes.{Keeps, Appends}
-use Rattle.book.specs.Book.{Shown, Run, Stands}
+use Rattle.book.specs.Book.{BookView, Run, Stands}
 use Rattle.committee.specs.Charter.{Charter}
 use Rattle.diskmodel.specs.Disk.{LeavesOnly}
 use Rattle.header.specs.Checks.{fault_of, accepts_all}
@@ -11,7 +11,8 @@ use Rattle.journal.specs.declared.error.JournalError.{JournalError}
 use Rattle.journal.specs.declared.error.JournalError.TheVariants as journal
 use Rattle.journal.specs.declared.journal.Journal.{Journal}
 use Rattle.journal.specs.declared.layout.TheConstants.{MAX_JOURNAL_BYTES}
-use Rattle.spec_model.specs.Histories.{History, Begins}
+use Rattle.spec_model.specs.Histories.{History}
+use Rattle.wire.specs.Lists.{Begins}
 use Rattle.spec_model.specs.Nodes.{Node}
 use Rattle.spec_records.specs.Records.{record_of}
 use Rattle.spec_world.specs.Text as script
@@ -47,19 +48,19 @@ run_of desk = record { began = desk.began; accepted = desk.accepted; taken = des
 
 -- A book and a journal are those of a script's desk: the book stands at its run and queues the outputs that wait there, the journal can be
 -- added to, and its disk has the configuration and is told as what is settled.
-pub record IsOf {S D : Type 0} (node : Node) (content : D → List ℕ) (outcome : D → List ℕ → Type 0) (desk : script.Desk) (book : Shown S) (journal : Journal D) : Type 0 where
+pub record IsOf {S D : Type 0} (node : Node) (device : Device D) (desk : script.Desk) (book : BookView S) (journal : Journal D) : Type 0 where
   pub stands_at : Stands node (run_of desk) book
   pub waits : book.queue ≡ desk.waiting
   pub up : book.down ≡ false
-  pub alive : IsAlive content outcome journal
-  pub configured : stands (content (disk_of journal)) ≢ Ok []
-  pub told_as : told node (content (disk_of journal)) ≡ Ok (script.settled_in desk)
+  pub alive : IsAlive device journal
+  pub configured : stands (device.content (disk_of journal)) ≢ Ok []
+  pub told_as : told node (device.content (disk_of journal)) ≡ Ok (script.settled_in desk)
 
 -- they are those of a run that began with what the disk was told as
-pub record IsOpenedOf {S D : Type 0} (node : Node) (content : D → List ℕ) (outcome : D → List ℕ → Type 0) (before : List ℕ) (book : Shown S) (journal : Journal D) : Type 0 where
+pub record IsOpenedOf {S D : Type 0} (node : Node) (device : Device D) (before : List ℕ) (book : BookView S) (journal : Journal D) : Type 0 where
   pub history : History
   pub told_first : told node before ≡ Ok history
-  pub is_of : IsOf node content outcome (script.desk_on history) book journal
+  pub is_of : IsOf node device (script.desk_on history) book journal
 
 -- ---- how a script ends
 

@@ -1,10 +1,10 @@
 -- What is written, also where a writer fails.
 use Rattle.std.specs.Prelude.{◌≡◌, ◌<◌, ⊤, ℕ, List, [], Option, Some, None, length, drop}
 use Rattle.std.specs.Io.KnownBytes.{Appends}
-use Rattle.spec_model.specs.Histories.{Begins}
+use Rattle.wire.specs.Lists.{Begins}
 use Rattle.spec_model.specs.Words.{Output}
-use Rattle.spec_world.specs.Text.{frame_of}
-use Rattle.book.specs.Book.{Shown, releasable}
+use Rattle.wire.specs.Outputs.{frame_of}
+use Rattle.book.specs.Book.{BookView, releasable}
 use Rattle.wire_write.specs.Frames.{AppendsLess}
 use Rattle.recovery.specs.declared.driving.DriveError.{DriveError}
 use Rattle.recovery.specs.declared.driving.DriveError.TheVariants.{Device, Full, Output as WriterFailed}
@@ -25,20 +25,20 @@ pub record AppendsPart (error : DriveError) (old new : Option (List ℕ)) (bytes
   pub appends : Appends old new part
 
 -- a book's first output, which may go out, left it and was written
-pub record WritesFirst {S : Type 0} (before later : Shown S) (old new : Option (List ℕ)) : Type 0 where
+pub record WritesFirst {S : Type 0} (before later : BookView S) (old new : Option (List ℕ)) : Type 0 where
   pub output : Output
   pub is : releasable before ≡ Some output
   pub left : later ≡ record before { queue = drop 1 before.queue }
   pub appends : Appends old new (frame_of output)
 
 -- or only a part of it
-pub record WritesPartOfFirst {S : Type 0} (before : Shown S) (old new : Option (List ℕ)) : Type 0 where
+pub record WritesPartOfFirst {S : Type 0} (before : BookView S) (old new : Option (List ℕ)) : Type 0 where
   pub output : Output
   pub is : releasable before ≡ Some output
   pub appends : AppendsLess old new (frame_of output)
 
 -- none may go out, and nothing happened
-pub record WritesNone {S : Type 0} (before later : Shown S) (old new : Option (List ℕ)) : Type 0 where
+pub record WritesNone {S : Type 0} (before later : BookView S) (old new : Option (List ℕ)) : Type 0 where
   pub none : releasable before ≡ None
   pub same : later ≡ before
   pub keeps : new ≡ old

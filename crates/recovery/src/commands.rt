@@ -32,10 +32,10 @@ pub(crate) fn open<'a, S: Sign, D: StopDisk>(
     disk: D,
 ) -> Result<Desk<'a, S, D>, Failed<DriveError, D>>
     ensures setting { IfOk result (λ desk. desk.book.validator.setting ≡ config.now) }
-    ensures ok { IfOk result (λ desk. IsOpenedOf (node_of S.own_key S.signature_of config.now) D.content D.outcome (D.content disk) desk.book desk.journal) }
+    ensures ok { IfOk result (λ desk. IsOpenedOf (node_of S.scheme config.now) D.device (D.device.content disk) desk.book desk.journal) }
     ensures none { IfOk result (λ desk. desk.book.accepted ≡ 0) }
-    ensures err { IfErr result (λ failed. IsNotOpened (node_of S.own_key S.signature_of config.now) failed.error (D.content disk) (D.outcome disk) (D.outcome failed.disk)) }
-    ensures cause { TellsFaultBack D.faults (λ desk. disk_of desk.journal) DriveError.Device disk result }
+    ensures err { IfErr result (λ failed. IsNotOpened (node_of S.scheme config.now) failed.error (D.device.content disk) (D.device.outcome disk) (D.device.outcome failed.disk)) }
+    ensures cause { TellsFaultBack D.device (λ desk. disk_of desk.journal) DriveError.Device disk result }
     ensures never_output { IfErr result (λ failed. failed.error ≢ DriveError.Output) }
 {
     match Desk::open(alloc, config, disk) {
@@ -53,21 +53,21 @@ pub(crate) fn carry_out<'a, S: Sign, D: StopDisk, W: Write>(
     writer: &mut W,
 ) -> Result<Desk<'a, S, D>, Failed<DriveError, D>>
     requires setting { desk.book.validator.setting ≡ config.now }
-    requires stands { (script : ScriptDesk) × IsOf (node_of S.own_key S.signature_of config.now) D.content D.outcome script desk.book desk.journal }
+    requires stands { (script : ScriptDesk) × IsOf (node_of S.scheme config.now) D.device script desk.book desk.journal }
     requires passed { Passes config.now.charter command }
     requires room { desk.book.accepted < MAX_ACCEPTED }
 
     ensures setting { IfOk result (λ next. next.book.validator.setting ≡ config.now) }
-    ensures ok { let node = node_of S.own_key S.signature_of config.now in IfOk result (λ next. (script : ScriptDesk) → IsOf node D.content D.outcome script desk.entry.book desk.entry.journal
-        → IsOf node D.content D.outcome (carried_out node script (said command)) next.book next.journal) }
-    ensures writes { let node = node_of S.own_key S.signature_of config.now in OnOk result ((script : ScriptDesk) → IsOf node D.content D.outcome script desk.entry.book desk.entry.journal
+    ensures ok { let node = node_of S.scheme config.now in IfOk result (λ next. (script : ScriptDesk) → IsOf node D.device script desk.entry.book desk.entry.journal
+        → IsOf node D.device (carried_out node script (said command)) next.book next.journal) }
+    ensures writes { let node = node_of S.scheme config.now in OnOk result ((script : ScriptDesk) → IsOf node D.device script desk.entry.book desk.entry.journal
         → Appends (W.contents writer.old) (W.contents writer.new) (frames (due (after node script (said command))))) }
     ensures count { IfOk result (λ next. next.book.accepted ≤ desk.entry.book.accepted + 1) }
-    ensures err { let node = node_of S.own_key S.signature_of config.now in IfErr result (λ failed. (script : ScriptDesk) → IsOf node D.content D.outcome script desk.entry.book desk.entry.journal
-        → Breaks node script (said command) failed.error (D.content failed.disk) (D.outcome failed.disk)) }
-    ensures writes_part { let node = node_of S.own_key S.signature_of config.now in IfErr result (λ failed. (script : ScriptDesk) → IsOf node D.content D.outcome script desk.entry.book desk.entry.journal
+    ensures err { let node = node_of S.scheme config.now in IfErr result (λ failed. (script : ScriptDesk) → IsOf node D.device script desk.entry.book desk.entry.journal
+        → Breaks node script (said command) failed.error (D.device.content failed.disk) (D.device.outcome failed.disk)) }
+    ensures writes_part { let node = node_of S.scheme config.now in IfErr result (λ failed. (script : ScriptDesk) → IsOf node D.device script desk.entry.book desk.entry.journal
         → AppendsPart failed.error (W.contents writer.old) (W.contents writer.new) (frames (due (after node script (said command))))) }
-    ensures cause { TellsFaultBack D.faults (λ next. disk_of next.journal) DriveError.Device (disk_of desk.entry.journal) result }
+    ensures cause { TellsFaultBack D.device (λ next. disk_of next.journal) DriveError.Device (disk_of desk.entry.journal) result }
 {
     let mut desk = apply(desk, alloc, config, command)?;
     match write_due(&mut desk, alloc, writer) {
@@ -84,17 +84,17 @@ fn apply<'a, S: Sign, D: StopDisk>(
     command: Command,
 ) -> Result<Desk<'a, S, D>, Failed<DriveError, D>>
     requires setting { desk.book.validator.setting ≡ config.now }
-    requires stands { (script : ScriptDesk) × IsOf (node_of S.own_key S.signature_of config.now) D.content D.outcome script desk.book desk.journal }
+    requires stands { (script : ScriptDesk) × IsOf (node_of S.scheme config.now) D.device script desk.book desk.journal }
     requires passed { Passes config.now.charter command }
     requires room { desk.book.accepted < MAX_ACCEPTED }
 
     ensures setting { IfOk result (λ next. next.book.validator.setting ≡ config.now) }
-    ensures ok { let node = node_of S.own_key S.signature_of config.now in IfOk result (λ next. (script : ScriptDesk) → IsOf node D.content D.outcome script desk.entry.book desk.entry.journal
-        → IsOf node D.content D.outcome (after node script (said command)) next.book next.journal) }
+    ensures ok { let node = node_of S.scheme config.now in IfOk result (λ next. (script : ScriptDesk) → IsOf node D.device script desk.entry.book desk.entry.journal
+        → IsOf node D.device (after node script (said command)) next.book next.journal) }
     ensures count { IfOk result (λ next. next.book.accepted ≤ desk.entry.book.accepted + 1) }
-    ensures err { let node = node_of S.own_key S.signature_of config.now in IfErr result (λ failed. (script : ScriptDesk) → IsOf node D.content D.outcome script desk.entry.book desk.entry.journal
-        → Breaks node script (said command) failed.error (D.content failed.disk) (D.outcome failed.disk)) }
-    ensures cause { TellsFaultBack D.faults (λ next. disk_of next.journal) DriveError.Device (disk_of desk.entry.journal) result }
+    ensures err { let node = node_of S.scheme config.now in IfErr result (λ failed. (script : ScriptDesk) → IsOf node D.device script desk.entry.book desk.entry.journal
+        → Breaks node script (said command) failed.error (D.device.content failed.disk) (D.device.outcome failed.disk)) }
+    ensures cause { TellsFaultBack D.device (λ next. disk_of next.journal) DriveError.Device (disk_of desk.entry.journal) result }
     ensures never_output { IfErr result (λ failed. failed.error ≢ DriveError.Output) }
 {
     match command {
@@ -109,18 +109,18 @@ fn with_event<'a, S: Sign, D: StopDisk>(
     mut desk: Desk<'a, S, D>,
     event: Checked,
 ) -> Result<Desk<'a, S, D>, Failed<DriveError, D>>
-    requires stands { (script : ScriptDesk) × IsOf (node_of S.own_key S.signature_of desk.book.validator.setting) D.content D.outcome script desk.book desk.journal }
+    requires stands { (script : ScriptDesk) × IsOf (node_of S.scheme desk.book.validator.setting) D.device script desk.book desk.journal }
     requires passed { fault_of desk.book.validator.setting.charter accepts_all event ≡ None }
     requires room { desk.book.accepted < MAX_ACCEPTED }
 
     ensures setting { IfOk result (λ next. next.book.validator.setting ≡ desk.entry.book.validator.setting) }
-    ensures ok { let node = node_of S.own_key S.signature_of desk.entry.book.validator.setting in IfOk result (λ next. (script : ScriptDesk) → IsOf node D.content D.outcome script desk.entry.book desk.entry.journal
-        → IsOf node D.content D.outcome (after node script (take_in event)) next.book next.journal) }
+    ensures ok { let node = node_of S.scheme desk.entry.book.validator.setting in IfOk result (λ next. (script : ScriptDesk) → IsOf node D.device script desk.entry.book desk.entry.journal
+        → IsOf node D.device (after node script (take_in event)) next.book next.journal) }
     ensures count { IfOk result (λ next. next.book.accepted ≤ desk.entry.book.accepted + 1) }
     ensures same { IfOk result (λ next. next.journal ≡ desk.entry.journal) }
     ensures same_err { IfErr result (λ failed. failed.disk ≡ disk_of desk.entry.journal) }
-    ensures err { let node = node_of S.own_key S.signature_of desk.entry.book.validator.setting in IfErr result (λ failed. (script : ScriptDesk) → IsOf node D.content D.outcome script desk.entry.book desk.entry.journal
-        → Breaks node script (take_in event) failed.error (D.content failed.disk) (D.outcome failed.disk)) }
+    ensures err { let node = node_of S.scheme desk.entry.book.validator.setting in IfErr result (λ failed. (script : ScriptDesk) → IsOf node D.device script desk.entry.book desk.entry.journal
+        → Breaks node script (take_in event) failed.error (D.device.content failed.disk) (D.device.outcome failed.disk)) }
     ensures memory { IfErr result (λ failed. failed.error ≡ DriveError.Memory) }
 {
     match accept(&mut desk, event) {
@@ -133,15 +133,15 @@ fn with_event<'a, S: Sign, D: StopDisk>(
 fn flushed<'a, S: Sign, D: StopDisk>(
     mut desk: Desk<'a, S, D>,
 ) -> Result<Desk<'a, S, D>, Failed<DriveError, D>>
-    requires stands { (script : ScriptDesk) × IsOf (node_of S.own_key S.signature_of desk.book.validator.setting) D.content D.outcome script desk.book desk.journal }
+    requires stands { (script : ScriptDesk) × IsOf (node_of S.scheme desk.book.validator.setting) D.device script desk.book desk.journal }
 
     ensures setting { IfOk result (λ next. next.book.validator.setting ≡ desk.entry.book.validator.setting) }
-    ensures ok { let node = node_of S.own_key S.signature_of desk.entry.book.validator.setting in IfOk result (λ next. (script : ScriptDesk) → IsOf node D.content D.outcome script desk.entry.book desk.entry.journal
-        → IsOf node D.content D.outcome (after node script flush_it) next.book next.journal) }
+    ensures ok { let node = node_of S.scheme desk.entry.book.validator.setting in IfOk result (λ next. (script : ScriptDesk) → IsOf node D.device script desk.entry.book desk.entry.journal
+        → IsOf node D.device (after node script flush_it) next.book next.journal) }
     ensures count { IfOk result (λ next. next.book.accepted ≡ desk.entry.book.accepted) }
-    ensures err { let node = node_of S.own_key S.signature_of desk.entry.book.validator.setting in IfErr result (λ failed. (script : ScriptDesk) → IsOf node D.content D.outcome script desk.entry.book desk.entry.journal
-        → Breaks node script flush_it failed.error (D.content failed.disk) (D.outcome failed.disk)) }
-    ensures cause { TellsFaultBack D.faults (λ next. disk_of next.journal) DriveError.Device (disk_of desk.entry.journal) result }
+    ensures err { let node = node_of S.scheme desk.entry.book.validator.setting in IfErr result (λ failed. (script : ScriptDesk) → IsOf node D.device script desk.entry.book desk.entry.journal
+        → Breaks node script flush_it failed.error (D.device.content failed.disk) (D.device.outcome failed.disk)) }
+    ensures cause { TellsFaultBack D.device (λ next. disk_of next.journal) DriveError.Device (disk_of desk.entry.journal) result }
     ensures never_output { IfErr result (λ failed. failed.error ≢ DriveError.Output) }
 {
     match flush(&mut desk) {
@@ -157,12 +157,12 @@ fn stopped<'a, S: Sign, D: StopDisk>(
     config: &'a Config<S>,
 ) -> Result<Desk<'a, S, D>, Failed<DriveError, D>>
     ensures setting { IfOk result (λ next. next.book.validator.setting ≡ config.now) }
-    ensures ok { let node = node_of S.own_key S.signature_of config.now in IfOk result (λ next. (script : ScriptDesk) → IsOf node D.content D.outcome script desk.entry.book desk.entry.journal
-        → IsOf node D.content D.outcome (after node script stop_it) next.book next.journal) }
+    ensures ok { let node = node_of S.scheme config.now in IfOk result (λ next. (script : ScriptDesk) → IsOf node D.device script desk.entry.book desk.entry.journal
+        → IsOf node D.device (after node script stop_it) next.book next.journal) }
     ensures count { IfOk result (λ next. next.book.accepted ≡ 0) }
-    ensures err { let node = node_of S.own_key S.signature_of config.now in IfErr result (λ failed. (script : ScriptDesk) → IsOf node D.content D.outcome script desk.entry.book desk.entry.journal
-        → Breaks node script stop_it failed.error (D.content failed.disk) (D.outcome failed.disk)) }
-    ensures cause { TellsFaultBack D.faults (λ next. disk_of next.journal) DriveError.Device (disk_of desk.entry.journal) result }
+    ensures err { let node = node_of S.scheme config.now in IfErr result (λ failed. (script : ScriptDesk) → IsOf node D.device script desk.entry.book desk.entry.journal
+        → Breaks node script stop_it failed.error (D.device.content failed.disk) (D.device.outcome failed.disk)) }
+    ensures cause { TellsFaultBack D.device (λ next. disk_of next.journal) DriveError.Device (disk_of desk.entry.journal) result }
     ensures never_output { IfErr result (λ failed. failed.error ≢ DriveError.Output) }
 {
     match desk.stop(alloc, config) {
@@ -173,13 +173,13 @@ fn stopped<'a, S: Sign, D: StopDisk>(
 
 // Takes an event. Only want of memory is an error: any other refusal changes nothing.
 fn accept<S: Sign, D: StopDisk>(desk: &mut Desk<'_, S, D>, event: Checked) -> Result<(), DriveError>
-    requires stands { (script : ScriptDesk) × IsOf (node_of S.own_key S.signature_of desk.old.book.validator.setting) D.content D.outcome script desk.old.book desk.old.journal }
+    requires stands { (script : ScriptDesk) × IsOf (node_of S.scheme desk.old.book.validator.setting) D.device script desk.old.book desk.old.journal }
     requires passed { fault_of desk.old.book.validator.setting.charter accepts_all event ≡ None }
     requires room { desk.old.book.accepted < MAX_ACCEPTED }
 
     ensures setting { desk.new.book.validator.setting ≡ desk.old.book.validator.setting }
-    ensures ok { let node = node_of S.own_key S.signature_of desk.old.book.validator.setting in OnOk result ((script : ScriptDesk) → IsOf node D.content D.outcome script desk.old.book desk.old.journal
-        → IsOf node D.content D.outcome (after node script (take_in event)) desk.new.book desk.new.journal) }
+    ensures ok { let node = node_of S.scheme desk.old.book.validator.setting in OnOk result ((script : ScriptDesk) → IsOf node D.device script desk.old.book desk.old.journal
+        → IsOf node D.device (after node script (take_in event)) desk.new.book desk.new.journal) }
     ensures count { desk.new.book.accepted ≤ desk.old.book.accepted + 1 }
     ensures same { desk.new.journal ≡ desk.old.journal }
     ensures memory { IfErr result (λ error. error ≡ DriveError.Memory) }
@@ -189,15 +189,15 @@ fn accept<S: Sign, D: StopDisk>(desk: &mut Desk<'_, S, D>, event: Checked) -> Re
 
 // Writes the next group of what is pending to the disk, and settles it.
 fn flush<S: Sign, D: StopDisk>(desk: &mut Desk<'_, S, D>) -> Result<(), DriveError>
-    requires stands { (script : ScriptDesk) × IsOf (node_of S.own_key S.signature_of desk.old.book.validator.setting) D.content D.outcome script desk.old.book desk.old.journal }
+    requires stands { (script : ScriptDesk) × IsOf (node_of S.scheme desk.old.book.validator.setting) D.device script desk.old.book desk.old.journal }
 
     ensures setting { desk.new.book.validator.setting ≡ desk.old.book.validator.setting }
-    ensures ok { let node = node_of S.own_key S.signature_of desk.old.book.validator.setting in OnOk result ((script : ScriptDesk) → IsOf node D.content D.outcome script desk.old.book desk.old.journal
-        → IsOf node D.content D.outcome (after node script flush_it) desk.new.book desk.new.journal) }
+    ensures ok { let node = node_of S.scheme desk.old.book.validator.setting in OnOk result ((script : ScriptDesk) → IsOf node D.device script desk.old.book desk.old.journal
+        → IsOf node D.device (after node script flush_it) desk.new.book desk.new.journal) }
     ensures count { desk.new.book.accepted ≡ desk.old.book.accepted }
-    ensures err { let node = node_of S.own_key S.signature_of desk.old.book.validator.setting in IfErr result (λ error. (script : ScriptDesk) → IsOf node D.content D.outcome script desk.old.book desk.old.journal
-        → Breaks node script flush_it error (D.content (disk_of desk.new.journal)) (D.outcome (disk_of desk.new.journal))) }
-    ensures cause { TellsFault DriveError.Device (D.faults (disk_of desk.old.journal)) (D.faults (disk_of desk.new.journal)) result }
+    ensures err { let node = node_of S.scheme desk.old.book.validator.setting in IfErr result (λ error. (script : ScriptDesk) → IsOf node D.device script desk.old.book desk.old.journal
+        → Breaks node script flush_it error (D.device.content (disk_of desk.new.journal)) (D.device.outcome (disk_of desk.new.journal))) }
+    ensures cause { TellsFault DriveError.Device (D.device.faults (disk_of desk.old.journal)) (D.device.faults (disk_of desk.new.journal)) result }
     ensures never_output { IfErr result (λ error. error ≢ DriveError.Output) }
 {
     unless_failed(desk.flush())
@@ -212,14 +212,14 @@ fn write_due<S: Sign, D: StopDisk, W: Write>(
     requires up { desk.old.book.down ≡ false }
 
     ensures setting { desk.new.book.validator.setting ≡ desk.old.book.validator.setting }
-    ensures ok { let node = node_of S.own_key S.signature_of desk.old.book.validator.setting in OnOk result ((script : ScriptDesk) → IsOf node D.content D.outcome script desk.old.book desk.old.journal
-        → IsOf node D.content D.outcome (without_due script) desk.new.book desk.new.journal) }
-    ensures writes { OnOk result ((script : ScriptDesk) → IsOf (node_of S.own_key S.signature_of desk.old.book.validator.setting) D.content D.outcome script desk.old.book desk.old.journal
+    ensures ok { let node = node_of S.scheme desk.old.book.validator.setting in OnOk result ((script : ScriptDesk) → IsOf node D.device script desk.old.book desk.old.journal
+        → IsOf node D.device (without_due script) desk.new.book desk.new.journal) }
+    ensures writes { OnOk result ((script : ScriptDesk) → IsOf (node_of S.scheme desk.old.book.validator.setting) D.device script desk.old.book desk.old.journal
         → Appends (W.contents writer.old) (W.contents writer.new) (frames (due script))) }
     ensures count { desk.new.book.accepted ≡ desk.old.book.accepted }
     ensures same { desk.new.journal ≡ desk.old.journal }
     ensures errors { IfErr result (λ error. (error ≡ DriveError.Memory) ⊎ (error ≡ DriveError.Output)) }
-    ensures writes_part { OnErr result ((script : ScriptDesk) → IsOf (node_of S.own_key S.signature_of desk.old.book.validator.setting) D.content D.outcome script desk.old.book desk.old.journal
+    ensures writes_part { OnErr result ((script : ScriptDesk) → IsOf (node_of S.scheme desk.old.book.validator.setting) D.device script desk.old.book desk.old.journal
         → AppendsLess (W.contents writer.old) (W.contents writer.new) (frames (due script))) }
 {
     'writing: while write_next(desk, alloc, writer)? {}
@@ -233,7 +233,7 @@ fn write_next<S: Sign, D: StopDisk, W: Write>(
     writer: &mut W,
 ) -> Result<bool, DriveError>
     ensures setting { desk.new.book.validator.setting ≡ desk.old.book.validator.setting }
-    ensures stands { let node = node_of S.own_key S.signature_of desk.old.book.validator.setting in (run : Run) → Stands node run desk.old.book
+    ensures stands { let node = node_of S.scheme desk.old.book.validator.setting in (run : Run) → Stands node run desk.old.book
         → Stands node run desk.new.book }
     ensures next { IfOk result (λ more. more ≡ true → WritesFirst desk.old.book desk.new.book (W.contents writer.old) (W.contents writer.new)) }
     ensures none { IfOk result (λ more. more ≡ false → WritesNone desk.old.book desk.new.book (W.contents writer.old) (W.contents writer.new)) }

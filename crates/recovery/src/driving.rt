@@ -101,19 +101,19 @@ pub fn drive<'a, S: Sign, D: StopDisk, W: Write>(
     requires few { vec_len commands ≤ MAX_ACCEPTED }
 
     // What is written is the text of the script behind what the disk was told as.
-    ensures ok { IfOk result (λ left. HasRun (node_of S.own_key S.signature_of config.now) (script_of commands.items) (D.content disk) (D.content left) (D.outcome left) (W.contents writer.old) (W.contents writer.new)) }
+    ensures ok { IfOk result (λ left. HasRun (node_of S.scheme config.now) (script_of commands.items) (D.device.content disk) (D.device.content left) (D.device.outcome left) (W.contents writer.old) (W.contents writer.new)) }
 
     // Else nothing was carried out, or some of the commands and a part of the next one.
-    ensures err { let node = node_of S.own_key S.signature_of config.now in IfErr result (λ failed. IsUnopened node failed.error (D.content disk) (D.outcome disk) (D.outcome failed.disk) (W.contents writer.old) (W.contents writer.new)
-        ⊎ IsCutShort node (script_of commands.items) failed.error (D.content disk) (D.content failed.disk) (D.outcome failed.disk) (W.contents writer.old) (W.contents writer.new)) }
+    ensures err { let node = node_of S.scheme config.now in IfErr result (λ failed. IsUnopened node failed.error (D.device.content disk) (D.device.outcome disk) (D.device.outcome failed.disk) (W.contents writer.old) (W.contents writer.new)
+        ⊎ IsCutShort node (script_of commands.items) failed.error (D.device.content disk) (D.device.content failed.disk) (D.device.outcome failed.disk) (W.contents writer.old) (W.contents writer.new)) }
 
     // It is what runs of the node give out: each that has just begun with what the disk was told as goes on by the commands, and
     // what goes out on the way is what is written, as frames. At an error that is a beginning of what so goes out.
-    ensures given_out { let node = node_of S.own_key S.signature_of config.now in OnOk result (EachRunOn node (D.content disk) (GivesOut node (script_of commands.items) (W.contents writer.old) (W.contents writer.new))) }
-    ensures given_out_err { let node = node_of S.own_key S.signature_of config.now in OnErr result (EachRunOn node (D.content disk) (GivesOutNoLess node (script_of commands.items) (W.contents writer.old) (W.contents writer.new))) }
+    ensures given_out { let node = node_of S.scheme config.now in OnOk result (EachRunOn node (D.device.content disk) (GivesOut node (script_of commands.items) (W.contents writer.old) (W.contents writer.new))) }
+    ensures given_out_err { let node = node_of S.scheme config.now in OnErr result (EachRunOn node (D.device.content disk) (GivesOutNoLess node (script_of commands.items) (W.contents writer.old) (W.contents writer.new))) }
 
     // It answers Device exactly where the disk has failed.
-    ensures cause { TellsFaultBack D.faults (λ left. left) DriveError.Device disk result }
+    ensures cause { TellsFaultBack D.device (λ left. left) DriveError.Device disk result }
 {
     let mut desk = open(alloc, config, disk)?;
     for command in commands {

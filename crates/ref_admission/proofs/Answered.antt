@@ -3,7 +3,7 @@ use Rattle.std.proofs.Common.{◌≡◌, ◌⊎◌, inl, inr, ℕ, ◌-◌, List
 use Rattle.std.proofs.Math.Seq.{take-append_seam}
 use Rattle.std.specs.Prelude.{if◌then◌else◌}
 use Rattle.spec_model.specs.Words.{Event}
-use Rattle.spec_model.specs.declared.admission.Admission.{Admission}
+use Rattle.header.specs.declared.admission.Admission.{Admission}
 use Rattle.spec_model.specs.Admitting.{admit, answers, history_after, is_new}
 use Rattle.spec_model.specs.Histories.{History}
 use Rattle.spec_model.specs.Nodes.{Node}

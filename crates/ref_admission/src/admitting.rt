@@ -12,7 +12,7 @@ use ref_order::held::{Held, completed_at, floor_in, has_own_batch, is_available,
 use ref_order::holdings::{all_held, is_low};
 use ref_order::slots::{digest_of, slot};
 use sigface::Sign;
-use spec_model::{Admission, Event, Node, Outputs, Refusal};
+use header::{Admission, Event, Node, Outputs, Refusal};
 use std::alloc::{AllocError, Global};
 use wire::{
     Author, Batch, BatchAck, BatchReference, Certificate, Coin, Digest, Header, HeaderBody,
@@ -33,7 +33,7 @@ fn held_batch_answer<S: Sign>(
     held: &Batch,
     batch: &Batch,
 ) -> Result<Admission, AllocError>
-    ensures { IfOk result (λ answer. answer ≡ admitting.held_batch_answer (node_view S.own_key S.signature_of node.now) held.now batch.now) }
+    ensures { IfOk result (λ answer. answer ≡ admitting.held_batch_answer (node_view S.scheme node.now) held.now batch.now) }
 {
     if same_body(held, batch) {
         return Ok(Admission::Known(batch_outputs(alloc, node, held)?));
@@ -48,7 +48,7 @@ pub fn batch_answer<S: Sign, H: Held>(
     now: &H,
     batch: &Batch,
 ) -> Result<Admission, AllocError>
-    ensures { IfOk result (λ answer. answer ≡ admitting.batch_answer (node_view S.own_key S.signature_of node.now) (H.state now.now) batch.now) }
+    ensures { IfOk result (λ answer. answer ≡ admitting.batch_answer (node_view S.scheme node.now) (H.state now.now) batch.now) }
 {
     if let Some(held) = now.batch(&batch_digest(batch)) {
         return held_batch_answer(alloc, node, held, batch);
@@ -66,7 +66,7 @@ pub fn ack_answer<S: Sign, H: Held>(
     now: &H,
     ack: &BatchAck,
 ) -> Admission
-    ensures { result ≡ admitting.ack_answer (node_view S.own_key S.signature_of node.now) (H.state now.now) ack.now }
+    ensures { result ≡ admitting.ack_answer (node_view S.scheme node.now) (H.state now.now) ack.now }
 {
     if !has_own_batch(node, now, &ack.batch) {
         return Admission::Refused(Refusal::NotOurs);
@@ -84,7 +84,7 @@ pub fn may_name<S: Sign, H: Held>(
     header: &Header,
     named: &BatchReference,
 ) -> bool
-    ensures { result ≡ admitting.may_name (node_view S.own_key S.signature_of node.now) (H.state now.now) header.now named.now }
+    ensures { result ≡ admitting.may_name (node_view S.scheme node.now) (H.state now.now) header.now named.now }
 {
     match now.batch(&named.digest) {
         Some(batch) if batch.worker() == named.worker => {
@@ -100,7 +100,7 @@ fn may_name_all<S: Sign, H: Held>(
     header: &Header,
     named: &[BatchReference],
 ) -> bool
-    ensures { result ≡ list_all (admitting.may_name (node_view S.own_key S.signature_of node.now) (H.state now.now) header.now) named.now }
+    ensures { result ≡ list_all (admitting.may_name (node_view S.scheme node.now) (H.state now.now) header.now) named.now }
 {
     named.iter().all(|named| may_name(node, now, header, named))
 }
@@ -112,7 +112,7 @@ fn held_header_answer<S: Sign>(
     held: &Header,
     header: &Header,
 ) -> Result<Admission, AllocError>
-    ensures { IfOk result (λ answer. answer ≡ admitting.held_header_answer (node_view S.own_key S.signature_of node.now) held.now header.now) }
+    ensures { IfOk result (λ answer. answer ≡ admitting.held_header_answer (node_view S.scheme node.now) held.now header.now) }
 {
     if header_digest(&held.body) == header_digest(&header.body) {
         return Ok(Admission::Known(header_outputs(alloc, node, held)?));
@@ -127,7 +127,7 @@ fn voted_answer<S: Sign>(
     voted: &Digest,
     header: &Header,
 ) -> Result<Admission, AllocError>
-    ensures { IfOk result (λ answer. answer ≡ admitting.voted_answer (node_view S.own_key S.signature_of node.now) voted.now header.now) }
+    ensures { IfOk result (λ answer. answer ≡ admitting.voted_answer (node_view S.scheme node.now) voted.now header.now) }
 {
     if *voted == header_digest(&header.body) {
         return Ok(Admission::Known(header_outputs(alloc, node, header)?));
@@ -142,7 +142,7 @@ fn known_header_answer<S: Sign, H: Held>(
     now: &H,
     header: &Header,
 ) -> Result<Option<Admission>, AllocError>
-    ensures { IfOk result (λ found. found ≡ admitting.known_header_answer (node_view S.own_key S.signature_of node.now) (H.state now.now) header.now) }
+    ensures { IfOk result (λ found. found ≡ admitting.known_header_answer (node_view S.scheme node.now) (H.state now.now) header.now) }
 {
     let round = header.body.round.number();
     let author = header.body.author;
@@ -165,7 +165,7 @@ pub fn header_answer<S: Sign, H: Held>(
     now: &H,
     header: &Header,
 ) -> Result<Admission, AllocError>
-    ensures { IfOk result (λ answer. answer ≡ admitting.header_answer (node_view S.own_key S.signature_of node.now) (H.state now.now) header.now) }
+    ensures { IfOk result (λ answer. answer ≡ admitting.header_answer (node_view S.scheme node.now) (H.state now.now) header.now) }
 {
     let floor = floor_in(alloc, node, now)?;
     let body = &header.body;
@@ -201,7 +201,7 @@ fn vote_outputs<S: Sign, H: Held>(
     later: &H,
     round: u64,
 ) -> Result<Outputs, AllocError>
-    ensures { IfOk result (λ outputs. outputs ≡ admitting.vote_outputs (node_view S.own_key S.signature_of node.now) (H.state now.now) (H.state later.now) round) }
+    ensures { IfOk result (λ outputs. outputs ≡ admitting.vote_outputs (node_view S.scheme node.now) (H.state now.now) (H.state later.now) round) }
 {
     let mut outputs = Outputs::new(alloc);
     if let Some(certificate) = completed_at(alloc, node, later, round)? {
@@ -232,7 +232,7 @@ fn own_header_answer<S: Sign, H: Held>(
     header: &Header,
     vote: &Vote,
 ) -> Result<Admission, AllocError>
-    ensures { IfOk result (λ answer. answer ≡ admitting.own_header_answer (node_view S.own_key S.signature_of node.now) (H.state now.now) (H.state later.now) header.now vote.now) }
+    ensures { IfOk result (λ answer. answer ≡ admitting.own_header_answer (node_view S.scheme node.now) (H.state now.now) (H.state later.now) header.now vote.now) }
 {
     if header_digest(&header.body) != vote.header {
         return Ok(Admission::Refused(Refusal::NotOurs));
@@ -256,7 +256,7 @@ pub fn vote_answer<S: Sign, H: Held>(
     later: &H,
     vote: &Vote,
 ) -> Result<Admission, AllocError>
-    ensures { IfOk result (λ answer. answer ≡ admitting.vote_answer (node_view S.own_key S.signature_of node.now) (H.state now.now) (H.state later.now) vote.now) }
+    ensures { IfOk result (λ answer. answer ≡ admitting.vote_answer (node_view S.scheme node.now) (H.state now.now) (H.state later.now) vote.now) }
 {
     if !node.is_own(vote.author) {
         return Ok(Admission::Refused(Refusal::NotOurs));
@@ -305,7 +305,7 @@ pub fn certificate_answer<S: Sign, H: Held>(
     later: &H,
     certificate: &Certificate,
 ) -> Result<Admission, AllocError>
-    ensures { IfOk result (λ answer. answer ≡ admitting.certificate_answer (node_view S.own_key S.signature_of node.now) (H.state now.now) (H.state later.now) certificate.now) }
+    ensures { IfOk result (λ answer. answer ≡ admitting.certificate_answer (node_view S.scheme node.now) (H.state now.now) (H.state later.now) certificate.now) }
 {
     let floor = floor_in(alloc, node, now)?;
     let header = &certificate.header;
@@ -331,7 +331,7 @@ pub fn coin_answer<S: Sign, H: Held>(
     sender: Author,
     coin: &Coin,
 ) -> Result<Admission, AllocError>
-    ensures { IfOk result (λ answer. answer ≡ admitting.coin_answer (node_view S.own_key S.signature_of node.now) (H.state now.now) (H.state later.now) sender coin.now) }
+    ensures { IfOk result (λ answer. answer ≡ admitting.coin_answer (node_view S.scheme node.now) (H.state now.now) (H.state later.now) sender coin.now) }
 {
     if !node.is_own(sender) {
         return Ok(Admission::Refused(Refusal::NotOurs));
@@ -364,7 +364,7 @@ pub fn answer<S: Sign, H: Held>(
     later: &H,
     event: &Event,
 ) -> Result<Admission, AllocError>
-    ensures { IfOk result (λ answer. answer ≡ admitting.answer (node_view S.own_key S.signature_of node.now) (H.state now.now) (H.state later.now) event.now) }
+    ensures { IfOk result (λ answer. answer ≡ admitting.answer (node_view S.scheme node.now) (H.state now.now) (H.state later.now) event.now) }
 {
     match &event.message {
         Message::Batch(batch) => batch_answer(alloc, node, now, batch),

@@ -2,7 +2,7 @@
 
 ghost use Rattle.std.specs.Prelude.{◌≡◌, ◌++◌, ◌∷◌, []};
 
-use spec_model::Event;
+use header::Event;
 
 /// A history and the event that comes behind it.
 #[derive(Clone, Copy)]

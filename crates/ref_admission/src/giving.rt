@@ -13,13 +13,13 @@ use ref_order::certificates::certificates;
 use ref_order::histories::{batches, headers};
 use ref_order::holdings::voted_digest;
 use sigface::Sign;
-use spec_model::{Event, Node, Outputs};
+use header::{Event, Node, Outputs};
 use std::alloc::{AllocError, Global};
 use wire::{Certificate, Output, header_digest};
 
 /// A certificate is an own one, of the header that has the node's vote.
 pub fn is_given<S: Sign>(node: &Node<S>, history: &[Event], certificate: &Certificate) -> bool
-    ensures { result ≡ giving.is_given (node_view S.own_key S.signature_of node.now) history.now certificate.now }
+    ensures { result ≡ giving.is_given (node_view S.scheme node.now) history.now certificate.now }
 {
     if !node.is_own(certificate.header.author) {
         return false;
@@ -36,7 +36,7 @@ fn of_batches<S: Sign>(
     node: &Node<S>,
     history: &[Event],
 ) -> Result<Outputs, AllocError>
-    ensures { IfOk result (λ found. found ≡ flat_map (admitting.batch_outputs (node_view S.own_key S.signature_of node.now)) (histories.batches history.now)) }
+    ensures { IfOk result (λ found. found ≡ flat_map (admitting.batch_outputs (node_view S.scheme node.now)) (histories.batches history.now)) }
 {
     let mut found = Outputs::new(alloc);
     let batches = batches(alloc, history)?;
@@ -52,7 +52,7 @@ fn of_headers<S: Sign>(
     node: &Node<S>,
     history: &[Event],
 ) -> Result<Outputs, AllocError>
-    ensures { IfOk result (λ found. found ≡ flat_map (admitting.header_outputs (node_view S.own_key S.signature_of node.now)) (histories.headers history.now)) }
+    ensures { IfOk result (λ found. found ≡ flat_map (admitting.header_outputs (node_view S.scheme node.now)) (histories.headers history.now)) }
 {
     let mut found = Outputs::new(alloc);
     let headers = headers(alloc, history)?;
@@ -68,7 +68,7 @@ fn own_certificates<S: Sign>(
     node: &Node<S>,
     history: &[Event],
 ) -> Result<Outputs, AllocError>
-    ensures { IfOk result (λ found. found ≡ map output.Certificate (filter (giving.is_given (node_view S.own_key S.signature_of node.now) history.now) (holdings.certificates (node_view S.own_key S.signature_of node.now) history.now))) }
+    ensures { IfOk result (λ found. found ≡ map output.Certificate (filter (giving.is_given (node_view S.scheme node.now) history.now) (holdings.certificates (node_view S.scheme node.now) history.now))) }
 {
     let mut found = Outputs::new(alloc);
     let certificates = certificates(alloc, node, history)?;
@@ -86,7 +86,7 @@ pub fn given<S: Sign>(
     node: &Node<S>,
     history: &[Event],
 ) -> Result<Outputs, AllocError>
-    ensures { IfOk result (λ found. found ≡ giving.given (node_view S.own_key S.signature_of node.now) history.now) }
+    ensures { IfOk result (λ found. found ≡ giving.given (node_view S.scheme node.now) history.now) }
 {
     let mut found = of_batches(alloc, node, history)?;
     found.append(of_headers(alloc, node, history)?)?;

@@ -9,7 +9,7 @@ use ref_order::certificates::{certificates, floor, highest_of};
 use ref_order::holdings::{counted_at, is_low, voted_digest, voted_header};
 use ref_order::slots::slot;
 use sigface::Sign;
-use spec_model::{Event, Node};
+use header::{Event, Node};
 use std::alloc::{AllocError, Global};
 use wire::{Certificate, Digest, Header, Vote};
 
@@ -20,7 +20,7 @@ fn is_low_at<S: Sign>(
     history: &[Event],
     round: u64,
 ) -> Result<bool, AllocError>
-    ensures { IfOk result (λ low. low ≡ holdings.is_low (holdings.floor (node_view S.own_key S.signature_of node.now) history.now) round) }
+    ensures { IfOk result (λ low. low ≡ holdings.is_low (holdings.floor (node_view S.scheme node.now) history.now) round) }
 {
     Ok(is_low(floor(alloc, node, history)?, round))
 }
@@ -33,7 +33,7 @@ pub fn kept_vote<S: Sign>(
     round: u64,
     author: u16,
 ) -> Result<Option<Digest>, AllocError>
-    ensures { IfOk result (λ found. found ≡ (kept (node_view S.own_key S.signature_of node.now) history.now).votes round author) }
+    ensures { IfOk result (λ found. found ≡ (kept (node_view S.scheme node.now) history.now).votes round author) }
 {
     if is_low_at(alloc, node, history, round)? {
         return Ok(None);
@@ -48,7 +48,7 @@ pub fn kept_header<'a, S: Sign>(
     history: &'a [Event],
     round: u64,
 ) -> Result<Option<&'a Header>, AllocError>
-    ensures { IfOk result (λ found. option_copied found ≡ (kept (node_view S.own_key S.signature_of node.now) history.now).own_headers round) }
+    ensures { IfOk result (λ found. option_copied found ≡ (kept (node_view S.scheme node.now) history.now).own_headers round) }
 {
     if is_low_at(alloc, node, history, round)? {
         return Ok(None);
@@ -64,7 +64,7 @@ pub fn kept_counted<S: Sign>(
     round: u64,
     voter: u16,
 ) -> Result<Option<Vote>, AllocError>
-    ensures { IfOk result (λ found. found ≡ (kept (node_view S.own_key S.signature_of node.now) history.now).counted round voter) }
+    ensures { IfOk result (λ found. found ≡ (kept (node_view S.scheme node.now) history.now).counted round voter) }
 {
     if is_low_at(alloc, node, history, round)? {
         return Ok(None);
@@ -80,7 +80,7 @@ pub fn kept_slot<S: Sign>(
     round: u64,
     author: u16,
 ) -> Result<Option<Certificate>, AllocError>
-    ensures { IfOk result (λ found. found ≡ (kept (node_view S.own_key S.signature_of node.now) history.now).slots round author) }
+    ensures { IfOk result (λ found. found ≡ (kept (node_view S.scheme node.now) history.now).slots round author) }
 {
     if round < floor(alloc, node, history)? {
         return Ok(None);
@@ -97,7 +97,7 @@ pub fn kept_highest<S: Sign>(
     node: &Node<S>,
     history: &[Event],
 ) -> Result<u64, AllocError>
-    ensures { IfOk result (λ highest. highest ≡ (kept (node_view S.own_key S.signature_of node.now) history.now).highest) }
+    ensures { IfOk result (λ highest. highest ≡ (kept (node_view S.scheme node.now) history.now).highest) }
 {
     let certificates = certificates(alloc, node, history)?;
     Ok(highest_of(&certificates))

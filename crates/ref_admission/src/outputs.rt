@@ -7,7 +7,7 @@ ghost use Rattle.spec_model.specs.Nodes.{node_view};
 use ref_order::held::Held;
 use ref_order::holdings::own_vote;
 use sigface::Sign;
-use spec_model::{Node, Outputs};
+use header::{Node, Outputs};
 use std::alloc::{AllocError, Global};
 use wire::{Batch, BatchAck, Digest, Header, Output, batch_digest};
 
@@ -17,7 +17,7 @@ pub fn batch_outputs<S: Sign>(
     node: &Node<S>,
     batch: &Batch,
 ) -> Result<Outputs, AllocError>
-    ensures { IfOk result (λ outputs. outputs ≡ admitting.batch_outputs (node_view S.own_key S.signature_of node.now) batch.now) }
+    ensures { IfOk result (λ outputs. outputs ≡ admitting.batch_outputs (node_view S.scheme node.now) batch.now) }
 {
     let mut outputs = Outputs::new(alloc);
     if node.is_own(batch.author()) {
@@ -39,7 +39,7 @@ pub fn header_outputs<S: Sign>(
     node: &Node<S>,
     header: &Header,
 ) -> Result<Outputs, AllocError>
-    ensures { IfOk result (λ outputs. outputs ≡ admitting.header_outputs (node_view S.own_key S.signature_of node.now) header.now) }
+    ensures { IfOk result (λ outputs. outputs ≡ admitting.header_outputs (node_view S.scheme node.now) header.now) }
 {
     let mut outputs = Outputs::new(alloc);
     if node.is_own(header.body.author) {

@@ -17,7 +17,7 @@ use ref_order::held::{Held, is_available};
 use ref_order::past::Past;
 use ref_order::slots::{digest_of, slot};
 use sigface::Sign;
-use spec_model::{Event, Node};
+use header::{Event, Node};
 use std::alloc::{AllocError, Global};
 use wire::{
     Batch, BatchReference, BatchReferences, Certificate, Digest, Header, HeaderBody, MAX_BATCHES,
@@ -33,21 +33,21 @@ fn digest_of_batch(batch: &Batch) -> Digest
 
 /// An own batch is available, and no own header has named it.
 fn is_waiting<S: Sign, H: Held>(node: &Node<S>, held: &H, digest: &Digest) -> bool
-    ensures { result ≡ is_available (node_view S.own_key S.signature_of node.now) (H.state held.now) digest.now && not ((H.state held.now).named digest.now) }
+    ensures { result ≡ is_available (node_view S.scheme node.now) (H.state held.now) digest.now && not ((H.state held.now).named digest.now) }
 {
     is_available(node, held, digest) && !held.was_named(digest)
 }
 
 /// An own batch may be named.
 fn is_nameable<S: Sign, H: Held>(node: &Node<S>, held: &H, batch: &Batch) -> bool
-    ensures { result ≡ proposing.is_nameable (node_view S.own_key S.signature_of node.now) (H.state held.now) batch.now }
+    ensures { result ≡ proposing.is_nameable (node_view S.scheme node.now) (H.state held.now) batch.now }
 {
     node.is_own(batch.author()) && is_waiting(node, held, &digest_of_batch(batch))
 }
 
 /// An own batch that may be named, as a header names it.
 pub fn to_name<S: Sign, H: Held>(node: &Node<S>, held: &H, batch: &Batch) -> Option<BatchReference>
-    ensures { result ≡ proposing.to_name (node_view S.own_key S.signature_of node.now) (H.state held.now) batch.now }
+    ensures { result ≡ proposing.to_name (node_view S.scheme node.now) (H.state held.now) batch.now }
 {
     if !is_nameable(node, held, batch) {
         return None;
@@ -97,7 +97,7 @@ pub fn nameable<S: Sign, H: Held>(
     node: &Node<S>,
     held: &H,
 ) -> Result<Vec<BatchReference>, AllocError>
-    ensures value { IfOk result (λ found. found.items ≡ proposing.nameable (node_view S.own_key S.signature_of node.now) (H.state held.now)) }
+    ensures value { IfOk result (λ found. found.items ≡ proposing.nameable (node_view S.scheme node.now) (H.state held.now)) }
     ensures order { IfOk result (λ found. IsTrue (batches_rise found.items)) }
 {
     let mut found = Vec::new(alloc);
@@ -129,7 +129,7 @@ fn named_batches<S: Sign, H: Held>(
     node: &Node<S>,
     held: &H,
 ) -> Result<BatchReferences, AllocError>
-    ensures { IfOk result (λ found. found ≡ take MAX_BATCHES (proposing.nameable (node_view S.own_key S.signature_of node.now) (H.state held.now))) }
+    ensures { IfOk result (λ found. found ≡ take MAX_BATCHES (proposing.nameable (node_view S.scheme node.now) (H.state held.now))) }
 {
     let nameable = nameable(alloc, node, held)?;
     named(alloc, first_of(&nameable, MAX_BATCHES))
@@ -189,7 +189,7 @@ pub fn proposal_of<S: Sign, H: Held>(
     held: &H,
     round: Round,
 ) -> Result<HeaderBody, AllocError>
-    ensures { IfOk result (λ body. body ≡ proposing.proposal_of (node_view S.own_key S.signature_of node.now) (H.state held.now) round) }
+    ensures { IfOk result (λ body. body ≡ proposing.proposal_of (node_view S.scheme node.now) (H.state held.now) round) }
 {
     let batches = named_batches(alloc, node, held)?;
     let certificates = held.certificates(alloc)?;
@@ -205,7 +205,7 @@ pub fn proposal_of<S: Sign, H: Held>(
 
 /// A header with the node's signature.
 fn signed<S: Sign>(node: &Node<S>, body: HeaderBody) -> Header
-    ensures { result ≡ proposing.signed (node_view S.own_key S.signature_of node.now) body }
+    ensures { result ≡ proposing.signed (node_view S.scheme node.now) body }
 {
     let signature = node.signer.sign(&digest_of_header(&body));
     Header { body, signature }
@@ -228,7 +228,7 @@ pub fn propose_of<S: Sign, H: Held>(
     held: &H,
     round: u64,
 ) -> Result<Option<Header>, AllocError>
-    ensures { IfOk result (λ found. found ≡ proposing.propose_of (node_view S.own_key S.signature_of node.now) (H.state held.now) round) }
+    ensures { IfOk result (λ found. found ≡ proposing.propose_of (node_view S.scheme node.now) (H.state held.now) round) }
 {
     if has_header(held, round) {
         return Ok(None);
@@ -251,7 +251,7 @@ pub fn propose<S: Sign>(
     node: &Node<S>,
     history: &[Event],
 ) -> Result<Option<Header>, AllocError>
-    ensures { IfOk result (λ found. found ≡ proposing.propose (node_view S.own_key S.signature_of node.now) history.now) }
+    ensures { IfOk result (λ found. found ≡ proposing.propose (node_view S.scheme node.now) history.now) }
 {
     let round = round(alloc, node, history)?;
     propose_of(alloc, node, &Past { node, history }, round)

@@ -9,7 +9,7 @@ use crate::admitting::answer;
 use crate::arrival::Arrival;
 use ref_order::past::Past;
 use sigface::Sign;
-use spec_model::{Admission, Event, Node};
+use header::{Admission, Event, Node};
 use std::alloc::{AllocError, Global};
 
 /// What an event is answered at the history behind which it comes.
@@ -18,7 +18,7 @@ pub fn admit<S: Sign>(
     node: &Node<S>,
     arrival: &Arrival,
 ) -> Result<Admission, AllocError>
-    ensures { IfOk result (λ answer. answer ≡ admitting.admit (node_view S.own_key S.signature_of node.now) arrival.now.history.now arrival.now.event.now) }
+    ensures { IfOk result (λ answer. answer ≡ admitting.admit (node_view S.scheme node.now) arrival.now.history.now arrival.now.event.now) }
 {
     let now = Past {
         node,
@@ -38,7 +38,7 @@ pub fn admit_last<S: Sign>(
     events: &[Event],
 ) -> Result<Admission, AllocError>
     requires { 0 < length events.now }
-    ensures { (history : List incoming.Event) (event : incoming.Event) → events.now ≡ history ++ event ∷ [] → IfOk result (λ answer. answer ≡ admitting.admit (node_view S.own_key S.signature_of node.now) history event) }
+    ensures { (history : List incoming.Event) (event : incoming.Event) → events.now ≡ history ++ event ∷ [] → IfOk result (λ answer. answer ≡ admitting.admit (node_view S.scheme node.now) history event) }
 {
     match events.split_last() {
         None => unreachable!(),
@@ -60,7 +60,7 @@ pub fn answers<S: Sign>(
     node: &Node<S>,
     events: Vec<Event>,
 ) -> Result<Vec<Admission>, AllocError>
-    ensures { IfOk result (λ found. found.items ≡ admitting.answers (node_view S.own_key S.signature_of node.now) [] events.items) }
+    ensures { IfOk result (λ found. found.items ≡ admitting.answers (node_view S.scheme node.now) [] events.items) }
 {
     let mut history = Vec::new(alloc);
     let mut found = Vec::new(alloc);
@@ -81,7 +81,7 @@ pub fn each_new<S: Sign>(
     node: &Node<S>,
     events: Vec<Event>,
 ) -> Result<bool, AllocError>
-    ensures { IfOk result (λ found. found ≡ admitting.each_new (node_view S.own_key S.signature_of node.now) [] events.items) }
+    ensures { IfOk result (λ found. found ≡ admitting.each_new (node_view S.scheme node.now) [] events.items) }
 {
     let mut history = Vec::new(alloc);
     for event in events {

@@ -11,7 +11,7 @@ use crate::tables::{SlotVote, Tables};
 use ref_order::held::floor_in;
 use ref_order::holdings::is_low;
 use sigface::Sign;
-use spec_model::Node;
+use header::Node;
 use std::alloc::{AllocError, Global};
 use wire::{Certificate, Header, Vote};
 
@@ -53,7 +53,7 @@ pub fn collected<S: Sign>(
     node: &Node<S>,
     mut tables: Tables,
 ) -> Result<Tables, AllocError>
-    ensures { IfOk result (λ found. state_of found ≡ giving.collected (node_view S.own_key S.signature_of node.now) (state_of tables)) }
+    ensures { IfOk result (λ found. state_of found ≡ giving.collected (node_view S.scheme node.now) (state_of tables)) }
 {
     let floor = floor_in(alloc, node, &tables)?;
     keep_votes(&mut tables.votes, floor);

@@ -16,7 +16,7 @@ use crate::tables::{SlotVote, Tables};
 use ref_order::held::Held;
 use ref_order::holdings::own_vote;
 use sigface::Sign;
-use spec_model::Node;
+use header::Node;
 use std::alloc::{AllocError, Global};
 use wire::{Batch, BatchAck, BatchReference, Certificate, Digest, Header, Message, Round, Vote};
 
@@ -59,7 +59,7 @@ fn with_named<S: Sign>(
     named: Vec<Digest>,
     message: &Message,
 ) -> Result<Vec<Digest>, AllocError>
-    ensures { IfOk result (λ found. (digest : Digest) → named_in found.items digest ≡ (named_in named.items digest || names (node_view S.own_key S.signature_of node.now) message.now digest)) }
+    ensures { IfOk result (λ found. (digest : Digest) → named_in found.items digest ≡ (named_in named.items digest || names (node_view S.scheme node.now) message.now digest)) }
 {
     match message {
         Message::Header(header) if node.is_own(header.body.author) => {
@@ -119,7 +119,7 @@ fn with_own_header<S: Sign>(
 
 /// The vote that a message counts on an own header: that which it is, or the node's own on its new header.
 fn new_vote<S: Sign>(node: &Node<S>, message: &Message) -> Option<Vote>
-    ensures { (round voter : ℕ) → counted_in (option_to_list result) round voter ≡ vote_at (node_view S.own_key S.signature_of node.now) message.now round voter }
+    ensures { (round voter : ℕ) → counted_in (option_to_list result) round voter ≡ vote_at (node_view S.scheme node.now) message.now round voter }
 {
     match message {
         Message::Vote(vote) => Some(*vote),
@@ -136,7 +136,7 @@ fn with_counted<S: Sign>(
     mut counted: Vec<Vote>,
     message: &Message,
 ) -> Result<Vec<Vote>, AllocError>
-    ensures { IfOk result (λ found. (round voter : ℕ) → counted_in found.items round voter ≡ option_or (counted_in counted.items round voter) (vote_at (node_view S.own_key S.signature_of node.now) message.now round voter)) }
+    ensures { IfOk result (λ found. (round voter : ℕ) → counted_in found.items round voter ≡ option_or (counted_in counted.items round voter) (vote_at (node_view S.scheme node.now) message.now round voter)) }
 {
     if let Some(vote) = new_vote(node, message) {
         counted.push(vote)?;
@@ -189,7 +189,7 @@ pub fn grown<S: Sign>(
     tables: Tables,
     message: &Message,
 ) -> Result<Tables, AllocError>
-    ensures { IfOk result (λ found. state_of found ≡ machine.grown (node_view S.own_key S.signature_of node.now) (state_of tables) message.now) }
+    ensures { IfOk result (λ found. state_of found ≡ machine.grown (node_view S.scheme node.now) (state_of tables) message.now) }
 {
     let certificate = certificate_of(alloc, node, &tables, message)?;
     let certificates = with_certificate(tables.certificates(alloc)?, certificate.as_ref())?;

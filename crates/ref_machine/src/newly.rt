@@ -20,7 +20,7 @@ use ref_order::ordering::{leader, segment, top};
 use ref_order::slots::digest_of;
 use ref_order::votes::{Counted, certificate_by};
 use sigface::Sign;
-use spec_model::Node;
+use header::Node;
 use std::alloc::{AllocError, Global};
 use wire::{Certificate, Digest, Message, Vote};
 
@@ -68,7 +68,7 @@ fn completed_with<S: Sign, H: Held>(
     held: &H,
     vote: &Vote,
 ) -> Result<Option<Certificate>, AllocError>
-    ensures { IfOk result (λ found. found ≡ completed_by (node_view S.own_key S.signature_of node.now) (H.state held.now) vote.now) }
+    ensures { IfOk result (λ found. found ≡ completed_by (node_view S.scheme node.now) (H.state held.now) vote.now) }
 {
     match held.own_header(vote.round.number()) {
         None => Ok(None),
@@ -83,7 +83,7 @@ pub fn certificate_of<S: Sign, H: Held>(
     held: &H,
     message: &Message,
 ) -> Result<Option<Certificate>, AllocError>
-    ensures { IfOk result (λ found. found ≡ machine.certificate_of (node_view S.own_key S.signature_of node.now) (H.state held.now) message.now) }
+    ensures { IfOk result (λ found. found ≡ machine.certificate_of (node_view S.scheme node.now) (H.state held.now) message.now) }
 {
     match message {
         Message::Certificate(certificate) => Ok(Some(certificate.try_clone()?)),
@@ -138,7 +138,7 @@ pub fn ordered_with<S: Sign>(
     certificates: &[Certificate],
     coins: &[u64],
 ) -> Result<Vec<Digest>, AllocError>
-    ensures { IfOk result (λ found. found.items ≡ tables.now.order.items ++ machine.newly_ordered (ledger_in (node_view S.own_key S.signature_of node.now) (state_of tables.now)) (ledger_of (node_view S.own_key S.signature_of node.now) (slots_of certificates.now) coins.now)) }
+    ensures { IfOk result (λ found. found.items ≡ tables.now.order.items ++ machine.newly_ordered (ledger_in (node_view S.scheme node.now) (state_of tables.now)) (ledger_of (node_view S.scheme node.now) (slots_of certificates.now) coins.now)) }
 {
     let before = Ledger {
         committee: &node.committee,

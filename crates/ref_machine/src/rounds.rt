@@ -9,12 +9,12 @@ ghost use Rattle.ref_machine.specs.Tables.{state_of};
 use crate::tables::Tables;
 use ref_order::holdings::is_full;
 use sigface::Sign;
-use spec_model::Node;
+use header::Node;
 use wire::Certificate;
 
 /// The greatest round up to a given one of which a quorum of authors has certificates, or 0.
 fn full_to<S: Sign>(node: &Node<S>, certificates: &[Certificate], round: u64) -> u64
-    ensures value { result ≡ machine.full_to (node_view S.own_key S.signature_of node.now) (slots_of certificates.now) round }
+    ensures value { result ≡ machine.full_to (node_view S.scheme node.now) (slots_of certificates.now) round }
     ensures limit { result ≤ round }
 {
     if round == 0 {
@@ -28,7 +28,7 @@ fn full_to<S: Sign>(node: &Node<S>, certificates: &[Certificate], round: u64) ->
 
 /// The node's round.
 pub fn round_in<S: Sign>(node: &Node<S>, tables: &Tables) -> u64
-    ensures { result ≡ machine.round_in (node_view S.own_key S.signature_of node.now) (state_of tables.now) }
+    ensures { result ≡ machine.round_in (node_view S.scheme node.now) (state_of tables.now) }
 {
     1 + full_to(node, &tables.certificates, tables.highest.number())
 }

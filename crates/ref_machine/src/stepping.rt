@@ -13,7 +13,7 @@ use ref_admission::admitting::answer;
 use ref_admission::proposing::propose_of;
 use ref_order::certificates::certificates;
 use sigface::Sign;
-use spec_model::{Admission, Event, Node, Refusal};
+use header::{Admission, Event, Node, Refusal};
 use std::alloc::{AllocError, Global};
 use wire::{Header, Round};
 
@@ -22,7 +22,7 @@ use wire::{Header, Round};
 /// # Errors
 /// When memory runs out.
 pub fn fresh<S: Sign>(alloc: Global, node: &Node<S>) -> Result<Tables, AllocError>
-    ensures { IfOk result (λ tables. state_of tables ≡ machine.fresh (node_view S.own_key S.signature_of node.now)) }
+    ensures { IfOk result (λ tables. state_of tables ≡ machine.fresh (node_view S.scheme node.now)) }
 {
     Ok(Tables {
         batches: Vec::new(alloc),
@@ -48,7 +48,7 @@ pub fn after<S: Sign>(
     tables: Tables,
     event: &Event,
 ) -> Result<Tables, AllocError>
-    ensures { IfOk result (λ found. state_of found ≡ machine.after (node_view S.own_key S.signature_of node.now) (state_of tables) event.now) }
+    ensures { IfOk result (λ found. state_of found ≡ machine.after (node_view S.scheme node.now) (state_of tables) event.now) }
 {
     collected(alloc, node, grown(alloc, node, tables, &event.message)?)
 }
@@ -63,7 +63,7 @@ pub fn answered<S: Sign>(
     tables: &Tables,
     event: &Event,
 ) -> Result<Admission, AllocError>
-    ensures { IfOk result (λ answer. answer ≡ machine.answered (node_view S.own_key S.signature_of node.now) (state_of tables.now) event.now) }
+    ensures { IfOk result (λ answer. answer ≡ machine.answered (node_view S.scheme node.now) (state_of tables.now) event.now) }
 {
     let later = grown(alloc, node, tables.try_clone(alloc)?, &event.message)?;
     answer(alloc, node, tables, &later, event)
@@ -78,7 +78,7 @@ pub fn proposed<S: Sign>(
     node: &Node<S>,
     tables: &Tables,
 ) -> Result<Option<Header>, AllocError>
-    ensures { IfOk result (λ found. found ≡ machine.proposed (node_view S.own_key S.signature_of node.now) (state_of tables.now)) }
+    ensures { IfOk result (λ found. found ≡ machine.proposed (node_view S.scheme node.now) (state_of tables.now)) }
 {
     propose_of(alloc, node, tables, round_in(node, tables))
 }
@@ -100,7 +100,7 @@ pub fn is_ready<S: Sign>(
     tables: &Tables,
     event: &Event,
 ) -> Result<bool, AllocError>
-    ensures { IfOk result (λ ready. ready ≡ machine.is_ready (node_view S.own_key S.signature_of node.now) (state_of tables.now) event.now) }
+    ensures { IfOk result (λ ready. ready ≡ machine.is_ready (node_view S.scheme node.now) (state_of tables.now) event.now) }
 {
     Ok(!is_missing_parents(&answered(alloc, node, tables, event)?))
 }

@@ -1,7 +1,7 @@
 -- Numbers in a row, and what is made of them.
 use Rattle.std.proofs.Common.{◌≡◌, ℕ, suc, ◌+◌, ◌-◌, ◌<◌, List, [], ◌∷◌, ◌++◌, Option, Some, None, ap, sym, ◌∙◌, arith, append_assoc}
 use Rattle.std.specs.List.{range_with_len, filter_map, cons_option, flat_map}
-use Rattle.spec_model.proofs.Ranges.{range_from}
+use Rattle.header.proofs.Ranges.{range_from}
 
 -- what is made of those from a number on, where something is made of it
 pub one_more : {X : Type 0} (make : ℕ → Option X) (xs : List X) (x : X) (a n : ℕ) → a < n → make a ≡ Some x

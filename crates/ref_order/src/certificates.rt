@@ -13,7 +13,7 @@ use crate::ledger::Ledger;
 use crate::ordering::{floor_by, order_by};
 use crate::votes::{Counted, certificate_by, votes_by};
 use sigface::Sign;
-use spec_model::{Event, Node};
+use header::{Event, Node};
 use std::alloc::{AllocError, Global};
 use wire::{Author, Certificate, Digest, Header, HeaderBody, Vote, VoteEntries};
 
@@ -33,7 +33,7 @@ impl<'a, S: Sign> Clone for OnHeader<'a, S> {
 impl<'a, S: Sign> Copy for OnHeader<'a, S> {}
 
 impl<'a, S: Sign> Counted for OnHeader<'a, S> {
-    ghost vote_of = { λ s. holdings.counted_vote (node_view S.own_key S.signature_of s.node.now) s.history.now s.header.now };
+    ghost vote_of = { λ s. holdings.counted_vote (node_view S.scheme s.node.now) s.history.now s.header.now };
 
     fn vote(&self, voter: u16) -> Option<Vote> {
         counted_vote(self.node, self.history, self.header, voter)
@@ -47,7 +47,7 @@ pub fn votes_on<S: Sign>(
     history: &[Event],
     header: &HeaderBody,
 ) -> Result<VoteEntries, AllocError>
-    ensures { IfOk result (λ found. found ≡ holdings.votes_on (node_view S.own_key S.signature_of node.now) history.now header.now) }
+    ensures { IfOk result (λ found. found ≡ holdings.votes_on (node_view S.scheme node.now) history.now header.now) }
 {
     let counted = OnHeader {
         node,
@@ -64,7 +64,7 @@ pub fn completed<S: Sign>(
     history: &[Event],
     header: &Header,
 ) -> Result<Option<Certificate>, AllocError>
-    ensures { IfOk result (λ found. found ≡ holdings.completed (node_view S.own_key S.signature_of node.now) history.now header.now) }
+    ensures { IfOk result (λ found. found ≡ holdings.completed (node_view S.scheme node.now) history.now header.now) }
 {
     let counted = OnHeader {
         node,
@@ -98,7 +98,7 @@ fn own<S: Sign>(
     node: &Node<S>,
     history: &[Event],
 ) -> Result<Vec<Certificate>, AllocError>
-    ensures { IfOk result (λ found. found.items ≡ filter_map (holdings.completed (node_view S.own_key S.signature_of node.now) history.now) (headers history.now)) }
+    ensures { IfOk result (λ found. found.items ≡ filter_map (holdings.completed (node_view S.scheme node.now) history.now) (headers history.now)) }
 {
     let mut found = Vec::new(alloc);
     let headers = headers(alloc, history)?;
@@ -116,7 +116,7 @@ pub fn certificates<S: Sign>(
     node: &Node<S>,
     history: &[Event],
 ) -> Result<Vec<Certificate>, AllocError>
-    ensures { IfOk result (λ found. found.items ≡ holdings.certificates (node_view S.own_key S.signature_of node.now) history.now) }
+    ensures { IfOk result (λ found. found.items ≡ holdings.certificates (node_view S.scheme node.now) history.now) }
 {
     let mut found = first(alloc, node.size())?;
     found.append(&mut received(alloc, history)?)?;
@@ -130,7 +130,7 @@ pub fn order<S: Sign>(
     node: &Node<S>,
     history: &[Event],
 ) -> Result<Vec<Digest>, AllocError>
-    ensures { IfOk result (λ found. found.items ≡ holdings.order (node_view S.own_key S.signature_of node.now) history.now) }
+    ensures { IfOk result (λ found. found.items ≡ holdings.order (node_view S.scheme node.now) history.now) }
 {
     let certificates = certificates(alloc, node, history)?;
     let coins = coins(alloc, history)?;
@@ -144,7 +144,7 @@ pub fn order<S: Sign>(
 
 /// The floor.
 pub fn floor<S: Sign>(alloc: Global, node: &Node<S>, history: &[Event]) -> Result<u64, AllocError>
-    ensures { IfOk result (λ floor. floor ≡ holdings.floor (node_view S.own_key S.signature_of node.now) history.now) }
+    ensures { IfOk result (λ floor. floor ≡ holdings.floor (node_view S.scheme node.now) history.now) }
 {
     let certificates = certificates(alloc, node, history)?;
     let coins = coins(alloc, history)?;
@@ -169,7 +169,7 @@ pub fn highest_of(certificates: &[Certificate]) -> u64
 
 /// 1 plus the greatest round of which a quorum of authors has certificates.
 pub fn round_by<S: Sign>(node: &Node<S>, certificates: &[Certificate]) -> u64
-    ensures { result ≡ holdings.round_by (node_view S.own_key S.signature_of node.now) certificates.now }
+    ensures { result ≡ holdings.round_by (node_view S.scheme node.now) certificates.now }
 {
     let mut greatest = 0;
     for certificate in certificates {
@@ -183,7 +183,7 @@ pub fn round_by<S: Sign>(node: &Node<S>, certificates: &[Certificate]) -> u64
 
 /// The node's round.
 pub fn round<S: Sign>(alloc: Global, node: &Node<S>, history: &[Event]) -> Result<u64, AllocError>
-    ensures { IfOk result (λ round. round ≡ holdings.round (node_view S.own_key S.signature_of node.now) history.now) }
+    ensures { IfOk result (λ round. round ≡ holdings.round (node_view S.scheme node.now) history.now) }
 {
     let certificates = certificates(alloc, node, history)?;
     Ok(round_by(node, &certificates))

@@ -16,7 +16,7 @@ use crate::ordering::floor_by;
 use crate::votes::{Counted, certificate_by};
 use committee::MemberSet;
 use sigface::Sign;
-use spec_model::Node;
+use header::Node;
 use std::alloc::{AllocError, Global};
 use wire::{Author, Batch, Certificate, Digest, Header, Vote};
 
@@ -88,7 +88,7 @@ pub trait Held {
 
 /// The node has an own batch of this digest.
 pub fn has_own_batch<S: Sign, H: Held>(node: &Node<S>, held: &H, digest: &Digest) -> bool
-    ensures { result ≡ states.has_own_batch (node_view S.own_key S.signature_of node.now) (H.state held.now) digest.now }
+    ensures { result ≡ states.has_own_batch (node_view S.scheme node.now) (H.state held.now) digest.now }
 {
     match held.batch(digest) {
         None => false,
@@ -99,7 +99,7 @@ pub fn has_own_batch<S: Sign, H: Held>(node: &Node<S>, held: &H, digest: &Digest
 /// The members who hold an own batch: the node itself, and who has acknowledged it.
 #[tactic(auto, using(crate::proofs::Sets::in_more, crate::proofs::Sets::out_more))]
 fn holders<S: Sign, H: Held>(node: &Node<S>, held: &H, digest: &Digest) -> MemberSet
-    ensures { (member : ℕ) → has result member ≡ (nat_lt member (length node.now.committee.keys) && states.holds (node_view S.own_key S.signature_of node.now) (H.state held.now) digest.now member) }
+    ensures { (member : ℕ) → has result member ≡ (nat_lt member (length node.now.committee.keys) && states.holds (node_view S.scheme node.now) (H.state held.now) digest.now member) }
 {
     let size = node.size();
     let mut found = MemberSet::none();
@@ -113,14 +113,14 @@ fn holders<S: Sign, H: Held>(node: &Node<S>, held: &H, digest: &Digest) -> Membe
 
 /// What the members weigh who hold an own batch.
 fn weight_of_holders<S: Sign, H: Held>(node: &Node<S>, held: &H, digest: &Digest) -> u64
-    ensures { result ≡ weight node.now.committee (states.holds (node_view S.own_key S.signature_of node.now) (H.state held.now) digest.now) }
+    ensures { result ≡ weight node.now.committee (states.holds (node_view S.scheme node.now) (H.state held.now) digest.now) }
 {
     node.committee.weight(&holders(node, held, digest))
 }
 
 /// An own batch is available.
 pub fn is_available<S: Sign, H: Held>(node: &Node<S>, held: &H, digest: &Digest) -> bool
-    ensures { result ≡ states.is_available (node_view S.own_key S.signature_of node.now) (H.state held.now) digest.now }
+    ensures { result ≡ states.is_available (node_view S.scheme node.now) (H.state held.now) digest.now }
 {
     has_own_batch(node, held, digest) && node.quorum() <= weight_of_holders(node, held, digest)
 }
@@ -157,7 +157,7 @@ pub fn completed_at<S: Sign, H: Held>(
     held: &H,
     round: u64,
 ) -> Result<Option<Certificate>, AllocError>
-    ensures { IfOk result (λ found. found ≡ states.completed_at (node_view S.own_key S.signature_of node.now) (H.state held.now) round) }
+    ensures { IfOk result (λ found. found ≡ states.completed_at (node_view S.scheme node.now) (H.state held.now) round) }
 {
     match held.own_header(round) {
         None => Ok(None),
@@ -174,7 +174,7 @@ pub fn floor_in<S: Sign, H: Held>(
     node: &Node<S>,
     held: &H,
 ) -> Result<u64, AllocError>
-    ensures { IfOk result (λ floor. floor ≡ states.floor_in (node_view S.own_key S.signature_of node.now) (H.state held.now)) }
+    ensures { IfOk result (λ floor. floor ≡ states.floor_in (node_view S.scheme node.now) (H.state held.now)) }
 {
     let certificates = held.certificates(alloc)?;
     let coins = held.coins(alloc)?;
@@ -196,7 +196,7 @@ pub fn is_full_in<S: Sign, H: Held>(
     held: &H,
     round: u64,
 ) -> Result<bool, AllocError>
-    ensures { IfOk result (λ full. full ≡ holdings.is_full (node_view S.own_key S.signature_of node.now) (H.state held.now).slots round) }
+    ensures { IfOk result (λ full. full ≡ holdings.is_full (node_view S.scheme node.now) (H.state held.now).slots round) }
 {
     let certificates = held.certificates(alloc)?;
     Ok(is_full(node, &certificates, round))

@@ -3,7 +3,7 @@
 ghost use Rattle.std.specs.Prelude.{◌≡◌, IfOk};
 ghost use Rattle.spec_model.specs.Histories.{batches, acks, headers, votes, received, coins};
 
-use spec_model::Event;
+use header::Event;
 use std::alloc::{AllocError, Global};
 use wire::{Batch, BatchAck, Certificate, Header, Message, Vote};
 

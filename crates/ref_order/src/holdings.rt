@@ -12,7 +12,7 @@ ghost use Rattle.spec_model.specs.Slots.{same_digest, slots_of};
 use crate::slots::{digest_of, is_of_slot, slot};
 use committee::{Committee, MemberSet};
 use sigface::Sign;
-use spec_model::{Event, Node};
+use header::{Event, Node};
 use wire::{
     Author, Batch, BatchReference, Certificate, Digest, Header, HeaderBody, Message,
     ParentReference, Vote, batch_digest, header_digest,
@@ -55,7 +55,7 @@ fn names(batches: &[BatchReference], digest: &Digest) -> bool
 
 /// An own header has named the batch of this digest.
 pub fn was_named<S: Sign>(node: &Node<S>, history: &[Event], digest: &Digest) -> bool
-    ensures { result ≡ holdings.was_named (node_view S.own_key S.signature_of node.now) history.now digest.now }
+    ensures { result ≡ holdings.was_named (node_view S.scheme node.now) history.now digest.now }
 {
     for event in history {
         if let Message::Header(header) = &event.message {
@@ -102,7 +102,7 @@ pub fn is_vote_on(header: &HeaderBody, voter: u16, vote: &Vote) -> bool
 
 /// The node's own vote for a header.
 pub fn own_vote<S: Sign>(node: &Node<S>, header: &HeaderBody) -> Vote
-    ensures { result ≡ holdings.own_vote (node_view S.own_key S.signature_of node.now) header.now }
+    ensures { result ≡ holdings.own_vote (node_view S.scheme node.now) header.now }
 {
     Vote {
         header: header_digest(header),
@@ -135,7 +135,7 @@ pub fn counted_vote<S: Sign>(
     header: &HeaderBody,
     voter: u16,
 ) -> Option<Vote>
-    ensures value { result ≡ holdings.counted_vote (node_view S.own_key S.signature_of node.now) history.now header.now voter }
+    ensures value { result ≡ holdings.counted_vote (node_view S.scheme node.now) history.now header.now voter }
     ensures voter { IfSome result (λ vote. vote.voter.0 ≡ voter) }
 {
     if voter == node.own.0 {
@@ -151,7 +151,7 @@ pub fn counted_at<S: Sign>(
     round: u64,
     voter: u16,
 ) -> Option<Vote>
-    ensures value { result ≡ holdings.counted_at (node_view S.own_key S.signature_of node.now) history.now round voter }
+    ensures value { result ≡ holdings.counted_at (node_view S.scheme node.now) history.now round voter }
     ensures voter { IfSome result (λ vote. vote.voter.0 ≡ voter) }
 {
     match voted_header(history, round, node.own.0) {
@@ -191,7 +191,7 @@ fn weight_of_authors(committee: &Committee, certificates: &[Certificate], round:
 
 /// The authors who have certificates of a round are a quorum.
 pub fn is_full<S: Sign>(node: &Node<S>, certificates: &[Certificate], round: u64) -> bool
-    ensures { result ≡ holdings.is_full (node_view S.own_key S.signature_of node.now) (slots_of certificates.now) round }
+    ensures { result ≡ holdings.is_full (node_view S.scheme node.now) (slots_of certificates.now) round }
 {
     node.quorum() <= weight_of_authors(&node.committee, certificates, round)
 }

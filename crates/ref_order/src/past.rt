@@ -8,7 +8,7 @@ use crate::held::Held;
 use crate::histories::{batches, coins};
 use crate::holdings::{batch_at, counted_at, has_acked, voted_digest, voted_header, was_named};
 use sigface::Sign;
-use spec_model::{Event, Node};
+use header::{Event, Node};
 use std::alloc::{AllocError, Global};
 use wire::{Batch, Certificate, Digest, Header, Vote};
 
@@ -29,7 +29,7 @@ impl<'a, S: Sign> Clone for Past<'a, S> {
 impl<'a, S: Sign> Copy for Past<'a, S> {}
 
 impl<'a, S: Sign> Held for Past<'a, S> {
-    ghost state = { λ s. whole (node_view S.own_key S.signature_of s.node.now) s.history.now };
+    ghost state = { λ s. whole (node_view S.scheme s.node.now) s.history.now };
 
     fn batch(&self, digest: &Digest) -> Option<&Batch> {
         batch_at(self.history, digest)

@@ -10,7 +10,7 @@ ghost use Rattle.wire.specs.declared.limits.TheConstants.{MAX_VOTES};
 
 use committee::MemberSet;
 use sigface::Sign;
-use spec_model::Node;
+use header::Node;
 use std::alloc::{AllocError, Global};
 use wire::{Author, Certificate, Header, Vote, VoteEntries, VoteEntry};
 
@@ -60,7 +60,7 @@ pub fn votes_by<S: Sign, C: Counted>(
     node: &Node<S>,
     counted: &C,
 ) -> Result<VoteEntries, AllocError>
-    ensures { IfOk result (λ found. found ≡ holdings.votes_by (node_view S.own_key S.signature_of node.now) (C.vote_of counted.now)) }
+    ensures { IfOk result (λ found. found ≡ holdings.votes_by (node_view S.scheme node.now) (C.vote_of counted.now)) }
 {
     votes_of(alloc, counted, node.size())
 }
@@ -94,7 +94,7 @@ pub fn certificate_by<S: Sign, C: Counted>(
     counted: &C,
     header: &Header,
 ) -> Result<Option<Certificate>, AllocError>
-    ensures { IfOk result (λ found. found ≡ holdings.certificate_by (node_view S.own_key S.signature_of node.now) (C.vote_of counted.now) header.now) }
+    ensures { IfOk result (λ found. found ≡ holdings.certificate_by (node_view S.scheme node.now) (C.vote_of counted.now) header.now) }
 {
     if !node.is_own(header.body.author) {
         return Ok(None);

@@ -1,6 +1,6 @@
 //! What a node is told.
 
-use spec_model::Event;
+use header::Event;
 
 /// What a node is told.
 #[derive(Drop)]

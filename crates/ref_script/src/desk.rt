@@ -2,7 +2,7 @@
 
 ghost use Rattle.std.specs.Prelude.{◌+◌, ◌≤◌, vec_len};
 
-use spec_model::Event;
+use header::Event;
 use std::marker::Model;
 use wire::Output;
 

@@ -8,7 +8,7 @@ ghost use Rattle.wire.specs.declared.limits.TheConstants.{MAX_BATCH_BYTES};
 ghost use Rattle.spec_world.specs.Text as script;
 
 use journal::{LENGTH_BYTES, MAX_GROUP_BYTES, MAX_GROUP_RECORDS};
-use spec_model::Event;
+use header::Event;
 use wire::encoded_len;
 
 /// The bytes of an event's record before the message: its kind, and the sender's number.

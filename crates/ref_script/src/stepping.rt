@@ -12,7 +12,7 @@ use crate::desk::{Desk, Waiting};
 use crate::groups::group_of;
 use ref_admission::runs::admit_last;
 use sigface::Sign;
-use spec_model::{Admission, Event, Node, Outputs};
+use header::{Admission, Event, Node, Outputs};
 use std::alloc::{AllocError, Global};
 
 /// A run that has just begun, with a history.
@@ -49,7 +49,7 @@ fn with_event<S: Sign>(
     mut desk: Desk,
     event: Event,
 ) -> Result<Desk, AllocError>
-    ensures { IfOk result (λ next. desk_of next ≡ script.after (node_view S.own_key S.signature_of node.now) (desk_of desk) (script.take_in event)) }
+    ensures { IfOk result (λ next. desk_of next ≡ script.after (node_view S.scheme node.now) (desk_of desk) (script.take_in event)) }
 {
     let count = desk.events.len();
     let accepted = count - desk.began;
@@ -100,7 +100,7 @@ pub fn after<S: Sign>(
     desk: Desk,
     command: Command,
 ) -> Result<Desk, AllocError>
-    ensures { IfOk result (λ next. desk_of next ≡ script.after (node_view S.own_key S.signature_of node.now) (desk_of desk) (said command)) }
+    ensures { IfOk result (λ next. desk_of next ≡ script.after (node_view S.scheme node.now) (desk_of desk) (said command)) }
 {
     match command {
         Command::Event(event) => with_event(alloc, node, desk, event),

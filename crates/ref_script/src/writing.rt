@@ -9,7 +9,7 @@ use crate::command::Command;
 use crate::frames::{put_due, without_due};
 use crate::stepping::{after, desk_on};
 use sigface::Sign;
-use spec_model::{Event, Node};
+use header::{Event, Node};
 use std::alloc::{AllocError, Global};
 
 /// What a node whose run begins with a history writes for commands: behind each of them the outputs that are due, in their
@@ -24,7 +24,7 @@ pub fn text<S: Sign>(
     history: Vec<Event>,
     commands: Vec<Command>,
 ) -> Result<Vec<u8>, AllocError>
-    ensures { IfOk result (λ written. written.items ≡ script.text (node_view S.own_key S.signature_of node.now) (script.desk_on history.items) (map said commands.items)) }
+    ensures { IfOk result (λ written. written.items ≡ script.text (node_view S.scheme node.now) (script.desk_on history.items) (map said commands.items)) }
 {
     let mut desk = desk_on(alloc, history);
     let mut written = Vec::new(alloc);

@@ -11,16 +11,16 @@ use Rattle.spec_model.specs.Histories.{History, coins}
 use Rattle.spec_model.specs.Holdings.{floor, ledger_of, ledger_at}
 use Rattle.spec_model.specs.Nodes.{Node}
 use Rattle.spec_model.specs.Ordering.{Ledger, leader, is_directly_committed, top, newer}
-use Rattle.dag.specs.Graph.{Graph, slots_in}
+use Rattle.dag.specs.Graph.{DagView, slots_in}
 use Rattle.tusk.specs.Chain.{ledger_in, slot_of, wave_of}
 use Rattle.tusk.proofs.Chains.{is_based}
 use Rattle.sequencer.specs.ByHistory.{HoldsHistory, ChainsByHistory}
 
 -- the DAG's ledger is one of the node
-pub ledger_is : (node : Node) (graph : Graph) (values : List ℕ) → graph.charter ≡ node.charter → ledger_in graph values ≡ ledger_of node (slots_in graph) values
+pub ledger_is : (node : Node) (graph : DagView) (values : List ℕ) → graph.charter ≡ node.charter → ledger_in graph values ≡ ledger_of node (slots_in graph) values
 ledger_is node graph values charter = ap (λ (x : Charter). let l : Ledger = record { charter = x; slots = slots_in graph; coins = values } in l) charter
 
-pub enough_of : (node : Node) (before more : History) (low : ℕ) (graph : Graph) (last : Option ℕ) → HoldsHistory node before more low graph last → IsEnough node before (before ++ more) low (slots_in graph)
+pub enough_of : (node : Node) (before more : History) (low : ℕ) (graph : DagView) (last : Option ℕ) → HoldsHistory node before more low graph last → IsEnough node before (before ++ more) low (slots_in graph)
 enough_of node before more low graph last holds = held_is_enough node before more low (slots_in graph) holds.legal holds.low_enough holds.held
 
 -- the floor of a history by its last committed wave
@@ -28,7 +28,7 @@ pub floor_is : (node : Node) (history : History) (wave : ℕ) → top (ledger_at
 floor_is node history wave is = ap (λ o. option_map_or (λ w. (2 * w - 1) - node.charter.depth) o 0) is
 
 -- the last wave that was committed still is, by what the DAG holds
-still_committed : (node : Node) (before more : History) (low : ℕ) (graph : Graph) (last greatest : Option ℕ) → HoldsHistory node before more low graph last → top (ledger_at node before) ≡ greatest
+still_committed : (node : Node) (before more : History) (low : ℕ) (graph : DagView) (last greatest : Option ℕ) → HoldsHistory node before more low graph last → top (ledger_at node before) ≡ greatest
     → IfSome greatest (λ wave. is_directly_committed (ledger_in graph (coins (before ++ more))) wave ≡ true)
 still_committed node before more low graph last None holds is = tt
 still_committed node before more low graph last (Some wave) holds is =

@@ -21,7 +21,7 @@ use Rattle.spec_machine.specs.Sound.{IsSound}
 use Rattle.dag.specs.Answer.{answer}
 use Rattle.dag.specs.Graph.{slots_in}
 use Rattle.dag.specs.declared.answers.Added.TheVariants.{New}
-use Rattle.sequencer.specs.Sequence.{Sequence, ComesTo}
+use Rattle.sequencer.specs.Sequence.{SequencerView, ComesTo}
 
 -- a certificate's slot is free, it isn't low, and its parents are held
 pub record IsFree (node : Node) (now : State) (certificate : Certificate) : Type 0 where
@@ -96,7 +96,7 @@ free_by node state sender (message.BatchAck ack) certificate sound is_new_event 
 free_by node state sender (message.Header header) certificate sound is_new_event is = absurd (none-some certificate is)
 free_by node state sender (message.Coin coin) certificate sound is_new_event is = absurd (none-some certificate is)
 
-pub new_in : (node : Node) (state : State) (event : Event) (sequence : Sequence) (certificate : Certificate) → ComesTo node state event sequence → certificate_of node state event.message ≡ Some certificate
+pub new_in : (node : Node) (state : State) (event : Event) (sequence : SequencerView) (certificate : Certificate) → ComesTo node state event sequence → certificate_of node state event.message ≡ Some certificate
     → answer sequence.graph certificate ≡ Ok New
 new_in node state event sequence certificate comes is =
     let at = comes.at in

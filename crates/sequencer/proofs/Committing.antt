@@ -20,14 +20,14 @@ use Rattle.spec_laws.proofs.OrderGrows.{members_some}
 use Rattle.spec_laws.proofs.OrderLonger.{top_leader, leader_place}
 use Rattle.spec_machine.specs.Machine.{certificate_of, last_leader, grown, after}
 use Rattle.dag.specs.Changes.{IsWith, IsDropped}
-use Rattle.dag.specs.Graph.{Graph, IsGraph, Placed, size_in, placed_at, slots_in, marked_in}
+use Rattle.dag.specs.Graph.{DagView, IsGraph, Placed, size_in, placed_at, slots_in, marked_in}
 use Rattle.tusk.specs.Chain.{slot_of}
 use Rattle.tusk.specs.Chain as chain
 use Rattle.flatten.specs.Laws.{MadeStays}
-use Rattle.flatten.specs.Lengthening.{Made, FitsTo}
+use Rattle.flatten.specs.Lengthening.{LengtheningView, FitsTo}
 use Rattle.flatten.specs.Segments.{leader_held}
 use Rattle.sequencer.specs.Laws.{AreKnown}
-use Rattle.sequencer.specs.Sequence.{Sequence, IsAt, ComesTo, IsPrepared, IsCommitted, CommitsTo, prepared_digests}
+use Rattle.sequencer.specs.Sequence.{SequencerView, IsAt, ComesTo, IsPrepared, IsCommitted, CommitsTo, prepared_digests}
 use Rattle.sequencer.specs.declared.prepared.Prepared.{Prepared}
 use Rattle.sequencer.proofs.Chaining.{IsSame, steps, same_last, higher_last}
 use Rattle.sequencer.proofs.Coming.{new_in, no_coin}
@@ -38,7 +38,7 @@ use Rattle.sequencer.proofs.Standing.{IsGrownTo, is_behind, stands}
 -- ---- the DAG's growth
 
 -- a DAG has the certificate that an event adds, if any, and that has no mark
-pub record IsStepped (node : Node) (state : State) (event : Event) (before later : Graph) : Type 0 where
+pub record IsStepped (node : Node) (state : State) (event : Event) (before later : DagView) : Type 0 where
   pub sound : IsGraph later
   pub charter : later.charter ≡ before.charter
   pub floor : later.floor ≡ before.floor
@@ -47,7 +47,7 @@ pub record IsStepped (node : Node) (state : State) (event : Event) (before later
   pub marked : (round author : ℕ) → marked_in later round author ≡ marked_in before round author
 
 -- what isn't held has no mark
-unmarked : (graph : Graph) (round author : ℕ) → slots_in graph round author ≡ None → marked_in graph round author ≡ false
+unmarked : (graph : DagView) (round author : ℕ) → slots_in graph round author ≡ None → marked_in graph round author ≡ false
 unmarked graph round author none = on (placed_at graph round author) none
   where
     on : (placed : Option Placed) → option_map (λ p. p.certificate) placed ≡ None → option_map_or (λ p. p.marked) placed false ≡ false
@@ -66,7 +66,7 @@ past_new : (node : Node) (state : State) (event : Event) → Extends state.slots
 past_new node state event ext None round author c held none new = refl
 past_new node state event ext (Some last) round author c held none new = reaches_new (length node.charter.keys) state.slots (grown node state event.message).slots ext last round author c (held last refl) none new
 
-grown_same : (node : Node) (state : State) (event : Event) (sequence : Sequence) (later : Graph) → ComesTo node state event sequence → Extends state.slots (grown node state event.message).slots
+grown_same : (node : Node) (state : State) (event : Event) (sequence : SequencerView) (later : DagView) → ComesTo node state event sequence → Extends state.slots (grown node state event.message).slots
     → IsStepped node state event sequence.graph later → last_leader (ledger_in node (grown node state event.message)) ≡ last_leader (ledger_in node state) → IsGrownTo node state event later
 grown_same node state event sequence later comes ext is last =
     let at = comes.at in
@@ -95,7 +95,7 @@ grown_same node state event sequence later comes ext is last =
     }
 
 -- nothing lies below the floor of a DAG
-stays_dropped : (graph : Graph) (low : ℕ) → IsGraph graph → graph.floor ≡ low → IsDropped graph graph low
+stays_dropped : (graph : DagView) (low : ℕ) → IsGraph graph → graph.floor ≡ low → IsDropped graph graph low
 stays_dropped graph low sound floor = record {
   charter = refl;
   floor = most graph.floor low floor;
@@ -125,7 +125,7 @@ stays_dropped graph low sound floor = record {
     most_end one more other same = omega (arith, same)
 
 -- nothing is newer where nothing is prepared
-nothing_newer : (node : Node) (state : State) (event : Event) (sequence : Sequence) → ComesTo node state event sequence → Extends state.slots (grown node state event.message).slots
+nothing_newer : (node : Node) (state : State) (event : Event) (sequence : SequencerView) → ComesTo node state event sequence → Extends state.slots (grown node state event.message).slots
     → option_map slot_of (last_leader (ledger_in node (grown node state event.message))) ≡ sequence.last → IsSame (ledger_in node state) (ledger_in node (grown node state event.message))
 nothing_newer node state event sequence comes ext last =
     let before = ledger_in node state in
@@ -183,7 +183,7 @@ floor_is node state slot wave last is =
     let odd : 2 * suc wave - 1 ≡ slot.0 = omega (arith, level) in
     ap (floor_of node) is.is_top ∙ ap (λ (r : ℕ). r - node.charter.depth) odd
 
-grown_committed : (node : Node) (state : State) (event : Event) (sequence : Sequence) (later new : Graph) (made : Made) → ComesTo node state event sequence → Extends state.slots (grown node state event.message).slots
+grown_committed : (node : Node) (state : State) (event : Event) (sequence : SequencerView) (later new : DagView) (made : LengtheningView) → ComesTo node state event sequence → Extends state.slots (grown node state event.message).slots
     → IsStepped node state event sequence.graph later → FitsTo later made → option_map slot_of (last_leader (ledger_in node (grown node state event.message))) ≡ Some made.last
     → option_map_or (λ (s : ℕ × Author). s.0) sequence.last 0 < made.last.0 → (is : IsCommitted later new made)
     → IsGrownTo node state event is.marked × (floor_in node (grown node state event.message) ≡ made.last.0 - later.charter.depth)
@@ -217,9 +217,9 @@ grown_committed node state event sequence later new made comes ext stepped of la
 
 -- ---- either
 
-pub goes_on : AreKnown → (node : Node) (state : State) (event : Event) (sequence : Sequence) (later : Graph) (prepared : Prepared) (new : Sequence) → ComesTo node state event sequence
+pub goes_on : AreKnown → (node : Node) (state : State) (event : Event) (sequence : SequencerView) (later : DagView) (prepared : Prepared) (new : SequencerView) → ComesTo node state event sequence
     → Extends state.slots (grown node state event.message).slots → IsPrepared node state event sequence prepared → IsStepped node state event sequence.graph later
-    → ((made : Made) → prepared.committed ≡ Some made → FitsTo later made) → CommitsTo later sequence.last prepared.committed new.graph new.last
+    → ((made : LengtheningView) → prepared.committed ≡ Some made → FitsTo later made) → CommitsTo later sequence.last prepared.committed new.graph new.last
     → new.coins ≡ (grown node state event.message).coins → new.order ≡ sequence.order ++ prepared_digests prepared → IsAt node (after node state event) new
 goes_on known node state event sequence later prepared new comes ext ready stepped of commits coins order =
     let behind = grown node state event.message in
@@ -227,7 +227,7 @@ goes_on known node state event sequence later prepared new comes ext ready stepp
     let ordered : new.order ≡ behind.order = order ∙ ap (λ l. l ++ prepared_digests prepared) comes.at.order ∙ ap (λ l. state.order ++ l) ready.digests in
     elim (given_or_none prepared.committed) [
       | inr none ↦
-          let last : option_map slot_of (last_leader (ledger_in node behind)) ≡ sequence.last = ready.last ∙ ap (λ o. option_map_or (λ (made : Made). Some made.last) o sequence.last) none in
+          let last : option_map slot_of (last_leader (ledger_in node behind)) ≡ sequence.last = ready.last ∙ ap (λ o. option_map_or (λ (made : LengtheningView). Some made.last) o sequence.last) none in
           let commits' : (new.graph ≡ later) × (new.last ≡ sequence.last) = subst (λ o. CommitsTo later sequence.last o new.graph new.last) none commits in
           let same = nothing_newer node state event sequence comes ext last in
           let leaders = same_last (ledger_in node state) behind.slots ext (option_to_list (as_coin event.message)) same in
@@ -235,10 +235,10 @@ goes_on known node state event sequence later prepared new comes ext ready stepp
           let floor : floor_in node behind ≡ floor_in node state = ap (floor_of node) same.same in
           let dropped = stays_dropped later (floor_in node behind) stepped.sound (stepped.floor ∙ comes.at.floor ∙ sym floor) in
           stands node state event sequence new later comes back stepped.sound is
-          (subst (λ (g : Graph). IsDropped later g (floor_in node behind)) (sym commits'.0) dropped) coins ordered (commits'.1 ∙ sym last)
+          (subst (λ (g : DagView). IsDropped later g (floor_in node behind)) (sym commits'.0) dropped) coins ordered (commits'.1 ∙ sym last)
       | inl found ↦
           let made = found.0 in
-          let last : option_map slot_of (last_leader (ledger_in node behind)) ≡ Some made.last = ready.last ∙ ap (λ o. option_map_or (λ (m : Made). Some m.last) o sequence.last) found.1 in
+          let last : option_map slot_of (last_leader (ledger_in node behind)) ≡ Some made.last = ready.last ∙ ap (λ o. option_map_or (λ (m : LengtheningView). Some m.last) o sequence.last) found.1 in
           let commits' : IsCommitted later new.graph made × (new.last ≡ Some made.last) = subst (λ o. CommitsTo later sequence.last o new.graph new.last) found.1 commits in
           let is = grown_committed node state event sequence later new.graph made comes ext stepped (of made found.1) last (ready.newer made found.1) commits'.0 in
           stands node state event sequence new commits'.0.marked comes back commits'.0.sound is.0
@@ -246,7 +246,7 @@ goes_on known node state event sequence later prepared new comes ext ready stepp
     ]
 
 -- with a certificate
-pub held_on : AreKnown → MadeStays → (node : Node) (state : State) (event : Event) (sequence : Sequence) (certificate : Certificate) (later : Graph) (prepared : Prepared) (new : Sequence) → ComesTo node state event sequence
+pub held_on : AreKnown → MadeStays → (node : Node) (state : State) (event : Event) (sequence : SequencerView) (certificate : Certificate) (later : DagView) (prepared : Prepared) (new : SequencerView) → ComesTo node state event sequence
     → certificate_of node state event.message ≡ Some certificate → IsPrepared node state event sequence prepared → IsGraph sequence.graph → certificate.header.author.0 < size_in sequence.graph
     → IsGraph later → IsWith sequence.graph later certificate → CommitsTo later sequence.last prepared.committed new.graph new.last → new.coins ≡ sequence.coins → new.order ≡ sequence.order ++ prepared_digests prepared
     → IsAt node (after node state event) new
@@ -261,11 +261,11 @@ held_on known stays node state event sequence certificate later prepared new com
     commits
     (coins ∙ comes.at.coins ∙ sym (append-nil state.coins) ∙ sym (ap (λ l. state.coins ++ l) (no_coin node state event.message certificate adds))) order
   where
-    above : (made : Made) → prepared.committed ≡ Some made → Extends state.slots (grown node state event.message).slots → made.last.0 < certificate.header.round
+    above : (made : LengtheningView) → prepared.committed ≡ Some made → Extends state.slots (grown node state event.message).slots → made.last.0 < certificate.header.round
     above made is ext =
         let before = ledger_in node state in
         let now = ledger_in node (grown node state event.message) in
-        let last : option_map slot_of (last_leader now) ≡ Some made.last = ready.last ∙ ap (λ o. option_map_or (λ (m : Made). Some m.last) o sequence.last) is in
+        let last : option_map slot_of (last_leader now) ≡ Some made.last = ready.last ∙ ap (λ o. option_map_or (λ (m : LengtheningView). Some m.last) o sequence.last) is in
         let newer = ready.newer made is in
         elim (steps before (grown node state event.message).slots ext (option_to_list (as_coin event.message))) [
           | inl same ↦
@@ -281,7 +281,7 @@ held_on known stays node state event sequence certificate later prepared new com
         ]
 
 -- with a coin
-pub pushed_on : AreKnown → (node : Node) (state : State) (event : Event) (sequence : Sequence) (value : ℕ) (prepared : Prepared) (new : Sequence) → ComesTo node state event sequence → as_coin event.message ≡ Some value
+pub pushed_on : AreKnown → (node : Node) (state : State) (event : Event) (sequence : SequencerView) (value : ℕ) (prepared : Prepared) (new : SequencerView) → ComesTo node state event sequence → as_coin event.message ≡ Some value
     → IsPrepared node state event sequence prepared → IsGraph sequence.graph → CommitsTo sequence.graph sequence.last prepared.committed new.graph new.last → new.coins ≡ sequence.coins ++ value ∷ []
     → new.order ≡ sequence.order ++ prepared_digests prepared → IsAt node (after node state event) new
 pushed_on known node state event sequence value prepared new comes adds ready graph commits coins order =

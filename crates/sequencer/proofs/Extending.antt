@@ -14,7 +14,7 @@ use Rattle.spec_laws.proofs.Lists.{given_or_none}
 use Rattle.spec_laws.proofs.Votes.{slot_is}
 use Rattle.dag.specs.Answer.{answer}
 use Rattle.dag.specs.Changes.{IsWith}
-use Rattle.dag.specs.Graph.{Graph, IsGraph, Placed, row_at, placed_at, size_in, slots_in, marked_in, end_in}
+use Rattle.dag.specs.Graph.{DagView, IsGraph, Placed, row_at, placed_at, size_in, slots_in, marked_in, end_in}
 use Rattle.dag.specs.declared.answers.Added.TheVariants.{New}
 use Rattle.dag.proofs.Answering.{is_new}
 
@@ -72,7 +72,7 @@ under_table rows floor round author below =
 
 -- ---- a DAG's slots lie within its rows
 
-nothing_placed : (graph : Graph) (round author : ℕ) → slots_in graph round author ≡ None → placed_at graph round author ≡ None
+nothing_placed : (graph : DagView) (round author : ℕ) → slots_in graph round author ≡ None → placed_at graph round author ≡ None
 nothing_placed graph round author none = on (placed_at graph round author) none
   where
     on : (placed : Option Placed) → option_map (λ p. p.certificate) placed ≡ None → placed ≡ None
@@ -80,7 +80,7 @@ nothing_placed graph round author none = on (placed_at graph round author) none
     on (Some p) is = absurd cc
 
 -- what is behind the last row isn't held
-pub placed_within : (graph : Graph) (round author : ℕ) → end_in graph ≤ round → placed_at graph round author ≡ None
+pub placed_within : (graph : DagView) (round author : ℕ) → end_in graph ≤ round → placed_at graph round author ≡ None
 placed_within graph round author past =
     let above = le-leb graph.floor round (omega (arith, past)) in
     let row = slice_get_past graph.rounds (round - graph.floor) (omega (arith, past)) in
@@ -89,14 +89,14 @@ placed_within graph round author past =
 -- ---- with a certificate
 
 -- what the slots hold then
-abbrev given_with : Graph → Certificate → ℕ → ℕ → Option Placed
+abbrev given_with : DagView → Certificate → ℕ → ℕ → Option Placed
 given_with graph certificate round author =
     option_or (placed_at graph round author) (if is_of_slot round author certificate.header then Some (record { certificate = certificate; marked = false }) else None)
 
-abbrev with_count : Graph → Certificate → ℕ
+abbrev with_count : DagView → Certificate → ℕ
 with_count graph certificate = max (length graph.rounds) (certificate.header.round + 1 - graph.floor)
 
-abbrev pub with_one : Graph → Certificate → Graph
+abbrev pub with_one : DagView → Certificate → DagView
 with_one graph certificate = record {
   charter = graph.charter;
   floor = graph.floor;
@@ -104,7 +104,7 @@ with_one graph certificate = record {
   rounds = table (given_with graph certificate) graph.floor (with_count graph certificate) (size_in graph);
 }
 
-placed_with : (graph : Graph) (certificate : Certificate) → IsGraph graph → graph.floor ≤ certificate.header.round → certificate.header.author.0 < size_in graph → (round author : ℕ)
+placed_with : (graph : DagView) (certificate : Certificate) → IsGraph graph → graph.floor ≤ certificate.header.round → certificate.header.author.0 < size_in graph → (round author : ℕ)
     → placed_at (with_one graph certificate) round author ≡ given_with graph certificate round author
 placed_with graph certificate sound high member round author =
     let count = with_count graph certificate in
@@ -141,7 +141,7 @@ placed_with graph certificate sound high member round author =
         ]
 
 -- a certificate with a parent that is held or low is of the next round at most
-near_by : (graph : Graph) (round : ℕ) (parents : List ParentReference) → 0 < length parents → list_all (is_held (slots_in graph) graph.floor round) parents ≡ true → round ≤ max (end_in graph) (graph.floor + 1)
+near_by : (graph : DagView) (round : ℕ) (parents : List ParentReference) → 0 < length parents → list_all (is_held (slots_in graph) graph.floor round) parents ≡ true → round ≤ max (end_in graph) (graph.floor + 1)
 near_by graph round [] some all = absurd (omega (arith, some))
 near_by graph round (p ∷ parents) some all =
     let held : is_held (slots_in graph) graph.floor round p ≡ true = (and_parts (is_held (slots_in graph) graph.floor round p) (list_all (is_held (slots_in graph) graph.floor round) parents) all).0 in
@@ -159,7 +159,7 @@ near_by graph round (p ∷ parents) some all =
 high_above : (floor round : ℕ) → is_low floor round ≡ false → floor ≤ round
 high_above floor round high = grind (arith, high, common_steps)
 
-pub there_is : (graph : Graph) (certificate : Certificate) → IsGraph graph → certificate.header.author.0 < size_in graph → 0 < length certificate.header.parents → answer graph certificate ≡ Ok New → IsWith graph (with_one graph certificate) certificate
+pub there_is : (graph : DagView) (certificate : Certificate) → IsGraph graph → certificate.header.author.0 < size_in graph → 0 < length certificate.header.parents → answer graph certificate ≡ Ok New → IsWith graph (with_one graph certificate) certificate
 there_is graph certificate sound member named new =
     let fresh = is_new graph certificate new in
     let high = high_above graph.floor certificate.header.round fresh.high in

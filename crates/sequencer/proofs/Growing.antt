@@ -17,11 +17,11 @@ use Rattle.spec_laws.proofs.Growing.{Extends}
 use Rattle.spec_machine.specs.Machine.{certificate_of, grown}
 use Rattle.spec_machine.specs.Sound.{IsSound}
 use Rattle.dag.specs.Changes.{IsWith}
-use Rattle.dag.specs.Graph.{Graph, IsGraph, slots_in}
+use Rattle.dag.specs.Graph.{DagView, IsGraph, slots_in}
 use Rattle.tusk.specs.Chain.{ledger_in}
 use Rattle.tusk.proofs.Adding.{is_new, extends, same_ledger, same_slots, with_certificate, one_wave}
 use Rattle.tusk.proofs.Chains.{above_top, committed_within}
-use Rattle.sequencer.specs.Sequence.{Sequence, IsAt, ComesTo, wave_in}
+use Rattle.sequencer.specs.Sequence.{SequencerView, IsAt, ComesTo, wave_in}
 use Rattle.sequencer.proofs.Chaining.{IsHigher}
 use Rattle.sequencer.proofs.Coming.{new_in, no_coin, no_certificate}
 use Rattle.sequencer.proofs.Preparing.{at_wave, wave_is}
@@ -30,7 +30,7 @@ use Rattle.sequencer.proofs.Staying.{slots_same}
 -- ---- a certificate
 
 -- the DAG with the certificate has the slots of the state with it
-pub later_slots : (node : Node) (state : State) (event : Event) (sequence : Sequence) (certificate : Certificate) (later : Graph) → IsAt node state sequence → certificate_of node state event.message ≡ Some certificate
+pub later_slots : (node : Node) (state : State) (event : Event) (sequence : SequencerView) (certificate : Certificate) (later : DagView) → IsAt node state sequence → certificate_of node state event.message ≡ Some certificate
     → IsWith sequence.graph later certificate → slots_in later ≡ (grown node state event.message).slots
 later_slots node state event sequence certificate later at is more =
     fun_ext (λ round. fun_ext (λ author.
@@ -38,7 +38,7 @@ later_slots node state event sequence certificate later at is more =
     ∙ ap (λ (s : Slots). option_or (s round author) (slots_of (certificate ∷ []) round author)) at.slots
     ∙ sym (ap (λ o. option_or (state.slots round author) (slots_of (option_to_list o) round author)) is)))
 
-pub later_ledger : (node : Node) (state : State) (event : Event) (sequence : Sequence) (certificate : Certificate) (later : Graph) → IsAt node state sequence → certificate_of node state event.message ≡ Some certificate
+pub later_ledger : (node : Node) (state : State) (event : Event) (sequence : SequencerView) (certificate : Certificate) (later : DagView) → IsAt node state sequence → certificate_of node state event.message ≡ Some certificate
     → IsWith sequence.graph later certificate → ledger_in later sequence.coins ≡ states.ledger_in node (grown node state event.message)
 later_ledger node state event sequence certificate later at is more =
     let coins : sequence.coins ≡ (grown node state event.message).coins = at.coins ∙ sym (append-nil state.coins) ∙ sym (ap (λ l. state.coins ++ l) (no_coin node state event.message certificate is)) in
@@ -46,7 +46,7 @@ later_ledger node state event sequence certificate later at is more =
     ∙ ap (λ (s : Slots). ledger_of node s sequence.coins) (later_slots node state event sequence certificate later at is more)
     ∙ ap (ledger_of node (grown node state event.message).slots) coins
 
-pub certificate_extends : (node : Node) (state : State) (event : Event) (sequence : Sequence) (certificate : Certificate) (later : Graph) → ComesTo node state event sequence → certificate_of node state event.message ≡ Some certificate
+pub certificate_extends : (node : Node) (state : State) (event : Event) (sequence : SequencerView) (certificate : Certificate) (later : DagView) → ComesTo node state event sequence → certificate_of node state event.message ≡ Some certificate
     → IsGraph sequence.graph → IsWith sequence.graph later certificate → Extends state.slots (grown node state event.message).slots
 certificate_extends node state event sequence certificate later comes is graph more =
     let new = is_new sequence.graph certificate (new_in node state event sequence certificate comes is) in
@@ -58,7 +58,7 @@ unequal : (one other : ℕ) → (one == other) ≡ false → one ≢ other
 unequal one other apart = grind (arith, apart)
 
 -- the certificate is of the round above the last leader's, where one is newer
-pub above_last : (node : Node) (state : State) (event : Event) (sequence : Sequence) (certificate : Certificate) (later : Graph) → ComesTo node state event sequence → certificate_of node state event.message ≡ Some certificate
+pub above_last : (node : Node) (state : State) (event : Event) (sequence : SequencerView) (certificate : Certificate) (later : DagView) → ComesTo node state event sequence → certificate_of node state event.message ≡ Some certificate
     → IsGraph sequence.graph → IsWith sequence.graph later certificate → (wave : ℕ) (last : Certificate)
     → IsHigher (states.ledger_in node state) (states.ledger_in node (grown node state event.message)) wave last → certificate.header.round ≡ 2 * suc wave
 above_last node state event sequence certificate later comes is graph more wave last higher =
@@ -101,7 +101,7 @@ coin_slots node state event value is = slots_same node state event (no_certifica
 pub coin_extends : (node : Node) (state : State) (event : Event) (value : ℕ) → as_coin event.message ≡ Some value → IsSound node state → Extends state.slots (grown node state event.message).slots
 coin_extends node state event value is sound = subst (λ (s : Slots). Extends state.slots s) (sym (coin_slots node state event value is)) (same_slots state.slots sound.certificates.placed)
 
-pub coin_ledger : (node : Node) (state : State) (event : Event) (sequence : Sequence) (value : ℕ) → IsAt node state sequence → as_coin event.message ≡ Some value
+pub coin_ledger : (node : Node) (state : State) (event : Event) (sequence : SequencerView) (value : ℕ) → IsAt node state sequence → as_coin event.message ≡ Some value
     → ledger_in sequence.graph (sequence.coins ++ value ∷ []) ≡ states.ledger_in node (grown node state event.message)
 coin_ledger node state event sequence value at is =
     let coins : sequence.coins ++ value ∷ [] ≡ (grown node state event.message).coins = ap (λ l. l ++ value ∷ []) at.coins ∙ sym (ap (λ o. state.coins ++ option_to_list o) is) in

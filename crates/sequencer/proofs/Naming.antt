@@ -17,7 +17,7 @@ use Rattle.spec_laws.proofs.Votes.{slot_is}
 use Rattle.spec_machine.specs.Machine.{certificate_of, counted_with}
 use Rattle.spec_machine.specs.Sound.{IsSound}
 use Rattle.spec_model.specs.Holdings.{certificate_by}
-use Rattle.sequencer.specs.Sequence.{Sequence, ComesTo}
+use Rattle.sequencer.specs.Sequence.{SequencerView, ComesTo}
 use Rattle.sequencer.specs.Laws.{CertificatesAreNew}
 use Rattle.sequencer.proofs.Coming.{made_of, new_in}
 
@@ -99,7 +99,7 @@ names_by node state sender (message.BatchAck ack) certificate sound taken is = a
 names_by node state sender (message.Header header) certificate sound taken is = absurd (none-some certificate is)
 names_by node state sender (message.Coin coin) certificate sound taken is = absurd (none-some certificate is)
 
-pub names_some : (node : Node) (state : State) (event : Event) (sequence : Sequence) (certificate : Certificate) → ComesTo node state event sequence → certificate_of node state event.message ≡ Some certificate
+pub names_some : (node : Node) (state : State) (event : Event) (sequence : SequencerView) (certificate : Certificate) → ComesTo node state event sequence → certificate_of node state event.message ≡ Some certificate
     → 0 < length certificate.header.parents
 names_some node state event sequence certificate comes is = names_by node state event.sender event.message certificate comes.comes.sound comes.comes.taken is
 

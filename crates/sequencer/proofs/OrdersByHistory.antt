@@ -22,7 +22,7 @@ use Rattle.spec_model.specs.Nodes.{Node}
 use Rattle.spec_model.specs.Ordering.{Ledger, reaches_in, is_past, leader, top, newer_to, newer_at, newer, committed, last_wave, segment}
 use Rattle.spec_model.specs.Slots.{Slots, has_path, is_parent, reaches}
 use Rattle.spec_model.specs.Words.{Certificate}
-use Rattle.dag.specs.Graph.{Graph, slots_in}
+use Rattle.dag.specs.Graph.{DagView, slots_in}
 use Rattle.tusk.specs.Chain.{ledger_in, slot_of}
 use Rattle.flatten.specs.Laws.{Follows, EachFollows}
 use Rattle.flatten.specs.Segments.{AreLinked, IsMarkedPast, IsMarkedFor}
@@ -113,12 +113,12 @@ chained_from node values low one other agree previous (c ∷ chain) high all cha
 -- ---- the last leader from before
 
 -- it lies at the floor or above, and the DAG holds it
-record IsLast (node : Node) (before : History) (graph : Graph) (p : Certificate) : Type 0 where
+record IsLast (node : Node) (before : History) (graph : DagView) (p : Certificate) : Type 0 where
   high : floor node before ≤ p.header.round
   low_wave : p.header.round ≤ 2 * last_wave (ledger_at node before)
   held : IsIn (slots_in graph) p
 
-last_placed : (node : Node) (before more : History) (low : ℕ) (graph : Graph) (last : Option ℕ) → HoldsHistory node before more low graph last → (p : Certificate) → last_leader_at node before ≡ Some p → IsLast node before graph p
+last_placed : (node : Node) (before more : History) (low : ℕ) (graph : DagView) (last : Option ℕ) → HoldsHistory node before more low graph last → (p : Certificate) → last_leader_at node before ≡ Some p → IsLast node before graph p
 last_placed node before more low graph last holds p is =
     let ledger = ledger_at node before in
     let now = ledger_of node (slots_in graph) (coins (before ++ more)) in
@@ -146,13 +146,13 @@ abbrev newer_of : Node → History → History → List Certificate
 newer_of node before more = newer (ledger_at node (before ++ more)) (last_wave (ledger_at node before))
 
 -- they lie above the last wave from before
-newer_above : (node : Node) (before more : History) (low : ℕ) (graph : Graph) (last : Option ℕ) → HoldsHistory node before more low graph last → (c : Certificate) → Contains (newer_of node before more) c
+newer_above : (node : Node) (before more : History) (low : ℕ) (graph : DagView) (last : Option ℕ) → HoldsHistory node before more low graph last → (c : Certificate) → Contains (newer_of node before more) c
     → 2 * last_wave (ledger_at node before) + 1 ≤ c.header.round
 newer_above node before more low graph last holds c inside =
     newer_high (ledger_at node (before ++ more)) (members_some node holds.legal.sound) (in_place node (before ++ more)) (last_wave (ledger_at node before)) c inside
 
 -- so does the round at the depth below a newer leader
-deep_enough : (node : Node) (before more : History) (low : ℕ) (graph : Graph) (last : Option ℕ) → HoldsHistory node before more low graph last → (c : Certificate) → Contains (newer_of node before more) c
+deep_enough : (node : Node) (before more : History) (low : ℕ) (graph : DagView) (last : Option ℕ) → HoldsHistory node before more low graph last → (c : Certificate) → Contains (newer_of node before more) c
     → floor node before ≤ c.header.round - graph.charter.depth
 deep_enough node before more low graph last holds c inside =
     let above = newer_above node before more low graph last holds c inside in
@@ -179,7 +179,7 @@ floor_under node before =
           omega (arith, level, base)
     ]
 
-chained : (node : Node) (before more : History) (low : ℕ) (graph : Graph) (last : Option ℕ) → HoldsHistory node before more low graph last
+chained : (node : Node) (before more : History) (low : ℕ) (graph : DagView) (last : Option ℕ) → HoldsHistory node before more low graph last
     → AreChained (ledger_in graph (coins (before ++ more))) (last_leader_at node before) (newer_of node before more)
 chained node before more low graph last holds =
     let later = before ++ more in
@@ -219,15 +219,15 @@ inside_of : {X : Type 0} (front : List X) (c : X) (rest : List X) → Contains (
 inside_of [] c rest = Contains-first rest c
 inside_of (x ∷ front) c rest = Contains-later x (front ++ c ∷ rest) c (inside_of front c rest)
 
-last_was : (node : Node) (before more : History) (low : ℕ) (graph : Graph) (last : Option ℕ) → HoldsHistory node before more low graph last → WasHeld (slots_in graph) (last_leader_at node before)
+last_was : (node : Node) (before more : History) (low : ℕ) (graph : DagView) (last : Option ℕ) → HoldsHistory node before more low graph last → WasHeld (slots_in graph) (last_leader_at node before)
 last_was node before more low graph last holds p is = (last_placed node before more low graph last holds p is).held
 
 -- the slots of the newer leaders
-slots_linked : (node : Node) (before more : History) (low : ℕ) (graph : Graph) (last : Option ℕ) → HoldsHistory node before more low graph last → AreLinked graph (option_map slot_of (last_leader_at node before)) (map slot_of (newer_of node before more))
+slots_linked : (node : Node) (before more : History) (low : ℕ) (graph : DagView) (last : Option ℕ) → HoldsHistory node before more low graph last → AreLinked graph (option_map slot_of (last_leader_at node before)) (map slot_of (newer_of node before more))
 slots_linked node before more low graph last holds =
     linked graph (coins (before ++ more)) (last_leader_at node before) (newer_of node before more) (chained node before more low graph last holds) (last_was node before more low graph last holds)
 
-marked_for : (node : Node) (before more : History) (low : ℕ) (graph : Graph) (last : Option ℕ) → HoldsHistory node before more low graph last → IsMarkedPast graph (floor node before) (last_leader_at node before)
+marked_for : (node : Node) (before more : History) (low : ℕ) (graph : DagView) (last : Option ℕ) → HoldsHistory node before more low graph last → IsMarkedPast graph (floor node before) (last_leader_at node before)
     → (chain : List Certificate) → newer_of node before more ≡ chain → IsMarkedFor graph (option_map slot_of (last_leader_at node before)) (map slot_of chain)
 marked_for node before more low graph last holds marks [] is = tt
 marked_for node before more low graph last holds marks (c ∷ chain) is =
@@ -235,7 +235,7 @@ marked_for node before more low graph last holds marks (c ∷ chain) is =
     let deep = deep_enough node before more low graph last holds c (subst (λ l. Contains l c) (sym is) (Contains-first chain c)) in
     λ r a e from held. marks r a e (omega (arith, from, deep)) held ∙ ap (λ p. is_past (ledger_in graph []) p e) (sym (held_last graph first (last_was node before more low graph last holds)))
 
-one_orders : (node : Node) (before more : History) (low : ℕ) (graph : Graph) (last : Option ℕ) → EachFollows → HoldsHistory node before more low graph last → IsMarkedPast graph (floor node before) (last_leader_at node before)
+one_orders : (node : Node) (before more : History) (low : ℕ) (graph : DagView) (last : Option ℕ) → EachFollows → HoldsHistory node before more low graph last → IsMarkedPast graph (floor node before) (last_leader_at node before)
     → (front rest : List Certificate) (c : Certificate) → newer_of node before more ≡ front ++ c ∷ rest → OrdersAs node (before ++ more) graph (last_or (last_leader_at node before) front) c
 one_orders node before more low graph last each holds marks front rest c parts =
     let values = coins (before ++ more) in

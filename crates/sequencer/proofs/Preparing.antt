@@ -18,18 +18,18 @@ use Rattle.spec_laws.proofs.OrderGrows.{members_some}
 use Rattle.spec_laws.proofs.OrderLonger.{top_leader, leader_place, newer_ends}
 use Rattle.spec_machine.specs.Machine.{last_leader, newly_ordered, grown}
 use Rattle.spec_machine.specs.Sound.{IsSound}
-use Rattle.dag.specs.Graph.{Graph, size_in, slots_in}
+use Rattle.dag.specs.Graph.{DagView, size_in, slots_in}
 use Rattle.dag.specs.Graph as dag
 use Rattle.tusk.specs.Chain.{ledger_in, slot_of, base_of}
 use Rattle.tusk.specs.Chain as chain
 use Rattle.flatten.specs.Segments.{leader_held, digests_of, leaders_in, AreLinked, IsMarkedPast}
-use Rattle.sequencer.specs.Sequence.{Sequence, IsAt, wave_in}
+use Rattle.sequencer.specs.Sequence.{SequencerView, IsAt, wave_in}
 use Rattle.sequencer.proofs.Chaining.{AreChained, chained_held, newer_chained, steps, same_last, higher_last}
 use Rattle.sequencer.proofs.Rooting.{reaches_last}
 
 -- ---- the state's ledger
 
-pub same_ledger : (node : Node) (state : State) (sequence : Sequence) → IsAt node state sequence → ledger_in sequence.graph sequence.coins ≡ states.ledger_in node state
+pub same_ledger : (node : Node) (state : State) (sequence : SequencerView) → IsAt node state sequence → ledger_in sequence.graph sequence.coins ≡ states.ledger_in node state
 same_ledger node state sequence at =
     ap (λ (x : Charter). let l : Ledger = record { charter = x; slots = slots_in sequence.graph; coins = sequence.coins } in l) at.charter
     ∙ ap (λ (x : Slots). let l : Ledger = record { charter = node.charter; slots = x; coins = sequence.coins } in l) at.slots
@@ -71,7 +71,7 @@ last_held node state node_is sound c is =
     ]
 
 -- so the last committed wave is that of the sequencer's slot, and the base the slot's round
-pub at_wave : (node : Node) (state : State) (sequence : Sequence) → IsNode node → IsSound node state → IsAt node state sequence → chain.IsAt sequence.graph sequence.coins (wave_in sequence.last)
+pub at_wave : (node : Node) (state : State) (sequence : SequencerView) → IsNode node → IsSound node state → IsAt node state sequence → chain.IsAt sequence.graph sequence.coins (wave_in sequence.last)
 at_wave node state sequence node_is sound at =
     let ledger = states.ledger_in node state in
     elim (given_or_none (top ledger)) [
@@ -94,13 +94,13 @@ at_wave node state sequence node_is sound at =
           }
     ]
 
-pub wave_is : (node : Node) (state : State) (sequence : Sequence) → IsNode node → IsSound node state → IsAt node state sequence → chain.wave_of (wave_in sequence.last) ≡ last_wave (states.ledger_in node state)
+pub wave_is : (node : Node) (state : State) (sequence : SequencerView) → IsNode node → IsSound node state → IsAt node state sequence → chain.wave_of (wave_in sequence.last) ≡ last_wave (states.ledger_in node state)
 wave_is node state sequence node_is sound at =
     let is = at_wave node state sequence node_is sound at in
     ap chain.wave_of (sym is.top ∙ ap top (same_ledger node state sequence at))
 
 -- the last leader's round is below twice its wave
-pub below_wave : (node : Node) (state : State) (sequence : Sequence) → IsNode node → IsSound node state → IsAt node state sequence
+pub below_wave : (node : Node) (state : State) (sequence : SequencerView) → IsNode node → IsSound node state → IsAt node state sequence
     → option_map_or (λ (s : ℕ × Author). s.0) sequence.last 0 ≤ 2 * last_wave (states.ledger_in node state)
 below_wave node state sequence node_is sound at =
     elim (given_or_none (top (states.ledger_in node state))) [
@@ -119,18 +119,18 @@ below_wave node state sequence node_is sound at =
 
 -- ---- slots and certificates
 
-pub held_last : (graph : Graph) (previous : Option Certificate) → WasHeld (slots_in graph) previous → leader_held graph (option_map slot_of previous) ≡ previous
+pub held_last : (graph : DagView) (previous : Option Certificate) → WasHeld (slots_in graph) previous → leader_held graph (option_map slot_of previous) ≡ previous
 held_last graph None held = refl
 held_last graph (Some c) held = held c refl
 
-leaders_are : (graph : Graph) (certificates : List Certificate) → ((c : Certificate) → Contains certificates c → IsIn (slots_in graph) c) → leaders_in graph (map slot_of certificates) ≡ certificates
+leaders_are : (graph : DagView) (certificates : List Certificate) → ((c : Certificate) → Contains certificates c → IsIn (slots_in graph) c) → leaders_in graph (map slot_of certificates) ≡ certificates
 leaders_are graph [] held = refl
 leaders_are graph (c ∷ certificates) held =
     let here = held c (Contains-first certificates c) in
     let rest = leaders_are graph certificates (λ d inside. held d (Contains-later c certificates d inside)) in
     rw here (ap (λ l. c ∷ l) rest)
 
-pub linked : (graph : Graph) (coins : List ℕ) (previous : Option Certificate) (certificates : List Certificate) → AreChained (ledger_in graph coins) previous certificates → WasHeld (slots_in graph) previous
+pub linked : (graph : DagView) (coins : List ℕ) (previous : Option Certificate) (certificates : List Certificate) → AreChained (ledger_in graph coins) previous certificates → WasHeld (slots_in graph) previous
     → AreLinked graph (option_map slot_of previous) (map slot_of certificates)
 linked graph coins previous [] chained was = tt
 linked graph coins previous (c ∷ certificates) chained was = (
@@ -156,7 +156,7 @@ last_behind (y ∷ front) x =
 -- ---- the chain of a step
 
 -- what its leaders are over what the DAG held before it
-pub record IsChainOf (node : Node) (state : State) (event : Event) (sequence : Sequence) (slots : List (ℕ × Author)) : Type 0 where
+pub record IsChainOf (node : Node) (state : State) (event : Event) (sequence : SequencerView) (slots : List (ℕ × Author)) : Type 0 where
   pub linked : AreLinked sequence.graph sequence.last slots
   pub digests : digests_of (segments (ledger_in sequence.graph sequence.coins) (leader_held sequence.graph sequence.last) (leaders_in sequence.graph slots))
       ≡ newly_ordered (states.ledger_in node state) (states.ledger_in node (grown node state event.message))
@@ -164,7 +164,7 @@ pub record IsChainOf (node : Node) (state : State) (event : Event) (sequence : S
   pub some : (slot : ℕ × Author) → slice_get slots (length slots - 1) ≡ Some slot
       → (option_map slot_of (last_leader (states.ledger_in node (grown node state event.message))) ≡ Some slot) × (option_map_or (λ (s : ℕ × Author). s.0) sequence.last 0 < slot.0)
 
-pub marked_past : (node : Node) (state : State) (sequence : Sequence) → IsNode node → IsSound node state → IsAt node state sequence → (low : ℕ) → IsMarkedPast sequence.graph low (leader_held sequence.graph sequence.last)
+pub marked_past : (node : Node) (state : State) (sequence : SequencerView) → IsNode node → IsSound node state → IsAt node state sequence → (low : ℕ) → IsMarkedPast sequence.graph low (leader_held sequence.graph sequence.last)
 marked_past node state sequence node_is sound at low round author c above held =
     let before = states.ledger_in node state in
     let previous = last_leader before in
@@ -174,7 +174,7 @@ marked_past node state sequence node_is sound at low round author c above held =
     ∙ sym (ap (λ (l : Ledger). is_past l previous c) (same_ledger node state sequence at))
     ∙ sym (ap (λ o. is_past (ledger_in sequence.graph []) o c) last)
 
-pub chain_of : (node : Node) (state : State) (event : Event) (sequence : Sequence) → IsNode node → IsSound node state → IsAt node state sequence → Extends state.slots (grown node state event.message).slots
+pub chain_of : (node : Node) (state : State) (event : Event) (sequence : SequencerView) → IsNode node → IsSound node state → IsAt node state sequence → Extends state.slots (grown node state event.message).slots
     → (slots : List (ℕ × Author)) → slots ≡ map slot_of (newer (states.ledger_in node (grown node state event.message)) (last_wave (states.ledger_in node state))) → IsChainOf node state event sequence slots
 chain_of node state event sequence node_is sound at ext slots all =
     let before = states.ledger_in node state in

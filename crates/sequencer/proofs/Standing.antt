@@ -18,12 +18,12 @@ use Rattle.spec_laws.proofs.Lists.{given_or_none}
 use Rattle.spec_machine.specs.Machine.{last_leader, grown, after}
 use Rattle.spec_machine.specs.Sound.{IsSound}
 use Rattle.dag.specs.Changes.{IsDropped}
-use Rattle.dag.specs.Graph.{Graph, IsGraph, size_in, slots_in, marked_in}
+use Rattle.dag.specs.Graph.{DagView, IsGraph, size_in, slots_in, marked_in}
 use Rattle.dag.specs.Graph as dag
 use Rattle.dag.proofs.Dropping.{still_reaches}
 use Rattle.tusk.specs.Chain.{slot_of}
 use Rattle.sequencer.specs.Laws.{AreKnown}
-use Rattle.sequencer.specs.Sequence.{Sequence, IsAt, ComesTo}
+use Rattle.sequencer.specs.Sequence.{SequencerView, IsAt, ComesTo}
 use Rattle.sequencer.proofs.Preparing.{last_held, last_none}
 
 -- ---- the state behind an event
@@ -35,7 +35,7 @@ pub record IsBehind (node : Node) (state : State) (event : Event) : Type 0 where
   pub floors : floor_in node (grown node state event.message) ≡ floor_in node (after node state event)
   pub lasts : last_leader (ledger_in node (grown node state event.message)) ≡ last_leader (ledger_in node (after node state event))
 
-pub is_behind : AreKnown → (node : Node) (state : State) (event : Event) (sequence : Sequence) → ComesTo node state event sequence → Extends state.slots (grown node state event.message).slots → IsBehind node state event
+pub is_behind : AreKnown → (node : Node) (state : State) (event : Event) (sequence : SequencerView) → ComesTo node state event sequence → Extends state.slots (grown node state event.message).slots → IsBehind node state event
 is_behind known node state event sequence comes ext =
     let later = grown node state event.message in
     let behind = after node state event in
@@ -63,7 +63,7 @@ is_behind known node state event sequence comes ext =
 -- ---- a DAG with all that an event adds
 
 -- what a DAG has of that, with the marks of the last leader, before what lies below the new floor is dropped
-pub record IsGrownTo (node : Node) (state : State) (event : Event) (graph : Graph) : Type 0 where
+pub record IsGrownTo (node : Node) (state : State) (event : Event) (graph : DagView) : Type 0 where
   pub charter : graph.charter ≡ node.charter
   pub slots : slots_in graph ≡ (grown node state event.message).slots
   pub floor : graph.floor ≡ floor_in node state
@@ -72,7 +72,7 @@ pub record IsGrownTo (node : Node) (state : State) (event : Event) (graph : Grap
       → marked_in graph round author ≡ is_past (ledger_in node (grown node state event.message)) (last_leader (ledger_in node (grown node state event.message))) c
 
 -- what is held behind a drop was held, and lies no lower
-pub kept_above : (before later : Graph) (low round author : ℕ) (c : Certificate) → IsDropped before later low → slots_in later round author ≡ Some c → (low ≤ round) × (slots_in before round author ≡ Some c)
+pub kept_above : (before later : DagView) (low round author : ℕ) (c : Certificate) → IsDropped before later low → slots_in later round author ≡ Some c → (low ≤ round) × (slots_in before round author ≡ Some c)
 kept_above before later low round author c dropped held =
     elim (cases_Bool (nat_lt round low)) [
       | inl below ↦
@@ -86,21 +86,21 @@ kept_above before later low round author c dropped held =
     not_less one other not = grind (arith, not)
 
 -- the reach of what slots hold is that of the certificates
-reach_is : (graph : Graph) (round author : ℕ) (last c : Certificate) → IsIn (slots_in graph) last → slots_in graph round author ≡ Some c
+reach_is : (graph : DagView) (round author : ℕ) (last c : Certificate) → IsIn (slots_in graph) last → slots_in graph round author ≡ Some c
     → dag.reaches_in graph last.header.round last.header.author.0 round author ≡ reaches (size_in graph) (slots_in graph) last c
 reach_is graph round author last c held there =
     ap (λ o. option_map_or (λ start. option_map_or (reaches (size_in graph) (slots_in graph) start) (slots_in graph round author) false) o false) held
     ∙ ap (λ o. option_map_or (reaches (size_in graph) (slots_in graph) last) o false) there
 
 -- so is the past of a leader in a DAG that is a node's
-past_is : (node : Node) (graph : Graph) (state : State) (round author : ℕ) (last c : Certificate) → graph.charter ≡ node.charter → slots_in graph ≡ state.slots → IsIn state.slots last → slots_in graph round author ≡ Some c
+past_is : (node : Node) (graph : DagView) (state : State) (round author : ℕ) (last c : Certificate) → graph.charter ≡ node.charter → slots_in graph ≡ state.slots → IsIn state.slots last → slots_in graph round author ≡ Some c
     → dag.reaches_in graph last.header.round last.header.author.0 round author ≡ is_past (ledger_in node state) (Some last) c
 past_is node graph state round author last c charter slots held there =
     reach_is graph round author last c (subst (λ (s : Slots). IsIn s last) (sym slots) held) there
     ∙ ap (λ (x : Charter). reaches (length x.keys) (slots_in graph) last c) charter
     ∙ ap (λ (s : Slots). reaches (length node.charter.keys) s last c) slots
 
-past_stays : (node : Node) (state : State) (event : Event) (graph later : Graph) → IsBehind node state event → IsNode node → IsGraph graph → IsGrownTo node state event graph → IsDropped graph later (floor_in node (grown node state event.message))
+past_stays : (node : Node) (state : State) (event : Event) (graph later : DagView) → IsBehind node state event → IsNode node → IsGraph graph → IsGrownTo node state event graph → IsDropped graph later (floor_in node (grown node state event.message))
     → slots_in later ≡ (after node state event).slots → (round author : ℕ) (c : Certificate) → slots_in later round author ≡ Some c → (last : Option Certificate)
     → WasHeld (after node state event).slots last → is_past (ledger_in node (grown node state event.message)) last c ≡ is_past (ledger_in node (after node state event)) last c
 past_stays node state event graph later back node_is sound is dropped slots round author c held None was = refl
@@ -121,7 +121,7 @@ not_below : (one other : ℕ) → one ≤ other → nat_lt other one ≡ false
 not_below one other above = grind (arith, above)
 
 -- without what lies below the new floor it is the DAG of the state behind the event
-pub stands : (node : Node) (state : State) (event : Event) (before sequence : Sequence) (graph : Graph) → ComesTo node state event before → IsBehind node state event → IsGraph graph → IsGrownTo node state event graph
+pub stands : (node : Node) (state : State) (event : Event) (before sequence : SequencerView) (graph : DagView) → ComesTo node state event before → IsBehind node state event → IsGraph graph → IsGrownTo node state event graph
     → IsDropped graph sequence.graph (floor_in node (grown node state event.message)) → sequence.coins ≡ (grown node state event.message).coins → sequence.order ≡ (grown node state event.message).order
     → sequence.last ≡ option_map slot_of (last_leader (ledger_in node (grown node state event.message))) → IsAt node (after node state event) sequence
 stands node state event before sequence graph comes back sound is dropped coins order last =

@@ -7,14 +7,14 @@ use Rattle.spec_model.specs.Holdings.{floor, slots, ledger_at}
 use Rattle.spec_model.specs.Nodes.{Node}
 use Rattle.spec_model.specs.Ordering.{leader, top, newer, last_wave, segment}
 use Rattle.spec_model.specs.Words.{Author, Certificate}
-use Rattle.dag.specs.Graph.{Graph, IsGraph, slots_in}
+use Rattle.dag.specs.Graph.{DagView, IsGraph, slots_in}
 use Rattle.tusk.specs.Chain.{ledger_in, slot_of, base_of, IsBased, IsChain, IsFrom}
 use Rattle.flatten.specs.Segments.{leader_held, AreLinked, IsMarkedPast, IsMarkedFor, IsMarkedBefore}
 use Rattle.flatten.specs.Sets.{HasAllOf}
 
 -- a DAG holds what a legal history holds from a round on, which is no higher than the floor of one that begins it; of that one
 -- this is the last committed wave, or there is none, and the DAG's base is the round of the wave's leader, or 1
-pub record HoldsHistory (node : Node) (before more : History) (low : ℕ) (graph : Graph) (last : Option ℕ) : Type 0 where
+pub record HoldsHistory (node : Node) (before more : History) (low : ℕ) (graph : DagView) (last : Option ℕ) : Type 0 where
   pub legal : IsLegal node (before ++ more)
   pub graph_is : IsGraph graph
   pub charter : graph.charter ≡ node.charter
@@ -24,7 +24,7 @@ pub record HoldsHistory (node : Node) (before more : History) (low : ℕ) (graph
   pub base : graph.base ≡ base_of last
 
 -- with the history's coins the DAG's leaders, its greatest committed wave and the newer leaders' slots are those of the history
-pub record ChainsAre (node : Node) (before later : History) (low : ℕ) (graph : Graph) (last : Option ℕ) : Type 0 where
+pub record ChainsAre (node : Node) (before later : History) (low : ℕ) (graph : DagView) (last : Option ℕ) : Type 0 where
   pub based : IsBased graph (coins later)
   pub from : IsFrom graph (coins later) last
   pub same_leader : (wave : ℕ) → low ≤ 2 * wave - 1 → leader (ledger_in graph (coins later)) wave ≡ leader (ledger_at node later) wave
@@ -34,7 +34,7 @@ pub record ChainsAre (node : Node) (before later : History) (low : ℕ) (graph :
 
 -- so it is where the DAG holds enough
 abbrev pub ChainsByHistory : Type 0
-ChainsByHistory = (node : Node) (before more : History) (low : ℕ) (graph : Graph) (last : Option ℕ) → HoldsHistory node before more low graph last
+ChainsByHistory = (node : Node) (before more : History) (low : ℕ) (graph : DagView) (last : Option ℕ) → HoldsHistory node before more low graph last
     → ChainsAre node before (before ++ more) low graph last
 
 -- the last leader that is committed at a history
@@ -43,7 +43,7 @@ last_leader_at node history = last_or None (committed_at node history)
 
 -- a leader is held and reaches all that the one before it does, what is marked lies in the history of that one, and what the leader
 -- orders behind it is what it orders at a history
-pub record OrdersAs (node : Node) (later : History) (graph : Graph) (previous : Option Certificate) (c : Certificate) : Type 0 where
+pub record OrdersAs (node : Node) (later : History) (graph : DagView) (previous : Option Certificate) (c : Certificate) : Type 0 where
   pub held : slots_in graph c.header.round c.header.author.0 ≡ Some c
   pub all : HasAllOf graph (leader_held graph (option_map slot_of previous)) c
   pub marked : IsMarkedBefore graph (c.header.round - graph.charter.depth) (leader_held graph (option_map slot_of previous))
@@ -51,7 +51,7 @@ pub record OrdersAs (node : Node) (later : History) (graph : Graph) (previous : 
 
 -- the newer leaders follow one on the other behind the last one from before, of which the marks are, and each of them orders what
 -- it orders at the later history
-pub record OrdersAre (node : Node) (before later : History) (graph : Graph) : Type 0 where
+pub record OrdersAre (node : Node) (before later : History) (graph : DagView) : Type 0 where
   pub linked : AreLinked graph (option_map slot_of (last_leader_at node before)) (map slot_of (newer (ledger_at node later) (last_wave (ledger_at node before))))
   pub marked : IsMarkedFor graph (option_map slot_of (last_leader_at node before)) (map slot_of (newer (ledger_at node later) (last_wave (ledger_at node before))))
   pub each : (front rest : List Certificate) (c : Certificate) → newer (ledger_at node later) (last_wave (ledger_at node before)) ≡ front ++ c ∷ rest
@@ -59,5 +59,5 @@ pub record OrdersAre (node : Node) (before later : History) (graph : Graph) : Ty
 
 -- so it is where the DAG holds enough, and exactly what the last leader from before reaches is marked from the floor on
 abbrev pub OrdersByHistory : Type 0
-OrdersByHistory = (node : Node) (before more : History) (low : ℕ) (graph : Graph) (last : Option ℕ) → HoldsHistory node before more low graph last
+OrdersByHistory = (node : Node) (before more : History) (low : ℕ) (graph : DagView) (last : Option ℕ) → HoldsHistory node before more low graph last
     → IsMarkedPast graph (floor node before) (last_leader_at node before) → OrdersAre node before (before ++ more) graph

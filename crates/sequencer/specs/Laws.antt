@@ -10,35 +10,35 @@ use Rattle.spec_model.specs.Nodes.{Node}
 use Rattle.spec_model.specs.States.{State}
 use Rattle.spec_model.specs.Words.{Certificate, Event}
 use Rattle.dag.specs.Answer.{answer}
-use Rattle.dag.specs.Graph.{Graph, size_in, slots_in}
+use Rattle.dag.specs.Graph.{DagView, size_in, slots_in}
 use Rattle.dag.specs.declared.answers.Added.TheVariants.{New}
 use Rattle.tusk.specs.Chain.{ledger_in}
-use Rattle.sequencer.specs.Sequence.{Sequence, IsAt, ComesTo}
+use Rattle.sequencer.specs.Sequence.{SequencerView, IsAt, ComesTo}
 
 -- an event that adds neither a certificate nor a coin leaves it at the state behind
 abbrev pub SequenceStays : Type 0
-SequenceStays = (node : Node) (state : State) (event : Event) (sequence : Sequence) → ComesTo node state event sequence
+SequenceStays = (node : Node) (state : State) (event : Event) (sequence : SequencerView) → ComesTo node state event sequence
     → certificate_of node state event.message ≡ None → as_coin event.message ≡ None → IsAt node (after node state event) sequence
 
 -- a certificate is new to a sequencer's DAG, and a member's that names a parent
-pub record IsNewTo (sequence : Sequence) (certificate : Certificate) : Type 0 where
+pub record IsNewTo (sequence : SequencerView) (certificate : Certificate) : Type 0 where
   pub new : answer sequence.graph certificate ≡ Ok New
   pub member : certificate.header.author.0 < size_in sequence.graph
   pub named : 0 < length certificate.header.parents
 
 -- so is the one that an event adds
 abbrev pub CertificatesAreNew : Type 0
-CertificatesAreNew = (node : Node) (state : State) (event : Event) (sequence : Sequence) (certificate : Certificate) → ComesTo node state event sequence
+CertificatesAreNew = (node : Node) (state : State) (event : Event) (sequence : SequencerView) (certificate : Certificate) → ComesTo node state event sequence
     → certificate_of node state event.message ≡ Some certificate → IsNewTo sequence certificate
 
 -- a DAG with its coins is a ledger of a node
 abbrev pub IsLedgerOf : Type 0
-IsLedgerOf = (node : Node) (graph : Graph) (values : List ℕ) → graph.charter ≡ node.charter → ledger_in graph values ≡ ledger_of node (slots_in graph) values
+IsLedgerOf = (node : Node) (graph : DagView) (values : List ℕ) → graph.charter ≡ node.charter → ledger_in graph values ≡ ledger_of node (slots_in graph) values
 
 -- a DAG that holds what a legal history holds from a round on, which is no higher than the floor of one that begins it, says of
 -- leaders, support, the last committed wave, the floor and the segments what that history says
 abbrev pub DagIsEnough : Type 0
-DagIsEnough = (node : Node) (before more : History) (low : ℕ) (graph : Graph) → IsLegal node (before ++ more) → low ≤ floor node before
+DagIsEnough = (node : Node) (before more : History) (low : ℕ) (graph : DagView) → IsLegal node (before ++ more) → low ≤ floor node before
     → HoldsFrom low (slots_in graph) (slots node (before ++ more)) → IsEnough node before (before ++ more) low (slots_in graph)
 
 -- what a state is behind an event, by the laws of the machine

@@ -8,22 +8,22 @@ use Rattle.spec_model.specs.Words.{Author, Certificate, Digest, Event}
 use Rattle.spec_machine.specs.Laws.{Comes}
 use Rattle.spec_machine.specs.Machine.{grown, last_leader, newly_ordered}
 use Rattle.dag.specs.Changes.{IsDropped}
-use Rattle.dag.specs.Graph.{Graph, IsGraph, slots_in, marked_in}
+use Rattle.dag.specs.Graph.{DagView, IsGraph, slots_in, marked_in}
 use Rattle.tusk.specs.Chain.{slot_of}
 use Rattle.tusk.specs.Chain as chain
-use Rattle.flatten.specs.Lengthening.{Made, FitsTo}
+use Rattle.flatten.specs.Lengthening.{LengtheningView, FitsTo}
 use Rattle.flatten.specs.Segments.{leader_held, digests_of, leaders_in, AreLinked, IsMarkedPast, IsMarkedFor}
 use Rattle.sequencer.specs.declared.prepared.Prepared.{Prepared}
 
 -- a sequencer: the certificates, the coins, the slot of the last committed leader, and the order
-pub record Sequence : Type 0 where
-  pub graph : Graph
+pub record SequencerView : Type 0 where
+  pub graph : DagView
   pub coins : List ℕ
   pub last : Option (ℕ × Author)
   pub order : List Digest
 
 -- it has the certificates, coins and order of a state, and with them the last committed leader, whose history is marked
-pub record IsAt (node : Node) (state : State) (sequence : Sequence) : Type 0 where
+pub record IsAt (node : Node) (state : State) (sequence : SequencerView) : Type 0 where
   pub charter : sequence.graph.charter ≡ node.charter
   pub slots : slots_in sequence.graph ≡ state.slots
   pub coins : sequence.coins ≡ state.coins
@@ -39,28 +39,28 @@ abbrev pub wave_in : Option (ℕ × Author) → Option ℕ
 wave_in last = option_map (λ slot. (slot.0 + 1) / 2) last
 
 -- an event is new at a sound state, which a sequencer is at
-pub record ComesTo (node : Node) (state : State) (event : Event) (sequence : Sequence) : Type 0 where
+pub record ComesTo (node : Node) (state : State) (event : Event) (sequence : SequencerView) : Type 0 where
   pub comes : Comes node state event
   pub at : IsAt node state sequence
 
 -- the digests that are prepared
 abbrev pub prepared_digests : Prepared → List Digest
-prepared_digests prepared = option_map_or (λ (made : Made). made.digests) prepared.committed []
+prepared_digests prepared = option_map_or (λ (made : LengtheningView). made.digests) prepared.committed []
 
 -- what is prepared is what an event adds to the order: its digests, and the marks of leaders newer than the last one
-pub record IsPrepared (node : Node) (state : State) (event : Event) (sequence : Sequence) (prepared : Prepared) : Type 0 where
+pub record IsPrepared (node : Node) (state : State) (event : Event) (sequence : SequencerView) (prepared : Prepared) : Type 0 where
   pub digests : prepared_digests prepared ≡ newly_ordered (ledger_in node state) (ledger_in node (grown node state event.message))
   pub last : option_map slot_of (last_leader (ledger_in node (grown node state event.message)))
-      ≡ option_map_or (λ (made : Made). Some made.last) prepared.committed sequence.last
-  pub made : (made : Made) → prepared.committed ≡ Some made → FitsTo sequence.graph made
-  pub newer : (made : Made) → prepared.committed ≡ Some made → option_map_or (λ (slot : ℕ × Author). slot.0) sequence.last 0 < made.last.0
+      ≡ option_map_or (λ (made : LengtheningView). Some made.last) prepared.committed sequence.last
+  pub made : (made : LengtheningView) → prepared.committed ≡ Some made → FitsTo sequence.graph made
+  pub newer : (made : LengtheningView) → prepared.committed ≡ Some made → option_map_or (λ (slot : ℕ × Author). slot.0) sequence.last 0 < made.last.0
 
 -- ---- a commit
 
 -- a DAG behind the commit of what was made: it has its marks, its base is the last leader's round or higher, and nothing is held at
 -- more than the depth below that leader
-pub record IsCommitted (before after : Graph) (made : Made) : Type 0 where
-  pub marked : Graph
+pub record IsCommitted (before after : DagView) (made : LengtheningView) : Type 0 where
+  pub marked : DagView
   pub sound : IsGraph marked
   pub charter : marked.charter ≡ before.charter
   pub floor : marked.floor ≡ before.floor
@@ -70,20 +70,20 @@ pub record IsCommitted (before after : Graph) (made : Made) : Type 0 where
   pub dropped : IsDropped marked after (made.last.0 - before.charter.depth)
 
 -- so it is with the last leader's slot, where leaders are committed, and else both stay
-abbrev pub CommitsTo : Graph → Option (ℕ × Author) → Option Made → Graph → Option (ℕ × Author) → Type 0
+abbrev pub CommitsTo : DagView → Option (ℕ × Author) → Option LengtheningView → DagView → Option (ℕ × Author) → Type 0
 CommitsTo before last None after new_last = (after ≡ before) × (new_last ≡ last)
 CommitsTo before last (Some made) after new_last = IsCommitted before after made × (new_last ≡ Some made.last)
 
 -- ---- what is made of a chain
 
 -- what was made of leaders of these slots behind the last one
-pub record IsMadeOfAll (graph : Graph) (last : Option (ℕ × Author)) (slots : List (ℕ × Author)) (made : Made) : Type 0 where
+pub record IsMadeOfAll (graph : DagView) (last : Option (ℕ × Author)) (slots : List (ℕ × Author)) (made : LengtheningView) : Type 0 where
   pub digests : (coins : List ℕ) → AreLinked graph last slots → IsMarkedFor graph last slots
       → made.digests ≡ digests_of (segments (chain.ledger_in graph coins) (leader_held graph last) (leaders_in graph slots))
   pub last_slot : slice_get slots (length slots - 1) ≡ Some made.last
   pub of : AreLinked graph last slots → IsMarkedFor graph last slots → FitsTo graph made
 
 -- nothing is made of none
-abbrev pub IsMadeOf : Graph → Option (ℕ × Author) → List (ℕ × Author) → Option Made → Type 0
+abbrev pub IsMadeOf : DagView → Option (ℕ × Author) → List (ℕ × Author) → Option LengtheningView → Type 0
 IsMadeOf graph last slots None = slots ≡ []
 IsMadeOf graph last slots (Some made) = IsMadeOfAll graph last slots made

@@ -45,9 +45,9 @@ impl<'a> Drop for Sequencer<'a> {
 }
 
 impl<'a> Model for Sequencer<'a> {
-    ghost use Rattle.sequencer.specs.Sequence.{Sequence};
+    ghost use Rattle.sequencer.specs.Sequence.{SequencerView};
 
-    ghost Value = { Sequence };
+    ghost Value = { SequencerView };
 
     ghost view = { λ s. record { graph = s.dag; coins = s.coins; last = s.last; order = s.order.items } };
 }

@@ -2,7 +2,7 @@
 use Rattle.std.proofs.Common.{ℕ, ◌+◌, ◌<◌, ◌≡◌, List, ◌++◌, length, arith}
 use Rattle.std.proofs.lemmas.Grind.{common_steps}
 use Rattle.std.proofs.lemmas.List.Elements.{All-append}
-use Rattle.wire.specs.Fields.{AreBytes, IsSignature}
+use Rattle.wire.specs.Fields.{HasBytes, IsSignature}
 use Rattle.wire.specs.declared.keys.Digest.{Digest}
 use Rattle.wire.specs.declared.keys.Key.{Key}
 use Rattle.wire.proofs.DigestLemmas.{are_digest_bytes}
@@ -12,7 +12,7 @@ length-both : (xs ys : List ℕ) → length (xs ++ ys) ≡ length xs + length ys
 length-both xs ys = grind (arith, common_steps)
 
 -- so many bytes, and so many more
-both_bytes : (n k : ℕ) (xs ys : List ℕ) → AreBytes n xs → AreBytes k ys → AreBytes (n + k) (xs ++ ys)
+both_bytes : (n k : ℕ) (xs ys : List ℕ) → HasBytes n xs → HasBytes k ys → HasBytes (n + k) (xs ++ ys)
 both_bytes n k xs ys front back = record {
   count_is = omega (arith, length-both xs ys, front.count_is, back.count_is);
   each = All-append (λ b. b < 256) xs ys front.each back.each;

@@ -100,5 +100,5 @@ impl Verify for HashVerify {
 
 /// The two are a pair: whatever a `HashSign` signs, a `HashVerify` accepts for its key. The call does nothing.
 pub fn pair_is_tied(signer: &HashSign, verifier: &HashVerify)
-    ensures { AreAccepted (⟦<HashVerify as Verify>⟧.accepts verifier.now) (⟦<HashSign as Sign>⟧.own_key signer.now) (⟦<HashSign as Sign>⟧.signature_of signer.now) }
+    ensures { AreAccepted (⟦<HashVerify as Verify>⟧.accepts verifier.now) (⟦<HashSign as Sign>⟧.scheme.own_key signer.now) (⟦<HashSign as Sign>⟧.scheme.signature_of signer.now) }
 {}

@@ -11,7 +11,7 @@ use header::Checked;
 use journal::{Journal, JournalError};
 use node::{FlushError, Flusher, Node, Refusal, Seat, start};
 use sigface::{HashSign, Sign};
-use sim_disk::{losing, tearing};
+use crate::stops::{losing, tearing};
 use sim_script::Stopping;
 use std::alloc::Global;
 use std::marker::Model;
@@ -41,14 +41,14 @@ pub struct Running<'a> {
 
 impl<'a> Model for Running<'a> {
     ghost use Rattle.wire.specs.declared.keys.Key.{Key};
-    ghost use Rattle.validator.specs.Setting.{Setting, node_of};
+    ghost use Rattle.validator.specs.Setting.{ConfigView, node_of};
     ghost use Rattle.sim_run.specs.Running.{AreOne};
 
-    ghost Value = { Setting Key };
+    ghost Value = { ConfigView Key };
 
     ghost view = { λ r. r.config.now };
 
-    ghost invariant = { λ r. AreOne (node_of ⟦<HashSign as Sign>⟧.own_key ⟦<HashSign as Sign>⟧.signature_of) ⟦<MemDisk as Disk>⟧.content ⟦<MemDisk as Disk>⟧.outcome r.config.now r.node r.seat r.flusher };
+    ghost invariant = { λ r. AreOne ⟦<HashSign as Sign>⟧.scheme ⟦<MemDisk as Disk>⟧.device r.config.now r.node r.seat r.flusher };
 }
 
 impl<'a> Running<'a> {

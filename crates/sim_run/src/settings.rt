@@ -8,7 +8,7 @@ use journal::Journal;
 use opening::{can_tell, write_configuration};
 use sigface::HashSign;
 use sim_script::{BATCHES, DEPTH, OWN, Setting, committee_file, signer};
-use spec_records::Version;
+use journal::Version;
 use std::alloc::{AllocError, Global};
 use validator::Config;
 

@@ -5,7 +5,8 @@ use Rattle.std.specs.Option.{option_or}
 use Rattle.std.proofs.lemmas.Bool.{cases_lt}
 use Rattle.std.proofs.lemmas.List.{map-append}
 use Rattle.spec_model.specs.Admitting.{IsLegal}
-use Rattle.spec_model.specs.Histories.{History, coins, Begins}
+use Rattle.spec_model.specs.Histories.{History, coins}
+use Rattle.wire.specs.Lists.{Begins}
 use Rattle.spec_model.specs.Holdings.{ledger_of, ledger_at, slots, order}
 use Rattle.spec_model.specs.Nodes.{Node}
 use Rattle.spec_model.specs.Ordering.{Ledger, is_directly_committed, last_wave, chain, segments}

@@ -5,7 +5,8 @@ use Rattle.std.specs.Prelude.{option_map, option_and_then}
 use Rattle.std.proofs.lemmas.Bool.{cases_lt}
 use Rattle.std.proofs.lemmas.Option.{none-some}
 use Rattle.std.proofs.lemmas.List.{append-nil, map-append}
-use Rattle.spec_model.specs.Histories.{History, coins, Begins}
+use Rattle.spec_model.specs.Histories.{History, coins}
+use Rattle.wire.specs.Lists.{Begins}
 use Rattle.spec_model.specs.Holdings.{ledger_of, ledger_at, slots, order, floor}
 use Rattle.spec_model.specs.Nodes.{Node}
 use Rattle.spec_model.specs.Ordering.{Ledger, leader, is_directly_committed, top, last_wave, committed, newer, newer_to, chain, segments}

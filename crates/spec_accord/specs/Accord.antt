@@ -1,7 +1,8 @@
 -- What the histories of two nodes of one committee have in common, and that their orders then agree.
 use Rattle.std.specs.Prelude.{◌≡◌, ◌⊎◌, ℕ, List, Some}
 use Rattle.spec_model.specs.Admitting.{IsLegal}
-use Rattle.spec_model.specs.Histories.{History, coins, Begins}
+use Rattle.spec_model.specs.Histories.{History, coins}
+use Rattle.wire.specs.Lists.{Begins}
 use Rattle.spec_model.specs.Holdings.{slots, order}
 use Rattle.spec_model.specs.Nodes.{Node}
 use Rattle.spec_model.specs.Slots.{Slots}

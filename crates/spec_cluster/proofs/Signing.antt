@@ -12,7 +12,8 @@ use Rattle.header.specs.Checks.{vote_signed}
 use Rattle.spec_accord.specs.Members.{bodies_in, WasSigned}
 use Rattle.spec_laws.proofs.Lists.{Contains-nothing, Contains-cases, Contains-first, Contains-later}
 use Rattle.spec_laws.proofs.Votes.{one_header}
-use Rattle.spec_model.specs.Histories.{headers, received, Begins}
+use Rattle.spec_model.specs.Histories.{headers, received}
+use Rattle.wire.specs.Lists.{Begins}
 use Rattle.spec_model.specs.Holdings.{voted_header}
 use Rattle.spec_model.specs.Slots.{same_digest, header_digest}
 use Rattle.spec_model.specs.Words.{Digest, Header, HeaderBody}

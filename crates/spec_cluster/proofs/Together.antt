@@ -14,7 +14,8 @@ use Rattle.spec_laws.proofs.Closed.{kept_slot}
 use Rattle.spec_laws.proofs.InSlots.{in_slots}
 use Rattle.spec_laws.proofs.Legal.{legal-begins, legal-grows}
 use Rattle.spec_model.specs.Admitting.{IsLegal}
-use Rattle.spec_model.specs.Histories.{History, Begins}
+use Rattle.spec_model.specs.Histories.{History}
+use Rattle.wire.specs.Lists.{Begins}
 use Rattle.spec_model.specs.Holdings.{order, slots}
 use Rattle.spec_model.specs.Nodes.{Node}
 use Rattle.spec_model.specs.Words.{Certificate, Digest, Event}

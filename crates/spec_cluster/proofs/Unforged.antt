@@ -19,7 +19,7 @@ use Rattle.spec_model.specs.Histories.{History, batches, headers, votes, receive
 use Rattle.spec_model.specs.Holdings.{batch_digest, is_vote_on, own_vote, counted_vote, entry_of, votes_by, genesis, completed, certificates}
 use Rattle.spec_model.specs.Nodes.{Node, size_of, quorum}
 use Rattle.spec_model.specs.Slots.{same_digest, header_digest, certificate_digest, is_of_slot}
-use Rattle.spec_model.specs.Words.{Author, Certificate, Contents, Digest, Event, Header, HeaderBody, Message, Output, Vote, VoteEntry}
+use Rattle.spec_model.specs.Words.{Author, Certificate, BatchView, Digest, Event, Header, HeaderBody, Message, Output, Vote, VoteEntry}
 use Rattle.wire.specs.Digests.{header_digest_of, certificate_digest_of}
 use Rattle.wire.specs.declared.message.Message.TheVariants as message
 use Rattle.wire.specs.declared.output.Output.TheVariants as output
@@ -53,7 +53,7 @@ either_own : (node : Node) (history : History) (test : Bool) (one other out : Ou
 either_own node history true one other out first second inside = subst (IsOwn node history) (only_one one out inside) first
 either_own node history false one other out first second inside = subst (IsOwn node history) (only_one other out inside) second
 
-batch_own : (node : Node) (history : History) (batch : Contents) (out : Output) → Contains (batch_outputs node batch) out → IsOwn node history out
+batch_own : (node : Node) (history : History) (batch : BatchView) (out : Output) → Contains (batch_outputs node batch) out → IsOwn node history out
 batch_own node history batch out inside =
     either_own node history (is_own node batch.author) (output.Batch batch) (output.Ack batch.author (record { author = node.own; batch = batch_digest batch })) out tt tt inside
 

@@ -2,7 +2,8 @@
 use Rattle.std.specs.Prelude.{◌≡◌, ℕ, true, List, Some, Contains}
 use Rattle.committee.specs.Charter.{IsCharter}
 use Rattle.spec_accord.specs.Accord.{Agree}
-use Rattle.spec_model.specs.Histories.{History, Begins}
+use Rattle.spec_model.specs.Histories.{History}
+use Rattle.wire.specs.Lists.{Begins}
 use Rattle.spec_model.specs.Holdings.{certificates, order}
 use Rattle.spec_model.specs.Words.{Certificate, Digest}
 use Rattle.spec_world.specs.Lasting.{settled_in}

@@ -18,7 +18,8 @@ use Rattle.wire.specs.Digests.{header_digest_of}
 use Rattle.wire.specs.References.{parents_rise}
 use Rattle.wire.specs.declared.message.Message.TheVariants as message
 use Rattle.spec_model.specs.Admitting.{IsTaken, IsLegal}
-use Rattle.spec_model.specs.Histories.{History, headers, received, coins, as_header, as_certificate, as_coin, Begins}
+use Rattle.spec_model.specs.Histories.{History, headers, received, coins, as_header, as_certificate, as_coin}
+use Rattle.wire.specs.Lists.{Begins}
 use Rattle.spec_model.specs.Holdings.{ledger_of, ledger_at, completed, certificates, genesis, slots, order, floor, is_held, all_held}
 use Rattle.spec_laws.specs.Laws.{OrderGrows}
 use Rattle.spec_model.specs.Nodes.{Node, IsNode, size_of}

@@ -8,7 +8,7 @@ use Rattle.std.proofs.lemmas.List.{append_assoc, append-nil, length-append, map-
 use Rattle.std.proofs.lemmas.Nat.{mod_below}
 use Rattle.std.proofs.lemmas.List.Elements.{Contains-push_cases}
 use Rattle.committee.specs.Charter.{IsCharter}
-use Rattle.spec_model.specs.Histories.{Begins}
+use Rattle.wire.specs.Lists.{Begins}
 use Rattle.spec_model.specs.Ordering.{Ledger, size_in, reaches_in, leader, has_support, is_directly_committed, top_to, top, segments, committed, newer_to, newer_at, newer, last_wave, order_by}
 use Rattle.spec_model.specs.Slots.{Slots, certificate_digest, reaches}
 use Rattle.spec_model.specs.Words.{Certificate, Digest}

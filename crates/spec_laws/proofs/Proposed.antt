@@ -29,8 +29,8 @@ use Rattle.spec_model.specs.Ordering.{top}
 use Rattle.spec_model.specs.Proposing.{is_nameable, to_name, nameable, as_parent, proposal, signed, propose}
 use Rattle.spec_model.specs.States.{State, whole, is_available, floor_in}
 use Rattle.spec_model.specs.Slots.{Slots, same_digest, header_digest, certificate_digest, is_of_slot, round_of}
-use Rattle.spec_model.specs.Words.{Author, BatchReference, Certificate, Coin, Contents, Digest, Event, Header, Message, ParentReference}
-use Rattle.spec_model.specs.declared.admission.Admission.TheVariants.{New}
+use Rattle.spec_model.specs.Words.{Author, BatchReference, Certificate, Coin, BatchView, Digest, Event, Header, Message, ParentReference}
+use Rattle.header.specs.declared.admission.Admission.TheVariants.{New}
 use Rattle.spec_laws.proofs.Closed.{floor_of, in_place, kept_slot, coins_later, or_right}
 use Rattle.spec_laws.proofs.Legal.{Adds, legal-induction}
 use Rattle.spec_laws.proofs.Lists.{given_or_none, filter_map-push, found-push, Contains-nothing, Contains-cases, Contains-first, Contains-later, Contains-made, nothing_found, found_passes}
@@ -279,10 +279,10 @@ parents_below node history p inside =
 
 -- ---- batches
 
-not_free : (node : Node) (history : History) (batch held : Contents) → batch_at history (batch_digest batch) ≡ Some held → is_new (batch_answer node (whole node history) batch) ≡ true → ⊥
+not_free : (node : Node) (history : History) (batch held : BatchView) → batch_at history (batch_digest batch) ≡ Some held → is_new (batch_answer node (whole node history) batch) ≡ true → ⊥
 not_free node history batch held is h = grind (arith, h, is, common_steps)
 
-new_batch-free : (node : Node) (history : History) (batch : Contents) → is_new (batch_answer node (whole node history) batch) ≡ true → batch_at history (batch_digest batch) ≡ None
+new_batch-free : (node : Node) (history : History) (batch : BatchView) → is_new (batch_answer node (whole node history) batch) ≡ true → batch_at history (batch_digest batch) ≡ None
 new_batch-free node history batch h =
     elim (given_or_none (batch_at history (batch_digest batch))) [
       | inr none ↦ none
@@ -291,9 +291,9 @@ new_batch-free node history batch h =
 
 -- each batch is the one of its digest
 abbrev IsOnlyBatch : History → Type 0
-IsOnlyBatch history = (batch : Contents) → Contains (batches history) batch → batch_at history (batch_digest batch) ≡ Some batch
+IsOnlyBatch history = (batch : BatchView) → Contains (batches history) batch → batch_at history (batch_digest batch) ≡ Some batch
 
-only_more : (node : Node) (history : History) (sender : Author) (m : Message) → is_new (admit node history (record { sender = sender; message = m })) ≡ true → (batch : Contents) → Contains (option_to_list (as_batch m)) batch
+only_more : (node : Node) (history : History) (sender : Author) (m : Message) → is_new (admit node history (record { sender = sender; message = m })) ≡ true → (batch : BatchView) → Contains (option_to_list (as_batch m)) batch
     → option_or (batch_at history (batch_digest batch)) (find (λ b. same_digest (batch_digest b) (batch_digest batch)) (option_to_list (as_batch m))) ≡ Some batch
 only_more node history sender (message.Batch new) fresh batch inside =
     elim (Contains-push_cases [] new batch inside) [
@@ -323,7 +323,7 @@ one_batch : (node : Node) (history : History) → IsLegal node history → IsOnl
 one_batch node = legal-induction node IsOnlyBatch (λ batch inside. absurd (Contains-nothing batch inside)) (only_push node)
 
 -- a batch that came passed the checks
-pub passed_batch : (node : Node) (sender : Author) (m : Message) (batch : Contents) → IsTaken node (record { sender = sender; message = m }) → as_batch m ≡ Some batch → is_worker node.charter batch.worker ≡ true
+pub passed_batch : (node : Node) (sender : Author) (m : Message) (batch : BatchView) → IsTaken node (record { sender = sender; message = m }) → as_batch m ≡ Some batch → is_worker node.charter batch.worker ≡ true
 passed_batch node sender (message.Batch new) batch taken is =
     let none = taken.passed in
     let worker : is_worker node.charter new.worker ≡ true =
@@ -340,7 +340,7 @@ passed_batch node sender (message.Batch new) batch taken is =
         ]
       ]
     ] in
-    ap (λ (b : Contents). is_worker node.charter b.worker) (sym (same_Some new batch is)) ∙ worker
+    ap (λ (b : BatchView). is_worker node.charter b.worker) (sym (same_Some new batch is)) ∙ worker
 passed_batch node sender (message.BatchAck ack) batch taken is = absurd (none-some batch is)
 passed_batch node sender (message.Header header) batch taken is = absurd (none-some batch is)
 passed_batch node sender (message.Vote vote) batch taken is = absurd (none-some batch is)
@@ -376,7 +376,7 @@ all_placed_from list (y ∷ xs) x inside =
     ]
 
 -- what a batch is that came
-batch_limits : (m : Message) (batch : Contents) → IsMessage m → as_batch m ≡ Some batch → IsBatch batch
+batch_limits : (m : Message) (batch : BatchView) → IsMessage m → as_batch m ≡ Some batch → IsBatch batch
 batch_limits (message.Batch new) batch keeps is = subst IsBatch (same_Some new batch is) keeps
 batch_limits (message.BatchAck ack) batch keeps is = absurd (none-some batch is)
 batch_limits (message.Header header) batch keeps is = absurd (none-some batch is)
@@ -388,7 +388,7 @@ batch_limits (message.Coin coin) batch keeps is = absurd (none-some batch is)
 pub record IsNamed (node : Node) (history : History) (named : BatchReference) : Type 0 where
   pub digest : IsDigest named.digest
   pub number : IsNumber named.worker
-  batch : Contents
+  batch : BatchView
   held : batch_at history named.digest ≡ Some batch
   worker : batch.worker ≡ named.worker
   known : is_worker node.charter named.worker ≡ true
@@ -477,7 +477,7 @@ passes node history accepts legal signature =
     all_from (λ b. is_worker node.charter b.worker) body.batches (λ b inside. (batches_named node history legal b inside).known) in
     rw (member, own, quorum, few, members, workers, signature) refl
 
-may_be_named : (node : Node) (history : History) (header : Header) (named : BatchReference) (batch : Contents) → batch_at history named.digest ≡ Some batch → batch.worker ≡ named.worker → is_available node (whole node history) named.digest ≡ true
+may_be_named : (node : Node) (history : History) (header : Header) (named : BatchReference) (batch : BatchView) → batch_at history named.digest ≡ Some batch → batch.worker ≡ named.worker → is_available node (whole node history) named.digest ≡ true
     → may_name node (whole node history) header named ≡ true
 may_be_named node history header named batch held worker available =
     let same : (batch.worker == named.worker) ≡ true = ap (λ w. w == named.worker) worker ∙ same_number named.worker in

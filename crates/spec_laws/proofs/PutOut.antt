@@ -22,7 +22,7 @@ use Rattle.committee.specs.Charter.{numbers}
 use Rattle.spec_model.specs.Nodes.{Node, size_of}
 use Rattle.spec_model.specs.Slots.{same_digest, header_digest, certificate_digest, is_of_slot}
 use Rattle.spec_model.specs.States.{whole, has_own_batch, completed_at}
-use Rattle.spec_model.specs.Words.{Author, BatchAck, Certificate, Coin, Contents, Digest, Event, Header, HeaderBody, Message, Output, Vote}
+use Rattle.spec_model.specs.Words.{Author, BatchAck, Certificate, Coin, BatchView, Digest, Event, Header, HeaderBody, Message, Output, Vote}
 use Rattle.spec_laws.proofs.Lists.{given_or_none, Contains-cases, Contains-first, Contains-nothing, Contains-makes, filter_map-push, found_passes}
 use Rattle.spec_laws.proofs.Given.{header_stays, picks}
 use Rattle.spec_laws.proofs.SlotsGrow.{completed-header, completed_is}
@@ -38,7 +38,7 @@ given_of outputs (z ∷ xs) x o inside of =
     ]
 
 -- what a batch that is held puts out may be given out
-batch_in_given : (node : Node) (history : History) (batch : Contents) (o : Output) → Contains (batches history) batch → Contains (batch_outputs node batch) o → Contains (given node history) o
+batch_in_given : (node : Node) (history : History) (batch : BatchView) (o : Output) → Contains (batches history) batch → Contains (batch_outputs node batch) o → Contains (given node history) o
 batch_in_given node history batch o inside of =
     let for_batches = flat_map (batch_outputs node) (batches history) in
     let for_headers = flat_map (header_outputs node) (headers history) in
@@ -51,7 +51,7 @@ alone node history outputs o is may =
     let inside : Contains outputs o = subst (λ l. Contains l o) (sym is) (Contains-first [] o) in
     subst (All (MayGive node history)) (sym is) (All-cons (MayGive node history) o [] (may inside) (All-nil (MayGive node history)))
 
-batch_given : (node : Node) (history : History) (batch : Contents) → Contains (batches history) batch → All (MayGive node history) (batch_outputs node batch)
+batch_given : (node : Node) (history : History) (batch : BatchView) → Contains (batches history) batch → All (MayGive node history) (batch_outputs node batch)
 batch_given node history batch inside =
     let in_given : (o : Output) → Contains (batch_outputs node batch) o → Contains (given node history) o = λ o of. batch_in_given node history batch o inside of in
     let ack : Output = output.Ack batch.author (record { author = node.own; batch = batch_digest batch }) in
@@ -120,7 +120,7 @@ pieces_given node history place =
 
 -- ---- each kind of event
 
-batch_put : (node : Node) (history : History) (sender : Author) (batch : Contents)
+batch_put : (node : Node) (history : History) (sender : Author) (batch : BatchView)
     → PutsOutGiven node history (record { sender = sender; message = message.Batch batch }) (batch_answer node (whole node history) batch)
 batch_put node history sender batch =
     elim (given_or_none (batch_at history (batch_digest batch))) [

@@ -5,14 +5,15 @@ use Rattle.wire.specs.declared.message.Message.TheVariants as message
 use Rattle.header.specs.Checks.{Accepts, fault_of, accepts_all}
 use Rattle.spec_model.specs.Admitting.{admit, header_outputs, IsTaken, IsLegal}
 use Rattle.spec_model.specs.Giving.{MayGive}
-use Rattle.spec_model.specs.Histories.{History, Begins, batches, acks, headers, votes, received, coins, as_batch, as_ack, as_header, as_vote, as_certificate, as_coin}
+use Rattle.spec_model.specs.Histories.{History, batches, acks, headers, votes, received, coins, as_batch, as_ack, as_header, as_vote, as_certificate, as_coin}
+use Rattle.wire.specs.Lists.{Begins}
 use Rattle.spec_model.specs.Holdings.{batch_digest, batch_at, is_vote_on, voted_header, counted_vote, completed, certificates, slots, ledger_of, ledger_at, order, own_vote, floor, is_full, all_held}
 use Rattle.spec_model.specs.Nodes.{Node, IsNode, AreTied}
 use Rattle.spec_model.specs.Ordering.{Ledger, leader, has_support, is_directly_committed, top, committed, newer, last_wave, segment, segments, floor_by}
 use Rattle.spec_model.specs.Proposing.{propose}
 use Rattle.spec_model.specs.Slots.{Slots, same_digest, certificate_digest, is_of_slot, slots_of}
-use Rattle.spec_model.specs.declared.admission.Admission.{Admission}
-use Rattle.spec_model.specs.declared.admission.Admission.TheVariants.{New, Known, Refused}
+use Rattle.header.specs.declared.admission.Admission.{Admission}
+use Rattle.header.specs.declared.admission.Admission.TheVariants.{New, Known, Refused}
 use Rattle.spec_model.specs.Words.{Author, Certificate, Digest, Event, Header, HeaderBody, Message, Output}
 
 -- a legal history has one vote an author and round

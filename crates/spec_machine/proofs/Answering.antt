@@ -17,9 +17,9 @@ use Rattle.spec_model.specs.Ordering.{top}
 use Rattle.spec_model.specs.Slots.{Slots, same_digest, header_digest, certificate_digest}
 use Rattle.spec_model.specs.States.{State, whole, ledger_in, completed_at, floor_in}
 use Rattle.spec_model.specs.Words.{Author, Certificate, Coin, Digest, Event, Header, HeaderBody, Message, Output, ParentReference, Vote}
-use Rattle.spec_model.specs.declared.admission.Admission.{Admission}
-use Rattle.spec_model.specs.declared.admission.Admission.TheVariants.{New, Known, Refused}
-use Rattle.spec_model.specs.declared.refusal.Refusal.TheVariants.{TooOld, MissingParents, MissingBatch, NotOurs, CoinOutOfTurn, CoinEarly, CoinConflict}
+use Rattle.header.specs.declared.admission.Admission.{Admission}
+use Rattle.header.specs.declared.admission.Admission.TheVariants.{New, Known, Refused}
+use Rattle.header.specs.declared.refusal.Refusal.TheVariants.{TooOld, MissingParents, MissingBatch, NotOurs, CoinOutOfTurn, CoinEarly, CoinConflict}
 use Rattle.spec_laws.proofs.Closed.{floor_of, in_place, or_right}
 use Rattle.spec_laws.proofs.Legal.{Adds, legal-push}
 use Rattle.spec_laws.proofs.Lists.{given_or_none}

@@ -17,7 +17,7 @@ use Rattle.spec_model.specs.Holdings.{batch_digest}
 use Rattle.spec_model.specs.Nodes.{Node, size_of}
 use Rattle.spec_model.specs.Slots.{same_digest}
 use Rattle.spec_model.specs.States.{State, batch_in, has_own_batch, is_available}
-use Rattle.spec_model.specs.Words.{Author, BatchAck, BatchReference, Contents, Digest, Header, Message}
+use Rattle.spec_model.specs.Words.{Author, BatchAck, BatchReference, BatchView, Digest, Header, Message}
 use Rattle.spec_laws.proofs.Closed.{all_to}
 use Rattle.spec_laws.proofs.Lists.{given_or_none}
 use Rattle.spec_laws.proofs.Meeting.{any_to}
@@ -58,13 +58,13 @@ same_digests one other same = ap (λ (bytes : List ℕ). record { 0 = bytes }) (
 -- an own batch stays one
 own_stays : (node : Node) (state : State) (m : Message) (digest : Digest) → has_own_batch node state digest ≡ true → has_own_batch node (behind node state m) digest ≡ true
 own_stays node state m digest own =
-    let test : Contents → Bool = λ batch. same_digest (batch_digest batch) digest in
+    let test : BatchView → Bool = λ batch. same_digest (batch_digest batch) digest in
     let new = option_to_list (as_batch m) in
     elim (given_or_none (batch_in state digest)) [
       | inl found ↦
           let it = rw found.1 at own in
           let later : find test (state.batches ++ new) ≡ Some found.0 = find-append test state.batches new ∙ or_left (find test state.batches) (find test new) found.0 found.1 in
-          ap (λ o. option_map_or (λ (batch : Contents). batch.author.0 == node.own.0) o false) later ∙ it
+          ap (λ o. option_map_or (λ (batch : BatchView). batch.author.0 == node.own.0) o false) later ∙ it
       | inr none ↦ let bad = rw none at own in absurd cc
     ]
 
@@ -131,16 +131,16 @@ named_new node state sender m step digest is =
     let new = new_header node state header step'.new in
     let may = all_to (may_name node state header) header.body.batches named.0 new.named named.1 in
     let available : (not (is_own node header.body.author) || is_available node state named.0.digest) ≡ true =
-    (and_parts (option_map_or (λ (batch : Contents). batch.worker == named.0.worker) (batch_in state named.0.digest) false) (not (is_own node header.body.author) || is_available node state named.0.digest) may).1 in
+    (and_parts (option_map_or (λ (batch : BatchView). batch.worker == named.0.worker) (batch_in state named.0.digest) false) (not (is_own node header.body.author) || is_available node state named.0.digest) may).1 in
     let it = but_for (is_own node header.body.author) (is_available node state named.0.digest) parts.0 available in
     ap (has_own_batch node state) (sym (same_digests named.0.digest digest named.2)) ∙ (and_parts (has_own_batch node state named.0.digest) _ it).0
 
 -- ---- the batches
 
-abbrev Passed : Node → Contents → Type 0
+abbrev Passed : Node → BatchView → Type 0
 Passed node batch = IsTaken node (record { sender = batch.author; message = message.Batch batch })
 
-abbrev Differ : Contents → Contents → Type 0
+abbrev Differ : BatchView → BatchView → Type 0
 Differ one other = same_digest (batch_digest one) (batch_digest other) ≡ false
 
 passed_new : (node : Node) (state : State) (sender : Author) (m : Message) → IsStep node state sender m → All (Passed node) (option_to_list (as_batch m))
@@ -153,11 +153,11 @@ passed_new node state sender (message.Certificate certificate) step = All-nil (P
 passed_new node state sender (message.Coin coin) step = All-nil (Passed node)
 
 -- distinct ones, and so many
-record AreFew (node : Node) (batches : List Contents) : Type 0 where
+record AreFew (node : Node) (batches : List BatchView) : Type 0 where
   distinct : AllPairs Differ batches
   few : length batches ≤ node.charter.batches
 
-few_same : (node : Node) (batches : List Contents) → AreFew node batches → AreFew node (batches ++ [])
+few_same : (node : Node) (batches : List BatchView) → AreFew node batches → AreFew node (batches ++ [])
 few_same node batches few = subst (AreFew node) (sym (append-nil batches)) few
 
 few_stay : (node : Node) (state : State) (sender : Author) (m : Message) → IsStep node state sender m → AreFew node (state.batches ++ option_to_list (as_batch m))

@@ -8,26 +8,26 @@ use Rattle.spec_model.specs.Holdings.{batch_digest, is_low, all_held}
 use Rattle.spec_model.specs.Nodes.{Node}
 use Rattle.spec_model.specs.Slots.{same_digest, header_digest}
 use Rattle.spec_model.specs.States.{State, batch_in, has_own_batch, floor_in}
-use Rattle.spec_model.specs.Words.{BatchAck, Certificate, Contents, Header, Vote}
+use Rattle.spec_model.specs.Words.{BatchAck, Certificate, BatchView, Header, Vote}
 use Rattle.spec_laws.proofs.Lists.{given_or_none}
 
 -- ---- batches and acknowledgements
 
 -- no batch of the digest is held, and there is room
-pub record IsNewBatch (node : Node) (now : State) (batch : Contents) : Type 0 where
+pub record IsNewBatch (node : Node) (now : State) (batch : BatchView) : Type 0 where
   pub free : batch_in now (batch_digest batch) ≡ None
   pub room : length now.batches < node.charter.batches
 
-held_batch : (node : Node) (now : State) (batch held : Contents) → batch_in now (batch_digest batch) ≡ Some held → is_new (batch_answer node now batch) ≡ true → ⊥
+held_batch : (node : Node) (now : State) (batch held : BatchView) → batch_in now (batch_digest batch) ≡ Some held → is_new (batch_answer node now batch) ≡ true → ⊥
 held_batch node now batch held is h = grind (arith, h, is, common_steps)
 
-with_room : (node : Node) (now : State) (batch : Contents) → batch_in now (batch_digest batch) ≡ None → is_new (batch_answer node now batch) ≡ true → nat_le node.charter.batches (length now.batches) ≡ false
+with_room : (node : Node) (now : State) (batch : BatchView) → batch_in now (batch_digest batch) ≡ None → is_new (batch_answer node now batch) ≡ true → nat_le node.charter.batches (length now.batches) ≡ false
 with_room node now batch none h = grind (arith, h, none, common_steps)
 
 more_room : (most held : ℕ) → nat_le most held ≡ false → held < most
 more_room most held room = grind (arith, room)
 
-pub new_batch : (node : Node) (now : State) (batch : Contents) → is_new (batch_answer node now batch) ≡ true → IsNewBatch node now batch
+pub new_batch : (node : Node) (now : State) (batch : BatchView) → is_new (batch_answer node now batch) ≡ true → IsNewBatch node now batch
 new_batch node now batch h =
     elim (given_or_none (batch_in now (batch_digest batch))) [
       | inl found ↦ absurd (held_batch node now batch found.0 found.1 h)

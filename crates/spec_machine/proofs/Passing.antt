@@ -11,7 +11,7 @@ use Rattle.header.specs.declared.error.CheckError.TheVariants.{UnknownAuthor, Ba
 use Rattle.wire.specs.declared.message.Message.TheVariants as message
 use Rattle.spec_model.specs.Admitting.{IsTaken}
 use Rattle.spec_model.specs.Nodes.{Node, size_of}
-use Rattle.spec_model.specs.Words.{Author, BatchAck, Certificate, Contents, Event, Header, HeaderBody, Vote}
+use Rattle.spec_model.specs.Words.{Author, BatchAck, Certificate, BatchView, Event, Header, HeaderBody, Vote}
 
 -- ---- tests
 
@@ -42,7 +42,7 @@ sender_member node event taken = ltb-true _ _ (test_at (all_tests node event) 0 
 -- ---- batches and acknowledgements
 
 -- a batch is taken from its author alone
-pub batch_sender : (node : Node) (sender : Author) (batch : Contents) → IsTaken node (record { sender = sender; message = message.Batch batch }) → batch.author ≡ sender
+pub batch_sender : (node : Node) (sender : Author) (batch : BatchView) → IsTaken node (record { sender = sender; message = message.Batch batch }) → batch.author ≡ sender
 batch_sender node sender batch taken =
     let event : Event = record { sender = sender; message = message.Batch batch } in
     same_author batch.author sender (test_at (all_tests node event) 2 (test (batch.author.0 == sender.0) BadSender) taken.passed refl)

@@ -18,9 +18,9 @@ use Rattle.spec_model.specs.Nodes.{Node}
 use Rattle.spec_model.specs.Slots.{Slots, same_digest, header_digest, certificate_digest}
 use Rattle.spec_model.specs.Ordering.{segments}
 use Rattle.spec_model.specs.States.{State, batch_in, has_own_batch, ledger_in, floor_in, completed_at}
-use Rattle.spec_model.specs.Words.{Author, BatchAck, Certificate, Coin, Contents, Digest, Header, Message, Output, Vote}
-use Rattle.spec_model.specs.declared.admission.Admission.{Admission}
-use Rattle.spec_model.specs.declared.admission.Admission.TheVariants.{New, Known, Refused}
+use Rattle.spec_model.specs.Words.{Author, BatchAck, Certificate, Coin, BatchView, Digest, Header, Message, Output, Vote}
+use Rattle.header.specs.declared.admission.Admission.{Admission}
+use Rattle.header.specs.declared.admission.Admission.TheVariants.{New, Known, Refused}
 use Rattle.spec_laws.proofs.Lengthening.{newer_none}
 use Rattle.spec_laws.proofs.Lists.{given_or_none}
 use Rattle.spec_laws.proofs.SlotsGrow.{or_none}
@@ -96,13 +96,13 @@ PutsOut expected (New outputs) = filter is_order outputs ≡ expected
 PutsOut expected (Known outputs) = ⊤
 PutsOut expected (Refused refusal) = ⊤
 
-batch_apart : (node : Node) (batch : Contents) → filter is_order (batch_outputs node batch) ≡ []
+batch_apart : (node : Node) (batch : BatchView) → filter is_order (batch_outputs node batch) ≡ []
 batch_apart node batch = elim (cases_Bool (is_own node batch.author)) [ inl own ↦ rw own refl | inr foreign ↦ rw foreign refl ]
 
 header_apart : (node : Node) (header : Header) → filter is_order (header_outputs node header) ≡ []
 header_apart node header = elim (cases_Bool (is_own node header.body.author)) [ inl own ↦ rw own refl | inr foreign ↦ rw foreign refl ]
 
-batch_puts : (node : Node) (now : State) (batch : Contents) → PutsOut [] (batch_answer node now batch)
+batch_puts : (node : Node) (now : State) (batch : BatchView) → PutsOut [] (batch_answer node now batch)
 batch_puts node now batch =
     elim (given_or_none (batch_in now (batch_digest batch))) [
       | inl found ↦ elim (cases_Bool (bytes_eq (batch_body found.0) (batch_body batch))) [ inl same ↦ rw (found.1, same) tt | inr other ↦ rw (found.1, other) tt ]

@@ -21,8 +21,8 @@ use Rattle.spec_model.specs.Nodes.{Node, IsNode, size_of}
 use Rattle.spec_model.specs.Proposing.{is_nameable, to_name, nameable, as_parent, proposal_of, signed}
 use Rattle.spec_model.specs.Slots.{Slots, header_digest, round_of, same_digest}
 use Rattle.spec_model.specs.States.{State, batch_in, is_available, floor_in}
-use Rattle.spec_model.specs.Words.{BatchReference, Certificate, Contents, Header, HeaderBody, ParentReference}
-use Rattle.spec_model.specs.declared.admission.Admission.TheVariants.{New}
+use Rattle.spec_model.specs.Words.{BatchReference, Certificate, BatchView, Header, HeaderBody, ParentReference}
+use Rattle.header.specs.declared.admission.Admission.TheVariants.{New}
 use Rattle.spec_model.proofs.Placing.{take-rises}
 use Rattle.spec_laws.specs.Laws.{own_event}
 use Rattle.spec_laws.proofs.Closed.{or_right}
@@ -97,7 +97,7 @@ are_parents node state sound places =
 -- ---- batches
 
 -- where no digest stands twice a batch is the one of its digest
-one_batch : (batches : List Contents) → AllPairs (λ one other. same_digest (batch_digest one) (batch_digest other) ≡ false) batches → (batch : Contents) → Contains batches batch
+one_batch : (batches : List BatchView) → AllPairs (λ one other. same_digest (batch_digest one) (batch_digest other) ≡ false) batches → (batch : BatchView) → Contains batches batch
     → find (λ b. same_digest (batch_digest b) (batch_digest batch)) batches ≡ Some batch
 one_batch [] distinct batch inside = absurd (Contains-nothing batch inside)
 one_batch (first ∷ rest) distinct batch inside =
@@ -115,14 +115,14 @@ one_batch (first ∷ rest) distinct batch inside =
 record IsNamed (node : Node) (state : State) (named : BatchReference) : Type 0 where
   digest : IsDigest named.digest
   number : IsNumber named.worker
-  batch : Contents
+  batch : BatchView
   held : batch_in state named.digest ≡ Some batch
   worker : batch.worker ≡ named.worker
   known : is_worker node.charter named.worker ≡ true
   available : is_available node state named.digest ≡ true
 
 -- a batch that is named is own, held and available
-named_well : (node : Node) (state : State) → sound.AreBatches node state → (named : BatchReference) (batch : Contents) → Contains state.batches batch → to_name node state batch ≡ Some named → IsNamed node state named
+named_well : (node : Node) (state : State) → sound.AreBatches node state → (named : BatchReference) (batch : BatchView) → Contains state.batches batch → to_name node state batch ≡ Some named → IsNamed node state named
 named_well node state good named batch inside names =
     let taken = All-contains (λ b. IsTaken node (record { sender = b.author; message = message.Batch b })) state.batches batch good.passed inside in
     let worker = passed_batch node batch.author (message.Batch batch) batch taken refl in

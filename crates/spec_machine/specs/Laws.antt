@@ -5,7 +5,8 @@ use Rattle.wire.specs.declared.output.Output.TheVariants as output
 use Rattle.spec_laws.specs.Laws.{HoldsFrom, SayTheSame, ordered_since, own_event}
 use Rattle.spec_model.specs.Admitting.{admit, is_new, order_outputs, header_outputs, IsTaken, IsLegal}
 use Rattle.spec_model.specs.Giving.{kept}
-use Rattle.spec_model.specs.Histories.{History, batches, coins, Begins}
+use Rattle.spec_model.specs.Histories.{History, batches, coins}
+use Rattle.wire.specs.Lists.{Begins}
 use Rattle.spec_model.specs.Holdings.{floor, round, is_low, has_acked, voted_digest, voted_header, counted_at, slots, ledger_of}
 use Rattle.spec_model.specs.Nodes.{Node, IsNode}
 use Rattle.spec_model.specs.Ordering.{last_wave}
@@ -13,7 +14,7 @@ use Rattle.spec_model.specs.Proposing.{propose}
 use Rattle.spec_model.specs.Slots.{Slots}
 use Rattle.spec_model.specs.States.{State, ledger_in, floor_in}
 use Rattle.spec_model.specs.Words.{Certificate, Digest, Event, Header, Output, Vote}
-use Rattle.spec_model.specs.declared.admission.Admission.TheVariants.{New}
+use Rattle.header.specs.declared.admission.Admission.TheVariants.{New}
 use Rattle.spec_machine.specs.Machine.{slots_with, grown, after, answered, fresh, is_missing_parents, is_ready, proposed, round_in}
 use Rattle.spec_machine.specs.Sound.{IsSound}
 

@@ -14,9 +14,9 @@ use Rattle.spec_model.specs.Proposing.{propose_of}
 use Rattle.spec_model.specs.Slots.{Slots, same_digest, header_digest, certificate_digest, is_of_slot, slots_of}
 use Rattle.spec_model.specs.States.{State, ledger_in}
 use Rattle.spec_model.specs.Words.{Certificate, Digest, Event, Header, Message, Vote}
-use Rattle.spec_model.specs.declared.admission.Admission.{Admission}
-use Rattle.spec_model.specs.declared.admission.Admission.TheVariants.{Refused}
-use Rattle.spec_model.specs.declared.refusal.Refusal.TheVariants.{MissingParents}
+use Rattle.header.specs.declared.admission.Admission.{Admission}
+use Rattle.header.specs.declared.admission.Admission.TheVariants.{Refused}
+use Rattle.header.specs.declared.refusal.Refusal.TheVariants.{MissingParents}
 
 -- ---- what an event is for a slot, a batch or a header
 

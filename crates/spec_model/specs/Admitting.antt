@@ -16,10 +16,10 @@ use Rattle.spec_model.specs.Holdings.{batch_digest, own_vote, is_low, is_full, a
 use Rattle.spec_model.specs.Nodes.{Node, IsNode}
 use Rattle.spec_model.specs.States.{State, whole, batch_in, has_own_batch, is_available, completed_at, floor_in}
 use Rattle.spec_model.specs.Slots.{same_digest, header_digest, certificate_digest}
-use Rattle.spec_model.specs.Words.{Author, BatchAck, BatchReference, Certificate, Coin, Contents, Digest, Event, Header, HeaderBody, Message, Output, ParentReference, Vote}
-use Rattle.spec_model.specs.declared.admission.Admission.{Admission}
-use Rattle.spec_model.specs.declared.admission.Admission.TheVariants.{New, Known, Refused}
-use Rattle.spec_model.specs.declared.refusal.Refusal.TheVariants.{TooOld, MissingParents, MissingBatch, Equivocation, CertConflict, DigestClash, AlreadyProposed, NotOurs, CoinOutOfTurn, CoinEarly, CoinConflict, StoreFull}
+use Rattle.spec_model.specs.Words.{Author, BatchAck, BatchReference, Certificate, Coin, BatchView, Digest, Event, Header, HeaderBody, Message, Output, ParentReference, Vote}
+use Rattle.header.specs.declared.admission.Admission.{Admission}
+use Rattle.header.specs.declared.admission.Admission.TheVariants.{New, Known, Refused}
+use Rattle.header.specs.declared.refusal.Refusal.TheVariants.{TooOld, MissingParents, MissingBatch, Equivocation, CertConflict, DigestClash, AlreadyProposed, NotOurs, CoinOutOfTurn, CoinEarly, CoinConflict, StoreFull}
 
 -- an author is the node itself
 abbrev pub is_own : Node → Author → Bool
@@ -28,7 +28,7 @@ is_own node author = author.0 == node.own.0
 -- ---- what is given out
 
 -- an own batch goes to all, and of another one its author learns that it is held
-abbrev pub batch_outputs : Node → Contents → List Output
+abbrev pub batch_outputs : Node → BatchView → List Output
 batch_outputs node batch =
     (if is_own node batch.author then output.Batch batch
     else output.Ack batch.author (record { author = node.own; batch = batch_digest batch })) ∷ []
@@ -59,11 +59,11 @@ when Some held gives answer else others = answer held
 when None gives answer else others = others
 
 -- where this batch has the digest already
-abbrev pub held_batch_answer : Node → Contents → Contents → Admission
+abbrev pub held_batch_answer : Node → BatchView → BatchView → Admission
 held_batch_answer node held batch =
     if bytes_eq (batch_body held) (batch_body batch) then Known (batch_outputs node held) else Refused DigestClash
 
-abbrev pub batch_answer : Node → State → Contents → Admission
+abbrev pub batch_answer : Node → State → BatchView → Admission
 batch_answer node now batch =
     when batch_in now (batch_digest batch) gives (λ held. held_batch_answer node held batch)
     else if nat_le node.charter.batches (length now.batches) then Refused StoreFull

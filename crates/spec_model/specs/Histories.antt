@@ -1,7 +1,7 @@
 -- A history: the events of a node, the oldest first, and what it has of each kind.
 use Rattle.std.specs.Prelude.{◌≡◌, ℕ, List, ◌++◌, filter_map, Option, Some, None}
 use Rattle.wire.specs.declared.message.Message.TheVariants as message
-use Rattle.spec_model.specs.Words.{BatchAck, Certificate, Contents, Event, Header, Message, Vote}
+use Rattle.spec_model.specs.Words.{BatchAck, Certificate, BatchView, Event, Header, Message, Vote}
 
 abbrev pub History : Type 0
 History = List Event
@@ -12,7 +12,7 @@ pub record Begins {X : Type 0} (one other : List X) : Type 0 where
   pub parts : other ≡ one ++ rest
 
 -- what a message is, if it is of the kind
-abbrev pub as_batch : Message → Option Contents
+abbrev pub as_batch : Message → Option BatchView
 as_batch (message.Batch batch) = Some batch
 as_batch _ = None
 
@@ -36,7 +36,7 @@ abbrev pub as_coin : Message → Option ℕ
 as_coin (message.Coin coin) = Some coin.value
 as_coin _ = None
 
-abbrev pub batches : History → List Contents
+abbrev pub batches : History → List BatchView
 batches history = filter_map (λ event. as_batch event.message) history
 
 -- the acknowledgements of batches

@@ -8,15 +8,15 @@ use Rattle.spec_model.specs.Histories.{History, batches, acks, headers, votes, r
 use Rattle.spec_model.specs.Nodes.{Node, size_of, quorum}
 use Rattle.spec_model.specs.Ordering.{Ledger, order_by, floor_by}
 use Rattle.spec_model.specs.Slots.{Slots, same_digest, header_digest, certificate_digest, is_of_slot, slots_of}
-use Rattle.spec_model.specs.Words.{Certificate, Contents, Digest, Header, HeaderBody, ParentReference, Vote, VoteEntry}
+use Rattle.spec_model.specs.Words.{Certificate, BatchView, Digest, Header, HeaderBody, ParentReference, Vote, VoteEntry}
 
 -- ---- batches
 
-abbrev pub batch_digest : Contents → Digest
+abbrev pub batch_digest : BatchView → Digest
 batch_digest batch = record { 0 = batch_digest_of batch }
 
 -- the batch of a digest, if it is held
-abbrev pub batch_at : History → Digest → Option Contents
+abbrev pub batch_at : History → Digest → Option BatchView
 batch_at history digest = find (λ batch. same_digest (batch_digest batch) digest) (batches history)
 
 -- a member has acknowledged the batch of this digest

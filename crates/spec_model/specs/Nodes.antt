@@ -6,7 +6,8 @@ use Rattle.header.specs.Checks.{Accepts}
 use Rattle.wire.specs.Fields.{IsSignature}
 use Rattle.wire.specs.declared.keys.Key.{Key}
 use Rattle.spec_model.specs.Words.{Author, Digest, Signature}
-use Rattle.spec_model.specs.declared.node.Node as declared
+use Rattle.header.specs.declared.node.Node as declared
+use Rattle.sigface.specs.Scheme.{Scheme}
 
 -- a node: its own number, its committee, its signer's key, and the signature that it gives to a digest
 pub record Node : Type 0 where
@@ -31,8 +32,8 @@ abbrev pub quorum : Node → ℕ
 quorum node = quorum_of node.charter
 
 -- what a contract sees of a value of the type `Node`, with its signer's key and the signatures that it gives
-abbrev pub node_view : {S : Type 0} → (S → Key) → (S → Digest → Signature) → declared.Node S → Node
-node_view own_key signature_of node = record {
+abbrev pub node_view : {S : Type 0} → Scheme S → declared.Node S → Node
+node_view scheme node = record {
   own = node.own;
   charter = node.committee;
   key = own_key node.signer;

@@ -8,15 +8,15 @@ use Rattle.spec_model.specs.Holdings.{batch_digest, round}
 use Rattle.spec_model.specs.Nodes.{Node, size_of}
 use Rattle.spec_model.specs.Slots.{header_digest, certificate_digest, round_of}
 use Rattle.spec_model.specs.States.{State, whole, is_available}
-use Rattle.spec_model.specs.Words.{BatchReference, Certificate, Contents, Header, HeaderBody, ParentReference}
+use Rattle.spec_model.specs.Words.{BatchReference, Certificate, BatchView, Header, HeaderBody, ParentReference}
 
 -- an own batch may be named: it is available, and no own header has named it
-abbrev pub is_nameable : Node → State → Contents → Bool
+abbrev pub is_nameable : Node → State → BatchView → Bool
 is_nameable node state batch =
     (batch.author.0 == node.own.0) && (is_available node state (batch_digest batch) && not (state.named (batch_digest batch)))
 
 -- an own batch that may be named, as a header names it
-abbrev pub to_name : Node → State → Contents → Option BatchReference
+abbrev pub to_name : Node → State → BatchView → Option BatchReference
 to_name node state batch =
     if is_nameable node state batch then Some (record { digest = batch_digest batch; worker = batch.worker }) else None
 

@@ -7,11 +7,11 @@ use Rattle.spec_model.specs.Holdings.{batch_digest, certificate_by, voted_header
 use Rattle.spec_model.specs.Nodes.{Node, quorum}
 use Rattle.spec_model.specs.Ordering.{Ledger, floor_by}
 use Rattle.spec_model.specs.Slots.{Slots, same_digest}
-use Rattle.spec_model.specs.Words.{Certificate, Contents, Digest, Header, Vote}
+use Rattle.spec_model.specs.Words.{Certificate, BatchView, Digest, Header, Vote}
 
 pub record State : Type 0 where
   -- the batches in the order of acceptance, who acknowledged them, and which of them own headers named
-  pub batches : List Contents
+  pub batches : List BatchView
   pub acked : Digest → ℕ → Bool
   pub named : Digest → Bool
   -- the digests that have the votes for a round and author, the own headers by round, and the votes that count on them by round and voter
@@ -46,7 +46,7 @@ whole node history = record {
 -- ---- batches
 
 -- the batch of a digest, if it is held
-abbrev pub batch_in : State → Digest → Option Contents
+abbrev pub batch_in : State → Digest → Option BatchView
 batch_in state digest = find (λ batch. same_digest (batch_digest batch) digest) state.batches
 
 -- the node has an own batch of this digest

@@ -1,5 +1,5 @@
 -- The values of the wire that the definitions speak of.
-pub use Rattle.wire.specs.Batches.{Contents}
+pub use Rattle.wire.specs.Batches.{BatchView}
 pub use Rattle.wire.specs.Events.{Event}
 pub use Rattle.wire.specs.declared.header.Certificate.{Certificate}
 pub use Rattle.wire.specs.declared.header.Header.{Header}

@@ -7,18 +7,18 @@ use Rattle.std.proofs.lemmas.List.{take_at, drop_at}
 use Rattle.std.proofs.lemmas.List.Elements.{All-head, All-tail}
 use Rattle.std.proofs.lemmas.Nat.{from_be_bytes-to_be_bytes_2, from_be_bytes-to_be_bytes_4}
 use Rattle.committee.specs.Charter.{Charter}
-use Rattle.wire.specs.Fields.{AreBytes}
+use Rattle.wire.specs.Fields.{HasBytes}
 use Rattle.wire.specs.declared.keys.Author.{Author}
 use Rattle.wire.specs.declared.keys.Key.{Key}
 use Rattle.spec_records.specs.Records.{stakes_of, configuration_of, IsConfiguration, OneConfiguration}
-use Rattle.spec_records.specs.declared.version.Version.{Version}
-use Rattle.spec_records.specs.declared.version.Version.TheVariants.{First, Second}
+use Rattle.journal.specs.declared.version.Version.{Version}
+use Rattle.journal.specs.declared.version.Version.TheVariants.{First, Second}
 
 -- ---- keys
 
 -- a key has 32 bytes
 abbrev IsKey : Key → Type 0
-IsKey key = AreBytes 32 key.0
+IsKey key = HasBytes 32 key.0
 
 abbrev key_bytes : Key → List ℕ
 key_bytes key = key.0

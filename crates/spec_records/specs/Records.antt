@@ -5,12 +5,12 @@ use Rattle.std.specs.Int.{w16, w32, to_be_bytes}
 use Rattle.committee.specs.Charter.{Charter, IsCharter}
 use Rattle.header.specs.Checks.{fault_of, accepts_all}
 use Rattle.wire.specs.Events.{Event}
-use Rattle.wire.specs.Fields.{AreBytes}
+use Rattle.wire.specs.Fields.{HasBytes}
 use Rattle.wire.specs.Grammar.{IsMessage}
 use Rattle.wire.specs.Spelling.{spelling}
 use Rattle.wire.specs.declared.keys.Author.{Author}
-use Rattle.spec_records.specs.declared.version.Version.{Version}
-use Rattle.spec_records.specs.declared.version.Version.TheVariants.{First, Second}
+use Rattle.journal.specs.declared.version.Version.{Version}
+use Rattle.journal.specs.declared.version.Version.TheVariants.{First, Second}
 
 -- the record of an event: its kind, the sender, the message
 abbrev pub record_of : Event → List ℕ
@@ -43,7 +43,7 @@ CanTell Second charter = ⊤
 -- a sound committee whose keys have 32 bytes each, with a number of two bytes
 pub record IsConfiguration (charter : Charter) (own : Author) : Type 0 where
   pub sound : IsCharter charter
-  pub keys : All (λ key. AreBytes 32 key.0) charter.keys
+  pub keys : All (λ key. HasBytes 32 key.0) charter.keys
   pub fits : own.0 < 2 ^ 16
 
 -- ---- laws

@@ -3,7 +3,8 @@ use Rattle.std.proofs.Common.{◌≡◌, List, Some, sym, subst}
 use Rattle.std.proofs.lemmas.List.Elements.{All-contains}
 use Rattle.spec_laws.proofs.Legal.{legal-begins}
 use Rattle.spec_model.specs.Admitting.{IsLegal}
-use Rattle.spec_model.specs.Histories.{History, Begins}
+use Rattle.spec_model.specs.Histories.{History}
+use Rattle.wire.specs.Lists.{Begins}
 use Rattle.spec_model.specs.Holdings.{order}
 use Rattle.spec_model.specs.Nodes.{Node}
 use Rattle.spec_model.specs.Words.{Digest, Output}

@@ -24,9 +24,9 @@ use Rattle.spec_model.specs.Holdings.{batch_digest, order, is_low, is_full, all_
 use Rattle.spec_model.specs.Nodes.{Node}
 use Rattle.spec_model.specs.Slots.{same_digest, header_digest, certificate_digest}
 use Rattle.spec_model.specs.States.{State, whole, batch_in, has_own_batch, floor_in}
-use Rattle.spec_model.specs.Words.{Author, BatchAck, Certificate, Coin, Contents, Digest, Event, Header, Message, Output, Vote}
-use Rattle.spec_model.specs.declared.admission.Admission.{Admission}
-use Rattle.spec_model.specs.declared.admission.Admission.TheVariants.{New, Known, Refused}
+use Rattle.spec_model.specs.Words.{Author, BatchAck, Certificate, Coin, BatchView, Digest, Event, Header, Message, Output, Vote}
+use Rattle.header.specs.declared.admission.Admission.{Admission}
+use Rattle.header.specs.declared.admission.Admission.TheVariants.{New, Known, Refused}
 use Rattle.spec_world.specs.Promise.{by_new, by_known}
 use Rattle.spec_world.proofs.Ballots.{mapped_of, picks}
 use Rattle.spec_world.proofs.Orders.{BeginsBehind, IsPut}
@@ -72,13 +72,13 @@ HasNoOrder (New outputs) = ⊤
 HasNoOrder (Known outputs) = filter is_order outputs ≡ []
 HasNoOrder (Refused refusal) = ⊤
 
-batch_apart : (node : Node) (batch : Contents) → filter is_order (batch_outputs node batch) ≡ []
+batch_apart : (node : Node) (batch : BatchView) → filter is_order (batch_outputs node batch) ≡ []
 batch_apart node batch = elim (cases_Bool (is_own node batch.author)) [ inl own ↦ rw own refl | inr foreign ↦ rw foreign refl ]
 
 header_apart : (node : Node) (header : Header) → filter is_order (header_outputs node header) ≡ []
 header_apart node header = elim (cases_Bool (is_own node header.body.author)) [ inl own ↦ rw own refl | inr foreign ↦ rw foreign refl ]
 
-known_batch : (node : Node) (now : State) (batch : Contents) → HasNoOrder (batch_answer node now batch)
+known_batch : (node : Node) (now : State) (batch : BatchView) → HasNoOrder (batch_answer node now batch)
 known_batch node now batch =
     elim (given_or_none (batch_in now (batch_digest batch))) [
       | inl found ↦ elim (cases_Bool (bytes_eq (batch_body found.0) (batch_body batch))) [ inl same ↦ rw (found.1, same) (batch_apart node found.0) | inr other ↦ rw (found.1, other) tt ]

@@ -15,7 +15,7 @@ use Rattle.spec_model.specs.Histories.{History, batches, headers}
 use Rattle.spec_model.specs.Holdings.{voted_header, voted_digest, certificates}
 use Rattle.spec_model.specs.Nodes.{Node}
 use Rattle.spec_model.specs.Slots.{same_digest, header_digest, is_of_slot}
-use Rattle.spec_model.specs.Words.{Certificate, Contents, Header, Output}
+use Rattle.spec_model.specs.Words.{Certificate, BatchView, Header, Output}
 use Rattle.spec_world.specs.Promise.{Ballot, ballot_for, vote_in}
 
 -- ---- lists
@@ -89,10 +89,10 @@ maps f (z ∷ xs) x inside =
       | inr rest ↦ Contains-later (f z) (map f xs) (f x) (maps f xs x rest)
     ]
 
-batch_votes : (node : Node) (batch : Contents) → map vote_in (batch_outputs node batch) ≡ None ∷ []
+batch_votes : (node : Node) (batch : BatchView) → map vote_in (batch_outputs node batch) ≡ None ∷ []
 batch_votes node batch = elim (cases_Bool (is_own node batch.author)) [ inl own ↦ rw own refl | inr foreign ↦ rw foreign refl ]
 
-batch_voteless : (node : Node) (batch : Contents) (o : Output) → Contains (batch_outputs node batch) o → vote_in o ≡ None
+batch_voteless : (node : Node) (batch : BatchView) (o : Output) → Contains (batch_outputs node batch) o → vote_in o ≡ None
 batch_voteless node batch o inside =
     sym (only_one None (vote_in o) (subst (λ l. Contains l (vote_in o)) (batch_votes node batch) (maps vote_in (batch_outputs node batch) o inside)))
 

@@ -13,8 +13,8 @@ use Rattle.journal.proofs.Walks.{walk_closed, stands_short}
 use Rattle.spec_model.specs.Admitting.{IsTaken}
 use Rattle.spec_model.specs.Nodes.{Node, IsNode}
 use Rattle.spec_records.specs.Records.{stakes_of, configuration_of}
-use Rattle.spec_records.specs.declared.version.Version.TheVariants.{Second}
-use Rattle.wire.specs.Fields.{AreBytes}
+use Rattle.journal.specs.declared.version.Version.TheVariants.{Second}
+use Rattle.wire.specs.Fields.{HasBytes}
 use Rattle.wire.specs.declared.keys.Key.{Key}
 use Rattle.spec_world.specs.World.{as_new, between, run_on}
 use Rattle.spec_world.specs.Runs.{AreKeys, first_bytes, RunsBegin}
@@ -23,7 +23,7 @@ use Rattle.spec_world.proofs.Disks.{longer_stands, longer_ends}
 
 -- a key has 32 bytes
 abbrev IsKey : Key → Type 0
-IsKey key = AreBytes 32 key.0
+IsKey key = HasBytes 32 key.0
 
 keys_long : (keys : List Key) → All IsKey keys → length (flat_map (λ key. key.0) keys) ≡ 32 * length keys
 keys_long [] each = refl

@@ -11,9 +11,9 @@ use Rattle.spec_model.specs.Histories.{History}
 use Rattle.spec_model.specs.Nodes.{Node}
 use Rattle.spec_model.specs.Words.{Event}
 use Rattle.spec_records.specs.Records.{record_of, number_of, stakes_of, configuration_of}
-use Rattle.spec_records.specs.declared.version.Version.{Version}
-use Rattle.spec_records.specs.declared.version.Version.TheVariants.{First, Second}
-use Rattle.wire.specs.Batches.{Contents, transaction_bytes, batch_body, IsTransaction, IsBatch}
+use Rattle.journal.specs.declared.version.Version.{Version}
+use Rattle.journal.specs.declared.version.Version.TheVariants.{First, Second}
+use Rattle.wire.specs.Batches.{BatchView, transaction_bytes, batch_body, IsTransaction, IsBatch}
 use Rattle.wire.specs.Fields as fields
 use Rattle.wire.specs.Grammar.{IsHeaderBody, IsMessage}
 use Rattle.wire.specs.References.{IsBatchReference, IsParentReference, IsVoteEntry, AreBatches, AreParents, AreVotes}
@@ -60,7 +60,7 @@ in_turn P f each (x ∷ xs) all = joined (f x) (flat_map f xs) (each x (All-head
 
 -- ---- messages
 
-batch_are : (batch : Contents) → IsBatch batch → AreBytes (batch_body batch)
+batch_are : (batch : BatchView) → IsBatch batch → AreBytes (batch_body batch)
 batch_are batch is =
     let text = flat_map transaction_bytes batch.transactions in
     let counted = to_be_bytes w32 (length batch.transactions) ++ text in
@@ -127,7 +127,7 @@ stakes_are Second [] = All-nil (λ b. b < 256)
 stakes_are Second (stake ∷ stakes) = with_four stake (stakes_of Second stakes) (stakes_are Second stakes)
 
 -- the record of a node's configuration, where its keys are bytes
-pub configuration_are : (version : Version) (node : Node) → All (λ key. fields.AreBytes 32 key.0) node.charter.keys → AreBytes (configuration_of version node.charter node.own)
+pub configuration_are : (version : Version) (node : Node) → All (λ key. fields.HasBytes 32 key.0) node.charter.keys → AreBytes (configuration_of version node.charter node.own)
 configuration_are version node keys =
     let charter = node.charter in
     let stakes = stakes_of version charter.stakes in
@@ -138,7 +138,7 @@ configuration_are version node keys =
     let depth = to_be_bytes w16 charter.depth ++ workers in
     let own = to_be_bytes w16 node.own.0 ++ depth in
     let each : AreBytes (flat_map (λ (key : Key). key.0) charter.keys) =
-    in_turn (λ (key : Key). fields.AreBytes 32 key.0) (λ (key : Key). key.0) (λ key is. is.each) charter.keys keys in
+    in_turn (λ (key : Key). fields.HasBytes 32 key.0) (λ (key : Key). key.0) (λ key is. is.each) charter.keys keys in
     let are : AreBytes text = joined (flat_map (λ (key : Key). key.0) charter.keys) stakes each (stakes_are version charter.stakes) in
     let from_workers : AreBytes workers = with_two charter.workers batches (with_four charter.batches counted (with_two (length charter.keys) text are)) in
     let number : number_of version < 256 = number_small version in

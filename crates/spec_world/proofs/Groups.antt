@@ -1,7 +1,8 @@
 -- The groups on their way, and what they have of the events that were accepted.
 use Rattle.std.proofs.Common.{◌≡◌, ℕ, ◌≤◌, List, [], ◌∷◌, ◌++◌, length, take, drop, refl, sym, ap, ◌∙◌, arith, append_assoc, length-drop, take-append-drop}
 use Rattle.std.proofs.lemmas.List.{append-nil, drop_at}
-use Rattle.spec_model.specs.Histories.{History, Begins}
+use Rattle.spec_model.specs.Histories.{History}
+use Rattle.wire.specs.Lists.{Begins}
 use Rattle.spec_world.specs.World.{World, events_of, taken_in, first_of}
 use Rattle.spec_world.specs.Steps.{group_to}
 use Rattle.spec_world.proofs.Orders.{shorter_begins}

@@ -8,13 +8,14 @@ use Rattle.spec_laws.proofs.Lists.{Contains-nothing, Contains-cases, Contains-fi
 use Rattle.spec_laws.proofs.OrderGrows.{order_grows}
 use Rattle.spec_laws.proofs.Votes.{one_header}
 use Rattle.spec_model.specs.Admitting.{admit, IsLegal}
-use Rattle.spec_model.specs.Histories.{History, Begins}
+use Rattle.spec_model.specs.Histories.{History}
+use Rattle.wire.specs.Lists.{Begins}
 use Rattle.spec_model.specs.Holdings.{order, voted_header, voted_digest}
 use Rattle.spec_model.specs.Nodes.{Node}
 use Rattle.spec_model.specs.Slots.{header_digest}
 use Rattle.spec_model.specs.Words.{Event, Header}
-use Rattle.spec_model.specs.declared.admission.Admission.{Admission}
-use Rattle.spec_model.specs.declared.admission.Admission.TheVariants.{New, Known, Refused}
+use Rattle.header.specs.declared.admission.Admission.{Admission}
+use Rattle.header.specs.declared.admission.Admission.TheVariants.{New, Known, Refused}
 use Rattle.spec_world.specs.World.{World, Given, first_of}
 use Rattle.spec_world.specs.Steps.{Move, accept, take_to, device_call, settle, release, read_order, restart, IsAnswered, IsStep, Leads}
 use Rattle.spec_world.specs.Promise.{Ballot}

@@ -10,12 +10,13 @@ use Rattle.diskmodel.proofs.Calls.{after_all-push}
 use Rattle.journal.specs.Format.{file_with}
 use Rattle.spec_laws.proofs.Legal.{legal-push}
 use Rattle.spec_model.specs.Admitting.{admit, is_new, IsTaken, IsLegal}
-use Rattle.spec_model.specs.Histories.{History, Begins}
+use Rattle.spec_model.specs.Histories.{History}
+use Rattle.wire.specs.Lists.{Begins}
 use Rattle.spec_model.specs.Holdings.{order}
 use Rattle.spec_model.specs.Nodes.{Node}
 use Rattle.spec_model.specs.Words.{Event, Output}
-use Rattle.spec_model.specs.declared.admission.Admission.{Admission}
-use Rattle.spec_model.specs.declared.admission.Admission.TheVariants.{New, Known, Refused}
+use Rattle.header.specs.declared.admission.Admission.{Admission}
+use Rattle.header.specs.declared.admission.Admission.TheVariants.{New, Known, Refused}
 use Rattle.spec_records.specs.Records.{record_of}
 use Rattle.spec_world.specs.World.{Phase, not_begun, Waiting, Outgoing, put_out, read, World, Holds, taken_in, first_of, group_in, call_for}
 use Rattle.spec_world.specs.Steps.{Move, accept, take_to, device_call, settle, release, read_order, restart, ticketed, with_new, with_known, with_given, IsAnswered, IsTakenTo, IsCalled, IsSettled, IsReleased, IsRestarted, next_phase, group_to, IsStep, Leads}

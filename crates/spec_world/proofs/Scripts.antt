@@ -11,12 +11,13 @@ use Rattle.spec_model.specs.Admitting.{admit, IsTaken}
 use Rattle.spec_model.specs.Histories.{History}
 use Rattle.spec_model.specs.Nodes.{Node, IsNode}
 use Rattle.spec_model.specs.Words.{Event}
-use Rattle.spec_model.specs.declared.admission.Admission.{Admission}
-use Rattle.spec_model.specs.declared.admission.Admission.TheVariants.{New, Known, Refused}
+use Rattle.header.specs.declared.admission.Admission.{Admission}
+use Rattle.header.specs.declared.admission.Admission.TheVariants.{New, Known, Refused}
 use Rattle.spec_records.specs.Records.{record_of}
 use Rattle.spec_world.specs.World.{Waiting, put_out, Given, World, events_of, content_in}
 use Rattle.spec_world.specs.Steps.{Move, accept, take_to, device_call, settle, release, restart, ticketed, with_new, with_known, with_given, IsAnswered, group_to, Leads, IsRun}
-use Rattle.spec_world.specs.Text.{Command, take_in, flush, stop, Desk, desk_on, all_in, settled_in, with_answer, group_of, flushed, after, is_due, due, without_due, frame_of, frames, carried_out, text, desk_behind}
+use Rattle.spec_world.specs.Text.{Command, take_in, flush, stop, Desk, desk_on, all_in, settled_in, with_answer, group_of, flushed, after, is_due, due, without_due, frames, carried_out, text, desk_behind}
+use Rattle.wire.specs.Outputs.{frame_of}
 use Rattle.spec_world.specs.Scripts.{IsAtDesk, WentOut, IsTakenIn, ScriptsAreRuns, ScriptsBegin}
 use Rattle.spec_world.proofs.Ballots.{picked_of}
 use Rattle.spec_world.proofs.Filling.{group_fits}

@@ -8,7 +8,8 @@ use Rattle.diskmodel.proofs.Calls.{after_all-push}
 use Rattle.journal.specs.Journal.{EndsClosed, IsBeforeOrAfter}
 use Rattle.spec_laws.proofs.Legal.{legal-begins}
 use Rattle.spec_model.specs.Admitting.{IsTaken, IsLegal}
-use Rattle.spec_model.specs.Histories.{History, Begins}
+use Rattle.spec_model.specs.Histories.{History}
+use Rattle.wire.specs.Lists.{Begins}
 use Rattle.spec_model.specs.Nodes.{Node}
 use Rattle.spec_world.specs.World.{not_begun, Waiting, Given, World, Holds, events_of, taken_in, first_of, group_in, MayStop, between, inside, run_on, IsOpened}
 use Rattle.spec_world.specs.Steps.{next_phase}

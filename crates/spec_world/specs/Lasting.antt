@@ -1,6 +1,7 @@
 -- What stays in all of a node's runs, and where what it has comes from.
 use Rattle.std.specs.Prelude.{◌≡◌, List, ◌++◌, Some, Contains}
-use Rattle.spec_model.specs.Histories.{History, Begins}
+use Rattle.spec_model.specs.Histories.{History}
+use Rattle.wire.specs.Lists.{Begins}
 use Rattle.spec_model.specs.Holdings.{order, voted_digest}
 use Rattle.spec_model.specs.Nodes.{Node, IsNode}
 use Rattle.spec_model.specs.Words.{Digest, Event}

@@ -2,12 +2,13 @@
 use Rattle.std.specs.Prelude.{◌≡◌, ◌⊎◌, ℕ, ◌≤◌, List, [], ◌∷◌, ◌++◌, length, take, Option, Some, None, Contains}
 use Rattle.spec_model.specs.Admitting.{admit, IsLegal}
 use Rattle.spec_model.specs.Giving.{MayGive}
-use Rattle.spec_model.specs.Histories.{History, Begins}
+use Rattle.spec_model.specs.Histories.{History}
+use Rattle.wire.specs.Lists.{Begins}
 use Rattle.spec_model.specs.Holdings.{order}
 use Rattle.spec_model.specs.Nodes.{Node, IsNode}
 use Rattle.spec_model.specs.Slots.{header_digest}
 use Rattle.spec_model.specs.Words.{Author, Digest, Event, HeaderBody, Output}
-use Rattle.spec_model.specs.declared.admission.Admission.TheVariants.{New, Known}
+use Rattle.header.specs.declared.admission.Admission.TheVariants.{New, Known}
 use Rattle.wire.specs.declared.output.Output.TheVariants as output
 use Rattle.spec_world.specs.World.{Outgoing, put_out, read, Given, World, taken_in, first_of, StandsFor, MayStop}
 use Rattle.spec_world.specs.Steps.{Move, IsRun}

@@ -6,14 +6,14 @@ use Rattle.journal.specs.declared.layout.TheConstants.{CLOSED}
 use Rattle.spec_model.specs.Histories.{History}
 use Rattle.spec_model.specs.Nodes.{Node, IsNode}
 use Rattle.spec_records.specs.Records.{record_of, configuration_of}
-use Rattle.spec_records.specs.declared.version.Version.TheVariants.{Second}
-use Rattle.wire.specs.Fields.{AreBytes}
+use Rattle.journal.specs.declared.version.Version.TheVariants.{Second}
+use Rattle.wire.specs.Fields.{HasBytes}
 use Rattle.spec_world.specs.World.{not_begun, World, Holds, group_in, content_in, StandsFor, MayStop, run_on}
 use Rattle.spec_world.specs.Steps.{Move, take_to, device_call, settle, restart, group_to, IsStep, Leads, IsRun}
 
 -- each key has 32 bytes
 abbrev pub AreKeys : Node → Type 0
-AreKeys node = All (λ key. AreBytes 32 key.0) node.charter.keys
+AreKeys node = All (λ key. HasBytes 32 key.0) node.charter.keys
 
 -- an opening leaves of an empty disk one closed gate, and then the group of the configuration alone, in the second version
 abbrev pub first_bytes : Node → List ℕ

@@ -13,7 +13,7 @@ use Rattle.spec_model.specs.Histories.{History}
 use Rattle.spec_model.specs.Nodes.{Node}
 use Rattle.spec_model.specs.Words.{Digest, Output}
 use Rattle.spec_records.specs.Records.{record_of, configuration_of, CanTell}
-use Rattle.spec_records.specs.declared.version.Version.{Version}
+use Rattle.journal.specs.declared.version.Version.{Version}
 
 -- ---- what there is
 

@@ -3,15 +3,15 @@ use Rattle.std.specs.Prelude.{◌≡◌, ◌<◌, ℕ, List, Ok, All}
 use Rattle.cluster.specs.Cluster.{AreOfOne, AreDistinct}
 use Rattle.committee.specs.Answer.{answer_to}
 use Rattle.toml.specs.Parse.{parse_document}
-use Rattle.validator.specs.Setting.{Setting}
+use Rattle.validator.specs.Setting.{ConfigView}
 
 -- settings of the committee in this file, of members whose numbers are below this one
-pub record AreOfFile {S : Type 0} (file : List ℕ) (next : ℕ) (settings : List (Setting S)) : Type 0 where
+pub record AreOfFile {S : Type 0} (file : List ℕ) (next : ℕ) (settings : List (ConfigView S)) : Type 0 where
   pub read : All (λ setting. answer_to (parse_document file) ≡ Ok setting.charter) settings
   pub below : All (λ setting. setting.own.0 < next) settings
   pub distinct : AreDistinct settings
 
 -- settings that a cluster is made of
-pub record AreSettings {S : Type 0} (settings : List (Setting S)) : Type 0 where
+pub record AreSettings {S : Type 0} (settings : List (ConfigView S)) : Type 0 where
   pub one : AreOfOne settings
   pub distinct : AreDistinct settings

@@ -47,7 +47,7 @@ impl Grip {
 
     /// An empty disk.
     pub fn disk(&self) -> Result<GrippedDisk, AllocError>
-        ensures { IfOk result (λ gripped. ⟦<MemDisk as Disk>⟧.content gripped.disk ≡ []) }
+        ensures { IfOk result (λ gripped. ⟦<MemDisk as Disk>⟧.device.content gripped.disk ≡ []) }
     {
         let empty = Vec::new(self.alloc);
         Ok(GrippedDisk {
@@ -79,7 +79,7 @@ pub fn new_grips(alloc: Global, count: u16) -> Result<Vec<Grip>, AllocError> {
 
 /// An empty disk for each of the first so many grips.
 pub fn disks_of(alloc: Global, grips: &[Grip], count: usize) -> Result<Vec<GrippedDisk>, AllocError>
-    ensures { IfOk result (λ disks. All (λ disk. ⟦<GrippedDisk as Disk>⟧.content disk ≡ []) disks.items) }
+    ensures { IfOk result (λ disks. All (λ disk. ⟦<GrippedDisk as Disk>⟧.device.content disk ≡ []) disks.items) }
 {
     let mut disks = Vec::new(alloc);
     for grip in grips.iter().take(count) {
@@ -143,17 +143,17 @@ impl GrippedDisk {
 impl Disk for GrippedDisk {
     ghost use Rattle.diskmodel.specs.Outcomes.{counts_last, only_last};
 
-    ghost content = { λ gripped. ⟦<MemDisk as Disk>⟧.content gripped.disk };
+    ghost content = { λ gripped. ⟦<MemDisk as Disk>⟧.device.content gripped.disk };
 
-    ghost outcome = { λ gripped. ⟦<MemDisk as Disk>⟧.outcome gripped.disk };
+    ghost outcome = { λ gripped. ⟦<MemDisk as Disk>⟧.device.outcome gripped.disk };
 
-    ghost clock = { λ gripped. ⟦<MemDisk as Disk>⟧.clock gripped.disk };
+    ghost clock = { λ gripped. ⟦<MemDisk as Disk>⟧.device.clock gripped.disk };
 
-    ghost outcome_since = { λ gripped. ⟦<MemDisk as Disk>⟧.outcome_since gripped.disk };
+    ghost outcome_since = { λ gripped. ⟦<MemDisk as Disk>⟧.device.outcome_since gripped.disk };
 
-    ghost faults = { λ gripped. ⟦<MemDisk as Disk>⟧.faults gripped.disk };
+    ghost faults = { λ gripped. ⟦<MemDisk as Disk>⟧.device.faults gripped.disk };
 
-    ghost calls = { λ gripped. ⟦<MemDisk as Disk>⟧.calls gripped.disk };
+    ghost calls = { λ gripped. ⟦<MemDisk as Disk>⟧.device.calls gripped.disk };
 
     ghost content_is_outcome = { λ gripped. gripped.disk.history.kept.possible };
 

@@ -198,7 +198,7 @@ fn nodes<'a>(alloc: Global, settings: &'a Settings, count: usize) -> Result<Node
 
 fn disks(alloc: Global, count: usize) -> Result<Vec<MemDisk>, ClusterError>
     ensures many { IfOk result (λ disks. vec_len disks ≡ count) }
-    ensures empty { IfOk result (λ disks. All (λ disk. ⟦<MemDisk as Disk>⟧.content disk ≡ []) disks.items) }
+    ensures empty { IfOk result (λ disks. All (λ disk. ⟦<MemDisk as Disk>⟧.device.content disk ≡ []) disks.items) }
 {
     let mut disks = Vec::new(alloc);
     'made: for _ in 0..count {

@@ -3,7 +3,7 @@
 use crate::words::Told;
 use committee::{Committee, CommitteeError, DEFAULT_DEPTH};
 use sigface::HashSign;
-use spec_model::Node;
+use header::Node;
 use std::alloc::{AllocError, Global};
 use test_cases::write_hex;
 use validator::Config;

@@ -2,7 +2,7 @@
 
 use crate::words::Told;
 use diskmodel::{CallKind, MemDisk, StopDisk};
-use sim_disk::losing;
+use sim_run::losing;
 use std::alloc::{AllocError, Global};
 use std::mem;
 

@@ -3,7 +3,7 @@ use Rattle.std.proofs.Common.{◌≡◌, Bool, List, length, drop}
 use Rattle.std.specs.Bool.{Decides}
 use Rattle.std.specs.List.{starts_with}
 use Rattle.std.proofs.lemmas.Slice.Eq.{starts_is}
-use Rattle.spec_model.specs.Histories.{Begins}
+use Rattle.wire.specs.Lists.{Begins}
 
 pub begins : {X : Type 0} {same : X → X → Bool} → ((a b : X) → Decides (same a b) (a ≡ b)) → (one other : List X) (found : Bool)
     → found ≡ starts_with same other one → Decides found (Begins one other)

@@ -22,7 +22,7 @@ use Rattle.spec_laws.proofs.Votes.{slot_is}
 use Rattle.spec_laws.proofs.Weighing.{size_some, total_some}
 use Rattle.dag.specs.Answer.{answer, held_answer}
 use Rattle.dag.specs.Changes.{IsWith}
-use Rattle.dag.specs.Graph.{Graph, IsGraph, slots_in, has_parent_in}
+use Rattle.dag.specs.Graph.{DagView, IsGraph, slots_in, has_parent_in}
 use Rattle.dag.specs.declared.answers.Added.TheVariants.{New}
 use Rattle.tusk.specs.Chain.{ledger_in, coin_of, slot_of, wave_of, IsChain}
 use Rattle.tusk.proofs.Chains.{IsStep, committed_within, step_none, step_some, chain_none, chain_some}
@@ -31,7 +31,7 @@ use Rattle.tusk.proofs.Supporting.{supports_in, IsLed}
 -- ---- a new certificate
 
 -- it isn't low, and its slot holds nothing
-pub record IsNew (graph : Graph) (certificate : Certificate) : Type 0 where
+pub record IsNew (graph : DagView) (certificate : Certificate) : Type 0 where
   pub high : is_low graph.floor certificate.header.round ≡ false
   pub free : slots_in graph certificate.header.round certificate.header.author.0 ≡ None
 
@@ -45,7 +45,7 @@ held_not_new held certificate is =
       ]
     ]
 
-pub is_new : (graph : Graph) (certificate : Certificate) → answer graph certificate ≡ Ok New → IsNew graph certificate
+pub is_new : (graph : DagView) (certificate : Certificate) → answer graph certificate ≡ Ok New → IsNew graph certificate
 is_new graph certificate is =
     elim (cases_Bool (is_low graph.floor certificate.header.round)) [
       | inl low ↦ let bad = rw low at is in absurd cc
@@ -56,11 +56,11 @@ is_new graph certificate is =
     ]
 
 -- what was held is held
-stays : (before after : Graph) (certificate : Certificate) → IsWith before after certificate → (round author : ℕ) (c : Certificate) → slots_in before round author ≡ Some c → slots_in after round author ≡ Some c
+stays : (before after : DagView) (certificate : Certificate) → IsWith before after certificate → (round author : ℕ) (c : Certificate) → slots_in before round author ≡ Some c → slots_in after round author ≡ Some c
 stays before after certificate more round author c held = more.slots round author ∙ ap (λ o. option_or o (slots_of (certificate ∷ []) round author)) held
 
 -- what is held of another slot was held
-elsewhere : (before after : Graph) (certificate : Certificate) → IsWith before after certificate → (round author : ℕ) → is_of_slot round author certificate.header ≡ false → slots_in after round author ≡ slots_in before round author
+elsewhere : (before after : DagView) (certificate : Certificate) → IsWith before after certificate → (round author : ℕ) → is_of_slot round author certificate.header ≡ false → slots_in after round author ≡ slots_in before round author
 elsewhere before after certificate more round author other =
     elim (given_or_none (slots_in before round author)) [
       | inl old ↦ stays before after certificate more round author old.0 old.1 ∙ sym old.1
@@ -68,7 +68,7 @@ elsewhere before after certificate more round author other =
     ]
 
 -- what wasn't held is the new one
-fresh : (before after : Graph) (certificate : Certificate) → IsWith before after certificate → (round author : ℕ) (c : Certificate) → slots_in before round author ≡ None → slots_in after round author ≡ Some c
+fresh : (before after : DagView) (certificate : Certificate) → IsWith before after certificate → (round author : ℕ) (c : Certificate) → slots_in before round author ≡ None → slots_in after round author ≡ Some c
     → (is_of_slot round author certificate.header ≡ true) × (certificate ≡ c)
 fresh before after certificate more round author c none new =
     let found : slots_of (certificate ∷ []) round author ≡ Some c = sym (more.slots round author ∙ ap (λ o. option_or o (slots_of (certificate ∷ []) round author)) none) ∙ new in
@@ -77,7 +77,7 @@ fresh before after certificate more round author c none new =
       | inr other ↦ let nothing = rw other at found in absurd cc
     ]
 
-placed_after : (before after : Graph) (certificate : Certificate) → IsGraph before → IsWith before after certificate → AreInPlace (slots_in after)
+placed_after : (before after : DagView) (certificate : Certificate) → IsGraph before → IsWith before after certificate → AreInPlace (slots_in after)
 placed_after before after certificate is more round author c held =
     elim (given_or_none (slots_in before round author)) [
       | inl old ↦
@@ -87,7 +87,7 @@ placed_after before after certificate is more round author c held =
     ]
 
 -- nothing that is held has it as a parent
-childless : (before after : Graph) (certificate : Certificate) → IsGraph before → IsNew before certificate → IsWith before after certificate → (above other : ℕ) (child : Certificate) → slots_in after above other ≡ Some child
+childless : (before after : DagView) (certificate : Certificate) → IsGraph before → IsNew before certificate → IsWith before after certificate → (above other : ℕ) (child : Certificate) → slots_in after above other ≡ Some child
     → is_parent certificate child ≡ false
 childless before after certificate is new more above other child held =
     elim (cases_Bool (is_parent certificate child)) [
@@ -105,7 +105,7 @@ childless before after certificate is new more above other child held =
       ]
     ]
 
-pub extends : (before after : Graph) (certificate : Certificate) → IsGraph before → IsNew before certificate → IsWith before after certificate → Extends (slots_in before) (slots_in after)
+pub extends : (before after : DagView) (certificate : Certificate) → IsGraph before → IsNew before certificate → IsWith before after certificate → Extends (slots_in before) (slots_in after)
 extends before after certificate is new more = record {
   placed_before = is.placed;
   placed_after = placed_after before after certificate is more;
@@ -117,10 +117,10 @@ extends before after certificate is new more = record {
 -- ---- what is committed with it
 
 -- the order's parts with a certificate more
-abbrev pub with_certificate : Graph → Graph → List ℕ → Ledger
+abbrev pub with_certificate : DagView → DagView → List ℕ → Ledger
 with_certificate before after coins = grown (ledger_in before coins) (slots_in after) []
 
-pub same_ledger : (before after : Graph) (certificate : Certificate) (coins : List ℕ) → IsWith before after certificate → with_certificate before after coins ≡ ledger_in after coins
+pub same_ledger : (before after : DagView) (certificate : Certificate) (coins : List ℕ) → IsWith before after certificate → with_certificate before after coins ≡ ledger_in after coins
 same_ledger before after certificate coins more =
     ap (λ (c : Charter). let l : Ledger = record { charter = c; slots = slots_in after; coins = coins ++ [] } in l) (sym more.charter)
     ∙ ap (λ (c : List ℕ). let l : Ledger = record { charter = after.charter; slots = slots_in after; coins = c } in l) (append-nil coins)
@@ -134,7 +134,7 @@ no_support charter sound test none =
     ap (nat_le (support_of charter)) nothing ∙ grind (arith, positive)
 
 -- a wave that had no leader isn't committed
-pub no_leader : (before after : Graph) (certificate : Certificate) (coins : List ℕ) → IsGraph before → IsNew before certificate → IsWith before after certificate → (wave : ℕ) → leader (ledger_in before coins) wave ≡ None
+pub no_leader : (before after : DagView) (certificate : Certificate) (coins : List ℕ) → IsGraph before → IsNew before certificate → IsWith before after certificate → (wave : ℕ) → leader (ledger_in before coins) wave ≡ None
     → is_directly_committed (with_certificate before after coins) wave ≡ false
 no_leader before after certificate coins is new more wave none =
     let now = with_certificate before after coins in
@@ -156,7 +156,7 @@ no_leader before after certificate coins is new more wave none =
     ]
 
 -- a leader is supported as before where the certificate isn't of the next round
-same_support : (before after : Graph) (certificate : Certificate) (coins : List ℕ) → IsWith before after certificate → (c : Certificate) → certificate.header.round ≢ c.header.round + 1
+same_support : (before after : DagView) (certificate : Certificate) (coins : List ℕ) → IsWith before after certificate → (c : Certificate) → certificate.header.round ≢ c.header.round + 1
     → has_support (with_certificate before after coins) c ≡ has_support (ledger_in before coins) c
 same_support before after certificate coins more c apart =
     ap (λ (f : ℕ → Bool). nat_le (support_of before.charter) (weight before.charter f))
@@ -168,7 +168,7 @@ same_support before after certificate coins more c apart =
     ]))))
 
 -- so no more than one wave is committed with it
-pub one_wave : (before after : Graph) (certificate : Certificate) (coins : List ℕ) → IsGraph before → IsNew before certificate → IsWith before after certificate → (wave : ℕ) → ((v : ℕ) → v ≢ wave → certificate.header.round ≢ 2 * v)
+pub one_wave : (before after : DagView) (certificate : Certificate) (coins : List ℕ) → IsGraph before → IsNew before certificate → IsWith before after certificate → (wave : ℕ) → ((v : ℕ) → v ≢ wave → certificate.header.round ≢ 2 * v)
     → IsStep (ledger_in before coins) (with_certificate before after coins) wave
 one_wave before after certificate coins is new more wave apart =
     let was = ledger_in before coins in
@@ -194,7 +194,7 @@ one_wave before after certificate coins is new more wave apart =
     leader_round ledger (suc v) c some placed lead = let place = leader_place ledger v c some placed lead in omega (arith, place.0)
 
 -- a member supports a leader of the round below with it if it did so before, or is its author and it names the leader
-supports_with : (before after : Graph) (certificate : Certificate) (coins : List ℕ) → IsNew before certificate → IsWith before after certificate → (c : Certificate) → c.header.round + 1 ≡ certificate.header.round → (m : ℕ)
+supports_with : (before after : DagView) (certificate : Certificate) (coins : List ℕ) → IsNew before certificate → IsWith before after certificate → (c : Certificate) → c.header.round + 1 ≡ certificate.header.round → (m : ℕ)
     → supports (with_certificate before after coins) c m ≡ (supports (ledger_in before coins) c m || ((m == certificate.header.author.0) && list_any (is_named c) certificate.header.parents))
 supports_with before after certificate coins new more c next m =
     let above = c.header.round + 1 in
@@ -221,7 +221,7 @@ supports_with before after certificate coins new more c next m =
     or_false false = refl
 
 -- so a set of those is enough exactly where the leader has support
-pub enough_with : (before after : Graph) (certificate : Certificate) (coins : List ℕ) → IsGraph before → IsNew before certificate → IsWith before after certificate → (round author : ℕ) (c : Certificate) → slots_in before round author ≡ Some c
+pub enough_with : (before after : DagView) (certificate : Certificate) (coins : List ℕ) → IsGraph before → IsNew before certificate → IsWith before after certificate → (round author : ℕ) (c : Certificate) → slots_in before round author ≡ Some c
     → round + 1 ≡ certificate.header.round → (test : ℕ → Bool)
     → ((m : ℕ) → test m ≡ (has_parent_in before (round + 1) m round author || ((m == certificate.header.author.0) && list_any (is_named c) certificate.header.parents)))
     → has_support (with_certificate before after coins) c ≡ nat_le (support_of before.charter) (weight before.charter test)
@@ -253,7 +253,7 @@ coin_last coins value wave is =
     sym (coin_behind coins value) ∙ ap (coin_of (coins ++ value ∷ [])) next
 
 -- with a coin no more than its wave is committed
-pub one_coin : (graph : Graph) (coins : List ℕ) (value wave : ℕ) → IsGraph graph → wave ≡ length coins + 1 → IsStep (ledger_in graph coins) (ledger_in graph (coins ++ value ∷ [])) wave
+pub one_coin : (graph : DagView) (coins : List ℕ) (value wave : ℕ) → IsGraph graph → wave ≡ length coins + 1 → IsStep (ledger_in graph coins) (ledger_in graph (coins ++ value ∷ [])) wave
 one_coin graph coins value wave is last =
     let was = ledger_in graph coins in
     let now = ledger_in graph (coins ++ value ∷ []) in
@@ -319,7 +319,7 @@ pub grows_none : (before now : Ledger) (last : Option ℕ) (wave : ℕ) (chain :
 grows_none before now last wave chain step is none empty = chain_none now last chain (step_none before now wave last step is none) empty
 
 -- so it is with a certificate
-pub certificate_some : (before after : Graph) (certificate : Certificate) (coins : List ℕ) (last : Option ℕ) (wave round author : ℕ) (chain : List (ℕ × Author)) → IsGraph before → IsNew before certificate → IsWith before after certificate
+pub certificate_some : (before after : DagView) (certificate : Certificate) (coins : List ℕ) (last : Option ℕ) (wave round author : ℕ) (chain : List (ℕ × Author)) → IsGraph before → IsNew before certificate → IsWith before after certificate
     → top (ledger_in before coins) ≡ last → certificate.header.round ≡ 2 * wave → wave_of last < wave → (led : IsLed (ledger_in before coins) wave round author)
     → has_support (with_certificate before after coins) led.certificate ≡ true → chain ≡ map slot_of (newer_to (ledger_in before coins) (wave_of last) (wave - 1) led.certificate)
     → IsChain (ledger_in after coins) last chain
@@ -333,7 +333,7 @@ certificate_some before after certificate coins last wave round author chain is 
     (one_wave before after certificate coins is new more wave (λ v other same. other (omega (arith, level, same)))) is_top higher (omega (arith, within.1, long))
     (is_in (slots_in before) round author led.certificate is.placed led.held) leads supported all)
 
-pub certificate_none : (before after : Graph) (certificate : Certificate) (coins : List ℕ) (last : Option ℕ) (wave : ℕ) (chain : List (ℕ × Author)) → IsGraph before → IsNew before certificate → IsWith before after certificate
+pub certificate_none : (before after : DagView) (certificate : Certificate) (coins : List ℕ) (last : Option ℕ) (wave : ℕ) (chain : List (ℕ × Author)) → IsGraph before → IsNew before certificate → IsWith before after certificate
     → top (ledger_in before coins) ≡ last → ((v : ℕ) → v ≢ wave → certificate.header.round ≢ 2 * v) → (wave_of last < wave → is_directly_committed (with_certificate before after coins) wave ≡ false) → chain ≡ []
     → IsChain (ledger_in after coins) last chain
 certificate_none before after certificate coins last wave chain is new more is_top apart none empty =
@@ -341,7 +341,7 @@ certificate_none before after certificate coins last wave chain is new more is_t
     (grows_none (ledger_in before coins) (with_certificate before after coins) last wave chain (one_wave before after certificate coins is new more wave apart) is_top none empty)
 
 -- a leader without support isn't committed
-pub not_enough : (before after : Graph) (certificate : Certificate) (coins : List ℕ) (wave : ℕ) (c : Certificate) → Extends (slots_in before) (slots_in after) → leader (ledger_in before coins) wave ≡ Some c
+pub not_enough : (before after : DagView) (certificate : Certificate) (coins : List ℕ) (wave : ℕ) (c : Certificate) → Extends (slots_in before) (slots_in after) → leader (ledger_in before coins) wave ≡ Some c
     → has_support (with_certificate before after coins) c ≡ false → is_directly_committed (with_certificate before after coins) wave ≡ false
 not_enough before after certificate coins wave c ext leads few =
     ap (λ o. option_map_or (has_support (with_certificate before after coins)) o false) (leader_kept (ledger_in before coins) (slots_in after) ext [] wave c leads) ∙ few

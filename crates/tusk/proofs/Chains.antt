@@ -10,7 +10,7 @@ use Rattle.spec_model.specs.Words.{Author, Certificate}
 use Rattle.spec_laws.proofs.Growing.{AreInPlace}
 use Rattle.spec_laws.proofs.Lists.{given_or_none}
 use Rattle.spec_laws.proofs.OrderLonger.{is_top_of, top_above, directly_committed_leader, leader_place, newer_ends}
-use Rattle.dag.specs.Graph.{Graph, IsGraph, slots_in, size_in as size_of}
+use Rattle.dag.specs.Graph.{DagView, IsGraph, slots_in, size_in as size_of}
 use Rattle.tusk.specs.Chain.{ledger_in, slot_of, wave_of, base_of, raised_to, IsBased, IsChain, IsSure}
 
 -- ---- the greatest committed wave
@@ -80,7 +80,7 @@ top_or_above ledger (Some wave) sure =
     ]
 
 -- a wave below the floor isn't: its leader isn't held
-low_wave : (graph : Graph) → IsGraph graph → (coins : List ℕ) (wave : ℕ) → 2 * wave + 1 < graph.floor → is_directly_committed (ledger_in graph coins) (suc wave) ≡ false
+low_wave : (graph : DagView) → IsGraph graph → (coins : List ℕ) (wave : ℕ) → 2 * wave + 1 < graph.floor → is_directly_committed (ledger_in graph coins) (suc wave) ≡ false
 low_wave graph is coins wave low =
     elim (given_or_none (slice_get coins wave)) [
       | inr none ↦ rw none refl
@@ -90,13 +90,13 @@ low_wave graph is coins wave low =
       ]
     ]
 
-low_waves : (graph : Graph) → IsGraph graph → (coins : List ℕ) (left : ℕ) → left ≤ graph.floor / 2 → top_to (ledger_in graph coins) left ≡ None
+low_waves : (graph : DagView) → IsGraph graph → (coins : List ℕ) (left : ℕ) → left ≤ graph.floor / 2 → top_to (ledger_in graph coins) left ≡ None
 low_waves graph is coins zero low = refl
 low_waves graph is coins (suc left) low =
     rw (low_wave graph is coins left (omega (arith, low))) (low_waves graph is coins left (omega (arith, low)))
 
 -- where no wave down to that of the floor is committed, none is
-pub top_found : (graph : Graph) → IsGraph graph → (coins : List ℕ) (left : ℕ) → left ≤ graph.floor / 2 → top (ledger_in graph coins) ≡ top_to (ledger_in graph coins) left → None ≡ top (ledger_in graph coins)
+pub top_found : (graph : DagView) → IsGraph graph → (coins : List ℕ) (left : ℕ) → left ≤ graph.floor / 2 → top (ledger_in graph coins) ≡ top_to (ledger_in graph coins) left → None ≡ top (ledger_in graph coins)
 top_found graph is coins left low so_far = sym (so_far ∙ low_waves graph is coins left low)
 
 -- ---- one wave that is committed now
@@ -209,7 +209,7 @@ top_within ledger None is = omega arith
 top_within ledger (Some wave) is = (is_top_of ledger (length ledger.coins) wave is).within
 
 -- where the base is its leader's round, the DAG is based
-pub is_based : (graph : Graph) (coins : List ℕ) (last : Option ℕ) → graph.base ≡ base_of last → IsSure (ledger_in graph coins) last → IsBased graph coins
+pub is_based : (graph : DagView) (coins : List ℕ) (last : Option ℕ) → graph.base ≡ base_of last → IsSure (ledger_in graph coins) last → IsBased graph coins
 is_based graph coins None base sure = record { odd = omega (arith, base); committed = λ above. absurd (omega (arith, base, above)) }
 is_based graph coins (Some wave) base sure =
     let some = (committed_within (ledger_in graph coins) wave sure).0 in

@@ -70,7 +70,7 @@ reached ledger base wave round author earlier placed low is held_earlier reaches
 -- ---- one wave after the other
 
 -- a leader that was taken, behind those of the waves above it, the newest first
-pub step_taken : (graph : dag.Graph) (coins : List ℕ) (base left next round : ℕ) (author : Author) (slot : ℕ × Author) (taken all : List (ℕ × Author)) → AreInPlace (dag.slots_in graph) → left ≡ suc next → base ≤ next
+pub step_taken : (graph : dag.DagView) (coins : List ℕ) (base left next round : ℕ) (author : Author) (slot : ℕ × Author) (taken all : List (ℕ × Author)) → AreInPlace (dag.slots_in graph) → left ≡ suc next → base ≤ next
     → IsLed (ledger_in graph coins) left slot.0 slot.1.0 → dag.reaches_in graph round author.0 slot.0 slot.1.0 ≡ true
     → newer_slots (ledger_in graph coins) base left round author.0 ++ reverse taken ≡ all
     → newer_slots (ledger_in graph coins) base next slot.0 slot.1.0 ++ reverse (taken ++ (round, author) ∷ []) ≡ all
@@ -92,7 +92,7 @@ step_taken graph coins base left next round author slot taken all placed is low 
     ∙ so_far
 
 -- one that isn't reached is passed
-pub step_missed : (graph : dag.Graph) (coins : List ℕ) (base left next round author : ℕ) (slot : ℕ × Author) (taken all : List (ℕ × Author)) → left ≡ suc next → base ≤ next
+pub step_missed : (graph : dag.DagView) (coins : List ℕ) (base left next round author : ℕ) (slot : ℕ × Author) (taken all : List (ℕ × Author)) → left ≡ suc next → base ≤ next
     → IsLed (ledger_in graph coins) left slot.0 slot.1.0 → dag.reaches_in graph round author slot.0 slot.1.0 ≡ false
     → newer_slots (ledger_in graph coins) base left round author ++ reverse taken ≡ all
     → newer_slots (ledger_in graph coins) base next round author ++ reverse taken ≡ all
@@ -107,7 +107,7 @@ step_missed graph coins base left next round author slot taken all is low led ap
     ap (λ l. l ++ reverse taken) (sym here) ∙ so_far
 
 -- so is a wave without one
-pub step_passed : (graph : dag.Graph) (coins : List ℕ) (base left next round author : ℕ) (taken all : List (ℕ × Author)) → left ≡ suc next → base ≤ next → leader (ledger_in graph coins) left ≡ None
+pub step_passed : (graph : dag.DagView) (coins : List ℕ) (base left next round author : ℕ) (taken all : List (ℕ × Author)) → left ≡ suc next → base ≤ next → leader (ledger_in graph coins) left ≡ None
     → newer_slots (ledger_in graph coins) base left round author ++ reverse taken ≡ all
     → newer_slots (ledger_in graph coins) base next round author ++ reverse taken ≡ all
 step_passed graph coins base left next round author taken all is low none so_far =
@@ -134,7 +134,7 @@ step_last ledger base left round author taken all placed low there so_far =
 -- ---- one round down
 
 -- whom those reach whom a slot reaches in a round
-pub stepped : (graph : dag.Graph) → dag.IsGraph graph → (start author round : ℕ) (above : ℕ → Bool) → 0 < round → round ≤ start → ((other : ℕ) → above other ≡ dag.reaches_in graph start author round other) → (other : ℕ)
+pub stepped : (graph : dag.DagView) → dag.IsGraph graph → (start author round : ℕ) (above : ℕ → Bool) → 0 < round → round ≤ start → ((other : ℕ) → above other ≡ dag.reaches_in graph start author round other) → (other : ℕ)
     → dag.is_parent_of graph round (round - 1) above other ≡ dag.reaches_in graph start author (round - 1) other
 stepped graph is start author round above some within so_far other =
     let level : round ≡ (round - 1) + 1 = omega (arith, some) in

@@ -11,12 +11,12 @@ use Rattle.spec_model.specs.Ordering.{Ledger, leader, supports}
 use Rattle.spec_model.specs.Slots.{same_digest, certificate_digest, is_parent, is_named}
 use Rattle.spec_model.specs.Words.{Author, Certificate, Digest, ParentReference}
 use Rattle.spec_laws.proofs.Votes.{slot_is}
-use Rattle.dag.specs.Graph.{Graph, IsGraph, size_in, slots_in, has_parent_in, digest_in}
+use Rattle.dag.specs.Graph.{DagView, IsGraph, size_in, slots_in, has_parent_in, digest_in}
 use Rattle.tusk.specs.Chain.{ledger_in, coin_of, slot_of}
 use Rattle.wire.specs.declared.round.TheConstants.Round.{MAX}
 
 -- the supporters that a DAG tells of are those of the order
-pub supports_in : (graph : Graph) → IsGraph graph → (coins : List ℕ) (round author : ℕ) (c : Certificate) → slots_in graph round author ≡ Some c → (member : ℕ)
+pub supports_in : (graph : DagView) → IsGraph graph → (coins : List ℕ) (round author : ℕ) (c : Certificate) → slots_in graph round author ≡ Some c → (member : ℕ)
     → has_parent_in graph (round + 1) member round author ≡ supports (ledger_in graph coins) c member
 supports_in graph is coins round author c held member =
     let place = slot_is round author c.header (is.placed round author c held) in
@@ -24,7 +24,7 @@ supports_in graph is coins round author c held member =
     ∙ ap (λ (r : ℕ). option_map_or (is_parent c) (slots_in graph (r + 1) member) false) (sym place.0)
 
 -- a reference by its author and digest is one to what the slot holds
-pub named_in : (graph : Graph) → IsGraph graph → (round : ℕ) (author : Author) (c : Certificate) (digest : Digest) (parents : List ParentReference) → slots_in graph round author.0 ≡ Some c → Some digest ≡ digest_in graph round author.0
+pub named_in : (graph : DagView) → IsGraph graph → (round : ℕ) (author : Author) (c : Certificate) (digest : Digest) (parents : List ParentReference) → slots_in graph round author.0 ≡ Some c → Some digest ≡ digest_in graph round author.0
     → list_any (λ parent. (parent.author.0 == author.0) && same_digest parent.certificate digest) parents ≡ list_any (is_named c) parents
 named_in graph is round author c digest parents held digested =
     let place = slot_is round author.0 c.header (is.placed round author.0 c held) in
@@ -33,7 +33,7 @@ named_in graph is round author c digest parents held digested =
     ∙ ap (λ (a : ℕ). list_any (λ (parent : ParentReference). (parent.author.0 == a) && same_digest parent.certificate (certificate_digest c.header)) parents) (sym place.1)
 
 -- the leader of a wave with a coin is what the slot holds that the coin chooses
-pub leader_chosen : (graph : Graph) (coins : List ℕ) (wave coin : ℕ) → Some coin ≡ coin_of coins wave → option_map slot_of (slots_in graph (2 * wave - 1) (coin % size_in graph)) ≡ option_map slot_of (leader (ledger_in graph coins) wave)
+pub leader_chosen : (graph : DagView) (coins : List ℕ) (wave coin : ℕ) → Some coin ≡ coin_of coins wave → option_map slot_of (slots_in graph (2 * wave - 1) (coin % size_in graph)) ≡ option_map slot_of (leader (ledger_in graph coins) wave)
 leader_chosen graph coins zero coin is = absurd cc
 leader_chosen graph coins (suc wave) coin is =
     let round : 2 * suc wave - 1 ≡ 2 * wave + 1 = omega arith in
@@ -41,7 +41,7 @@ leader_chosen graph coins (suc wave) coin is =
 
 -- what a slot is that holds a certificate
 -- past the greatest round nothing is held
-pub above_all : (graph : Graph) → IsGraph graph → (round author : ℕ) → MAX < round → slots_in graph round author ≡ None
+pub above_all : (graph : DagView) → IsGraph graph → (round author : ℕ) → MAX < round → slots_in graph round author ≡ None
 above_all graph is round author past =
     let few = is.few in
     elim (cases_Bool (nat_le graph.floor round)) [
@@ -49,7 +49,7 @@ above_all graph is round author past =
       | inr below ↦ rw below refl
     ]
 
-pub slot_held : (graph : Graph) → IsGraph graph → (r a round author : ℕ) (c : Certificate) → r ≡ round → a ≡ author → Some c ≡ slots_in graph r a
+pub slot_held : (graph : DagView) → IsGraph graph → (r a round author : ℕ) (c : Certificate) → r ≡ round → a ≡ author → Some c ≡ slots_in graph r a
     → Some (r, (let b : Author = record { 0 = a } in b)) ≡ option_map slot_of (slots_in graph round author)
 slot_held graph is r a round author c same_round same_author held =
     let place = slot_is r a c.header (is.placed r a c (sym held)) in

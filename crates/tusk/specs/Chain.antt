@@ -3,10 +3,10 @@ use Rattle.std.specs.Prelude.{◌≡◌, ℕ, zero, suc, ◌+◌, ◌-◌, ◌*�
 use Rattle.std.specs.Option.{option_map_or}
 use Rattle.spec_model.specs.Ordering.{Ledger, is_directly_committed, top, newer}
 use Rattle.spec_model.specs.Words.{Author, Certificate}
-use Rattle.dag.specs.Graph.{Graph, slots_in}
+use Rattle.dag.specs.Graph.{DagView, slots_in}
 
 -- the order's parts over what a DAG holds, with these coins
-abbrev pub ledger_in : Graph → List ℕ → Ledger
+abbrev pub ledger_in : DagView → List ℕ → Ledger
 ledger_in graph coins = record { charter = graph.charter; slots = slots_in graph; coins = coins }
 
 -- the coin of a wave, counted from 1
@@ -31,7 +31,7 @@ abbrev pub IsSure : Ledger → Option ℕ → Type 0
 IsSure ledger last = IfSome last (λ wave. is_directly_committed ledger wave ≡ true)
 
 -- a DAG's base is the round of a leader that is committed by itself, or 1
-pub record IsBased (graph : Graph) (coins : List ℕ) : Type 0 where
+pub record IsBased (graph : DagView) (coins : List ℕ) : Type 0 where
   pub odd : graph.base ≡ 2 * ((graph.base + 1) / 2) - 1
   pub committed : 1 < graph.base → is_directly_committed (ledger_in graph coins) ((graph.base + 1) / 2) ≡ true
 
@@ -46,11 +46,11 @@ pub record IsChain (ledger : Ledger) (last : Option ℕ) (chain : List (ℕ × A
   pub top : top ledger ≡ raised_to last chain
 
 -- a wave is the last that is committed, and a DAG's base is the round of its leader; or there is none
-pub record IsAt (graph : Graph) (coins : List ℕ) (last : Option ℕ) : Type 0 where
+pub record IsAt (graph : DagView) (coins : List ℕ) (last : Option ℕ) : Type 0 where
   pub base : graph.base ≡ base_of last
   pub top : top (ledger_in graph coins) ≡ last
 
 -- a wave is committed by itself, and a DAG's base is the round of its leader; or there is none
-pub record IsFrom (graph : Graph) (coins : List ℕ) (last : Option ℕ) : Type 0 where
+pub record IsFrom (graph : DagView) (coins : List ℕ) (last : Option ℕ) : Type 0 where
   pub base : graph.base ≡ base_of last
   pub committed : IfSome last (λ wave. is_directly_committed (ledger_in graph coins) wave ≡ true)

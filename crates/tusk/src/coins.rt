@@ -5,7 +5,7 @@ ghost use Rattle.spec_model.specs.Ordering.{leader, is_directly_committed, top, 
 ghost use Rattle.spec_model.specs.Words.{Certificate};
 ghost use Rattle.dag.specs.Answer.{answer};
 ghost use Rattle.dag.specs.Changes.{IsWith};
-ghost use Rattle.dag.specs.Graph.{Graph, slots_in};
+ghost use Rattle.dag.specs.Graph.{DagView, slots_in};
 ghost use Rattle.dag.specs.declared.answers.Added.TheVariants as added;
 ghost use Rattle.tusk.specs.Chain.{ledger_in, coin_of, slot_of, wave_of, IsAt, IsChain, IsSure};
 
@@ -219,7 +219,7 @@ impl Coins {
     ) -> Result<Vec<(Round, Author)>, AllocError>
         requires member { certificate.now.header.author.0 < length dag.now.charter.keys }
         ensures { IfOk result (λ chain. IsAt dag.now self.now last → answer dag.now certificate.now ≡ Ok added.New
-            → (after : Graph) → IsWith dag.now after certificate.now → IsChain (ledger_in after self.now) last chain.items) }
+            → (after : DagView) → IsWith dag.now after certificate.now → IsChain (ledger_in after self.now) last chain.items) }
     {
         dag.limits_hold();
         let round = certificate.header.round.number();

@@ -10,10 +10,10 @@ use Rattle.spec_model.specs.Slots.{Slots, round_of}
 use Rattle.spec_model.specs.States.{State}
 use Rattle.spec_model.specs.Words.{Author, Digest, Header, Signature}
 use Rattle.spec_machine.specs.Machine.{proposed, round_in}
-use Rattle.batchstore.specs.Stock.{Stock, nameable}
-use Rattle.dag.specs.Graph.{Graph, size_in, slots_in}
-use Rattle.sequencer.specs.Sequence.{Sequence}
-use Rattle.admission.specs.Headers.{Headers, header_in}
+use Rattle.batchstore.specs.Stock.{BatchStoreView, nameable}
+use Rattle.dag.specs.Graph.{DagView, size_in, slots_in}
+use Rattle.sequencer.specs.Sequence.{SequencerView}
+use Rattle.admission.specs.Headers.{AssembliesView, header_in}
 use Rattle.validator.specs.Proposing.{AreAt, free_round, header_in_round, parents_in}
 use Rattle.validator.proofs.Fitting.{mapped_filter}
 
@@ -22,14 +22,14 @@ made_unless : {X Y : Type 0} (make : X → Y) (test : Bool) (x : X) → option_m
 made_unless make true x = refl
 made_unless make false x = refl
 
-parents_agree : (node : Node) (state : State) (own : Author) (sign : Digest → Signature) (stock : Stock) (headers : Headers) (sequence : Sequence)
+parents_agree : (node : Node) (state : State) (own : Author) (sign : Digest → Signature) (stock : BatchStoreView) (headers : AssembliesView) (sequence : SequencerView)
     → AreAt node state own sign stock headers sequence → (round : ℕ) → parents_in sequence.graph round ≡ map as_parent (round_of (size_of node) state.slots round)
 parents_agree node state own sign stock headers sequence at round =
     sym (mapped_filter as_parent (slots_in sequence.graph round) (numbers (size_in sequence.graph)))
     ∙ ap (λ (slots : Slots). map as_parent (round_of (size_in sequence.graph) slots round)) at.certificates.slots
     ∙ ap (λ (charter : Charter). map as_parent (round_of (length charter.keys) state.slots round)) at.certificates.charter
 
-header_agrees : (node : Node) (state : State) (own : Author) (sign : Digest → Signature) (stock : Stock) (headers : Headers) (sequence : Sequence)
+header_agrees : (node : Node) (state : State) (own : Author) (sign : Digest → Signature) (stock : BatchStoreView) (headers : AssembliesView) (sequence : SequencerView)
     → AreAt node state own sign stock headers sequence → nameable stock ≡ proposing.nameable node state → (round : ℕ)
     → header_in_round sign own stock sequence.graph round ≡ signed node (proposal_of node state round)
 header_agrees node state own sign stock headers sequence at named round =
@@ -40,7 +40,7 @@ header_agrees node state own sign stock headers sequence at named round =
     (parents_agree node state own sign stock headers sequence at (round - 1))
 
 -- the header of the state's round, if it is free, is what the machine proposes
-proposal_agrees : (node : Node) (state : State) (own : Author) (sign : Digest → Signature) (stock : Stock) (headers : Headers) (sequence : Sequence)
+proposal_agrees : (node : Node) (state : State) (own : Author) (sign : Digest → Signature) (stock : BatchStoreView) (headers : AssembliesView) (sequence : SequencerView)
     → AreAt node state own sign stock headers sequence → nameable stock ≡ proposing.nameable node state → (number : ℕ) → number ≡ round_in node state
     → option_map (header_in_round sign own stock sequence.graph) (free_round headers number) ≡ proposed node state
 proposal_agrees node state own sign stock headers sequence at named number is =
@@ -50,10 +50,10 @@ proposal_agrees node state own sign stock headers sequence at named number is =
     ∙ ap (propose_of node state) is
 
 -- so a header made for a free round over the tables' graph is what the machine proposes
-pub header_is_proposed : (node : Node) (state : State) (own : Author) (sign : Digest → Signature) (stock : Stock) (headers : Headers) (sequence : Sequence)
-    → AreAt node state own sign stock headers sequence → nameable stock ≡ proposing.nameable node state → (number round : ℕ) (graph : Graph) (header : Header) → number ≡ round_in node state
+pub header_is_proposed : (node : Node) (state : State) (own : Author) (sign : Digest → Signature) (stock : BatchStoreView) (headers : AssembliesView) (sequence : SequencerView)
+    → AreAt node state own sign stock headers sequence → nameable stock ≡ proposing.nameable node state → (number round : ℕ) (graph : DagView) (header : Header) → number ≡ round_in node state
     → Some round ≡ free_round headers number → graph ≡ sequence.graph → header ≡ header_in_round sign own stock graph round → Some header ≡ proposed node state
 header_is_proposed node state own sign stock headers sequence at named number round graph header is free same made =
-    ap (λ (h : Header). Some h) (made ∙ ap (λ (g : Graph). header_in_round sign own stock g round) same)
+    ap (λ (h : Header). Some h) (made ∙ ap (λ (g : DagView). header_in_round sign own stock g round) same)
     ∙ ap (option_map (header_in_round sign own stock sequence.graph)) free
     ∙ proposal_agrees node state own sign stock headers sequence at named number is

@@ -14,8 +14,8 @@ use Rattle.spec_model.proofs.Placing.{take-rises}
 use Rattle.spec_laws.proofs.Lists.{given_or_none}
 use Rattle.spec_laws.proofs.ProposedTaken.{all_placed-rise, few_taken, made_from}
 use Rattle.spec_laws.proofs.Votes.{slot_is}
-use Rattle.batchstore.specs.Stock.{Stock, nameable, to_name}
-use Rattle.dag.specs.Graph.{Graph, IsGraph, size_in, slots_in, digest_in}
+use Rattle.batchstore.specs.Stock.{BatchStoreView, nameable, to_name}
+use Rattle.dag.specs.Graph.{DagView, IsGraph, size_in, slots_in, digest_in}
 use Rattle.validator.specs.Proposing.{least_batches, parents_in}
 
 -- a list that is short enough and rises has no fault
@@ -24,7 +24,7 @@ no_fault limit count rises few rise = let short = le-ltb limit count few in rw s
 
 -- ---- batches
 
-pub batches_fit : (stock : Stock) → batches_fault (least_batches stock) ≡ None
+pub batches_fit : (stock : BatchStoreView) → batches_fault (least_batches stock) ≡ None
 batches_fit stock =
     let all = nameable stock in
     no_fault 128 (length (take 128 all)) (batches_rise (take 128 all)) (few_taken 128 all)
@@ -43,11 +43,11 @@ mapped_filter name make [] = refl
 mapped_filter name make (x ∷ xs) = mapped_or name (make x) (filter_map make xs) (filter_map (λ x. option_map name (make x)) xs) (mapped_filter name make xs)
 
 -- a certificate's author is that of its slot
-author_is : (graph : Graph) → IsGraph graph → (round author : ℕ) (c : Certificate) → slots_in graph round author ≡ Some c → c.header.author.0 ≡ author
+author_is : (graph : DagView) → IsGraph graph → (round author : ℕ) (c : Certificate) → slots_in graph round author ≡ Some c → c.header.author.0 ≡ author
 author_is graph good round author c held = (slot_is round author c.header (good.placed round author c held)).1
 
 -- the author of a slot with the digest of what it holds is that as a parent
-pub parent_is : (graph : Graph) → IsGraph graph → (round : ℕ) (author : Author) (digest : Digest) → Some digest ≡ digest_in graph round author.0
+pub parent_is : (graph : DagView) → IsGraph graph → (round : ℕ) (author : Author) (digest : Digest) → Some digest ≡ digest_in graph round author.0
     → Some (record { author = author; certificate = digest }) ≡ option_map as_parent (slots_in graph round author.0)
 parent_is graph good round author digest is =
     elim (given_or_none (slots_in graph round author.0)) [
@@ -61,7 +61,7 @@ parent_is graph good round author digest is =
       | inr none ↦ absurd (none-some digest (sym (is ∙ ap (option_map (λ (c : Certificate). certificate_digest c.header)) none)))
     ]
 
-pub parents_fit : (graph : Graph) → IsGraph graph → (round : ℕ) → parents_fault (parents_in graph round) ≡ None
+pub parents_fit : (graph : DagView) → IsGraph graph → (round : ℕ) → parents_fault (parents_in graph round) ≡ None
 parents_fit graph good round =
     let n = size_in graph in
     let made = made_from (slots_in graph round) (author_is graph good round) 0 n in

@@ -13,8 +13,8 @@ use Rattle.spec_model.specs.Histories.{History}
 use Rattle.spec_model.specs.Nodes.{Node, IsNode}
 use Rattle.spec_model.specs.States.{State}
 use Rattle.spec_model.specs.Words.{Certificate, Digest, Event, Header, Message, Signature}
-use Rattle.spec_model.specs.declared.admission.Admission.{Admission}
-use Rattle.spec_model.specs.declared.refusal.Refusal.{Refusal}
+use Rattle.header.specs.declared.admission.Admission.{Admission}
+use Rattle.header.specs.declared.refusal.Refusal.{Refusal}
 use Rattle.spec_machine.specs.Laws.{SoundStays, StateAnswers, StateFollows}
 use Rattle.spec_machine.specs.Machine.{answered, after}
 use Rattle.admission.specs.Answers.{IsAnswer, is_new_step}

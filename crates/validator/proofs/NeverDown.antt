@@ -12,11 +12,11 @@ use Rattle.spec_model.specs.Holdings.{batch_digest, is_low, is_full, all_held}
 use Rattle.spec_model.specs.Nodes.{Node}
 use Rattle.spec_model.specs.Slots.{same_digest, header_digest, certificate_digest}
 use Rattle.spec_model.specs.States.{State, batch_in, has_own_batch, floor_in}
-use Rattle.spec_model.specs.Words.{Author, BatchAck, Certificate, Coin, Contents, Event, Header, Message, Vote}
-use Rattle.spec_model.specs.declared.admission.Admission.{Admission}
-use Rattle.spec_model.specs.declared.admission.Admission.TheVariants.{New, Known, Refused}
-use Rattle.spec_model.specs.declared.refusal.Refusal.TheVariants.{Memory, Down, TooOld, MissingParents, MissingBatch, Equivocation, CertConflict, DigestClash, AlreadyProposed, NotOurs, CoinOutOfTurn, CoinEarly, CoinConflict, StoreFull}
-use Rattle.spec_model.specs.declared.refusal.Refusal.{Refusal}
+use Rattle.spec_model.specs.Words.{Author, BatchAck, Certificate, Coin, BatchView, Event, Header, Message, Vote}
+use Rattle.header.specs.declared.admission.Admission.{Admission}
+use Rattle.header.specs.declared.admission.Admission.TheVariants.{New, Known, Refused}
+use Rattle.header.specs.declared.refusal.Refusal.TheVariants.{Memory, Down, TooOld, MissingParents, MissingBatch, Equivocation, CertConflict, DigestClash, AlreadyProposed, NotOurs, CoinOutOfTurn, CoinEarly, CoinConflict, StoreFull}
+use Rattle.header.specs.declared.refusal.Refusal.{Refusal}
 use Rattle.admission.specs.Answers.{IsAnswer}
 use Rattle.admission.specs.declared.step.Step.{Step}
 
@@ -37,7 +37,7 @@ find : {X : Type 0} (f : Option X → Admission) (o : Option X) → ((x : X) →
 find f (Some x) p q = p x
 find f None p q = q
 
-batches : (node : Node) (now : State) (batch : Contents) → Up (batch_answer node now batch)
+batches : (node : Node) (now : State) (batch : BatchView) → Up (batch_answer node now batch)
 batches node now batch =
     let full = if nat_le node.charter.batches (length now.batches) then Refused StoreFull else New (batch_outputs node batch) in
     find (λ o. when o gives (λ held. held_batch_answer node held batch) else full) (batch_in now (batch_digest batch))

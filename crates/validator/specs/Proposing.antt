@@ -9,32 +9,32 @@ use Rattle.spec_model.specs.Proposing.{as_parent}
 use Rattle.spec_model.specs.States.{State}
 use Rattle.spec_model.specs.Words.{Author, BatchReference, Digest, Header, ParentReference, Signature}
 use Rattle.spec_machine.specs.Sound.{IsSound}
-use Rattle.batchstore.specs.Stock.{Stock, nameable}
-use Rattle.dag.specs.Graph.{Graph, size_in, slots_in}
-use Rattle.sequencer.specs.Sequence.{Sequence}
+use Rattle.batchstore.specs.Stock.{BatchStoreView, nameable}
+use Rattle.dag.specs.Graph.{DagView, size_in, slots_in}
+use Rattle.sequencer.specs.Sequence.{SequencerView}
 use Rattle.sequencer.specs.Sequence as sequencer
-use Rattle.admission.specs.Headers.{Headers, header_in}
+use Rattle.admission.specs.Headers.{AssembliesView, header_in}
 use Rattle.admission.specs.Headers as assemblies
 use Rattle.admission.specs.Batches.{HasBatches}
 
 -- a number is that of a round for which a header may still be made: there is such a round, and it has no own header
-abbrev pub free_round : Headers → ℕ → Option ℕ
+abbrev pub free_round : AssembliesView → ℕ → Option ℕ
 free_round headers number = if is_some (header_in headers number) || nat_lt MAX_ROUND number then None else Some number
 
 -- the least batches that may be named, up to a header's limit
-abbrev pub least_batches : Stock → List BatchReference
+abbrev pub least_batches : BatchStoreView → List BatchReference
 least_batches stock = take MAX_BATCHES (nameable stock)
 
 -- all certificates of a round by author, as a header names them
-abbrev pub parents_in : Graph → ℕ → List ParentReference
+abbrev pub parents_in : DagView → ℕ → List ParentReference
 parents_in graph round = filter_map (λ author. option_map as_parent (slots_in graph round author)) (numbers (size_in graph))
 
 -- the header of a round: over all certificates of the round below, with the least batches
-abbrev pub header_in_round : (Digest → Signature) → Author → Stock → Graph → ℕ → Header
+abbrev pub header_in_round : (Digest → Signature) → Author → BatchStoreView → DagView → ℕ → Header
 header_in_round sign own stock graph round = signed_by sign (body_of own round (least_batches stock) (parents_in graph (round - 1)))
 
 -- the author and the signer are a node's, and the tables have what its sound state has: batches, own headers and certificates
-pub record AreAt (node : Node) (state : State) (own : Author) (sign : Digest → Signature) (stock : Stock) (headers : Headers) (sequence : Sequence) : Type 0 where
+pub record AreAt (node : Node) (state : State) (own : Author) (sign : Digest → Signature) (stock : BatchStoreView) (headers : AssembliesView) (sequence : SequencerView) : Type 0 where
   pub node_is : IsNode node
   pub sound : IsSound node state
   pub author : node.own ≡ own

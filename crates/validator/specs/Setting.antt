@@ -3,16 +3,17 @@ use Rattle.committee.specs.Charter.{Charter}
 use Rattle.spec_model.specs.Nodes.{Node}
 use Rattle.spec_model.specs.Words.{Author, Digest, Signature}
 use Rattle.wire.specs.declared.keys.Key.{Key}
+use Rattle.sigface.specs.Scheme.{Scheme}
 
 -- a member's number, its committee and its signer
-pub record Setting (S : Type 0) : Type 0 where
+pub record ConfigView (S : Type 0) : Type 0 where
   pub own : Author
   pub charter : Charter
   pub signer : S
 
 -- the node of it, with the signer's key and the signatures that it gives
-abbrev pub node_of : {S : Type 0} → (S → Key) → (S → Digest → Signature) → Setting S → Node
-node_of own_key signature_of setting = record {
+abbrev pub node_of : {S : Type 0} → Scheme S → ConfigView S → Node
+node_of scheme setting = record {
   own = setting.own;
   charter = setting.charter;
   key = own_key setting.signer;

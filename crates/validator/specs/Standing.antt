@@ -2,13 +2,14 @@
 use Rattle.std.specs.Prelude.{◌≡◌, ◌++◌, ◌∷◌, [], IsTrue, Result}
 use Rattle.spec_model.specs.Admitting.{is_new, header_outputs, IsTaken, IsLegal}
 use Rattle.spec_model.specs.Giving.{kept}
-use Rattle.spec_model.specs.Histories.{History, Begins}
+use Rattle.spec_model.specs.Histories.{History}
+use Rattle.wire.specs.Lists.{Begins}
 use Rattle.spec_model.specs.Holdings.{order}
 use Rattle.spec_model.specs.Nodes.{Node}
 use Rattle.spec_model.specs.States.{State}
 use Rattle.spec_model.specs.Words.{Digest, Event, Header, Signature}
-use Rattle.spec_model.specs.declared.admission.Admission.TheVariants.{New}
-use Rattle.spec_model.specs.declared.refusal.Refusal.{Refusal}
+use Rattle.header.specs.declared.admission.Admission.TheVariants.{New}
+use Rattle.header.specs.declared.refusal.Refusal.{Refusal}
 use Rattle.spec_laws.specs.Laws.{own_event}
 use Rattle.spec_machine.specs.Machine.{answered, after}
 use Rattle.spec_machine.specs.Sound.{IsSound}
@@ -16,11 +17,11 @@ use Rattle.admission.specs.Answers.{IsAnswer, RefusesAs}
 use Rattle.admission.specs.declared.step.Step.{Step}
 use Rattle.admission.specs.Standing.{AreAt, Meets}
 use Rattle.admission.specs.declared.tables.Tables.{Tables}
-use Rattle.validator.specs.Setting.{Setting}
+use Rattle.validator.specs.Setting.{ConfigView}
 
 -- a validator: what it is set up with, and its tables
-pub record Standing (S : Type 0) : Type 0 where
-  pub setting : Setting S
+pub record ValidatorView (S : Type 0) : Type 0 where
+  pub setting : ConfigView S
   pub tables : Tables
 
 -- tables stand at a node's state: it is a sound one, and they are exactly it

@@ -1,13 +1,13 @@
 //! What a validator is set up with.
 
 ghost use Rattle.std.specs.Prelude.{◌≡◌, All, IfSome, IsNone, Some, slice_get};
-ghost use Rattle.wire.specs.Fields.{AreBytes, EachIsByte};
+ghost use Rattle.wire.specs.Fields.{HasBytes, AreBytes};
 ghost use Rattle.spec_model.specs.Nodes.{IsNode};
 ghost use Rattle.validator.specs.Setting.{node_of};
 
 use committee::Committee;
 use sigface::Sign;
-use spec_model::Node;
+use header::Node;
 use std::marker::Model;
 use wire::{Author, Key};
 
@@ -24,13 +24,13 @@ impl<S: Sign + Drop> Drop for Config<S> {
 
 impl<S: Sign> Model for Config<S> {
     ghost use Rattle.spec_model.specs.Nodes.{IsNode};
-    ghost use Rattle.validator.specs.Setting.{Setting, node_of};
+    ghost use Rattle.validator.specs.Setting.{ConfigView, node_of};
 
-    ghost Value = { Setting S };
+    ghost Value = { ConfigView S };
 
     ghost view = { λ c. record { own = c.node.own; charter = c.node.committee; signer = c.node.signer } };
 
-    ghost invariant = { λ c. IsNode (node_of S.own_key S.signature_of (record { own = c.node.own; charter = c.node.committee; signer = c.node.signer })) };
+    ghost invariant = { λ c. IsNode (node_of S.scheme (record { own = c.node.own; charter = c.node.committee; signer = c.node.signer })) };
 }
 
 impl<S: Sign> Config<S> {
@@ -39,7 +39,7 @@ impl<S: Sign> Config<S> {
     where
         S: Drop,
         ensures some { IfSome result (λ config. config ≡ record { own = own; charter = committee; signer = signer }) }
-        ensures none { IsNone result → slice_get committee.keys own.0 ≡ Some (S.own_key signer) → ⊥ }
+        ensures none { IsNone result → slice_get committee.keys own.0 ≡ Some (S.scheme.own_key signer) → ⊥ }
     {
         committee.limits_hold();
         let key = signer.key();
@@ -78,14 +78,14 @@ impl<S: Sign> Config<S> {
 
     /// What holds of each: it is a member of its committee with its signer's key. The call does nothing.
     pub fn limits_hold(&self)
-        ensures { IsNode (node_of S.own_key S.signature_of self.now) }
+        ensures { IsNode (node_of S.scheme self.now) }
     {
         let _ = &self.node;
     }
 
     /// What holds of the committee's keys: each key has 32 bytes. It looks at each, and does nothing.
     pub fn keys_hold(&self)
-        ensures { All (λ key. AreBytes 32 key.0) self.now.charter.keys }
+        ensures { All (λ key. HasBytes 32 key.0) self.now.charter.keys }
     {
         look_at_keys(&self.node.committee);
     }
@@ -93,7 +93,7 @@ impl<S: Sign> Config<S> {
 
 // What holds of the keys of a committee: each has 32 bytes. It looks at each, and does nothing.
 fn look_at_keys(committee: &Committee)
-    ensures { All (λ key. AreBytes 32 key.0) committee.now.keys }
+    ensures { All (λ key. HasBytes 32 key.0) committee.now.keys }
 {
     for member in 0..committee.size() {
         match committee.key(Author(member)) {
@@ -105,14 +105,14 @@ fn look_at_keys(committee: &Committee)
 
 // What holds of a key: it has 32 bytes. The call does nothing.
 fn is_key(key: &Key)
-    ensures { AreBytes 32 key.now.0 }
+    ensures { HasBytes 32 key.now.0 }
 {
     are_bytes(&key.0);
 }
 
 // What holds of bytes. The call does nothing.
 fn are_bytes(bytes: &[u8])
-    ensures { EachIsByte bytes.now }
+    ensures { AreBytes bytes.now }
 {
     let _ = bytes;
 }

@@ -18,7 +18,7 @@ pub(crate) fn signed<S: Sign>(
 ) -> Result<Header, AllocError>
     requires batches { batches_fault batches.now ≡ None }
     requires parents { parents_fault parents.now ≡ None }
-    ensures { IfOk result (λ header. header ≡ signed_by (S.signature_of signer.now) (body_of own round batches.now parents.now)) }
+    ensures { IfOk result (λ header. header ≡ signed_by (S.scheme.signature_of signer.now) (body_of own round batches.now parents.now)) }
 {
     match header::make(alloc, signer, own, round, batches, parents) {
         Ok(header) => Ok(header),

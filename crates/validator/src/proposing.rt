@@ -48,7 +48,7 @@ fn header_for<S: Sign>(
     dag: &Dag,
     round: Round,
 ) -> Result<Header, AllocError>
-    ensures { IfOk result (λ header. header ≡ header_in_round (S.signature_of signer.now) own batches.now dag.now round) }
+    ensures { IfOk result (λ header. header ≡ header_in_round (S.scheme.signature_of signer.now) own batches.now dag.now round) }
 {
     let batches = batches.least_nameable(alloc)?;
     let parents = parents_of(alloc, dag, below(round))?;
@@ -68,7 +68,7 @@ pub(crate) fn propose<S: Sign>(
     headers: &Assemblies,
     sequencer: &Sequencer,
 ) -> Result<Option<Header>, AllocError>
-    ensures { IfOk result (λ found. (node : Node) (state : State) → AreAt node state own (S.signature_of signer.now) batches.now headers.now sequencer.now → found ≡ proposed node state) }
+    ensures { IfOk result (λ found. (node : Node) (state : State) → AreAt node state own (S.scheme.signature_of signer.now) batches.now headers.now sequencer.now → found ≡ proposed node state) }
 {
     let Some(round) = free_round(headers, sequencer.round()) else {
         return Ok(None);

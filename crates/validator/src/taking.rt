@@ -33,9 +33,9 @@ pub(crate) fn take<S: Sign>(
     event: Checked,
 ) -> Result<Step, Refusal>
     requires meets { MeetSome tables.old event.message }
-    ensures answer { AnswersEvent tables.old (S.signature_of signer.now) event result }
-    ensures refused { RefusesEvent tables.old (S.signature_of signer.now) event result }
-    ensures at { is_new_step result ≡ true → GoOnBehind tables.old tables.new (S.signature_of signer.now) event }
+    ensures answer { AnswersEvent tables.old (S.scheme.signature_of signer.now) event result }
+    ensures refused { RefusesEvent tables.old (S.scheme.signature_of signer.now) event result }
+    ensures at { is_new_step result ≡ true → GoOnBehind tables.old tables.new (S.scheme.signature_of signer.now) event }
     ensures same { is_new_step result ≡ false → tables.new ≡ tables.old }
 {
     let sender = event.sender();

@@ -23,7 +23,7 @@ use crate::taking::take;
 use admission::{Refusal, Step, Tables, votes_agree};
 use committee::Committee;
 use header::Checked;
-use seed::TableSeed;
+use sigface::TableSeed;
 use sigface::Sign;
 use std::alloc::{AllocError, Global};
 use std::marker::Model;
@@ -49,24 +49,24 @@ impl<'a, S: Sign> Drop for Validator<'a, S> {
 
 impl<'a, S: Sign> Model for Validator<'a, S> {
     ghost use Rattle.validator.specs.Setting.{node_of};
-    ghost use Rattle.validator.specs.Standing.{Standing, StandSomewhere};
+    ghost use Rattle.validator.specs.Standing.{ValidatorView, StandSomewhere};
     ghost use Rattle.std.specs.Coded.{codes};
     ghost use Rattle.votebook.specs.contracts.book.VoteBook as votes;
 
-    ghost Value = { Standing S };
+    ghost Value = { ValidatorView S };
 
     ghost coded = { Prim.hlevel (codes, S.code, votes.the_row.coded) };
 
     ghost view = { λ v. record { setting = v.config.now; tables = v.tables } };
 
-    ghost invariant = { λ v. StandSomewhere (node_of S.own_key S.signature_of v.config.now) v.tables };
+    ghost invariant = { λ v. StandSomewhere (node_of S.scheme v.config.now) v.tables };
 }
 
 impl<'a, S: Sign> Validator<'a, S> {
     /// One that has taken nothing: it holds the genesis. `AllocError` where a growth was refused.
     pub fn new(alloc: Global, config: &'a Config<S>) -> Result<Validator<'a, S>, AllocError>
         ensures setting { IfOk result (λ made. made.setting ≡ config.now) }
-        ensures at { let node = node_of S.own_key S.signature_of config.now in IfOk result (λ made. AreAtSound node made.tables (fresh node)) }
+        ensures at { let node = node_of S.scheme config.now in IfOk result (λ made. AreAtSound node made.tables (fresh node)) }
     {
         spec_machine::fresh_is_sound();
         config.limits_hold();
@@ -81,8 +81,8 @@ impl<'a, S: Sign> Validator<'a, S> {
 
     /// What holds of each: it is set up as a node, and its tables are those of a sound state. The call does nothing.
     pub fn limits_hold(&self)
-        ensures node { IsNode (node_of S.own_key S.signature_of self.now.setting) }
-        ensures sound { StandSomewhere (node_of S.own_key S.signature_of self.now.setting) self.now.tables }
+        ensures node { IsNode (node_of S.scheme self.now.setting) }
+        ensures sound { StandSomewhere (node_of S.scheme self.now.setting) self.now.tables }
     {
         self.config.limits_hold();
     }
@@ -100,11 +100,11 @@ impl<'a, S: Sign> Validator<'a, S> {
     /// The refusal of admission, or `Memory` where a growth was refused. They change nothing.
     pub fn step(&mut self, event: Checked) -> Result<Step, Refusal>
         requires passed { fault_of self.old.setting.charter accepts_all event ≡ None }
-        ensures answer { let node = node_of S.own_key S.signature_of self.old.setting in (state : State) → AreAtSound node self.old.tables state
+        ensures answer { let node = node_of S.scheme self.old.setting in (state : State) → AreAtSound node self.old.tables state
             → IsAnswer (answered node state event) result }
-        ensures refused { let node = node_of S.own_key S.signature_of self.old.setting in (state : State) → AreAtSound node self.old.tables state
+        ensures refused { let node = node_of S.scheme self.old.setting in (state : State) → AreAtSound node self.old.tables state
             → RefusesAs (answered node state event) result }
-        ensures at { let node = node_of S.own_key S.signature_of self.old.setting in is_new_step result ≡ true → (state : State) → AreAtSound node self.old.tables state
+        ensures at { let node = node_of S.scheme self.old.setting in is_new_step result ≡ true → (state : State) → AreAtSound node self.old.tables state
             → AreAtSound node self.new.tables (after node state event) }
         ensures same { is_new_step result ≡ false → self.new ≡ self.old }
         ensures setting { self.new.setting ≡ self.old.setting }
@@ -112,10 +112,10 @@ impl<'a, S: Sign> Validator<'a, S> {
         ensures never_down { IfErr result (λ refusal. refusal ≢ Refusal.Down) }
         // Said of a legal history: where the tables are what is kept of it, the answer is that of admission, and behind a new
         // event they are what is kept of the longer one, whose order begins with that from before.
-        ensures admits { let node = node_of S.own_key S.signature_of self.old.setting in (history : History) → IsLegal node history
+        ensures admits { let node = node_of S.scheme self.old.setting in (history : History) → IsLegal node history
             → AreAtSound node self.old.tables (kept node history)
             → IsAnswer (admit node history event) result }
-        ensures longer { let node = node_of S.own_key S.signature_of self.old.setting in is_new_step result ≡ true → (history : History) → IsLegal node history
+        ensures longer { let node = node_of S.scheme self.old.setting in is_new_step result ≡ true → (history : History) → IsLegal node history
             → AreAtSound node self.old.tables (kept node history)
             → GoesOn node history event self.new.tables }
     {
@@ -130,8 +130,8 @@ impl<'a, S: Sign> Validator<'a, S> {
 
     /// The order: the digests of the certificates that are ordered.
     pub fn order(&self) -> &[Digest]
-        ensures at { (state : State) → AreAtSound (node_of S.own_key S.signature_of self.now.setting) self.now.tables state → result.now ≡ state.order }
-        ensures scratch { let node = node_of S.own_key S.signature_of self.now.setting in (history : History)
+        ensures at { (state : State) → AreAtSound (node_of S.scheme self.now.setting) self.now.tables state → result.now ≡ state.order }
+        ensures scratch { let node = node_of S.scheme self.now.setting in (history : History)
             → AreAtSound node self.now.tables (kept node history)
             → result.now ≡ order_of node history }
     {
@@ -140,9 +140,9 @@ impl<'a, S: Sign> Validator<'a, S> {
 
     /// The validator's round, up to `Round::MAX + 1`: 1 plus the greatest round of which a quorum of authors has certificates.
     pub fn round(&self) -> u64
-        ensures at { let node = node_of S.own_key S.signature_of self.now.setting in (state : State) → AreAtSound node self.now.tables state
+        ensures at { let node = node_of S.scheme self.now.setting in (state : State) → AreAtSound node self.now.tables state
             → result ≡ round_in node state }
-        ensures history { let node = node_of S.own_key S.signature_of self.now.setting in (history : History) → IsLegal node history
+        ensures history { let node = node_of S.scheme self.now.setting in (history : History) → IsLegal node history
             → AreAtSound node self.now.tables (kept node history)
             → result ≡ round_of node history }
         ensures limit { result ≤ MAX + 1 }
@@ -154,9 +154,9 @@ impl<'a, S: Sign> Validator<'a, S> {
     /// The floor: nothing of a lower round is held, and no header, vote or certificate of a round up to it is taken, if it is
     /// above 0.
     pub fn floor(&self) -> Round
-        ensures at { let node = node_of S.own_key S.signature_of self.now.setting in (state : State) → AreAtSound node self.now.tables state
+        ensures at { let node = node_of S.scheme self.now.setting in (state : State) → AreAtSound node self.now.tables state
             → result ≡ floor_in node state }
-        ensures history { let node = node_of S.own_key S.signature_of self.now.setting in (history : History) → IsLegal node history
+        ensures history { let node = node_of S.scheme self.now.setting in (history : History) → IsLegal node history
             → AreAtSound node self.now.tables (kept node history)
             → result ≡ floor_of node history }
     {
@@ -166,9 +166,9 @@ impl<'a, S: Sign> Validator<'a, S> {
 
     /// The digest of the header that has the vote of an author and round; an own header has the own one. None for low rounds.
     pub fn voted(&self, author: Author, round: Round) -> Option<Digest>
-        ensures at { (state : State) → AreAtSound (node_of S.own_key S.signature_of self.now.setting) self.now.tables state
+        ensures at { (state : State) → AreAtSound (node_of S.scheme self.now.setting) self.now.tables state
             → result ≡ state.votes round author.0 }
-        ensures history { let node = node_of S.own_key S.signature_of self.now.setting in (history : History) → AreAtSound node self.now.tables (kept node history)
+        ensures history { let node = node_of S.scheme self.now.setting in (history : History) → AreAtSound node self.now.tables (kept node history)
             → result ≡ unless_low (floor_of node history) round (voted_digest history round author.0) }
     {
         votes_agree();
@@ -178,9 +178,9 @@ impl<'a, S: Sign> Validator<'a, S> {
     /// Whether an event that passed the checks is ready: its answer isn't that a parent is missing.
     pub fn ready(&self, event: &Checked) -> bool
         requires passed { fault_of self.now.setting.charter accepts_all event.now ≡ None }
-        ensures at { let node = node_of S.own_key S.signature_of self.now.setting in (state : State) → AreAtSound node self.now.tables state
+        ensures at { let node = node_of S.scheme self.now.setting in (state : State) → AreAtSound node self.now.tables state
             → result ≡ is_ready node state event.now }
-        ensures history { let node = node_of S.own_key S.signature_of self.now.setting in (history : History) → IsLegal node history
+        ensures history { let node = node_of S.scheme self.now.setting in (history : History) → IsLegal node history
             → AreAtSound node self.now.tables (kept node history)
             → result ≡ not (is_missing_parents (admit node history event.now)) }
     {
@@ -193,9 +193,9 @@ impl<'a, S: Sign> Validator<'a, S> {
     /// Whether an event that passed the checks would be new. It takes no memory.
     pub fn is_new(&self, event: &Checked) -> bool
         requires passed { fault_of self.now.setting.charter accepts_all event.now ≡ None }
-        ensures at { let node = node_of S.own_key S.signature_of self.now.setting in (state : State) → AreAtSound node self.now.tables state
+        ensures at { let node = node_of S.scheme self.now.setting in (state : State) → AreAtSound node self.now.tables state
             → result ≡ is_new (answered node state event.now) }
-        ensures history { let node = node_of S.own_key S.signature_of self.now.setting in (history : History) → IsLegal node history
+        ensures history { let node = node_of S.scheme self.now.setting in (history : History) → IsLegal node history
             → AreAtSound node self.now.tables (kept node history)
             → result ≡ is_new (admit node history event.now) }
     {
@@ -209,13 +209,13 @@ impl<'a, S: Sign> Validator<'a, S> {
     /// `MAX_BATCHES` least digests of available own batches that no own header has named. None where its round has an own
     /// header, or is past `Round::MAX`. `AllocError` where a growth was refused.
     pub fn propose(&self) -> Result<Option<Header>, AllocError>
-        ensures at { let node = node_of S.own_key S.signature_of self.now.setting in IfOk result (λ found. (state : State) → AreAtSound node self.now.tables state
+        ensures at { let node = node_of S.scheme self.now.setting in IfOk result (λ found. (state : State) → AreAtSound node self.now.tables state
             → found ≡ proposed node state) }
-        ensures history { let node = node_of S.own_key S.signature_of self.now.setting in IfOk result (λ found. (history : History) → IsLegal node history
+        ensures history { let node = node_of S.scheme self.now.setting in IfOk result (λ found. (history : History) → IsLegal node history
             → AreAtSound node self.now.tables (kept node history)
             → found ≡ propose_of node history) }
         // Taken back as an event, it is new.
-        ensures new { let node = node_of S.own_key S.signature_of self.now.setting in IfOk result (λ found. (state : State) → AreAtSound node self.now.tables state
+        ensures new { let node = node_of S.scheme self.now.setting in IfOk result (λ found. (state : State) → AreAtSound node self.now.tables state
             → IfSome found (IsNewThere node state)) }
     {
         self.config.limits_hold();

@@ -11,7 +11,7 @@ ghost use Rattle.waiter.specs.Waiting.{Waits, AnswersNo, IsFirstReady};
 use crate::refusal::WaitRefusal;
 use header::Checked;
 use indexmap::IndexMap;
-use seed::TableSeed;
+use sigface::TableSeed;
 use std::alloc::Global;
 use std::marker::Model;
 use wire::Digest;

@@ -11,7 +11,7 @@ use Rattle.std.proofs.lemmas.List.Sums.{sum_by-cons, sum_by_push}
 use Rattle.std.proofs.lemmas.Nat.{from_be_bytes-to_be_bytes_4}
 use Rattle.wire.specs.declared.keys.Author.{Author}
 use Rattle.wire.specs.declared.limits.TheConstants.{MAX_TRANSACTION_BYTES}
-use Rattle.wire.specs.Batches.{Contents, transaction_bytes, batch_body, body_len, has_room, IsTransaction, IsOpen, transactions_in}
+use Rattle.wire.specs.Batches.{BatchView, transaction_bytes, batch_body, body_len, has_room, IsTransaction, IsOpen, transactions_in}
 
 -- the length of the transactions of a body
 pub bytes_len : (ts : List (List ℕ)) → 8 + length (flat_map transaction_bytes ts) ≡ body_len ts
@@ -22,7 +22,7 @@ bytes_len (t ∷ ts) =
     rw (parts, sum_by-cons) (omega (arith, one))
 
 -- a body has so many bytes
-pub body_has : (b : Contents) → length (batch_body b) ≡ body_len b.transactions
+pub body_has : (b : BatchView) → length (batch_body b) ≡ body_len b.transactions
 body_has b = omega (arith, bytes_len b.transactions)
 
 -- a body has no room for more than 124,998 transactions

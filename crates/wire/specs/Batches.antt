@@ -4,10 +4,10 @@ use Rattle.std.specs.List.{flat_map}
 use Rattle.std.specs.Int.{w16, w32, to_be_bytes, from_be_bytes}
 use Rattle.wire.specs.declared.keys.Author.{Author}
 use Rattle.wire.specs.declared.limits.TheConstants.{MAX_TRANSACTION_BYTES, MAX_BATCH_BYTES}
-use Rattle.wire.specs.Fields.{EachIsByte, IsNumber, IsAuthor}
+use Rattle.wire.specs.Fields.{AreBytes, IsNumber, IsAuthor}
 
 -- a batch, as contracts see it: an author's transactions of one worker, in their order
-pub record Contents : Type 0 where
+pub record BatchView : Type 0 where
   pub author : Author
   pub worker : ℕ
   pub transactions : List (List ℕ)
@@ -17,7 +17,7 @@ abbrev pub transaction_bytes : List ℕ → List ℕ
 transaction_bytes transaction = to_be_bytes w32 (length transaction) ++ transaction
 
 -- the body of a batch: author, worker, and the transactions behind their count
-abbrev pub batch_body : Contents → List ℕ
+abbrev pub batch_body : BatchView → List ℕ
 batch_body b =
     to_be_bytes w16 b.author.0 ++ to_be_bytes w16 b.worker ++ to_be_bytes w32 (length b.transactions)
     ++ flat_map transaction_bytes b.transactions
@@ -33,10 +33,10 @@ has_room transactions len = nat_le (body_len transactions + (4 + len)) MAX_BATCH
 -- a transaction has at most 65,536 bytes
 pub record IsTransaction (transaction : List ℕ) : Type 0 where
   pub short : length transaction ≤ MAX_TRANSACTION_BYTES
-  pub bytes : EachIsByte transaction
+  pub bytes : AreBytes transaction
 
 -- a batch has an author, a worker, and as many transactions as a body of 500,000 bytes has room for, so at most 124,998
-pub record IsBatch (b : Contents) : Type 0 where
+pub record IsBatch (b : BatchView) : Type 0 where
   pub author : IsAuthor b.author
   pub worker : IsNumber b.worker
   pub each : All IsTransaction b.transactions
@@ -52,7 +52,7 @@ transactions_in (suc n) bytes =
 -- ---- how the types keep a batch
 
 -- the batch of this author and worker whose body, from its ninth byte on, has so many transactions
-abbrev pub contents_of : Author → ℕ → ℕ → List ℕ → Contents
+abbrev pub contents_of : Author → ℕ → ℕ → List ℕ → BatchView
 contents_of author worker count body = record { author = author; worker = worker; transactions = transactions_in count (drop 8 body) }
 
 -- a body that grows: it is whole but for its count, which may be any four bytes

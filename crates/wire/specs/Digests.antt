@@ -3,11 +3,11 @@ use Rattle.std.specs.Prelude.{ℕ, List, [], ◌∷◌, ◌++◌}
 use Rattle.std.specs.Int.{w16, w64, to_be_bytes}
 use Rattle.sha2.specs.Sha256.{sha256}
 use Rattle.wire.specs.declared.header.HeaderBody.{HeaderBody}
-use Rattle.wire.specs.Batches.{Contents, batch_body}
+use Rattle.wire.specs.Batches.{BatchView, batch_body}
 use Rattle.wire.specs.Spelling.{body_bytes, header_body}
 
 -- of a batch: behind the letter B
-abbrev pub batch_digest_of : Contents → List ℕ
+abbrev pub batch_digest_of : BatchView → List ℕ
 batch_digest_of b = sha256 (66 ∷ batch_body b)
 
 -- of a header, without its signature: behind the letter H

@@ -7,13 +7,13 @@ use Rattle.wire.specs.declared.keys.Digest.{Digest}
 use Rattle.wire.specs.declared.keys.Signature.{Signature}
 
 -- bytes are below 256
-abbrev pub EachIsByte : List ℕ → Type 0
-EachIsByte = All (λ byte. byte < 256)
+abbrev pub AreBytes : List ℕ → Type 0
+AreBytes = All (λ byte. byte < 256)
 
 -- so many bytes
-pub record AreBytes (count : ℕ) (bytes : List ℕ) : Type 0 where
+pub record HasBytes (count : ℕ) (bytes : List ℕ) : Type 0 where
   pub count_is : length bytes ≡ count
-  pub each : EachIsByte bytes
+  pub each : AreBytes bytes
 
 -- a member's number, or a worker's, has two bytes
 abbrev pub IsNumber : ℕ → Type 0
@@ -25,11 +25,11 @@ IsAuthor a = IsNumber a.0
 
 -- a digest has 32 bytes
 abbrev pub IsDigest : Digest → Type 0
-IsDigest d = AreBytes 32 d.0
+IsDigest d = HasBytes 32 d.0
 
 -- a signature has 64 bytes
 abbrev pub IsSignature : Signature → Type 0
-IsSignature s = AreBytes 64 s.0
+IsSignature s = HasBytes 64 s.0
 
 -- rounds go up to 2^48
 abbrev pub IsRound : ℕ → Type 0

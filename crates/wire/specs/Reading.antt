@@ -20,7 +20,7 @@ use Rattle.wire.specs.declared.message.Message.TheVariants as message
 use Rattle.wire.specs.declared.references.BatchReference.{BatchReference}
 use Rattle.wire.specs.declared.references.ParentReference.{ParentReference}
 use Rattle.wire.specs.declared.votes.VoteEntry.{VoteEntry}
-use Rattle.wire.specs.Batches.{Contents, has_room}
+use Rattle.wire.specs.Batches.{BatchView, has_room}
 use Rattle.wire.specs.References.{batch_follows, parent_follows, vote_follows}
 
 -- a step behind another one: it goes on with what that one gave, or passes its fault on
@@ -139,7 +139,7 @@ transactions_at bytes = do
 -- ---- messages
 
 -- author, worker, transactions
-unfoldable pub batch_at : List ℕ → Read Contents
+unfoldable pub batch_at : List ℕ → Read BatchView
 batch_at bytes = do
   author ← author_at bytes
   worker ← number_at w16 author.1

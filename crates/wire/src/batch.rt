@@ -43,9 +43,9 @@ impl Drop for Batch {
 
 impl Model for Batch {
     ghost use Rattle.std.specs.Prelude.{◌≡◌};
-    ghost use Rattle.wire.specs.Batches.{Contents, IsBatch, batch_body, contents_of};
+    ghost use Rattle.wire.specs.Batches.{BatchView, IsBatch, batch_body, contents_of};
 
-    ghost Value = { Contents };
+    ghost Value = { BatchView };
 
     ghost view = { λ b. contents_of b.author b.worker b.count b.body };
 
@@ -108,9 +108,9 @@ pub struct OpenBatch {
 }
 
 impl Model for OpenBatch {
-    ghost use Rattle.wire.specs.Batches.{Contents, IsOpen, contents_of};
+    ghost use Rattle.wire.specs.Batches.{BatchView, IsOpen, contents_of};
 
-    ghost Value = { Contents };
+    ghost Value = { BatchView };
 
     ghost view = { λ b. contents_of b.author b.worker b.count b.body.items };
 

@@ -4,7 +4,7 @@ ghost use Rattle.std.specs.Prelude.{◌≡◌, ℕ, List, ◌≤◌, ◌+◌, �
 ghost use Rattle.wire.specs.declared.limits.TheConstants.{MAX_BATCH_BYTES, MAX_BATCHES, MAX_PARENTS, MAX_VOTES};
 ghost use Rattle.wire.specs.Spelling.{batch_reference_bytes, parent_reference_bytes, vote_entry_bytes, batches_bytes, parents_bytes, votes_bytes, header_body, header_body_len, spelling, length_of};
 ghost use Rattle.wire.specs.Putting.{Keeps};
-ghost use Rattle.wire.specs.Fields.{EachIsByte, IsDigest, IsSignature};
+ghost use Rattle.wire.specs.Fields.{AreBytes, IsDigest, IsSignature};
 ghost use Rattle.wire.specs.Batches.{IsBatch};
 ghost use Rattle.wire.specs.Grammar.{IsAck, IsHeaderBody, IsHeader, IsVote, IsCertificate, IsCoin, IsMessage, Spells};
 ghost use Rattle.wire.specs.References.{IsBatchReference, IsParentReference, IsVoteEntry, AreBatches, AreParents, AreVotes};

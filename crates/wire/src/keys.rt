@@ -3,7 +3,7 @@
 ghost use Rattle.std.specs.Prelude.{[], ◌∷◌};
 ghost use Rattle.std.specs.Cmp.Rules.{hashing};
 ghost use Rattle.std.proofs.Common.{rules};
-ghost use Rattle.wire.specs.Fields.{EachIsByte, IsAuthor, IsDigest, IsSignature};
+ghost use Rattle.wire.specs.Fields.{AreBytes, IsAuthor, IsDigest, IsSignature};
 
 use crate::numbers::fits_two_bytes;
 use std::hash::{Hash, Hasher};
@@ -37,7 +37,7 @@ pub struct Signature(pub [u8; 64]);
 
 // What holds of bytes. The call does nothing.
 fn are_bytes(bytes: &[u8])
-    ensures { EachIsByte bytes.now }
+    ensures { AreBytes bytes.now }
 {
     let _ = bytes;
 }

@@ -9,8 +9,8 @@ use Rattle.std.proofs.lemmas.List.Elements.{All-from_recursion, recursion_from_A
 use Rattle.std.proofs.lemmas.List.Sums.{sum_by-append, sum_by_push}
 use Rattle.wire.specs.declared.error.WireError.TheVariants.{TooMany}
 use Rattle.wire.specs.declared.limits.TheConstants.{MAX_TRANSACTION_BYTES, MAX_BATCH_BYTES, MAX_TRANSACTIONS}
-use Rattle.wire.specs.Fields.{AreBytes}
-use Rattle.wire.specs.Batches.{Contents, transaction_bytes, batch_body, body_len, has_room, IsTransaction, IsBatch}
+use Rattle.wire.specs.Fields.{HasBytes}
+use Rattle.wire.specs.Batches.{BatchView, transaction_bytes, batch_body, body_len, has_room, IsTransaction, IsBatch}
 use Rattle.wire.specs.Reading.{◌>>=◌, number_at, bytes_at, author_at, transaction_at, transactions_at, batch_at}
 use Rattle.wire.proofs.RisingLemmas.{both-are}
 use Rattle.wire.proofs.Transactions.{few}
@@ -54,17 +54,17 @@ transaction_again before t rest is short =
     let regrouped : transaction_bytes t ++ rest ≡ to_be_bytes w32 (length t) ++ (t ++ rest) = append_assoc (to_be_bytes w32 (length t)) t rest in
     let room : body_len before + (4 + length t) ≤ MAX_BATCH_BYTES = omega (arith, grown before t, short) in
     let within = both_true (is_not (ltb MAX_TRANSACTION_BYTES (length t)) (le-ltb _ _ is.short)) (le-leb _ _ room) in
-    let are : AreBytes (length t) t = record { count_is = refl; each = is.bytes } in
+    let are : HasBytes (length t) t = record { count_is = refl; each = is.bytes } in
     ap (transaction_at before) regrouped ∙ rw (number_again w32 (2 ^ 32) wide32 (length t) (t ++ rest) (omega (arith, is.short)), within, bytes_again (length t) t rest are) refl
 
 transaction_is : IsEntry transaction_at transaction_bytes IsTransaction Short
 transaction_is = record { takes = transaction_takes; again = transaction_again; begins = front_short }
 
 -- a batch without its tag
-abbrev batch_text : Contents → List ℕ
+abbrev batch_text : BatchView → List ℕ
 batch_text b = to_be_bytes w16 b.author.0 ++ (to_be_bytes w16 b.worker ++ (to_be_bytes w32 (length b.transactions) ++ flat_map transaction_bytes b.transactions))
 
-pub contents_take : (bytes : List ℕ) (x : Contents × List ℕ) → IsBytes bytes → batch_at bytes ≡ Ok x → Takes bytes (batch_body x.0) x.1 × IsBatch x.0
+pub contents_take : (bytes : List ℕ) (x : BatchView × List ℕ) → IsBytes bytes → batch_at bytes ≡ Ok x → Takes bytes (batch_body x.0) x.1 × IsBatch x.0
 unfolding batch_at transactions_at
 contents_take bytes x fits e =
     let a = bind_ok (author_at bytes) (λ author. number_at w16 author.1 >>= λ worker. transactions_at worker.1 >>= λ transactions. Ok (record { author = author.0; worker = worker.0; transactions = transactions.0 }, transactions.1)) x e in
@@ -75,10 +75,10 @@ contents_take bytes x fits e =
     let r = counted_take w32 (2 ^ 32) wide32 MAX_TRANSACTIONS transaction_at transaction_bytes IsTransaction Short transaction_is b.0.1 c.0 t1.0.rest_fits (omega arith) c.1 in
     let from1 = Takes-then a.0.1 (to_be_bytes w16 b.0.0) b.0.1 (to_be_bytes w32 (length c.0.0) ++ flat_map transaction_bytes c.0.0) c.0.1 t1.0 r.takes in
     let from0 = Takes-then bytes (to_be_bytes w16 a.0.0.0) a.0.1 (to_be_bytes w16 b.0.0 ++ (to_be_bytes w32 (length c.0.0) ++ flat_map transaction_bytes c.0.0)) c.0.1 t0.0 from1 in
-    let made : Contents × List ℕ = (record { author = a.0.0; worker = b.0.0; transactions = c.0.0 }, c.0.1) in
-    subst (λ (y : Contents × List ℕ). Takes bytes (batch_text y.0) y.1 × IsBatch y.0) {x = made} (ok_is made x c.2) (from0, record { author = t0.1; worker = t1.1; each = All-from_recursion IsTransaction c.0.0 r.fits; short = r.sound })
+    let made : BatchView × List ℕ = (record { author = a.0.0; worker = b.0.0; transactions = c.0.0 }, c.0.1) in
+    subst (λ (y : BatchView × List ℕ). Takes bytes (batch_text y.0) y.1 × IsBatch y.0) {x = made} (ok_is made x c.2) (from0, record { author = t0.1; worker = t1.1; each = All-from_recursion IsTransaction c.0.0 r.fits; short = r.sound })
 
-pub contents_again : (b : Contents) (rest : List ℕ) → IsBatch b → batch_at (batch_body b ++ rest) ≡ Ok (b, rest)
+pub contents_again : (b : BatchView) (rest : List ℕ) → IsBatch b → batch_at (batch_body b ++ rest) ≡ Ok (b, rest)
 unfolding batch_at transactions_at
 contents_again b rest is =
     let text = to_be_bytes w32 (length b.transactions) ++ flat_map transaction_bytes b.transactions in

@@ -24,7 +24,7 @@ use Rattle.wire.specs.declared.header.Vote.{Vote}
 use Rattle.wire.specs.declared.header.Certificate.{Certificate}
 use Rattle.wire.specs.declared.message.BatchAck.{BatchAck}
 use Rattle.wire.specs.declared.message.Coin.{Coin}
-use Rattle.wire.specs.Batches.{Contents, has_room}
+use Rattle.wire.specs.Batches.{BatchView, has_room}
 use Rattle.wire.specs.References.{batch_follows, parent_follows, vote_follows}
 use Rattle.wire.specs.Reading.{◌>>=◌, Read, number_at, bytes_at, author_at, digest_at, signature_at, round_at, wave_at, count_at, more_at, batch_reference_at, batches_at, parent_reference_at, parents_at, vote_entry_at, votes_at, transaction_at, transactions_at, batch_at, ack_at, header_body_at, header_at, vote_at, certificate_at, coin_at, tagged_at, message_of}
 use Rattle.wire_read.specs.Table.{Field, Part, one, many, bytes, number, round, wave, rising_digest, rising_member, transaction_len, header_body, parts_of, next_entry, next_part, next, HasFault, HasNone}
@@ -246,7 +246,7 @@ transaction_is keys before same n text k is later goes =
 
 -- ---- messages
 
-batch_then : (text : List ℕ) (k : Contents × List ℕ → Result Message WireError) → ((x : Contents) (rest : List ℕ) → Goes (next_part []) rest (k (x, rest))) → Goes (next_part (parts_of 1)) text (batch_at text >>= k)
+batch_then : (text : List ℕ) (k : BatchView × List ℕ → Result Message WireError) → ((x : BatchView) (rest : List ℕ) → Goes (next_part []) rest (k (x, rest))) → Goes (next_part (parts_of 1)) text (batch_at text >>= k)
 unfolding batch_at transactions_at parts_of next_part
 batch_then text k goes =
     steps (author_at text) _ k _ text (author_then (bytes 2).fault _ text _ refl (λ a rest.

@@ -13,7 +13,7 @@ use Rattle.wire.specs.declared.keys.Digest.{Digest}
 use Rattle.wire.specs.declared.keys.Signature.{Signature}
 use Rattle.wire.specs.declared.round.TheConstants.Round.{MAX as MAX_ROUND}
 use Rattle.wire.specs.declared.round.TheConstants.Wave.{MAX as MAX_WAVE}
-use Rattle.wire.specs.Fields.{AreBytes, IsAuthor, IsDigest, IsSignature, IsRound, IsWave}
+use Rattle.wire.specs.Fields.{HasBytes, IsAuthor, IsDigest, IsSignature, IsRound, IsWave}
 use Rattle.wire.specs.Reading.{number_at, bytes_at, author_at, digest_at, signature_at, round_at, wave_at, count_at}
 use Rattle.wire_read.proofs.Steps.{bind_ok, guard_ok, held_ok, ok_is, IsBytes, IsBytes-drop, IsBytes-take, are_bytes, Takes}
 
@@ -66,13 +66,13 @@ number_again w limit wide n rest lt =
 
 -- ---- so many bytes
 
-pub bytes_take : (count : ℕ) (bytes : List ℕ) (x : List ℕ × List ℕ) → IsBytes bytes → bytes_at count bytes ≡ Ok x → Takes bytes x.0 x.1 × AreBytes count x.0
+pub bytes_take : (count : ℕ) (bytes : List ℕ) (x : List ℕ × List ℕ) → IsBytes bytes → bytes_at count bytes ≡ Ok x → Takes bytes x.0 x.1 × HasBytes count x.0
 bytes_take count bytes x fits e =
     let g = guard_ok (ltb (length bytes) count) Short (take count bytes, drop count bytes) x e in
     let long : count ≤ length bytes = ltb-false _ _ g.0 in
-    subst (λ (y : List ℕ × List ℕ). Takes bytes y.0 y.1 × AreBytes count y.0) g.1 (record { parts = sym (take-append-drop count bytes); rest_fits = IsBytes-drop count bytes fits }, are_bytes count bytes long fits)
+    subst (λ (y : List ℕ × List ℕ). Takes bytes y.0 y.1 × HasBytes count y.0) g.1 (record { parts = sym (take-append-drop count bytes); rest_fits = IsBytes-drop count bytes fits }, are_bytes count bytes long fits)
 
-pub bytes_again : (count : ℕ) (text rest : List ℕ) → AreBytes count text → bytes_at count (text ++ rest) ≡ Ok (text, rest)
+pub bytes_again : (count : ℕ) (text rest : List ℕ) → HasBytes count text → bytes_at count (text ++ rest) ≡ Ok (text, rest)
 bytes_again count text rest are =
     let len : length text ≡ count = are.count_is in
     let long : ltb (length (text ++ rest)) count ≡ false = le-ltb _ _ (omega (arith, length-append text rest)) in

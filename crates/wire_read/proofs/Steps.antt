@@ -4,7 +4,7 @@ use Rattle.std.proofs.lemmas.Bool.{cases_lt}
 use Rattle.std.proofs.lemmas.List.{length-take, get_or-drop, get_or-take, get_or_past}
 use Rattle.std.proofs.lemmas.List.Elements.{All-from_get_or}
 use Rattle.wire.specs.declared.error.WireError.{WireError}
-use Rattle.wire.specs.Fields.{AreBytes}
+use Rattle.wire.specs.Fields.{HasBytes}
 use Rattle.wire.specs.Reading.{◌>>=◌}
 
 -- the value of a step that did not fail
@@ -46,7 +46,7 @@ IsBytes-take n bytes h i =
 pub IsBytes-rest : (b : ℕ) (bytes : List ℕ) → IsBytes (b ∷ bytes) → IsBytes bytes
 IsBytes-rest b bytes h i = h (suc i)
 
-pub are_bytes : (n : ℕ) (bytes : List ℕ) → n ≤ length bytes → IsBytes bytes → AreBytes n (take n bytes)
+pub are_bytes : (n : ℕ) (bytes : List ℕ) → n ≤ length bytes → IsBytes bytes → HasBytes n (take n bytes)
 are_bytes n bytes long h = record {
   count_is = omega (arith, length-take n bytes);
   each = All-from_get_or (λ byte. byte < 256) (take n bytes) 0 (λ i _. IsBytes-take n bytes h i);

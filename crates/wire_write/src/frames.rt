@@ -2,7 +2,7 @@
 
 ghost use Rattle.std.specs.Prelude.{◌≡◌, ◌≤◌, length, take, drop, IfOk, IfErr, OnOk, OnErr, IsErrOf};
 ghost use Rattle.std.specs.Io.KnownBytes.{Keeps, Appends};
-ghost use Rattle.spec_world.specs.Text.{frame_of};
+ghost use Rattle.wire.specs.Outputs.{frame_of};
 ghost use Rattle.wire_write.specs.Frames.{AppendsLess};
 
 use std::alloc::{AllocError, Global};

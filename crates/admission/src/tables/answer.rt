@@ -1,12 +1,12 @@
 //! What a message comes to before anything is changed for it.
 
 ghost use Rattle.std.specs.Prelude.{◌≡◌, Ok, Err, IfOk, IfErr};
-ghost use Rattle.spec_model.specs.declared.refusal.Refusal.TheVariants.{Memory};
+ghost use Rattle.header.specs.declared.refusal.Refusal.TheVariants.{Memory};
 ghost use Rattle.admission.specs.Decisions.{lacks_parents, is_new_decision};
 ghost use Rattle.admission.specs.declared.step.Step.TheVariants as step;
 
 use crate::step::Step;
-use spec_model::Refusal;
+use header::Refusal;
 use std::alloc::AllocError;
 use wire::Output;
 

@@ -2,7 +2,7 @@
 
 ghost use Rattle.std.specs.Prelude.{◌≡◌, true, false};
 ghost use Rattle.wire.specs.declared.message.Message.TheVariants as message;
-ghost use Rattle.spec_model.specs.Words.{Contents};
+ghost use Rattle.spec_model.specs.Words.{BatchView};
 ghost use Rattle.batchstore.specs.Stock.{digest_of};
 ghost use Rattle.admission.specs.Answers.{is_new_step};
 ghost use Rattle.admission.specs.Standing.{IsNew, MeetSome, Answers, Refuses, GoOn};
@@ -11,7 +11,7 @@ use crate::batches::{is_new_ack, is_new_batch, take_ack, take_batch};
 use crate::step::Step;
 use crate::tables::Tables;
 use crate::tables::facts::others_stay;
-use spec_model::Refusal;
+use header::Refusal;
 use std::alloc::Global;
 use wire::{Batch, BatchAck, Digest};
 
@@ -39,7 +39,7 @@ impl<'a> Tables<'a> {
 
     /// Whether a batch of this digest would be new. It takes no memory.
     pub fn is_batch_new(&self, digest: &Digest) -> bool
-        ensures { (batch : Contents) → digest.now ≡ digest_of batch → IsNew self.now (message.Batch batch) result }
+        ensures { (batch : BatchView) → digest.now ≡ digest_of batch → IsNew self.now (message.Batch batch) result }
     {
         is_new_batch(&self.batches, digest)
     }

@@ -20,7 +20,7 @@ use crate::tables::answer::{Answer, is_new, lacks_parents, new_step};
 use crate::tables::facts::others_stay;
 use dag::{Added, DagRefusal};
 use sequencer::Sequencer;
-use spec_model::{Outputs, Refusal};
+use header::{Outputs, Refusal};
 use std::alloc::{AllocError, Global};
 use wire::{Certificate, Digest, Output};
 

@@ -18,7 +18,7 @@ use crate::tables::Tables;
 use crate::tables::answer::{Answer, is_new, new_step};
 use crate::tables::facts::others_stay;
 use sequencer::Sequencer;
-use spec_model::{Outputs, Refusal};
+use header::{Outputs, Refusal};
 use std::alloc::{AllocError, Global};
 use wire::{Author, Coin, Output, Round};
 

@@ -16,14 +16,14 @@ use crate::tables::answer::{Answer, is_new, known_step, lacks_parents, new_step}
 use crate::tables::facts::others_stay;
 use crate::votes::keep_vote;
 use sigface::Sign;
-use spec_model::Refusal;
+use header::Refusal;
 use std::alloc::{AllocError, Global};
 use wire::{Author, Digest, Header, Output, Vote, certificate_digest};
 
 // The vote of a member for a header of this digest: it signs the digest of the certificate.
 fn vote_for<S: Sign>(signer: &S, own: Author, header: &Header, digest: &Digest) -> Vote
     requires digested { digest.now ≡ header_digest header.now.body }
-    ensures { result ≡ vote_by own (S.signature_of signer.now) header.now.body }
+    ensures { result ≡ vote_by own (S.scheme.signature_of signer.now) header.now.body }
 {
     let body = &header.body;
     let certificate = certificate_digest(digest, body.round, body.author);
@@ -114,7 +114,7 @@ impl<'a> Tables<'a> {
         digest: &Digest,
     ) -> Result<Vec<Output>, AllocError>
         requires digested { digest.now ≡ header_digest header.now.body }
-        ensures { IfOk result (λ outputs. outputs.items ≡ known_header_outputs self.now (S.signature_of signer.now) header.now) }
+        ensures { IfOk result (λ outputs. outputs.items ≡ known_header_outputs self.now (S.scheme.signature_of signer.now) header.now) }
     {
         if !self.is_own(header.body.author) {
             let vote = vote_for(signer, self.own, header, digest);
@@ -137,8 +137,8 @@ impl<'a> Tables<'a> {
         requires peers { is_own_of self.old header.now.body.author ≡ false }
         requires free { voted_by self.old header.now.body.author header.now.body.round ≡ None }
         requires digested { digest.now ≡ header_digest header.now.body }
-        ensures outputs { IfOk result (λ outputs. outputs.items ≡ new_header_outputs self.old (S.signature_of signer.now) header.now) }
-        ensures at { OnOk result (GoOnBy self.old self.new (S.signature_of signer.now) (message.Header header.now)) }
+        ensures outputs { IfOk result (λ outputs. outputs.items ≡ new_header_outputs self.old (S.scheme.signature_of signer.now) header.now) }
+        ensures at { OnOk result (GoOnBy self.old self.new (S.scheme.signature_of signer.now) (message.Header header.now)) }
         ensures err { OnErr result (self.new ≡ self.old) }
     {
         others_stay();
@@ -161,8 +161,8 @@ impl<'a> Tables<'a> {
         requires ours { self.old.own.0 ≡ self.old.headers.own }
         requires free { voted_by self.old header.body.author header.body.round ≡ None }
         requires digested { digest.now ≡ header_digest header.body }
-        ensures outputs { IfOk result (λ outputs. outputs.items ≡ new_header_outputs self.old (S.signature_of signer.now) header) }
-        ensures at { OnOk result (GoOnBy self.old self.new (S.signature_of signer.now) (message.Header header)) }
+        ensures outputs { IfOk result (λ outputs. outputs.items ≡ new_header_outputs self.old (S.scheme.signature_of signer.now) header) }
+        ensures at { OnOk result (GoOnBy self.old self.new (S.scheme.signature_of signer.now) (message.Header header)) }
         ensures err { OnErr result (self.new ≡ self.old) }
     {
         others_stay();
@@ -188,8 +188,8 @@ impl<'a> Tables<'a> {
         requires ours { self.old.own.0 ≡ self.old.headers.own }
         requires free { voted_by self.old header.body.author header.body.round ≡ None }
         requires digested { digest.now ≡ header_digest header.body }
-        ensures outputs { IfOk result (λ outputs. outputs.items ≡ new_header_outputs self.old (S.signature_of signer.now) header) }
-        ensures at { OnOk result (GoOnBy self.old self.new (S.signature_of signer.now) (message.Header header)) }
+        ensures outputs { IfOk result (λ outputs. outputs.items ≡ new_header_outputs self.old (S.scheme.signature_of signer.now) header) }
+        ensures at { OnOk result (GoOnBy self.old self.new (S.scheme.signature_of signer.now) (message.Header header)) }
         ensures err { OnErr result (self.new ≡ self.old) }
     {
         if self.is_own(header.body.author) {
@@ -211,9 +211,9 @@ impl<'a> Tables<'a> {
     ) -> Result<Step, Refusal>
         requires meets { MeetSome self.old (message.Header header) }
         requires digested { digest.now ≡ header_digest header.body }
-        ensures answer { AnswersBy self.old (S.signature_of signer.now) (message.Header header) result }
-        ensures refused { RefusesBy self.old (S.signature_of signer.now) (message.Header header) result }
-        ensures at { is_new_step result ≡ true → GoOnBy self.old self.new (S.signature_of signer.now) (message.Header header) }
+        ensures answer { AnswersBy self.old (S.scheme.signature_of signer.now) (message.Header header) result }
+        ensures refused { RefusesBy self.old (S.scheme.signature_of signer.now) (message.Header header) result }
+        ensures at { is_new_step result ≡ true → GoOnBy self.old self.new (S.scheme.signature_of signer.now) (message.Header header) }
         ensures same { is_new_step result ≡ false → self.new ≡ self.old }
     {
         match self.header_decision(&header, digest) {

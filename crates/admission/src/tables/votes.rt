@@ -17,7 +17,7 @@ use crate::tables::certificates::hold_certificate;
 use crate::tables::facts::others_stay;
 use crate::tables::headers::alone;
 use certify::Added;
-use spec_model::{Outputs, Refusal};
+use header::{Outputs, Refusal};
 use std::alloc::{AllocError, Global};
 use wire::{Certificate, Output, Vote, certificate_digest, header_digest};
 

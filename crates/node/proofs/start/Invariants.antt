@@ -7,5 +7,5 @@ use Rattle.node.proofs.start.Given as goal
 -- the node begins at the history that the journal's disk is told as
 abbrev pub ghosts-begin : goal.ghosts-begin
 ghosts-begin g a = record {
-  history = read_or_none (told (node_of g.S.Sign.own_key g.S.Sign.signature_of a.validator.setting) (g.D.Disk.content (disk_of a.journal)));
+  history = read_or_none (told (node_of g.S.Sign.scheme a.validator.setting) (g.D.Disk.device.content (disk_of a.journal)));
 }

@@ -47,7 +47,7 @@ fn append(
     records: Vec<Vec<u8>>,
     answer: &mut String,
 )
-    requires { IsAlive ⟦<FileDisk as Disk>⟧.content ⟦<FileDisk as Disk>⟧.outcome journal.old }
+    requires { IsAlive ⟦<FileDisk as Disk>⟧.device journal.old }
 {
     let Ok(Some(group)) = Group::new(alloc, records) else {
         return;

@@ -118,7 +118,7 @@ fn append(
     records: Vec<Vec<u8>>,
     text: &mut String,
 ) -> Told
-    requires { IsAlive ⟦<MemDisk as Disk>⟧.content ⟦<MemDisk as Disk>⟧.outcome journal.old }
+    requires { IsAlive ⟦<MemDisk as Disk>⟧.device journal.old }
 {
     let group = Group::new(alloc, records)?;
     append_group(journal, group, text);
@@ -126,7 +126,7 @@ fn append(
 }
 
 fn append_group(journal: &mut Journal<MemDisk>, group: Option<Group>, text: &mut String)
-    requires { IsAlive ⟦<MemDisk as Disk>⟧.content ⟦<MemDisk as Disk>⟧.outcome journal.old }
+    requires { IsAlive ⟦<MemDisk as Disk>⟧.device journal.old }
 {
     let Some(group) = group else {
         return put(text, ", no group");

@@ -95,7 +95,7 @@ impl<'a> Lists<'a> {
 
     /// An event comes in.
     fn accept(&mut self) -> Told
-        ensures { KeepsOnTheWay ⟦<HashSign as Sign>⟧.own_key ⟦<HashSign as Sign>⟧.signature_of self.old.book self.new.book }
+        ensures { KeepsOnTheWay ⟦<HashSign as Sign>⟧.scheme self.old.book self.new.book }
     {
         let number = self.draws.below(SENDERS * KINDS);
         let expected = self.plain.accept(number)?;
@@ -107,7 +107,7 @@ impl<'a> Lists<'a> {
 
     /// An output goes out, if one may.
     fn release(&mut self) -> Told
-        ensures { KeepsOnTheWay ⟦<HashSign as Sign>⟧.own_key ⟦<HashSign as Sign>⟧.signature_of self.old.book self.new.book }
+        ensures { KeepsOnTheWay ⟦<HashSign as Sign>⟧.scheme self.old.book self.new.book }
     {
         let expected = self.plain.release()?;
         let same = is_expected(self.alloc, self.book.release(), expected)?;
@@ -118,7 +118,7 @@ impl<'a> Lists<'a> {
 
     /// What comes in and goes out beside a group's way to the disk.
     fn beside(&mut self) -> Told
-        ensures { KeepsOnTheWay ⟦<HashSign as Sign>⟧.own_key ⟦<HashSign as Sign>⟧.signature_of self.old.book self.new.book }
+        ensures { KeepsOnTheWay ⟦<HashSign as Sign>⟧.scheme self.old.book self.new.book }
     {
         self.accept()?;
         self.release()
@@ -157,7 +157,7 @@ impl<'a> Lists<'a> {
         failing: Option<Moment>,
         gate: usize,
     ) -> Told
-        requires { IsAlive ⟦<MemDisk as Disk>⟧.content ⟦<MemDisk as Disk>⟧.outcome journal }
+        requires { IsAlive ⟦<MemDisk as Disk>⟧.device journal }
     {
         let mut written = self.write(&mut journal, failing);
         if matches!(written, Ok(None)) && self.book.has_pending() {
@@ -176,8 +176,8 @@ impl<'a> Lists<'a> {
         journal: &mut Journal<MemDisk>,
         failing: Option<Moment>,
     ) -> Result<Option<Moment>, AllocError>
-        requires { IsAlive ⟦<MemDisk as Disk>⟧.content ⟦<MemDisk as Disk>⟧.outcome journal.old }
-        ensures { IfOk result (λ moment. IsNone moment → IsAlive ⟦<MemDisk as Disk>⟧.content ⟦<MemDisk as Disk>⟧.outcome journal.new) }
+        requires { IsAlive ⟦<MemDisk as Disk>⟧.device journal.old }
+        ensures { IfOk result (λ moment. IsNone moment → IsAlive ⟦<MemDisk as Disk>⟧.device journal.new) }
     {
         if !self.book.is_settled() {
             self.differs();

@@ -50,7 +50,7 @@ pub fn put_groups(
 
 /// Takes a group and writes it. It stays on the way.
 fn write(own: &mut OwnBook<'_, HashSign>, journal: &mut Journal<MemDisk>, answer: &mut String)
-    requires { IsAlive ⟦<MemDisk as Disk>⟧.content ⟦<MemDisk as Disk>⟧.outcome journal.old }
+    requires { IsAlive ⟦<MemDisk as Disk>⟧.device journal.old }
 {
     match own.take() {
         Ok(Some(group)) => {
@@ -68,7 +68,7 @@ fn write(own: &mut OwnBook<'_, HashSign>, journal: &mut Journal<MemDisk>, answer
 
 /// One round of the book.
 fn flush(own: &mut OwnBook<'_, HashSign>, journal: &mut Journal<MemDisk>, answer: &mut String)
-    requires { IsAlive ⟦<MemDisk as Disk>⟧.content ⟦<MemDisk as Disk>⟧.outcome journal.old }
+    requires { IsAlive ⟦<MemDisk as Disk>⟧.device journal.old }
 {
     match own.flush(journal) {
         Ok(0) => put(answer, "no group"),
@@ -82,7 +82,7 @@ fn flush(own: &mut OwnBook<'_, HashSign>, journal: &mut Journal<MemDisk>, answer
 
 /// Takes two groups and writes each, and settles them in turn.
 fn write_two(own: &mut OwnBook<'_, HashSign>, journal: &mut Journal<MemDisk>, answer: &mut String)
-    requires { IsAlive ⟦<MemDisk as Disk>⟧.content ⟦<MemDisk as Disk>⟧.outcome journal.old }
+    requires { IsAlive ⟦<MemDisk as Disk>⟧.device journal.old }
 {
     if !own.is_settled() {
         return put(answer, "a group is on the way");
@@ -105,8 +105,8 @@ fn write_second(
     first: Synced,
     answer: &mut String,
 )
-    requires alive { IsAlive ⟦<MemDisk as Disk>⟧.content ⟦<MemDisk as Disk>⟧.outcome journal.old }
-    requires way { AreOnTheWay (node_of ⟦<HashSign as Sign>⟧.own_key ⟦<HashSign as Sign>⟧.signature_of own.old.validator.setting) own.old (first ∷ []) }
+    requires alive { IsAlive ⟦<MemDisk as Disk>⟧.device journal.old }
+    requires way { AreOnTheWay (node_of ⟦<HashSign as Sign>⟧.scheme own.old.validator.setting) own.old (first ∷ []) }
 {
     let Ok(Some(group)) = own.take() else {
         put(answer, ", no second");
@@ -124,7 +124,7 @@ fn write_second(
 
 /// Settles two groups, of which the first was taken before the second.
 fn settle_two(own: &mut OwnBook<'_, HashSign>, first: Synced, second: Synced)
-    requires { AreOnTheWay (node_of ⟦<HashSign as Sign>⟧.own_key ⟦<HashSign as Sign>⟧.signature_of own.old.validator.setting) own.old (first ∷ second ∷ []) }
+    requires { AreOnTheWay (node_of ⟦<HashSign as Sign>⟧.scheme own.old.validator.setting) own.old (first ∷ second ∷ []) }
 {
     own.settle(first);
     own.settle(second);

@@ -30,7 +30,7 @@ pub fn accept(
     alloc: Global,
     number: u64,
 ) -> Result<Option<Result<Receipt, Refusal>>, AllocError>
-    ensures { KeepsOnTheWay ⟦<HashSign as Sign>⟧.own_key ⟦<HashSign as Sign>⟧.signature_of own.old own.new }
+    ensures { KeepsOnTheWay ⟦<HashSign as Sign>⟧.scheme own.old own.new }
 {
     let message = message_of(alloc, number)?;
     match event(own.committee(), sender_of(number), message) {

@@ -7,7 +7,7 @@ use diskmodel::MemDisk;
 use journal::{Journal, Record};
 use ref_script::{Command, text};
 use sigface::HashSign;
-use spec_model::{Event, Node};
+use header::{Event, Node};
 use std::alloc::{AllocError, Global};
 use wire::Author;
 

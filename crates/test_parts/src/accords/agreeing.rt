@@ -16,7 +16,7 @@ use ref_order::histories::coins;
 use ref_order::past::Past;
 use ref_order::slots::slot;
 use sigface::Sign;
-use spec_model::Event;
+use header::Event;
 use std::alloc::{AllocError, Global};
 use wire::{Certificate, Digest, HeaderBody};
 
@@ -71,7 +71,7 @@ fn have_one_header(one: &[Certificate], other: &[Certificate]) -> bool
 
 /// The slots of two nodes don't contradict one another.
 fn slots_agree<S: Sign>(alloc: Global, one: &Past<S>, other: &Past<S>) -> Result<bool, AllocError>
-    ensures { IfOk result (λ found. IsTrue found ↔ HaveOneHeader (holdings.slots (node_view S.own_key S.signature_of one.now.node.now) one.now.history.now) (holdings.slots (node_view S.own_key S.signature_of other.now.node.now) other.now.history.now)) }
+    ensures { IfOk result (λ found. IsTrue found ↔ HaveOneHeader (holdings.slots (node_view S.scheme one.now.node.now) one.now.history.now) (holdings.slots (node_view S.scheme other.now.node.now) other.now.history.now)) }
 {
     let first = certificates(alloc, one.node, one.history)?;
     let second = certificates(alloc, other.node, other.history)?;
@@ -88,7 +88,7 @@ fn waves_agree(alloc: Global, one: &[Event], other: &[Event]) -> Result<bool, Al
 
 /// They are of one committee, and neither their slots nor their coins contradict one another.
 fn are_of_one<S: Sign>(alloc: Global, one: &Past<S>, other: &Past<S>) -> Result<bool, AllocError>
-    ensures { IfOk result (λ found. IsTrue found ↔ AreOfOne (node_view S.own_key S.signature_of one.now.node.now) (node_view S.own_key S.signature_of other.now.node.now) one.now.history.now other.now.history.now) }
+    ensures { IfOk result (λ found. IsTrue found ↔ AreOfOne (node_view S.scheme one.now.node.now) (node_view S.scheme other.now.node.now) one.now.history.now other.now.history.now) }
 {
     if !same_committee(&one.node.committee, &other.node.committee) {
         return Ok(false);
@@ -104,10 +104,10 @@ fn are_of_one<S: Sign>(alloc: Global, one: &Past<S>, other: &Past<S>) -> Result<
 /// # Errors
 /// When memory runs out.
 pub fn agree<S: Sign>(alloc: Global, one: &Past<S>, other: &Past<S>) -> Result<Agreed, AllocError>
-    ensures premises { IfOk result (λ found. IsTrue found.premises ↔ AreOfOne (node_view S.own_key S.signature_of one.now.node.now) (node_view S.own_key S.signature_of other.now.node.now) one.now.history.now other.now.history.now) }
-    ensures agrees { IfOk result (λ found. IsTrue found.agrees ↔ Agree (holdings.order (node_view S.own_key S.signature_of one.now.node.now) one.now.history.now) (holdings.order (node_view S.own_key S.signature_of other.now.node.now) other.now.history.now)) }
-    ensures one { IfOk result (λ found. found.one.items ≡ holdings.order (node_view S.own_key S.signature_of one.now.node.now) one.now.history.now) }
-    ensures other { IfOk result (λ found. found.other.items ≡ holdings.order (node_view S.own_key S.signature_of other.now.node.now) other.now.history.now) }
+    ensures premises { IfOk result (λ found. IsTrue found.premises ↔ AreOfOne (node_view S.scheme one.now.node.now) (node_view S.scheme other.now.node.now) one.now.history.now other.now.history.now) }
+    ensures agrees { IfOk result (λ found. IsTrue found.agrees ↔ Agree (holdings.order (node_view S.scheme one.now.node.now) one.now.history.now) (holdings.order (node_view S.scheme other.now.node.now) other.now.history.now)) }
+    ensures one { IfOk result (λ found. found.one.items ≡ holdings.order (node_view S.scheme one.now.node.now) one.now.history.now) }
+    ensures other { IfOk result (λ found. found.other.items ≡ holdings.order (node_view S.scheme other.now.node.now) other.now.history.now) }
 {
     let premises = are_of_one(alloc, one, other)?;
     let first = order(alloc, one.node, one.history)?;

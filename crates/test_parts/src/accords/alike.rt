@@ -2,7 +2,7 @@
 
 ghost use Rattle.std.specs.Prelude.{◌≡◌, ◌↔◌, IsTrue, slice_get};
 ghost use Rattle.spec_accord.specs.Accord.{Agree};
-ghost use Rattle.spec_model.specs.Histories.{Begins};
+ghost use Rattle.wire.specs.Lists.{Begins};
 ghost use Rattle.spec_model.specs.Admitting as admitting;
 ghost use Rattle.test_parts.specs.Accords as accords;
 

@@ -8,7 +8,7 @@ use ref_admission::admitting::answer;
 use ref_order::held::Held;
 use ref_order::past::Past;
 use sigface::Sign;
-use spec_model::{Event, Node};
+use header::{Event, Node};
 use std::alloc::{AllocError, Global};
 use wire::{Batch, Certificate, Digest, Header, Vote};
 
@@ -26,7 +26,7 @@ impl<'a, S: Sign> Clone for Unordered<'a, S> {
 impl<'a, S: Sign> Copy for Unordered<'a, S> {}
 
 impl<'a, S: Sign> Held for Unordered<'a, S> {
-    ghost state = { λ s. record (whole (node_view S.own_key S.signature_of s.past.node.now) s.past.history.now) { order = [] } };
+    ghost state = { λ s. record (whole (node_view S.scheme s.past.node.now) s.past.history.now) { order = [] } };
 
     fn batch(&self, digest: &Digest) -> Option<&Batch> {
         self.past.batch(digest)

@@ -9,7 +9,7 @@ use committee::{Committee, MAX_MEMBERS, MemberSet};
 use header::recheck;
 use sigface::HashSign;
 use sim_script::{FormError, Proposed, signer};
-use spec_model::{Event, Node};
+use header::{Event, Node};
 use std::alloc::{AllocError, Global};
 use wire::{
     Author, Certificate, Coin, MAX_VOTES, Message, Signature, Vote, VoteEntries, VoteEntry, Wave,

@@ -9,7 +9,7 @@ use ref_admission::proposing::propose;
 use ref_machine::{Tables, after, answered, fresh, is_ready, proposed, round_in};
 use ref_order::certificates::{floor, round};
 use ref_order::held::{Held, floor_in};
-use spec_model::{Admission, Event, Refusal};
+use header::{Admission, Event, Refusal};
 use std::alloc::AllocError;
 use wire::{Batch, Digest, Header, batch_digest};
 

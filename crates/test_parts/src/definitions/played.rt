@@ -20,7 +20,7 @@ use sim_script::{
     BATCHES, Command, DEPTH, FormError, Labels, OWN, Setting, committee_file, define_batch,
     define_header, message_of, parse, signer,
 };
-use spec_model::{Admission, Event, Node, Outputs};
+use header::{Admission, Event, Node, Outputs};
 use std::alloc::{AllocError, Global};
 use wire::{Author, Coin, Message, Wave};
 

@@ -15,7 +15,7 @@ use crate::parts::parted;
 use bodies::tell_bodies;
 use playing::play_lines;
 use sim_script::{BATCHES, DEPTH, FormError, OWN, signer};
-use spec_model::Node;
+use header::Node;
 use std::alloc::{AllocError, Global};
 
 /// The lines of a case.

@@ -4,7 +4,7 @@ use crate::parts::members::add_members;
 use crate::parts::words::{Told, author_of, bad, list};
 use committee::Committee;
 use header::{Checked, passes, recheck};
-use seed::TableSeed;
+use sigface::TableSeed;
 use sigface::HashSign;
 use std::alloc::{AllocError, Global};
 use waiter::Waiter;

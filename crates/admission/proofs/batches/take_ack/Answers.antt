@@ -2,9 +2,9 @@ use Rattle.std.proofs.Common.{◌≡◌, Bool, [], length, Ok, Err, true, false,
 use Rattle.std.specs.Prelude.{◌&&◌, not, if◌then◌else◌}
 use Rattle.std.proofs.lemmas.Bool.{lt-ltb, and_parts, and_from, not-true, false_from_ne_true, true_from_ne_false}
 use Rattle.wire.specs.declared.message.Message.TheVariants as message
-use Rattle.spec_model.specs.declared.admission.Admission.TheVariants.{New, Known, Refused}
-use Rattle.spec_model.specs.declared.admission.Admission.{Admission}
-use Rattle.spec_model.specs.declared.refusal.Refusal.TheVariants.{NotOurs}
+use Rattle.header.specs.declared.admission.Admission.TheVariants.{New, Known, Refused}
+use Rattle.header.specs.declared.admission.Admission.{Admission}
+use Rattle.header.specs.declared.refusal.Refusal.TheVariants.{NotOurs}
 use Rattle.batchstore.specs.declared.refusal.StoreRefusal.TheVariants as store
 use Rattle.batchstore.specs.Answer.{is_member}
 use Rattle.batchstore.specs.Stock.{has_own, holds}

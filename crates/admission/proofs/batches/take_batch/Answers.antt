@@ -2,9 +2,9 @@ use Rattle.std.proofs.Common.{◌≡◌, Err, None, inr, ap, sym, subst, ◌∙�
 use Rattle.std.specs.Prelude.{if◌then◌else◌}
 use Rattle.wire.specs.declared.message.Message.TheVariants as message
 use Rattle.spec_model.specs.Admitting.{batch_outputs}
-use Rattle.spec_model.specs.declared.admission.Admission.TheVariants.{New, Refused}
-use Rattle.spec_model.specs.declared.refusal.Refusal.TheVariants.{StoreFull}
-use Rattle.spec_model.specs.declared.admission.Admission.{Admission}
+use Rattle.header.specs.declared.admission.Admission.TheVariants.{New, Refused}
+use Rattle.header.specs.declared.refusal.Refusal.TheVariants.{StoreFull}
+use Rattle.header.specs.declared.admission.Admission.{Admission}
 use Rattle.batchstore.specs.Stock.{batch_in, digest_of, held_at}
 use Rattle.admission.specs.Answers.{IsAnswer, RefusesAs}
 use Rattle.admission.specs.Batches.{HasBatches}

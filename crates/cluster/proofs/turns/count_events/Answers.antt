@@ -8,11 +8,11 @@ use Rattle.cluster.proofs.turns.count_events.Goals as goal
 
 pub returns-in-Ok-clause-count : goal.returns-in-Ok-clause-count
 returns-in-Ok-clause-count g c = λ node history told_as.
-    c.saturating_sub.ensures ∙ ap (λ n. n - 1) (c.len.ensures ∙ c.in-Ok.records.ok.0) ∙ told_length node (g.D.Disk.content c.args.disk) c.in-Ok.records.items history c.in-Ok.ensures.records told_as
+    c.saturating_sub.ensures ∙ ap (λ n. n - 1) (c.len.ensures ∙ c.in-Ok.records.ok.0) ∙ told_length node (g.D.Disk.device.content c.args.disk) c.in-Ok.records.items history c.in-Ok.ensures.records told_as
 
 pub returns-in-Err-clause-refused : goal.returns-in-Err-clause-refused
 returns-in-Err-clause-refused g c = λ node history told_as.
-    let file = g.D.Disk.content c.args.disk in
+    let file = g.D.Disk.device.content c.args.disk in
     let error = c.in-Err.failed.error in
     no_refusal error history (told node file) told_as (opening_fails node file error c.in-Err.ensures.damaged c.in-Err.ensures.never_full c.in-Err.ensures.never_config)
 

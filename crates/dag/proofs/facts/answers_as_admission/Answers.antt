@@ -6,9 +6,9 @@ use Rattle.spec_model.specs.Holdings.{is_low, all_held}
 use Rattle.spec_model.specs.Slots.{Slots, same_digest, certificate_digest}
 use Rattle.spec_model.specs.States.{floor_in}
 use Rattle.spec_model.specs.Words.{Certificate, Output}
-use Rattle.spec_model.specs.declared.admission.Admission.{Admission}
-use Rattle.spec_model.specs.declared.admission.Admission.TheVariants as admission
-use Rattle.spec_model.specs.declared.refusal.Refusal.TheVariants as refusal
+use Rattle.header.specs.declared.admission.Admission.{Admission}
+use Rattle.header.specs.declared.admission.Admission.TheVariants as admission
+use Rattle.header.specs.declared.refusal.Refusal.TheVariants as refusal
 use Rattle.dag.specs.Answer.{held_answer, answer}
 use Rattle.dag.specs.Graph.{slots_in}
 use Rattle.dag.specs.declared.answers.Added.{Added}

@@ -16,8 +16,8 @@ loop-preserved g c =
     let first = c.args.rounds.now.flusher in
     let mid = c.loop.rounds.flusher in
     let now = c.flush_pending.new.rounds.flusher in
-    let lacks = λ (f : Flusher g.row.D.Denot). HasNoRoom (g.D.Disk.content (disk_of (journal_of f))) (settled_in f) (taken_in f) in
-    let faults = λ (f : Flusher g.row.D.Denot). g.D.Disk.faults (disk_of (journal_of f)) in
+    let lacks = λ (f : Flusher g.row.D.Denot). HasNoRoom (g.D.Disk.device.content (disk_of (journal_of f))) (settled_in f) (taken_in f) in
+    let faults = λ (f : Flusher g.row.D.Denot). g.D.Disk.device.faults (disk_of (journal_of f)) in
     let done = c.flush_pending.ensures in
     let told = subst (λ (j : Option JournalError). TellsJournal (faults first) (faults now) (is_down first) (is_down now) j (lacks now)) (sym c.and-faults.ensures.journal)
     (told_on (faults first) (faults mid) (faults now) (is_down first) (is_down mid) (is_down now) c.loop.faults.journal c.flush_pending.result.journal (lacks mid) (lacks now) c.loop.invariant.4
@@ -26,7 +26,7 @@ loop-preserved g c =
     done.full) in
     let output : c.and-faults.result.output ≡ false = search rules in
     let input : c.and-faults.result.input ≡ false = search rules in
-    let leaves = all_on (node_of g.S.Sign.own_key g.S.Sign.signature_of) g.D.Disk.clock g.D.Disk.outcome_since c.args.rounds.now.node c.loop.rounds.node first mid now c.loop.invariant.5 c.loop.invariant.6 c.loop.invariant.7
+    let leaves = all_on g.S.Sign.scheme g.D.Disk.device c.args.rounds.now.node c.loop.rounds.node first mid now c.loop.invariant.5 c.loop.invariant.6 c.loop.invariant.7
     (λ down. (done.stays down).1) done.any_moment in
     (tt, tt, output, input, told, done.node ∙ c.loop.invariant.5, begins_trans (settled_in first) (settled_in mid) (settled_in now) c.loop.invariant.6 done.more, inr leaves)
 
@@ -35,8 +35,8 @@ returns-then-not-may_go_on-clause-journal g c =
     let first = c.args.rounds.now.flusher in
     let mid = c.loop.rounds.flusher in
     let now = c.flush_pending.new.rounds.flusher in
-    let lacks = λ (f : Flusher g.row.D.Denot). HasNoRoom (g.D.Disk.content (disk_of (journal_of f))) (settled_in f) (taken_in f) in
-    let faults = λ (f : Flusher g.row.D.Denot). g.D.Disk.faults (disk_of (journal_of f)) in
+    let lacks = λ (f : Flusher g.row.D.Denot). HasNoRoom (g.D.Disk.device.content (disk_of (journal_of f))) (settled_in f) (taken_in f) in
+    let faults = λ (f : Flusher g.row.D.Denot). g.D.Disk.device.faults (disk_of (journal_of f)) in
     let done = c.flush_pending.ensures in
     let told = subst (λ (j : Option JournalError). TellsJournal (faults first) (faults now) (is_down first) (is_down now) j (lacks now)) (sym c.and-faults.ensures.journal)
     (told_on (faults first) (faults mid) (faults now) (is_down first) (is_down mid) (is_down now) c.loop.faults.journal c.flush_pending.result.journal (lacks mid) (lacks now) c.loop.invariant.4
@@ -48,5 +48,5 @@ returns-then-not-may_go_on-clause-journal g c =
 pub returns-then-not-may_go_on-clause-any_moment : goal.returns-then-not-may_go_on-clause-any_moment
 returns-then-not-may_go_on-clause-any_moment g c =
     let done = c.flush_pending.ensures in
-    all_on (node_of g.S.Sign.own_key g.S.Sign.signature_of) g.D.Disk.clock g.D.Disk.outcome_since c.args.rounds.now.node c.loop.rounds.node c.args.rounds.now.flusher c.loop.rounds.flusher c.flush_pending.new.rounds.flusher
+    all_on g.S.Sign.scheme g.D.Disk.device c.args.rounds.now.node c.loop.rounds.node c.args.rounds.now.flusher c.loop.rounds.flusher c.flush_pending.new.rounds.flusher
     c.loop.invariant.5 c.loop.invariant.6 c.loop.invariant.7 (λ down. (done.stays down).1) done.any_moment

@@ -2,7 +2,7 @@ use Rattle.std.proofs.Common.{◌≡◌, false}
 use Rattle.std.specs.Prelude.{◌⊎◌}
 use Rattle.diskmodel.specs.Disk.{AtEachMoment}
 use Rattle.node_run.specs.Runs.{HoldsMore}
-use Rattle.spec_model.specs.Histories.{Begins}
+use Rattle.wire.specs.Lists.{Begins}
 use Rattle.validator.specs.Setting.{node_of}
 use Rattle.journal.specs.Journal.{disk_of}
 use Rattle.flusher.specs.Rounds.{journal_of, is_down, settled_in, taken_in, HasNoRoom}
@@ -14,9 +14,9 @@ invariant-loop g l =
     let first = l.initial.rounds.flusher in
     let now = l.rounds.flusher in
     (goal.iterator-loop g).can_next l.iterator' × (goal.iterator-loop g).is_finite l.iterator' × (l.faults.output ≡ false) × (l.faults.input ≡ false)
-    × TellsJournal (g.D.Disk.faults (disk_of (journal_of first))) (g.D.Disk.faults (disk_of (journal_of now))) (is_down first) (is_down now) l.faults.journal
-    (HasNoRoom (g.D.Disk.content (disk_of (journal_of now))) (settled_in now) (taken_in now))
+    × TellsJournal (g.D.Disk.device.faults (disk_of (journal_of first))) (g.D.Disk.device.faults (disk_of (journal_of now))) (is_down first) (is_down now) l.faults.journal
+    (HasNoRoom (g.D.Disk.device.content (disk_of (journal_of now))) (settled_in now) (taken_in now))
     × (l.rounds.node ≡ l.initial.rounds.node)
     × Begins (settled_in first) (settled_in now)
-    × (now ≡ first ⊎ (is_down first ≡ false → AtEachMoment g.D.Disk.clock g.D.Disk.outcome_since (disk_of (journal_of first)) (disk_of (journal_of now))
-    (HoldsMore (node_of g.S.Sign.own_key g.S.Sign.signature_of) l.initial.rounds.node (settled_in first))))
+    × (now ≡ first ⊎ (is_down first ≡ false → AtEachMoment g.D.Disk.device (disk_of (journal_of first)) (disk_of (journal_of now))
+    (HoldsMore g.S.Sign.scheme l.initial.rounds.node (settled_in first))))

@@ -1,9 +1,9 @@
 use Rattle.std.proofs.Common.{Ok, ap, sym, subst, ◌∙◌, inr}
 use Rattle.std.specs.Prelude.{IsErrOf, IsTrue}
 use Rattle.flusher.specs.Rounds.{settled_in, taken_in}
-use Rattle.flusher.specs.declared.error.FlushError.TheVariants as flush
+use Rattle.book.specs.declared.own.error.FlushError.TheVariants as flush
 use Rattle.node_seats.proofs.Beginnings.{begins_trans}
-use Rattle.spec_model.specs.Histories.{Begins}
+use Rattle.wire.specs.Lists.{Begins}
 use Rattle.validator.specs.Setting.{node_of}
 use Rattle.node_run.proofs.Moments.{begins_taken, ok_is_up, up_is_up, round_on}
 use Rattle.node_run.proofs.Flushed.{nothing_left, of_ok, never_ok, stays_up}
@@ -17,7 +17,7 @@ loop-preserved g c =
     let later = round.new.self.flusher in
     let up = ok_is_up round.result c.in-Ok.field-0 c.in-Ok.is in
     let takes = begins_taken _ (settled_in now) (taken_in later) round.result up round.ensures.settles.takes (λ none. (round.ensures.settles.memory none).1) in
-    let leaves = round_on (node_of g.S.Sign.own_key g.S.Sign.signature_of) g.D.Disk.clock g.D.Disk.outcome_since c.args.rounds.now.node c.loop.rounds.node _ first now later round.result
+    let leaves = round_on g.S.Sign.scheme g.D.Disk.device c.args.rounds.now.node c.loop.rounds.node _ first now later round.result
     c.loop.invariant.6 up c.loop.invariant.7 round.ensures.settles.takes round.ensures.settles.memory round.ensures.any_moment c.loop.invariant.8 in (
       tt,
       tt,
@@ -53,12 +53,12 @@ pub returns-in-Ok-eq0-clause-any_moment : goal.returns-in-Ok-eq0-clause-any_mome
 returns-in-Ok-eq0-clause-any_moment g c = λ was_up.
     let round = c.round-round in
     let ok = c.in-Ok-eq0.is ∙ ap Ok (sym c.in-Ok-eq0.field-0-is ∙ c.in-Ok-eq0.field-0-test) in
-    round_on (node_of g.S.Sign.own_key g.S.Sign.signature_of) g.D.Disk.clock g.D.Disk.outcome_since c.args.rounds.now.node c.loop.rounds.node _ c.args.rounds.now.flusher c.loop.rounds.flusher round.new.self.flusher round.result
+    round_on g.S.Sign.scheme g.D.Disk.device c.args.rounds.now.node c.loop.rounds.node _ c.args.rounds.now.flusher c.loop.rounds.flusher round.new.self.flusher round.result
     c.loop.invariant.6 (ok_is_up round.result 0 ok) c.loop.invariant.7 round.ensures.settles.takes round.ensures.settles.memory round.ensures.any_moment c.loop.invariant.8
 
 pub returns-in-Err-clause-any_moment : goal.returns-in-Err-clause-any_moment
 returns-in-Err-clause-any_moment g c = λ was_up.
     let round = c.round-round in
     let up = up_is_up (IsErrOf round.result flush.Down) _ _ c.loop.invariant.3 was_up round.ensures.down.down.0 in
-    round_on (node_of g.S.Sign.own_key g.S.Sign.signature_of) g.D.Disk.clock g.D.Disk.outcome_since c.args.rounds.now.node c.loop.rounds.node _ c.args.rounds.now.flusher c.loop.rounds.flusher round.new.self.flusher round.result
+    round_on g.S.Sign.scheme g.D.Disk.device c.args.rounds.now.node c.loop.rounds.node _ c.args.rounds.now.flusher c.loop.rounds.flusher round.new.self.flusher round.result
     c.loop.invariant.6 up c.loop.invariant.7 round.ensures.settles.takes round.ensures.settles.memory round.ensures.any_moment c.loop.invariant.8

@@ -1,7 +1,7 @@
 use Rattle.std.proofs.Common.{◌≡◌}
 use Rattle.std.specs.Prelude.{◌⊎◌, IsTrue}
 use Rattle.journal.specs.Journal.{disk_of}
-use Rattle.spec_model.specs.Histories.{Begins}
+use Rattle.wire.specs.Lists.{Begins}
 use Rattle.diskmodel.specs.Disk.{AtEachMoment}
 use Rattle.flusher.specs.Rounds.{journal_of, is_down, settled_in}
 use Rattle.node_run.specs.Runs.{HoldsMore}
@@ -11,11 +11,11 @@ use Rattle.node_run.proofs.flushing.flush_pending.Given as goal
 abbrev pub invariant-loop : goal.invariant-loop
 invariant-loop g l =
     (goal.iterator-loop g).can_next l.iterator' × (goal.iterator-loop g).is_finite l.iterator'
-    × (g.D.Disk.faults (disk_of (journal_of l.rounds.flusher)) ≡ g.D.Disk.faults (disk_of (journal_of l.initial.rounds.flusher)))
+    × (g.D.Disk.device.faults (disk_of (journal_of l.rounds.flusher)) ≡ g.D.Disk.device.faults (disk_of (journal_of l.initial.rounds.flusher)))
     × (is_down l.rounds.flusher ≡ is_down l.initial.rounds.flusher)
     × Begins l.initial.rounds.seat.view.seen l.rounds.seat.view.seen
     × (IsTrue (is_down l.initial.rounds.flusher) → l.rounds.flusher ≡ l.initial.rounds.flusher)
     × (l.rounds.node ≡ l.initial.rounds.node)
     × Begins (settled_in l.initial.rounds.flusher) (settled_in l.rounds.flusher)
-    × ((l.rounds.flusher ≡ l.initial.rounds.flusher) ⊎ AtEachMoment g.D.Disk.clock g.D.Disk.outcome_since (disk_of (journal_of l.initial.rounds.flusher)) (disk_of (journal_of l.rounds.flusher))
-    (HoldsMore (node_of g.S.Sign.own_key g.S.Sign.signature_of) l.initial.rounds.node (settled_in l.initial.rounds.flusher)))
+    × ((l.rounds.flusher ≡ l.initial.rounds.flusher) ⊎ AtEachMoment g.D.Disk.device (disk_of (journal_of l.initial.rounds.flusher)) (disk_of (journal_of l.rounds.flusher))
+    (HoldsMore g.S.Sign.scheme l.initial.rounds.node (settled_in l.initial.rounds.flusher)))

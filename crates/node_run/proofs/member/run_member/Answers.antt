@@ -6,7 +6,7 @@ use Rattle.flusher.specs.declared.flusher.Flusher.{Flusher}
 use Rattle.journal.specs.Journal.{disk_of}
 use Rattle.node_io.specs.declared.ending.Ending.{Ending}
 use Rattle.node_seats.specs.declared.view.Marked.{Marked}
-use Rattle.node_shared.specs.Home.{Shared}
+use Rattle.node_shared.specs.Home.{NodeView}
 use Rattle.opening.specs.Told.{IsToldAsOneOf}
 use Rattle.validator.specs.Setting.{node_of}
 use Rattle.node_run.proofs.Runs.{ended}
@@ -15,7 +15,7 @@ use Rattle.node_run.specs.Runs.{HoldsMore, RunsOver}
 
 pub returns-in-Ok-new : goal.returns-in-Ok-new
 returns-in-Ok-new g c =
-    let nodes = node_of g.S.Sign.own_key g.S.Sign.signature_of in
+    let nodes = node_of g.S.Sign.scheme in
     let node = nodes c.args.config.now in
     let started = c.in-Ok.ensures in
     let rounds = c.new.new.rounds in
@@ -25,12 +25,12 @@ returns-in-Ok-new g c =
     let disk : disk_of (journal_of rounds.flusher) ≡ disk_of (journal_of c.in-Ok.started.2) = ap (λ (f : Flusher g.row.D.Denot). disk_of (journal_of f)) flusher in
     let up : is_down rounds.flusher ≡ false = ap (λ (f : Flusher g.row.D.Denot). is_down f) flusher ∙ started.up in
     let nothing : settled_in rounds.flusher ≡ [] = ap (λ (f : Flusher g.row.D.Denot). settled_in f) flusher ∙ started.nothing_settled.0 in
-    let leaves = subst (λ (settled : List Marked). IfSome left (λ later. AtEachMoment g.D.Disk.clock g.D.Disk.outcome_since (disk_of (journal_of rounds.flusher)) later (HoldsMore nodes rounds.node settled)))
+    let leaves = subst (λ (settled : List Marked). IfSome left (λ later. AtEachMoment g.D.Disk.device (disk_of (journal_of rounds.flusher)) later (HoldsMore nodes rounds.node settled)))
     nothing (c.run_threads-disk.ensures.any_moment up) in
-    let opening = subst (λ (d : g.row.D.Denot). AtEachMoment g.D.Disk.clock g.D.Disk.outcome_since c.args.disk d (IsToldAsOneOf node (g.D.Disk.outcome c.args.disk))) (sym disk) started.any_moment in
-    subst (λ (ending : Ending). RunsOver node g.D.Disk.content g.D.Disk.outcome g.D.Disk.clock g.D.Disk.outcome_since g.D.Disk.faults c.args.disk ending left) (sym c.ending.ensures)
-    (ended nodes g.D.Disk.content g.D.Disk.outcome g.D.Disk.clock g.D.Disk.outcome_since g.D.Disk.faults rounds.node node c.args.disk (disk_of (journal_of rounds.flusher)) c.run_threads-disk.result.0 left
-    (ap (λ (s : Shared g.row.S.Denot). nodes s.setting) shared ∙ ap nodes started.setting)
-    (started.begins ∙ ap (λ (s : Shared g.row.S.Denot). Ok s.start) (sym shared))
-    (ap g.D.Disk.faults disk ∙ started.cause.0)
+    let opening = subst (λ (d : g.row.D.Denot). AtEachMoment g.D.Disk.device c.args.disk d (IsToldAsOneOf node (g.D.Disk.device.outcome c.args.disk))) (sym disk) started.any_moment in
+    subst (λ (ending : Ending). RunsOver node g.D.Disk.device c.args.disk ending left) (sym c.ending.ensures)
+    (ended nodes g.D.Disk.device rounds.node node c.args.disk (disk_of (journal_of rounds.flusher)) c.run_threads-disk.result.0 left
+    (ap (λ (s : NodeView g.row.S.Denot). nodes s.setting) shared ∙ ap nodes started.setting)
+    (started.begins ∙ ap (λ (s : NodeView g.row.S.Denot). Ok s.start) (sym shared))
+    (ap g.D.Disk.device.faults disk ∙ started.cause.0)
     c.run_threads-disk.ensures.told c.run_threads-disk.ensures.lost opening leaves)

@@ -10,7 +10,7 @@ use Rattle.node_run.proofs.writing.write_due.Goals as goal
 
 pub loop-init : goal.loop-init
 loop-init g c =
-    let node = node_of g.S.Sign.own_key g.S.Sign.signature_of c.args.caller.now.node.setting in
+    let node = node_of g.S.Sign.scheme c.args.caller.now.node.setting in
     let stays : StaysWith c.args.caller.now c.args.caller.now = search rules in
     let same : IsSame c.args.caller.now.seat c.args.caller.now.seat = search rules in (
       tt,
@@ -25,14 +25,14 @@ pub loop-preserved : goal.loop-preserved
 loop-preserved g c =
     let stays : StaysWith c.args.caller.now c.write_next.new.caller = search rules in
     let same : IsSame c.args.caller.now.seat c.write_next.new.caller.seat = search rules in
-    let node = node_of g.S.Sign.own_key g.S.Sign.signature_of c.args.caller.now.node.setting in
+    let node = node_of g.S.Sign.scheme c.args.caller.now.node.setting in
     let later = c.write_next.new.caller.seat.view in
     let old = writer_contents g.W.Write.contents c.args.sink.now.writer in
     let cur = writer_contents g.W.Write.contents c.loop.sink.writer in
     let next = c.write_next.ensures.next c.if-not-write_next.false in
     let so_far = weaker (MayGo node c.loop.caller.seat.view) (MayGo node later) c.args.sink.now.faults c.loop.sink.faults old cur
     (may_go_yet node c.loop.caller.seat.view later c.write_next.ensures.same.start c.write_next.ensures.more) c.loop.invariant.5 in
-    let may = subst (λ it. MayGo (node_of g.S.Sign.own_key g.S.Sign.signature_of it.setting) later next.output) c.loop.invariant.2.node next.may in (
+    let may = subst (λ it. MayGo (node_of g.S.Sign.scheme it.setting) later next.output) c.loop.invariant.2.node next.may in (
       tt,
       tt,
       stays,
@@ -43,7 +43,7 @@ loop-preserved g c =
 
 pub returns-then-not-write_next-clause-only : goal.returns-then-not-write_next-clause-only
 returns-then-not-write_next-clause-only g c =
-    let node = node_of g.S.Sign.own_key g.S.Sign.signature_of c.args.caller.now.node.setting in
+    let node = node_of g.S.Sign.scheme c.args.caller.now.node.setting in
     let later = c.write_next.new.caller.seat.view in
     let old = writer_contents g.W.Write.contents c.args.sink.now.writer in
     let so_far = weaker (MayGo node c.loop.caller.seat.view) (MayGo node later) c.args.sink.now.faults c.loop.sink.faults old (writer_contents g.W.Write.contents c.loop.sink.writer)

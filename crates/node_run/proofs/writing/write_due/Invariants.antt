@@ -1,5 +1,5 @@
 use Rattle.std.specs.Io.Buffered.{writer_contents}
-use Rattle.spec_model.specs.Histories.{Begins}
+use Rattle.wire.specs.Lists.{Begins}
 use Rattle.node_seats.specs.Views.{IsSame}
 use Rattle.node.specs.Callers.{StaysWith}
 use Rattle.validator.specs.Setting.{node_of}
@@ -12,4 +12,4 @@ invariant-loop g l =
     × StaysWith l.initial.caller l.caller
     × IsSame l.initial.caller.seat l.caller.seat
     × Begins l.initial.caller.seat.view.firm l.caller.seat.view.firm
-    × WritesOnly (MayGo (node_of g.S.Sign.own_key g.S.Sign.signature_of l.initial.caller.node.setting) l.caller.seat.view) l.initial.sink.faults l.sink.faults (writer_contents g.W.Write.contents l.initial.sink.writer) (writer_contents g.W.Write.contents l.sink.writer)
+    × WritesOnly (MayGo (node_of g.S.Sign.scheme l.initial.caller.node.setting) l.caller.seat.view) l.initial.sink.faults l.sink.faults (writer_contents g.W.Write.contents l.initial.sink.writer) (writer_contents g.W.Write.contents l.sink.writer)

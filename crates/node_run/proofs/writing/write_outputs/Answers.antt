@@ -10,7 +10,7 @@ use Rattle.node_run.proofs.writing.write_outputs.Goals as goal
 
 pub loop-init : goal.loop-init
 loop-init g c =
-    let node = node_of g.S.Sign.own_key g.S.Sign.signature_of c.args.caller.now.node.setting in
+    let node = node_of g.S.Sign.scheme c.args.caller.now.node.setting in
     let stays : StaysWith c.args.caller.now c.args.caller.now = search rules in
     let same : IsSame c.args.caller.now.seat c.args.caller.now.seat = search rules in (
       tt,
@@ -25,14 +25,14 @@ pub loop-preserved : goal.loop-preserved
 loop-preserved g c =
     let stays : StaysWith c.args.caller.now c.write_due.new.caller = search rules in
     let same : IsSame c.args.caller.now.seat c.write_due.new.caller.seat = search rules in
-    let node = node_of g.S.Sign.own_key g.S.Sign.signature_of c.args.caller.now.node.setting in
+    let node = node_of g.S.Sign.scheme c.args.caller.now.node.setting in
     let later = c.write_due.new.caller.seat.view in
     let old = writer_contents g.W.Write.contents c.args.sink.now.writer in
     let cur = writer_contents g.W.Write.contents c.loop.sink.writer in
     let new = writer_contents g.W.Write.contents c.write_due.new.sink.writer in
     let so_far = weaker (MayGo node c.loop.caller.seat.view) (MayGo node later) c.args.sink.now.faults c.loop.sink.faults old cur
     (may_go_yet node c.loop.caller.seat.view later c.write_due.ensures.same.start c.write_due.ensures.more) c.loop.invariant.5 in
-    let then_on = subst (λ it. WritesOnly (MayGo (node_of g.S.Sign.own_key g.S.Sign.signature_of it.setting) later) c.loop.sink.faults c.write_due.new.sink.faults cur new) c.loop.invariant.2.node c.write_due.ensures.only in (
+    let then_on = subst (λ it. WritesOnly (MayGo (node_of g.S.Sign.scheme it.setting) later) c.loop.sink.faults c.write_due.new.sink.faults cur new) c.loop.invariant.2.node c.write_due.ensures.only in (
       tt,
       tt,
       stays,
@@ -52,12 +52,12 @@ returns-then-not-may_go_on-clause-more g c = begins_trans _ _ _ c.loop.invariant
 
 pub returns-then-not-may_go_on-clause-only : goal.returns-then-not-may_go_on-clause-only
 returns-then-not-may_go_on-clause-only g c =
-    let node = node_of g.S.Sign.own_key g.S.Sign.signature_of c.args.caller.now.node.setting in
+    let node = node_of g.S.Sign.scheme c.args.caller.now.node.setting in
     let later = c.write_due.new.caller.seat.view in
     let old = writer_contents g.W.Write.contents c.args.sink.now.writer in
     let cur = writer_contents g.W.Write.contents c.loop.sink.writer in
     let new = writer_contents g.W.Write.contents c.write_due.new.sink.writer in
     let so_far = weaker (MayGo node c.loop.caller.seat.view) (MayGo node later) c.args.sink.now.faults c.loop.sink.faults old cur
     (may_go_yet node c.loop.caller.seat.view later c.write_due.ensures.same.start c.write_due.ensures.more) c.loop.invariant.5 in
-    let then_on = subst (λ it. WritesOnly (MayGo (node_of g.S.Sign.own_key g.S.Sign.signature_of it.setting) later) c.loop.sink.faults c.write_due.new.sink.faults cur new) c.loop.invariant.2.node c.write_due.ensures.only in
+    let then_on = subst (λ it. WritesOnly (MayGo (node_of g.S.Sign.scheme it.setting) later) c.loop.sink.faults c.write_due.new.sink.faults cur new) c.loop.invariant.2.node c.write_due.ensures.only in
     both_written (MayGo node later) c.args.sink.now.faults c.loop.sink.faults c.write_due.new.sink.faults old cur new so_far then_on

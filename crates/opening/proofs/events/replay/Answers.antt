@@ -15,7 +15,7 @@ use Rattle.opening.proofs.events.replay.Goals as goal
 
 pub loop-one-init : goal.loop-one-init
 loop-one-init g c =
-    let node = node_of g.S.Sign.own_key g.S.Sign.signature_of c.args.config.now in
+    let node = node_of g.S.Sign.scheme c.args.config.now in
     record {
       setting = c.in_ok-validator.ensures.setting;
       reached = reached_first node c.args.records.now c.in_ok-validator.validator.tables c.limits_hold.ensures (c.starts_fresh.ensures node) c.in_ok-validator.ensures.at;
@@ -24,15 +24,15 @@ loop-one-init g c =
 
 pub loop-one-preserved : goal.loop-one-preserved
 loop-one-preserved g c =
-    let node = node_of g.S.Sign.own_key g.S.Sign.signature_of c.args.config.now in
+    let node = node_of g.S.Sign.scheme c.args.config.now in
     let one = c.one-item.result in
     let rest = here c.args.records.now c.loop-one.one-index one (omega arith) c.one-item.is in
     record {
       setting = c.take_event.ensures.setting ∙ c.loop-one.invariant.setting;
       reached = reached_next node c.args.records.now c.loop-one.one-index one c.loop-one.validator.tables c.take_event.new.validator.tables rest
-          (subst (λ s. (history : History) → IsLegal (node_of g.S.Sign.own_key g.S.Sign.signature_of s) history
-          → AreAtSound (node_of g.S.Sign.own_key g.S.Sign.signature_of s) c.loop-one.validator.tables (kept (node_of g.S.Sign.own_key g.S.Sign.signature_of s) history)
-          → StandsAt (node_of g.S.Sign.own_key g.S.Sign.signature_of s) (read_event (node_of g.S.Sign.own_key g.S.Sign.signature_of s) history one) c.take_event.new.validator.tables)
+          (subst (λ s. (history : History) → IsLegal (node_of g.S.Sign.scheme s) history
+          → AreAtSound (node_of g.S.Sign.scheme s) c.loop-one.validator.tables (kept (node_of g.S.Sign.scheme s) history)
+          → StandsAt (node_of g.S.Sign.scheme s) (read_event (node_of g.S.Sign.scheme s) history one) c.take_event.new.validator.tables)
           c.loop-one.invariant.setting c.in_ok-take_event.ensures.ok)
           c.loop-one.invariant.reached;
       texts = All-more IsText c.args.records.now c.loop-one.one-index one (omega arith) c.loop-one.invariant.texts (subst IsText c.one-item.is c.is_text.ensures);
@@ -40,21 +40,21 @@ loop-one-preserved g c =
 
 pub returns-in_err-take_event-clause-err : goal.returns-in_err-take_event-clause-err
 returns-in_err-take_event-clause-err g c =
-    let node = node_of g.S.Sign.own_key g.S.Sign.signature_of c.args.config.now in
+    let node = node_of g.S.Sign.scheme c.args.config.now in
     let one = c.one-item.result in
     let rest = here c.args.records.now c.loop-one.one-index one (omega arith) c.one-item.is in
     let p = err_from_is_err_and c.from_residual-in_err-take_event.result c.from_residual-in_err-take_event.ensures.1 in
     rw (p.1, p.2)
     (fails_there node c.args.records.now c.loop-one.one-index one c.loop-one.validator.tables c.in_err-take_event.field-0.0 rest
-    (subst (λ s. (history : History) → IsLegal (node_of g.S.Sign.own_key g.S.Sign.signature_of s) history
-    → AreAtSound (node_of g.S.Sign.own_key g.S.Sign.signature_of s) c.loop-one.validator.tables (kept (node_of g.S.Sign.own_key g.S.Sign.signature_of s) history)
-    → FailsAs c.in_err-take_event.field-0.0 (read_event (node_of g.S.Sign.own_key g.S.Sign.signature_of s) history one))
+    (subst (λ s. (history : History) → IsLegal (node_of g.S.Sign.scheme s) history
+    → AreAtSound (node_of g.S.Sign.scheme s) c.loop-one.validator.tables (kept (node_of g.S.Sign.scheme s) history)
+    → FailsAs c.in_err-take_event.field-0.0 (read_event (node_of g.S.Sign.scheme s) history one))
     c.loop-one.invariant.setting c.in_err-take_event.ensures.err)
     c.loop-one.invariant.reached)
 
 pub returns-clause-ok : goal.returns-clause-ok
 returns-clause-ok g c =
-    let node = node_of g.S.Sign.own_key g.S.Sign.signature_of c.args.config.now in
+    let node = node_of g.S.Sign.scheme c.args.config.now in
     reached_end node c.args.records.now c.loop-one.one-index c.loop-one.validator.tables (drop_all c.loop-one.one-index c.args.records.now (omega arith)) c.loop-one.invariant.reached
 
 pub returns-clause-texts : goal.returns-clause-texts

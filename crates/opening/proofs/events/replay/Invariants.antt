@@ -9,6 +9,6 @@ use Rattle.opening.proofs.events.replay.Given as goal
 abbrev pub invariant-loop-one : goal.invariant-loop-one
 invariant-loop-one g l = record {
   setting : l.validator.setting ≡ l.config;
-  reached : IsReached (node_of g.S.Sign.own_key g.S.Sign.signature_of l.config) l.records l.one-index l.validator.tables;
+  reached : IsReached (node_of g.S.Sign.scheme l.config) l.records l.one-index l.validator.tables;
   texts : All IsText (take l.one-index l.records);
 }

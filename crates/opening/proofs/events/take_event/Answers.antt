@@ -8,7 +8,7 @@ use Rattle.opening.proofs.events.take_event.Goals as goal
 
 pub returns-in_default-clause-err : goal.returns-in_default-clause-err
 returns-in_default-clause-err g c = λ history legal at.
-    let node = node_of g.S.Sign.own_key g.S.Sign.signature_of c.args.validator.now.setting in
+    let node = node_of g.S.Sign.scheme c.args.validator.now.setting in
     let one = c.args.one.now in
     read_none node history one (sym c.in_default.is ∙ c.in_ok-found.ensures.found ∙ (λ i. event_in (c.committee.ensures i) (c.as_slice.ensures i)))
 
@@ -16,7 +16,7 @@ pub returns-clause-ok : goal.returns-clause-ok
 returns-clause-ok g c =
     on_ok_weaker c.only_new.result
     (λ new history legal at.
-    let node = node_of g.S.Sign.own_key g.S.Sign.signature_of c.args.validator.now.setting in
+    let node = node_of g.S.Sign.scheme c.args.validator.now.setting in
     let one = c.args.one.now in
     let event = c.in-Some.event in
     let some : Some event ≡ event_in node.charter one.bytes = sym c.in-Some.is ∙ c.in_ok-found.ensures.found ∙ (λ i. event_in (c.committee.ensures i) (c.as_slice.ensures i)) in
@@ -33,7 +33,7 @@ pub returns-clause-err : goal.returns-clause-err
 returns-clause-err g c =
     err_weaker c.only_new.result _ _
     (λ error is history legal at.
-    let node = node_of g.S.Sign.own_key g.S.Sign.signature_of c.args.validator.now.setting in
+    let node = node_of g.S.Sign.scheme c.args.validator.now.setting in
     let one = c.args.one.now in
     let event = c.in-Some.event in
     let some : Some event ≡ event_in node.charter one.bytes = sym c.in-Some.is ∙ c.in_ok-found.ensures.found ∙ (λ i. event_in (c.committee.ensures i) (c.as_slice.ensures i)) in

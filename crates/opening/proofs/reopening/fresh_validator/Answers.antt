@@ -4,10 +4,10 @@ use Rattle.opening.proofs.reopening.fresh_validator.Goals as goal
 
 pub returns-clause-stands : goal.returns-clause-stands
 returns-clause-stands g c =
-    let node = node_of g.S.Sign.own_key g.S.Sign.signature_of c.args.config.now in
+    let node = node_of g.S.Sign.scheme c.args.config.now in
     ok_weaker c.replay.result _ _ (λ v stands. stands_fresh node v.tables stands) c.replay.ensures.ok
 
 pub returns-clause-err : goal.returns-clause-err
 returns-clause-err g c =
-    let node = node_of g.S.Sign.own_key g.S.Sign.signature_of c.args.config.now in
+    let node = node_of g.S.Sign.scheme c.args.config.now in
     err_weaker c.replay.result _ _ (λ e fails. fails_fresh node e fails) c.replay.ensures.err

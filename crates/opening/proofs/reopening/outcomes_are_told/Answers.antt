@@ -3,6 +3,6 @@ use Rattle.opening.proofs.reopening.outcomes_are_told.Goals as goal
 
 pub returns : goal.returns
 returns g c = λ bytes is.
-    let node = node_of g.S.Sign.own_key g.S.Sign.signature_of c.args.config.now in
+    let node = node_of g.S.Sign.scheme c.args.config.now in
     let found = c.worlds_are_told.ensures node is.moves is.world bytes c.limits_hold.ensures c.keys_hold.ensures is.run is.may_stop in
     (found.history, found.is_told)

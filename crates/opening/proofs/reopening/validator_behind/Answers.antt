@@ -8,14 +8,14 @@ use Rattle.opening.proofs.reopening.validator_behind.Goals as goal
 
 pub returns-in-None-clause-err : goal.returns-in-None-clause-err
 returns-in-None-clause-err g c =
-    let node = node_of g.S.Sign.own_key g.S.Sign.signature_of c.args.config.now in
+    let node = node_of g.S.Sign.scheme c.args.config.now in
     let first = c.args.first.now in
     let events = c.args.events.now in
     behind_fault node first events (Damaged first.gate) (fault_shape node first events (sym c.first_version.ensures ∙ c.in-None.is))
 
 pub returns-then-not-branch-clause-err : goal.returns-then-not-branch-clause-err
 returns-then-not-branch-clause-err g c =
-    let node = node_of g.S.Sign.own_key g.S.Sign.signature_of c.args.config.now in
+    let node = node_of g.S.Sign.scheme c.args.config.now in
     let first = c.args.first.now in
     let events = c.args.events.now in
     let version = c.in-Some.version in
@@ -25,7 +25,7 @@ returns-then-not-branch-clause-err g c =
 
 pub returns-clause-stands : goal.returns-clause-stands
 returns-clause-stands g c =
-    let node = node_of g.S.Sign.own_key g.S.Sign.signature_of c.args.config.now in
+    let node = node_of g.S.Sign.scheme c.args.config.now in
     let first = c.args.first.now in
     let events = c.args.events.now in
     let version = c.in-Some.version in
@@ -36,7 +36,7 @@ returns-clause-stands g c =
 
 pub returns-clause-err : goal.returns-clause-err
 returns-clause-err g c =
-    let node = node_of g.S.Sign.own_key g.S.Sign.signature_of c.args.config.now in
+    let node = node_of g.S.Sign.scheme c.args.config.now in
     let first = c.args.first.now in
     let events = c.args.events.now in
     let version = c.in-Some.version in

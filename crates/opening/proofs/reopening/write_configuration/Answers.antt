@@ -15,15 +15,15 @@ use Rattle.opening.proofs.reopening.write_configuration.Goals as goal
 
 pub returns-in_err-group-clause-any_moment : goal.returns-in_err-group-clause-any_moment
 returns-in_err-group-clause-any_moment g c =
-    let node = node_of g.S.Sign.own_key g.S.Sign.signature_of c.args.config.now in
+    let node = node_of g.S.Sign.scheme c.args.config.now in
     let old = disk_of c.args.journal.now in
-    let file = g.D.Disk.content old in
-    started g.D.Disk.clock g.D.Disk.outcome_since old (λ left. told node left ≡ told node file)
+    let file = g.D.Disk.device.content old in
+    started g.D.Disk.device old (λ left. told node left ≡ told node file)
     (λ left now. told_same node left file (ap stands (c.requires.alive.firm left (g.met.D.Disk.only_now old left now))))
 
 pub returns-in_err-append-clause-errors : goal.returns-in_err-append-clause-errors
 returns-in_err-append-clause-errors g c =
-    let file = g.D.Disk.content (disk_of c.args.journal.now) in
+    let file = g.D.Disk.device.content (disk_of c.args.journal.now) in
     let configuration = configuration_of c.args.version c.args.config.now.charter c.args.config.now.own in
     let p = err_from_is_err_and c.from_residual-in_err-append.result c.from_residual-in_err-append.ensures.1 in
     let group_is = c.in_ok-group.ensures.group ∙ (λ i. configuration_of c.args.version (c.committee.ensures i) (c.own.ensures i) ∷ []) in
@@ -37,54 +37,54 @@ returns-in_err-append-clause-errors g c =
 
 pub returns-in_err-append-clause-any_moment : goal.returns-in_err-append-clause-any_moment
 returns-in_err-append-clause-any_moment g c =
-    let node = node_of g.S.Sign.own_key g.S.Sign.signature_of c.args.config.now in
+    let node = node_of g.S.Sign.scheme c.args.config.now in
     let old = disk_of c.args.journal.now in
-    let file = g.D.Disk.content old in
-    weaker g.D.Disk.clock g.D.Disk.outcome_since old (disk_of c.append.new.self) (λ left. told node left ≡ told node file) (IsBeforeOrAfter file c.in_ok-group.group) c.append.ensures.any_moment
+    let file = g.D.Disk.device.content old in
+    weaker g.D.Disk.device old (disk_of c.append.new.self) (λ left. told node left ≡ told node file) (IsBeforeOrAfter file c.in_ok-group.group) c.append.ensures.any_moment
     (λ left is. told_before_or_after c.args.version node file left c.requires.can_tell ((λ i. shaped_version (configuration_of c.args.version (sym c.committee.ensures i) (sym c.own.ensures i))) ∙ c.in_ok-group.ensures.shape) c.requires.empty (subst (λ group. IsBeforeOrAfter file group left) (c.in_ok-group.ensures.group ∙ (λ i. configuration_of c.args.version (c.committee.ensures i) (c.own.ensures i) ∷ [])) is))
 
 pub returns-clause-any_moment : goal.returns-clause-any_moment
 returns-clause-any_moment g c =
-    let node = node_of g.S.Sign.own_key g.S.Sign.signature_of c.args.config.now in
+    let node = node_of g.S.Sign.scheme c.args.config.now in
     let old = disk_of c.args.journal.now in
-    let file = g.D.Disk.content old in
-    weaker g.D.Disk.clock g.D.Disk.outcome_since old (disk_of c.append.new.self) (λ left. told node left ≡ told node file) (IsBeforeOrAfter file c.in_ok-group.group) c.append.ensures.any_moment
+    let file = g.D.Disk.device.content old in
+    weaker g.D.Disk.device old (disk_of c.append.new.self) (λ left. told node left ≡ told node file) (IsBeforeOrAfter file c.in_ok-group.group) c.append.ensures.any_moment
     (λ left is. told_before_or_after c.args.version node file left c.requires.can_tell ((λ i. shaped_version (configuration_of c.args.version (sym c.committee.ensures i) (sym c.own.ensures i))) ∙ c.in_ok-group.ensures.shape) c.requires.empty (subst (λ group. IsBeforeOrAfter file group left) (c.in_ok-group.ensures.group ∙ (λ i. configuration_of c.args.version (c.committee.ensures i) (c.own.ensures i) ∷ [])) is))
 
 pub returns-clause-same : goal.returns-clause-same
 returns-clause-same g c =
-    let node = node_of g.S.Sign.own_key g.S.Sign.signature_of c.args.config.now in
-    let file = g.D.Disk.content (disk_of c.args.journal.now) in
-    let later = g.D.Disk.content (disk_of c.append.new.self) in
+    let node = node_of g.S.Sign.scheme c.args.config.now in
+    let file = g.D.Disk.device.content (disk_of c.args.journal.now) in
+    let later = g.D.Disk.device.content (disk_of c.append.new.self) in
     told_before_or_after c.args.version node file later c.requires.can_tell ((λ i. shaped_version (configuration_of c.args.version (sym c.committee.ensures i) (sym c.own.ensures i))) ∙ c.in_ok-group.ensures.shape) c.requires.empty
     (subst (λ group. IsBeforeOrAfter file group later) (c.in_ok-group.ensures.group ∙ (λ i. configuration_of c.args.version (c.committee.ensures i) (c.own.ensures i) ∷ [])) (inr c.in_ok-append.ensures.records))
 
 pub returns-clause-texts : goal.returns-clause-texts
 returns-clause-texts g c =
-    let file = g.D.Disk.content (disk_of c.args.journal.now) in
-    let later = g.D.Disk.content (disk_of c.append.new.self) in
+    let file = g.D.Disk.device.content (disk_of c.args.journal.now) in
+    let later = g.D.Disk.device.content (disk_of c.append.new.self) in
     one_text file later (configuration_of c.args.version c.args.config.now.charter c.args.config.now.own) c.requires.empty
     (subst (λ group. stands later ≡ stands_with file group) (c.in_ok-group.ensures.group ∙ (λ i. configuration_of c.args.version (c.committee.ensures i) (c.own.ensures i) ∷ [])) c.in_ok-append.ensures.records)
 
 pub returns-in_err-group-clause-keeps : goal.returns-in_err-group-clause-keeps
 returns-in_err-group-clause-keeps g c =
     let old = disk_of c.args.journal.now in
-    let node = node_of g.S.Sign.own_key g.S.Sign.signature_of c.args.config.now in
-    started g.D.Disk.clock g.D.Disk.outcome_since old (KeepsOrBegins c.args.version node (g.D.Disk.content old))
+    let node = node_of g.S.Sign.scheme c.args.config.now in
+    started g.D.Disk.device old (KeepsOrBegins c.args.version node (g.D.Disk.device.content old))
     (λ left now. inl ([], c.requires.empty, ap stands (c.requires.alive.firm left (g.met.D.Disk.only_now old left now)) ∙ c.requires.empty))
 
 pub returns-in_err-append-clause-keeps : goal.returns-in_err-append-clause-keeps
 returns-in_err-append-clause-keeps g c =
     let old = disk_of c.args.journal.now in
-    let file = g.D.Disk.content old in
-    let node = node_of g.S.Sign.own_key g.S.Sign.signature_of c.args.config.now in
-    weaker g.D.Disk.clock g.D.Disk.outcome_since old (disk_of c.append.new.self) (KeepsOrBegins c.args.version node file) (IsBeforeOrAfter file c.in_ok-group.group) c.append.ensures.any_moment
+    let file = g.D.Disk.device.content old in
+    let node = node_of g.S.Sign.scheme c.args.config.now in
+    weaker g.D.Disk.device old (disk_of c.append.new.self) (KeepsOrBegins c.args.version node file) (IsBeforeOrAfter file c.in_ok-group.group) c.append.ensures.any_moment
     (λ left is. begins_with c.args.version node file left c.requires.alive.ends_closed c.requires.empty (subst (λ group. IsBeforeOrAfter file group left) (c.in_ok-group.ensures.group ∙ (λ i. configuration_of c.args.version (c.committee.ensures i) (c.own.ensures i) ∷ [])) is))
 
 pub returns-clause-keeps : goal.returns-clause-keeps
 returns-clause-keeps g c =
     let old = disk_of c.args.journal.now in
-    let file = g.D.Disk.content old in
-    let node = node_of g.S.Sign.own_key g.S.Sign.signature_of c.args.config.now in
-    weaker g.D.Disk.clock g.D.Disk.outcome_since old (disk_of c.append.new.self) (KeepsOrBegins c.args.version node file) (IsBeforeOrAfter file c.in_ok-group.group) c.append.ensures.any_moment
+    let file = g.D.Disk.device.content old in
+    let node = node_of g.S.Sign.scheme c.args.config.now in
+    weaker g.D.Disk.device old (disk_of c.append.new.self) (KeepsOrBegins c.args.version node file) (IsBeforeOrAfter file c.in_ok-group.group) c.append.ensures.any_moment
     (λ left is. begins_with c.args.version node file left c.requires.alive.ends_closed c.requires.empty (subst (λ group. IsBeforeOrAfter file group left) (c.in_ok-group.ensures.group ∙ (λ i. configuration_of c.args.version (c.committee.ensures i) (c.own.ensures i) ∷ [])) is))

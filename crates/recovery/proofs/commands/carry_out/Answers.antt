@@ -4,7 +4,7 @@ use Rattle.std.proofs.KnownBytes.{Keeps-refl}
 use Rattle.std.specs.Io.KnownBytes.{Appends}
 use Rattle.std.proofs.lemmas.Result.{err_from_is_err_and}
 use Rattle.journal.specs.Journal.{disk_of}
-use Rattle.validator.specs.Setting.{Setting, node_of}
+use Rattle.validator.specs.Setting.{ConfigView, node_of}
 use Rattle.spec_world.specs.Text.{Desk, after, due, without_due, frames}
 use Rattle.recovery.specs.Script.{said, IsOf}
 use Rattle.wire_write.specs.Frames.{AppendsLess}
@@ -23,34 +23,34 @@ returns-in_err-desk-clause-writes_part g c =
 
 pub returns-in-Ok-clause-ok : goal.returns-in-Ok-clause-ok
 returns-in-Ok-clause-ok g c = λ desk is.
-    let node = node_of g.S.Sign.own_key g.S.Sign.signature_of c.args.config.now in
+    let node = node_of g.S.Sign.scheme c.args.config.now in
     let next = c.in_ok-desk.desk in
     let command = said c.args.command in
-    subst (λ (s : Setting g.row.S.Denot). (d : Desk) → IsOf (node_of g.S.Sign.own_key g.S.Sign.signature_of s) g.D.Disk.content g.D.Disk.outcome d next.book next.journal → IsOf (node_of g.S.Sign.own_key g.S.Sign.signature_of s) g.D.Disk.content g.D.Disk.outcome (without_due d) c.write_due.new.desk.book c.write_due.new.desk.journal)
+    subst (λ (s : ConfigView g.row.S.Denot). (d : Desk) → IsOf (node_of g.S.Sign.scheme s) g.D.Disk.device d next.book next.journal → IsOf (node_of g.S.Sign.scheme s) g.D.Disk.device (without_due d) c.write_due.new.desk.book c.write_due.new.desk.journal)
     c.in_ok-desk.ensures.setting c.in-Ok.ensures.ok (after node desk command) (c.in_ok-desk.ensures.ok desk is)
 
 pub returns-in-Ok-clause-writes : goal.returns-in-Ok-clause-writes
 returns-in-Ok-clause-writes g c = λ desk is.
-    let node = node_of g.S.Sign.own_key g.S.Sign.signature_of c.args.config.now in
+    let node = node_of g.S.Sign.scheme c.args.config.now in
     let next = c.in_ok-desk.desk in
     let command = said c.args.command in
-    subst (λ (s : Setting g.row.S.Denot). (d : Desk) → IsOf (node_of g.S.Sign.own_key g.S.Sign.signature_of s) g.D.Disk.content g.D.Disk.outcome d next.book next.journal → Appends (g.W.Write.contents c.args.writer.now) (g.W.Write.contents c.write_due.new.writer) (frames (due d)))
+    subst (λ (s : ConfigView g.row.S.Denot). (d : Desk) → IsOf (node_of g.S.Sign.scheme s) g.D.Disk.device d next.book next.journal → Appends (g.W.Write.contents c.args.writer.now) (g.W.Write.contents c.write_due.new.writer) (frames (due d)))
     c.in_ok-desk.ensures.setting c.in-Ok.ensures.writes (after node desk command) (c.in_ok-desk.ensures.ok desk is)
 
 pub returns-in-Err-clause-err : goal.returns-in-Err-clause-err
 returns-in-Err-clause-err g c = λ desk is.
-    let node = node_of g.S.Sign.own_key g.S.Sign.signature_of c.args.config.now in
+    let node = node_of g.S.Sign.scheme c.args.config.now in
     let next = c.in_ok-desk.desk in
     let command = said c.args.command in
-    breaks_at node g.D.Disk.content g.D.Disk.outcome desk command c.fail.result.error c.in-Err.error c.fail.result.disk (disk_of next.journal) c.fail.ensures.error (c.fail.ensures.disk ∙ ap disk_of c.write_due.ensures.same)
-    (behind_breaks node g.D.Disk.content g.D.Disk.outcome desk command next.book next.journal (c.in_ok-desk.ensures.ok desk is) c.in-Err.error c.in-Err.ensures.errors)
+    breaks_at node g.D.Disk.device desk command c.fail.result.error c.in-Err.error c.fail.result.disk (disk_of next.journal) c.fail.ensures.error (c.fail.ensures.disk ∙ ap disk_of c.write_due.ensures.same)
+    (behind_breaks node g.D.Disk.device desk command next.book next.journal (c.in_ok-desk.ensures.ok desk is) c.in-Err.error c.in-Err.ensures.errors)
 
 pub returns-in-Err-clause-writes_part : goal.returns-in-Err-clause-writes_part
 returns-in-Err-clause-writes_part g c = λ desk is.
-    let node = node_of g.S.Sign.own_key g.S.Sign.signature_of c.args.config.now in
+    let node = node_of g.S.Sign.scheme c.args.config.now in
     let next = c.in_ok-desk.desk in
     let command = said c.args.command in
-    let less = subst (λ (s : Setting g.row.S.Denot). (d : Desk) → IsOf (node_of g.S.Sign.own_key g.S.Sign.signature_of s) g.D.Disk.content g.D.Disk.outcome d next.book next.journal → AppendsLess (g.W.Write.contents c.args.writer.now) (g.W.Write.contents c.write_due.new.writer) (frames (due d)))
+    let less = subst (λ (s : ConfigView g.row.S.Denot). (d : Desk) → IsOf (node_of g.S.Sign.scheme s) g.D.Disk.device d next.book next.journal → AppendsLess (g.W.Write.contents c.args.writer.now) (g.W.Write.contents c.write_due.new.writer) (frames (due d)))
     c.in_ok-desk.ensures.setting c.in-Err.ensures.writes_part (after node desk command) (c.in_ok-desk.ensures.ok desk is) in
     part_less c.fail.result.error (g.W.Write.contents c.args.writer.now) (g.W.Write.contents c.write_due.new.writer) _
     (not_at_disk c.fail.result.error c.in-Err.error c.fail.ensures.error c.in-Err.ensures.errors) less
@@ -60,7 +60,7 @@ returns-in-Err-clause-cause g c = (
   tt,
   (
     λ device. absurd (not_device c.in-Err.error c.in-Err.ensures.errors (sym c.fail.ensures.error ∙ device)),
-    λ other. ap g.D.Disk.faults (c.fail.ensures.disk ∙ ap disk_of c.write_due.ensures.same) ∙ c.in_ok-desk.ensures.cause.0,
+    λ other. ap g.D.Disk.device.faults (c.fail.ensures.disk ∙ ap disk_of c.write_due.ensures.same) ∙ c.in_ok-desk.ensures.cause.0,
   ),
 )
 

@@ -10,7 +10,7 @@ use Rattle.recovery.proofs.commands.flush.Goals as goal
 pub returns-clause-ok : goal.returns-clause-ok
 returns-clause-ok g c =
     on_ok_weaker c.unless_failed.result (λ ok script is.
-    round_is (node_of g.S.Sign.own_key g.S.Sign.signature_of c.args.desk.now.book.validator.setting) g.D.Disk.content g.D.Disk.outcome script c.args.desk.now c.flush.new.self is c.flush.result ok
+    round_is (node_of g.S.Sign.scheme c.args.desk.now.book.validator.setting) g.D.Disk.device script c.args.desk.now c.flush.new.self is c.flush.result ok
     c.flush.ensures.idle c.flush.ensures.flushed c.flush.ensures.alive) c.unless_failed.ensures.ok
 
 pub returns-clause-err : goal.returns-clause-err
@@ -18,8 +18,8 @@ returns-clause-err g c =
     let before = c.args.desk.now in
     let later = c.flush.new.self in
     err_with c.unless_failed.result _ _ (λ error here either script is.
-    round_breaks (node_of g.S.Sign.own_key g.S.Sign.signature_of c.args.desk.now.book.validator.setting) g.D.Disk.content g.D.Disk.outcome script before later is c.flush.result error either
+    round_breaks (node_of g.S.Sign.scheme c.args.desk.now.book.validator.setting) g.D.Disk.device script before later is c.flush.result error either
     (λ so. c.unless_failed.ensures.memory (here ∙ ap (λ e. Err e) so)) (λ so. c.unless_failed.ensures.device (here ∙ ap (λ e. Err e) so)) (λ so. c.unless_failed.ensures.full (here ∙ ap (λ e. Err e) so))
     c.flush.ensures.unchanged c.flush.ensures.full c.flush.ensures.full_same
-    (λ bytes may. left_by g.D.Disk.clock g.D.Disk.outcome_since (disk_of before.journal) (disk_of later.journal) (IsWithOrWithout before.book.pending (g.D.Disk.content (disk_of before.journal))) bytes g.D.Disk.outcome (c.flush.ensures.any_moment is.up) g.met.D.Disk.counts_now may))
+    (λ bytes may. left_by g.D.Disk.device (disk_of before.journal) (disk_of later.journal) (IsWithOrWithout before.book.pending (g.D.Disk.device.content (disk_of before.journal))) bytes g.D.Disk.device (c.flush.ensures.any_moment is.up) g.met.D.Disk.counts_now may))
     c.unless_failed.ensures.errors

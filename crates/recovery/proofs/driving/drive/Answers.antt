@@ -23,17 +23,17 @@ returns-in_err-desk-clause-err g c =
 
 pub returns-in_err-desk-clause-given_out_err : goal.returns-in_err-desk-clause-given_out_err
 returns-in_err-desk-clause-given_out_err g c =
-    let node = node_of g.S.Sign.own_key g.S.Sign.signature_of c.args.config.now in
+    let node = node_of g.S.Sign.scheme c.args.config.now in
     let held = g.W.Write.contents c.args.writer.now in
     let p = err_from_is_err_and c.from_residual.result c.from_residual.ensures.1 in
-    rw p.1 (nothing_given node (script_of c.args.commands.items) (g.D.Disk.content c.args.disk) held held (Keeps-refl held))
+    rw p.1 (nothing_given node (script_of c.args.commands.items) (g.D.Disk.device.content c.args.disk) held held (Keeps-refl held))
 
 pub loop-command-init : goal.loop-command-init
 loop-command-init g c =
-    let node = node_of g.S.Sign.own_key g.S.Sign.signature_of c.args.config.now in
-    let before = g.D.Disk.content c.args.disk in
+    let node = node_of g.S.Sign.scheme c.args.config.now in
+    let before = g.D.Disk.device.content c.args.disk in
     record {
-      so_far = first_carried node g.D.Disk.content g.D.Disk.outcome before c.in_ok-desk.desk.book c.in_ok-desk.desk.journal (g.W.Write.contents c.args.writer.now) c.in_ok-desk.ensures.ok;
+      so_far = first_carried node g.D.Disk.device before c.in_ok-desk.desk.book c.in_ok-desk.desk.journal (g.W.Write.contents c.args.writer.now) c.in_ok-desk.ensures.ok;
       taken = All-nil (IsTakenIn node);
       setting = c.in_ok-desk.ensures.setting;
       count = omega (arith, c.in_ok-desk.ensures.none);
@@ -66,8 +66,8 @@ carry_out-requires-clause-room g c =
 
 pub returns-in_err-desk-2-clause-err : goal.returns-in_err-desk-2-clause-err
 returns-in_err-desk-2-clause-err g c =
-    let node = node_of g.S.Sign.own_key g.S.Sign.signature_of c.args.config.now in
-    let before = g.D.Disk.content c.args.disk in
+    let node = node_of g.S.Sign.scheme c.args.config.now in
+    let before = g.D.Disk.device.content c.args.disk in
     let commands = c.args.commands.items in
     let done = c.loop-command.yielded in
     let next = c.in-Some.command in
@@ -78,14 +78,14 @@ returns-in_err-desk-2-clause-err g c =
     let desk = script.desk_behind node (script.desk_on so_far.history) (script_of done) in
     let p = err_from_is_err_and c.from_residual-in_err-desk-2.result c.from_residual-in_err-desk-2.ensures.1 in
     rw (p.1, p.2)
-    (inr (cut_short node g.D.Disk.content g.D.Disk.outcome before (script_of done) (said next) c.loop-command.desk.book c.loop-command.desk.journal (g.W.Write.contents c.args.writer.now) (g.W.Write.contents c.loop-command.writer) so_far
-    (script_of commands) (script_of (drop (length done + 1) commands)) c.in_err-desk-2.field-0.0.error (g.D.Disk.content c.in_err-desk-2.field-0.0.disk) (g.D.Disk.outcome c.in_err-desk-2.field-0.0.disk) (g.W.Write.contents c.carry_out.new.writer)
+    (inr (cut_short node g.D.Disk.device before (script_of done) (said next) c.loop-command.desk.book c.loop-command.desk.journal (g.W.Write.contents c.args.writer.now) (g.W.Write.contents c.loop-command.writer) so_far
+    (script_of commands) (script_of (drop (length done + 1) commands)) c.in_err-desk-2.field-0.0.error (g.D.Disk.device.content c.in_err-desk-2.field-0.0.disk) (g.D.Disk.device.outcome c.in_err-desk-2.field-0.0.disk) (g.W.Write.contents c.carry_out.new.writer)
     (script_parts commands done next front turn.0 turn.1) (c.in_err-desk-2.ensures.err desk so_far.is_of) (c.in_err-desk-2.ensures.writes_part desk so_far.is_of)))
 
 pub returns-in_err-desk-2-clause-given_out_err : goal.returns-in_err-desk-2-clause-given_out_err
 returns-in_err-desk-2-clause-given_out_err g c =
-    let node = node_of g.S.Sign.own_key g.S.Sign.signature_of c.args.config.now in
-    let before = g.D.Disk.content c.args.disk in
+    let node = node_of g.S.Sign.scheme c.args.config.now in
+    let before = g.D.Disk.device.content c.args.disk in
     let commands = c.args.commands.items in
     let done = c.loop-command.yielded in
     let next = c.in-Some.command in
@@ -98,7 +98,7 @@ returns-in_err-desk-2-clause-given_out_err g c =
     let taken = All-push (IsTakenIn node) (script_of done) (said next) c.loop-command.invariant.taken (taken_in node next passed c.limits_hold.ensures) in
     let p = err_from_is_err_and c.from_residual-in_err-desk-2.result c.from_residual-in_err-desk-2.ensures.1 in
     rw p.1
-    (cut_given node so_far.is_of.stands_at.legal.sound g.D.Disk.content g.D.Disk.outcome before (script_of done) (said next) c.loop-command.desk.book c.loop-command.desk.journal
+    (cut_given node so_far.is_of.stands_at.legal.sound g.D.Disk.device before (script_of done) (said next) c.loop-command.desk.book c.loop-command.desk.journal
     (g.W.Write.contents c.args.writer.now) (g.W.Write.contents c.loop-command.writer) (g.W.Write.contents c.carry_out.new.writer) so_far
     (script_of commands) (script_of (drop (length done + 1) commands)) c.in_err-desk-2.field-0.0.error (script_parts commands done next front turn.0 turn.1) (c.in_err-desk-2.ensures.writes_part desk so_far.is_of) taken)
 
@@ -113,8 +113,8 @@ returns-in_err-desk-2-clause-cause g c =
 
 pub loop-command-preserved : goal.loop-command-preserved
 loop-command-preserved g c =
-    let node = node_of g.S.Sign.own_key g.S.Sign.signature_of c.args.config.now in
-    let before = g.D.Disk.content c.args.disk in
+    let node = node_of g.S.Sign.scheme c.args.config.now in
+    let before = g.D.Disk.device.content c.args.disk in
     let done = c.loop-command.yielded in
     let next = c.in-Some.command in
     let so_far = c.loop-command.invariant.so_far in
@@ -125,10 +125,10 @@ loop-command-preserved g c =
     let chain = YieldsList-from_vec {s = c.into_iter-command-iterator.result} commands (search rules) (search rules) in
     let turn = YieldsList-turn chain done c.loop-command.command-iterator c.loop-command.yielded_by c.next.result c.next.new.self next c.in-Some.is c.next.ensures.steps in
     let passed = passes_at c.args.config.now.charter commands (length done) next c.requires.passed turn.0 turn.1 in
-    let carried = next_carried node g.D.Disk.content g.D.Disk.outcome before (script_of done) (said next) c.loop-command.desk.book c.loop-command.desk.journal old (g.W.Write.contents c.loop-command.writer) so_far
+    let carried = next_carried node g.D.Disk.device before (script_of done) (said next) c.loop-command.desk.book c.loop-command.desk.journal old (g.W.Write.contents c.loop-command.writer) so_far
     later.book later.journal (g.W.Write.contents c.carry_out.new.writer) (c.in_ok-desk-2.ensures.ok desk so_far.is_of) (c.in_ok-desk-2.ensures.writes desk so_far.is_of) in
     record {
-      so_far = subst (λ (l : List script.Command). IsCarriedOut node g.D.Disk.content g.D.Disk.outcome before l later.book later.journal old (g.W.Write.contents c.carry_out.new.writer)) (sym (script_push done next)) carried;
+      so_far = subst (λ (l : List script.Command). IsCarriedOut node g.D.Disk.device before l later.book later.journal old (g.W.Write.contents c.carry_out.new.writer)) (sym (script_push done next)) carried;
       taken = subst (All (IsTakenIn node)) (sym (script_push done next)) (All-push (IsTakenIn node) (script_of done) (said next) c.loop-command.invariant.taken (taken_in node next passed c.limits_hold.ensures));
       setting = c.in_ok-desk-2.ensures.setting;
       count = let more = c.in_ok-desk-2.ensures.count in let count = c.loop-command.invariant.count in omega (arith, more, count, length_push done next);
@@ -137,21 +137,21 @@ loop-command-preserved g c =
 
 pub returns-clause-ok : goal.returns-clause-ok
 returns-clause-ok g c =
-    let node = node_of g.S.Sign.own_key g.S.Sign.signature_of c.args.config.now in
-    let before = g.D.Disk.content c.args.disk in
+    let node = node_of g.S.Sign.scheme c.args.config.now in
+    let before = g.D.Disk.device.content c.args.disk in
     let commands = c.args.commands.items in
     let done = c.loop-command.yielded in
     let end = YieldsList-end (YieldsList-from_vec {s = c.into_iter-command-iterator.result} commands (search rules) (search rules)) done c.loop-command.command-iterator c.loop-command.yielded_by c.next.result c.next.new.self c.in-None.is c.next.ensures.steps in
     let whole : script_of commands ≡ script_of done = ap script_of (sym end.0 ∙ map-id done) in
     let old = g.W.Write.contents c.args.writer.now in
     let new = g.W.Write.contents c.loop-command.writer in
-    let run = all_carried node g.D.Disk.content g.D.Disk.outcome before (script_of commands) (script_of done) c.loop-command.desk.book c.loop-command.desk.journal old new whole c.loop-command.invariant.so_far in
-    subst (λ (d : g.row.D.Denot). HasRun node (script_of commands) before (g.D.Disk.content d) (g.D.Disk.outcome d) old new) (sym c.into_disk.ensures) run
+    let run = all_carried node g.D.Disk.device before (script_of commands) (script_of done) c.loop-command.desk.book c.loop-command.desk.journal old new whole c.loop-command.invariant.so_far in
+    subst (λ (d : g.row.D.Denot). HasRun node (script_of commands) before (g.D.Disk.device.content d) (g.D.Disk.device.outcome d) old new) (sym c.into_disk.ensures) run
 
 pub returns-clause-given_out : goal.returns-clause-given_out
 returns-clause-given_out g c =
-    let node = node_of g.S.Sign.own_key g.S.Sign.signature_of c.args.config.now in
-    let before = g.D.Disk.content c.args.disk in
+    let node = node_of g.S.Sign.scheme c.args.config.now in
+    let before = g.D.Disk.device.content c.args.disk in
     let commands = c.args.commands.items in
     let done = c.loop-command.yielded in
     let end = YieldsList-end (YieldsList-from_vec {s = c.into_iter-command-iterator.result} commands (search rules) (search rules)) done c.loop-command.command-iterator c.loop-command.yielded_by c.next.result c.next.new.self c.in-None.is c.next.ensures.steps in
@@ -160,12 +160,12 @@ returns-clause-given_out g c =
     let new = g.W.Write.contents c.loop-command.writer in
     let so_far = c.loop-command.invariant.so_far in
     let desk = c.loop-command.desk in
-    let run = all_carried node g.D.Disk.content g.D.Disk.outcome before (script_of commands) (script_of done) desk.book desk.journal old new whole so_far in
-    run_given node so_far.is_of.stands_at.legal.sound (script_of commands) before (g.D.Disk.content (disk_of desk.journal)) (g.D.Disk.outcome (disk_of desk.journal)) old new
+    let run = all_carried node g.D.Disk.device before (script_of commands) (script_of done) desk.book desk.journal old new whole so_far in
+    run_given node so_far.is_of.stands_at.legal.sound (script_of commands) before (g.D.Disk.device.content (disk_of desk.journal)) (g.D.Disk.device.outcome (disk_of desk.journal)) old new
     (subst (All (IsTakenIn node)) (sym whole) c.loop-command.invariant.taken) run
 
 pub returns-clause-cause : goal.returns-clause-cause
-returns-clause-cause g c = (ap g.D.Disk.faults c.into_disk.ensures ∙ c.loop-command.invariant.no_fault, tt)
+returns-clause-cause g c = (ap g.D.Disk.device.faults c.into_disk.ensures ∙ c.loop-command.invariant.no_fault, tt)
 
 pub branch-desk-requires : goal.branch-desk-requires
 branch-desk-requires g c κs = λ h. simp (in_lives, h.0.0, h.1.0, h.1.1.0, h.1.1.1.0) (search rules)

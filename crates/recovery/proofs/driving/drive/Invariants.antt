@@ -10,9 +10,9 @@ use Rattle.recovery.proofs.driving.drive.Given as goal
 -- the commands so far were carried out
 abbrev pub invariant-loop-command : goal.invariant-loop-command
 invariant-loop-command g l = record {
-  so_far : IsCarriedOut (node_of g.S.Sign.own_key g.S.Sign.signature_of l.config) g.D.Disk.content g.D.Disk.outcome (g.D.Disk.content l.fn.disk) (script_of l.yielded) l.desk.book l.desk.journal (g.W.Write.contents l.initial.writer) (g.W.Write.contents l.writer);
-  taken : All (IsTakenIn (node_of g.S.Sign.own_key g.S.Sign.signature_of l.config)) (script_of l.yielded);
+  so_far : IsCarriedOut (node_of g.S.Sign.scheme l.config) g.D.Disk.device (g.D.Disk.device.content l.fn.disk) (script_of l.yielded) l.desk.book l.desk.journal (g.W.Write.contents l.initial.writer) (g.W.Write.contents l.writer);
+  taken : All (IsTakenIn (node_of g.S.Sign.scheme l.config)) (script_of l.yielded);
   setting : l.desk.book.validator.setting ≡ l.config;
   count : l.desk.book.accepted ≤ length l.yielded;
-  no_fault : g.D.Disk.faults (disk_of l.desk.journal) ≡ g.D.Disk.faults l.fn.disk;
+  no_fault : g.D.Disk.device.faults (disk_of l.desk.journal) ≡ g.D.Disk.device.faults l.fn.disk;
 }

@@ -5,12 +5,12 @@ use Rattle.std.proofs.lemmas.Option.{slice_get_past, slice_get_read}
 use Rattle.spec_model.specs.Admitting.{is_own}
 use Rattle.spec_model.specs.Holdings.{is_full}
 use Rattle.spec_model.specs.Nodes.{node_view}
-use Rattle.spec_model.specs.declared.admission.Admission.TheVariants.{Known}
+use Rattle.header.specs.declared.admission.Admission.TheVariants.{Known}
 use Rattle.ref_admission.proofs.admitting.coin_answer.Goals as goal
 
 pub returns-then-not-branch : goal.returns-then-not-branch
 returns-then-not-branch g c =
-    let node = node_view g.S.Sign.own_key g.S.Sign.signature_of c.args.node.now in
+    let node = node_view g.S.Sign.scheme c.args.node.now in
     let state = g.H.Held.state c.args.now.now in
     let coin = c.args.coin.now in
     let own : is_own node c.args.sender ≡ true = search rules in
@@ -23,7 +23,7 @@ returns-then-not-branch g c =
 
 pub returns : goal.returns
 returns g c =
-    let node = node_view g.S.Sign.own_key g.S.Sign.signature_of c.args.node.now in
+    let node = node_view g.S.Sign.scheme c.args.node.now in
     let state = g.H.Held.state c.args.now.now in
     let coin = c.args.coin.now in
     let own : is_own node c.args.sender ≡ true = search rules in
@@ -36,13 +36,13 @@ returns g c =
 
 pub returns-then-not-is_own : goal.returns-then-not-is_own
 returns-then-not-is_own g c =
-    let node = node_view g.S.Sign.own_key g.S.Sign.signature_of c.args.node.now in
+    let node = node_view g.S.Sign.scheme c.args.node.now in
     let other : is_own node c.args.sender ≡ false = sym c.is_own.ensures ∙ c.if-not-is_own.true in
     rw other refl
 
 pub returns-in-Some : goal.returns-in-Some
 returns-in-Some g c =
-    let node = node_view g.S.Sign.own_key g.S.Sign.signature_of c.args.node.now in
+    let node = node_view g.S.Sign.scheme c.args.node.now in
     let state = g.H.Held.state c.args.now.now in
     let coin = c.args.coin.now in
     let taken = c.in-Some.taken.now in
@@ -57,7 +57,7 @@ returns-in-Some g c =
 
 pub returns-then-taken-coin : goal.returns-then-taken-coin
 returns-then-taken-coin g c =
-    let node = node_view g.S.Sign.own_key g.S.Sign.signature_of c.args.node.now in
+    let node = node_view g.S.Sign.scheme c.args.node.now in
     let state = g.H.Held.state c.args.now.now in
     let coin = c.args.coin.now in
     let taken = c.in-Some.taken.now in

@@ -7,5 +7,5 @@ use Rattle.ref_admission.proofs.giving.of_batches.Given as goal
 -- what is put out so far and for the batches that are left is what is put out for all
 abbrev pub invariant-loop-batch : goal.invariant-loop-batch
 invariant-loop-batch g l =
-    l.found ++ flat_map (batch_outputs (node_view g.S.Sign.own_key g.S.Sign.signature_of l.node)) (drop l.batch-index l.batch-items)
-    ≡ flat_map (batch_outputs (node_view g.S.Sign.own_key g.S.Sign.signature_of l.node)) (batches l.history)
+    l.found ++ flat_map (batch_outputs (node_view g.S.Sign.scheme l.node)) (drop l.batch-index l.batch-items)
+    ≡ flat_map (batch_outputs (node_view g.S.Sign.scheme l.node)) (batches l.history)

@@ -7,6 +7,6 @@ use Rattle.ref_admission.proofs.giving.of_headers.Goals as goal
 pub loop-header-preserved : goal.loop-header-preserved
 loop-header-preserved g c =
     rw (c.in_ok-append.ensures.ok, c.in_ok-header_outputs.ensures)
-    (joined_more (header_outputs (node_view g.S.Sign.own_key g.S.Sign.signature_of c.args.node.now)) c.loop-header.found c.deref-header-items.result.now
+    (joined_more (header_outputs (node_view g.S.Sign.scheme c.args.node.now)) c.loop-header.found c.deref-header-items.result.now
     c.header-item.result c.loop-header.header-index c.loop-header-test.true c.header-item.is
     ∙ c.loop-header.invariant)

@@ -7,5 +7,5 @@ use Rattle.ref_admission.proofs.giving.of_headers.Given as goal
 -- what is put out so far and for the headers that are left is what is put out for all
 abbrev pub invariant-loop-header : goal.invariant-loop-header
 invariant-loop-header g l =
-    l.found ++ flat_map (header_outputs (node_view g.S.Sign.own_key g.S.Sign.signature_of l.node)) (drop l.header-index l.header-items)
-    ≡ flat_map (header_outputs (node_view g.S.Sign.own_key g.S.Sign.signature_of l.node)) (headers l.history)
+    l.found ++ flat_map (header_outputs (node_view g.S.Sign.scheme l.node)) (drop l.header-index l.header-items)
+    ≡ flat_map (header_outputs (node_view g.S.Sign.scheme l.node)) (headers l.history)

@@ -8,7 +8,7 @@ use Rattle.ref_admission.proofs.giving.own_certificates.Goals.{then-is_given+in_
 
 pub loop-certificate-preserved : goal.loop-certificate-preserved
 loop-certificate-preserved g c =
-    let test = is_given (node_view g.S.Sign.own_key g.S.Sign.signature_of c.args.node.now) c.args.history.now in
+    let test = is_given (node_view g.S.Sign.scheme c.args.node.now) c.args.history.now in
     let so_far = c.loop-certificate.found in
     let all = c.deref-certificate-items.result.now in
     let this = c.certificate-item.result in

@@ -8,6 +8,6 @@ use Rattle.ref_admission.proofs.giving.own_certificates.Given as goal
 -- those so far and those among what is left are those of all
 abbrev pub invariant-loop-certificate : goal.invariant-loop-certificate
 invariant-loop-certificate g l =
-    let node = node_view g.S.Sign.own_key g.S.Sign.signature_of l.node in
+    let node = node_view g.S.Sign.scheme l.node in
     l.found ++ map output.Certificate (filter (is_given node l.history) (drop l.certificate-index l.certificate-items))
     ≡ map output.Certificate (filter (is_given node l.history) (certificates node l.history))

@@ -9,7 +9,7 @@ use Rattle.ref_admission.proofs.proposing.is_nameable.Goals as goal
 
 pub returns-then-is_own : goal.returns-then-is_own
 returns-then-is_own g c =
-    let node = node_view g.S.Sign.own_key g.S.Sign.signature_of c.args.node.now in
+    let node = node_view g.S.Sign.scheme c.args.node.now in
     let state = g.H.Held.state c.args.held.now in
     let waiting = λ (digest : Digest). is_available node state digest && not (state.named digest) in
     let own : is_own node c.args.batch.now.author ≡ true =

@@ -9,7 +9,7 @@ use Rattle.ref_admission.proofs.proposing.nameable.Goals.{in-Some+in_ok-found, i
 
 pub loop-batch-preserved : goal.loop-batch-preserved
 loop-batch-preserved g c =
-    let node = node_view g.S.Sign.own_key g.S.Sign.signature_of c.args.node.now in
+    let node = node_view g.S.Sign.scheme c.args.node.now in
     let make = to_name node (g.H.Held.state c.args.held.now) in
     let so_far = c.loop-batch.found.items in
     let all = c.deref-batch-items.result.now in

@@ -8,7 +8,7 @@ use Rattle.ref_admission.proofs.proposing.nameable.Given as goal
 -- those so far with those of the batches that are left in their places are all, and they rise
 abbrev pub invariant-loop-batch : goal.invariant-loop-batch
 invariant-loop-batch g l =
-    let node = node_view g.S.Sign.own_key g.S.Sign.signature_of l.node in
+    let node = node_view g.S.Sign.scheme l.node in
     let state = g.H.Held.state l.held in
     record {
       all : fold placed l.found.items (filter_map (to_name node state) (drop l.batch-index l.batch-items)) ≡ nameable node state;

@@ -7,6 +7,6 @@ use Rattle.ref_admission.proofs.proposing.propose.Goals as goal
 
 pub returns : goal.returns
 returns g c =
-    let node = node_view g.S.Sign.own_key g.S.Sign.signature_of c.args.node.now in
+    let node = node_view g.S.Sign.scheme c.args.node.now in
     let state = whole node c.args.history.now in
     subst (λ (round : ℕ). IfOk c.propose_of.result (λ found. found ≡ propose_of node state round)) c.in_ok-round.ensures c.propose_of.ensures

@@ -13,7 +13,7 @@ neither false false x h k = refl
 
 pub returns-in_ok-body-in-Ok : goal.returns-in_ok-body-in-Ok
 returns-in_ok-body-in-Ok g c =
-    let node = node_view g.S.Sign.own_key g.S.Sign.signature_of c.args.node.now in
+    let node = node_view g.S.Sign.scheme c.args.node.now in
     let state = g.H.Held.state c.args.held.now in
     let round = c.args.round in
     let none_yet : is_some (state.own_headers round) ≡ false = sym c.has_header.ensures ∙ c.if-has_header.false in

@@ -8,6 +8,6 @@ use Rattle.ref_admission.proofs.runs.admit.Goals as goal
 
 pub returns : goal.returns
 returns g c =
-    let node = node_view g.S.Sign.own_key g.S.Sign.signature_of c.args.node.now in
+    let node = node_view g.S.Sign.scheme c.args.node.now in
     let now = whole node c.args.arrival.now.history.now in
     subst (λ (events : History). IfOk c.answer.result (λ found. found ≡ answer node now (whole node events) c.args.arrival.now.event.now)) c.args.arrival.now.joined c.answer.ensures

@@ -8,7 +8,7 @@ pub loop-event-preserved : goal.loop-event-preserved
 loop-event-preserved g c =
     let until = c.loop-event in
     let grown = c.push.new.self in
-    one_answered (node_view g.S.Sign.own_key g.S.Sign.signature_of c.args.node.now) until.found.items c.push-in-loop-event.new.self.items _ until.history.items grown.items c.if-not-is_new.history.items
+    one_answered (node_view g.S.Sign.scheme c.args.node.now) until.found.items c.push-in-loop-event.new.self.items _ until.history.items grown.items c.if-not-is_new.history.items
     until.event-iterator.rest.items c.next.new.self.rest.items c.in-Some.event c.in_ok-answer.answer c.is_new.result grown.len
     (c.in_ok-answer.ensures until.history.items c.in-Some.event (c.deref.ensures.value ∙ c.in_ok-push.ensures.items)) c.is_new.ensures c.in_ok-push.ensures.items grown.ok.0
     (elim c.if-not-is_new.branch [

@@ -6,5 +6,5 @@ use Rattle.ref_admission.proofs.runs.each_new.Given as goal
 -- those that are left are each new where all are
 abbrev pub invariant-loop-event : goal.invariant-loop-event
 invariant-loop-event g l =
-    each_new (node_view g.S.Sign.own_key g.S.Sign.signature_of l.node) l.history.items l.event-iterator.rest.items
-    ≡ each_new (node_view g.S.Sign.own_key g.S.Sign.signature_of l.node) [] l.fn.events.items
+    each_new (node_view g.S.Sign.scheme l.node) l.history.items l.event-iterator.rest.items
+    ≡ each_new (node_view g.S.Sign.scheme l.node) [] l.fn.events.items

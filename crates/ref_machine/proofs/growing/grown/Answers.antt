@@ -15,7 +15,7 @@ use Rattle.ref_machine.proofs.growing.grown.Goals as goal
 
 pub returns : goal.returns
 returns g c =
-    let node = node_view g.S.Sign.own_key g.S.Sign.signature_of c.args.node.now in
+    let node = node_view g.S.Sign.scheme c.args.node.now in
     let message = c.args.message.now in
     let tables = c.args.tables in
     let before = state_of tables in

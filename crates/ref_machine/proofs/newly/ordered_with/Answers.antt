@@ -8,7 +8,7 @@ use Rattle.ref_machine.proofs.newly.ordered_with.Goals as goal
 
 pub returns : goal.returns
 returns g c =
-    let node = node_view g.S.Sign.own_key g.S.Sign.signature_of c.args.node.now in
+    let node = node_view g.S.Sign.scheme c.args.node.now in
     let tables = c.args.tables.now in
     let later = ledger_of node (slots_of c.args.certificates.now) c.args.coins.now in
     c.in_ok-append.ensures.items

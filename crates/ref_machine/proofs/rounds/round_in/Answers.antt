@@ -7,7 +7,7 @@ use Rattle.ref_machine.proofs.rounds.round_in.Goals as goal
 
 pub returns : goal.returns
 returns g c =
-    let node = node_view g.S.Sign.own_key g.S.Sign.signature_of c.args.node.now in
+    let node = node_view g.S.Sign.scheme c.args.node.now in
     ap (λ n. 1 + n)
     (c.full_to.ensures.value
     ∙ ap (λ (l : List Certificate). full_to node (slots_of l) c.number.result) c.deref.ensures.value

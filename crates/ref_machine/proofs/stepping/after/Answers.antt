@@ -9,7 +9,7 @@ use Rattle.ref_machine.proofs.stepping.after.Goals as goal
 
 pub returns : goal.returns
 returns g c =
-    let node = node_view g.S.Sign.own_key g.S.Sign.signature_of c.args.node.now in
+    let node = node_view g.S.Sign.scheme c.args.node.now in
     subst (λ (s : State). IfOk c.collected.result (λ found. state_of found ≡ collected node s))
     (c.in_ok-grown.ensures ∙ ap (λ (e : Event). machine.grown node (state_of c.args.tables) e.message) c.event.view_is)
     c.collected.ensures

@@ -9,7 +9,7 @@ use Rattle.ref_machine.proofs.stepping.answered.Goals as goal
 
 pub returns : goal.returns
 returns g c =
-    let node = node_view g.S.Sign.own_key g.S.Sign.signature_of c.args.node.now in
+    let node = node_view g.S.Sign.scheme c.args.node.now in
     let now = state_of c.args.tables.now in
     subst (λ (s : State). IfOk c.answer.result (λ found. found ≡ answer node now s c.args.event.now))
     (c.in_ok-later.ensures ∙ ap (λ (s : State). machine.grown node s c.event.inside.message) c.in_ok-try_clone.ensures ∙ ap (λ (e : Event). machine.grown node now e.message) c.event.view_is)

@@ -1,6 +1,6 @@
 use Rattle.std.proofs.Common.{◌∙◌}
 use Rattle.spec_model.specs.Holdings.{genesis}
-use Rattle.spec_model.proofs.Ranges.{mapped_more}
+use Rattle.header.proofs.Ranges.{mapped_more}
 use Rattle.ref_order.proofs.certificates.first.Goals as goal
 
 pub loop-author-preserved : goal.loop-author-preserved

@@ -7,7 +7,7 @@ use Rattle.ref_order.proofs.certificates.own.Goals.{in-Some+in_ok-push, in_defau
 
 pub loop-header-preserved : goal.loop-header-preserved
 loop-header-preserved g c =
-    let make = completed (node_view g.S.Sign.own_key g.S.Sign.signature_of c.args.node.now) c.args.history.now in
+    let make = completed (node_view g.S.Sign.scheme c.args.node.now) c.args.history.now in
     let so_far = c.loop-header.found.items in
     let all = c.deref-header-items.result.now in
     let this = c.header-item.result in

@@ -10,7 +10,7 @@ use Rattle.ref_order.proofs.certificates.round_by.Goals.{then-is_full, else-is_f
 
 pub loop-certificate-preserved : goal.loop-certificate-preserved
 loop-certificate-preserved g c =
-    let full = is_full (node_view g.S.Sign.own_key g.S.Sign.signature_of c.args.node.now) (slots_of c.args.certificates.now) in
+    let full = is_full (node_view g.S.Sign.scheme c.args.node.now) (slots_of c.args.certificates.now) in
     let so_far = c.loop-certificate.greatest in
     let all = c.args.certificates.now in
     let this = c.certificate-item.result in

@@ -6,5 +6,5 @@ use Rattle.ref_order.proofs.holdings.was_named.Given as goal
 -- what is found among the events that are left is what is found
 abbrev pub invariant-loop-event : goal.invariant-loop-event
 invariant-loop-event g l =
-    was_named (node_view g.S.Sign.own_key g.S.Sign.signature_of l.node) (drop l.event-index l.history) l.digest
-    ≡ was_named (node_view g.S.Sign.own_key g.S.Sign.signature_of l.node) l.history l.digest
+    was_named (node_view g.S.Sign.scheme l.node) (drop l.event-index l.history) l.digest
+    ≡ was_named (node_view g.S.Sign.scheme l.node) l.history l.digest

@@ -1,6 +1,6 @@
 use Rattle.std.proofs.Common.{◌≡◌, List, ℕ, ◌++◌, length, sym, ap, ◌∙◌, append_assoc}
 use Rattle.std.specs.Int.{w32, to_be_bytes}
-use Rattle.spec_world.specs.Text.{frame_of}
+use Rattle.wire.specs.Outputs.{frame_of}
 use Rattle.ref_script.proofs.frames.put_frame.Goals as goal
 
 pub returns : goal.returns

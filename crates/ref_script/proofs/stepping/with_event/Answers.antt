@@ -6,7 +6,7 @@ use Rattle.ref_script.proofs.stepping.with_event.Goals as goal
 
 pub returns-in_ok-put_ticketed-in-New : goal.returns-in_ok-put_ticketed-in-New
 returns-in_ok-put_ticketed-in-New g c =
-    let node = node_view g.S.Sign.own_key g.S.Sign.signature_of c.args.node.now in
+    let node = node_view g.S.Sign.scheme c.args.node.now in
     let desk = c.args.desk in
     let events = desk.events.items in
     let is = c.deref.ensures.value ∙ c.in_ok-push.ensures.items in
@@ -17,7 +17,7 @@ returns-in_ok-put_ticketed-in-New g c =
 
 pub returns-in_ok-put_ticketed-in-Known : goal.returns-in_ok-put_ticketed-in-Known
 returns-in_ok-put_ticketed-in-Known g c =
-    let node = node_view g.S.Sign.own_key g.S.Sign.signature_of c.args.node.now in
+    let node = node_view g.S.Sign.scheme c.args.node.now in
     let desk = c.args.desk in
     let events = desk.events.items in
     let is = c.deref.ensures.value ∙ c.in_ok-push.ensures.items in
@@ -30,7 +30,7 @@ returns-in_ok-put_ticketed-in-Known g c =
 
 pub returns-in-Refused : goal.returns-in-Refused
 returns-in-Refused g c =
-    let node = node_view g.S.Sign.own_key g.S.Sign.signature_of c.args.node.now in
+    let node = node_view g.S.Sign.scheme c.args.node.now in
     let desk = c.args.desk in
     let events = desk.events.items in
     let is = c.deref.ensures.value ∙ c.in_ok-push.ensures.items in

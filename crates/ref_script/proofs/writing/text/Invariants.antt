@@ -7,5 +7,5 @@ use Rattle.ref_script.proofs.writing.text.Given as goal
 -- what is written so far and what the commands write that are left is what all write
 abbrev pub invariant-loop-command : goal.invariant-loop-command
 invariant-loop-command g l =
-    l.written.items ++ text (node_view g.S.Sign.own_key g.S.Sign.signature_of l.node) (desk_of l.desk) (map said l.command-iterator.rest.items)
-    ≡ text (node_view g.S.Sign.own_key g.S.Sign.signature_of l.node) (desk_on l.fn.history.items) (map said l.fn.commands.items)
+    l.written.items ++ text (node_view g.S.Sign.scheme l.node) (desk_of l.desk) (map said l.command-iterator.rest.items)
+    ≡ text (node_view g.S.Sign.scheme l.node) (desk_on l.fn.history.items) (map said l.fn.commands.items)

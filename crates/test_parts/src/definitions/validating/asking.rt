@@ -6,7 +6,7 @@ use crate::definitions::validating::seen::{seen_of, voted_by};
 use crate::parts::{list, whether};
 use sigface::HashSign;
 use sim_script::Labels;
-use spec_model::Refusal;
+use header::Refusal;
 use std::alloc::{AllocError, Global};
 use validator::{Step, Validator};
 use wire::Output;

@@ -3,7 +3,7 @@
 use crate::definitions::validating::same::{difference, same_answer};
 use ref_machine::{Tables, after, answered, fresh};
 use sigface::HashSign;
-use spec_model::{Admission, Event, Node, Refusal};
+use header::{Admission, Event, Node, Refusal};
 use std::alloc::{AllocError, Global};
 use validator::{Step, Validator};
 use wire::Header;

@@ -8,7 +8,7 @@ use committee::Committee;
 use header::{Checked, check};
 use sigface::{HashSign, HashVerify};
 use sim_script::{FormError, OWN, signer};
-use spec_model::Refusal;
+use header::Refusal;
 use std::alloc::{AllocError, Global};
 use std::fs;
 use validator::{Config, Step, Validator};

@@ -18,7 +18,7 @@ use sigface::{HashSign, HashVerify};
 use sim_script::{
     Command, FormError, Labels, OWN, define_batch, define_header, message_of, parse, signer,
 };
-use spec_model::{Event, Node};
+use header::{Event, Node};
 use std::alloc::{AllocError, Global};
 use validator::{Config, Refusal, Step, Validator};
 use wire::{Author, Header, Message};

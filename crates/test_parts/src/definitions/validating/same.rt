@@ -4,7 +4,7 @@ use crate::definitions::validating::seen::seen_of;
 use ref_machine::{Tables, proposed, round_in};
 use ref_order::held::{Held, floor_in};
 use sigface::HashSign;
-use spec_model::{Admission, Node, Refusal};
+use header::{Admission, Node, Refusal};
 use std::alloc::{AllocError, Global};
 use validator::{Step, Validator};
 use wire::{Author, Digest, Header, Message, Output, Round, encode, encode_output};

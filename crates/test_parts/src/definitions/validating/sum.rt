@@ -2,7 +2,7 @@
 
 use crate::definitions::validating::seen::seen_of;
 use sigface::HashSign;
-use spec_model::Refusal;
+use header::Refusal;
 use validator::{Step, Validator};
 use wire::{
     Author, Certificate, Digest, Header, Output, Round, batch_digest, certificate_digest,

@@ -1,7 +1,7 @@
 //! How often each answer came.
 
 use crate::definitions::validating::sum::number_of;
-use spec_model::Refusal;
+use header::Refusal;
 use std::alloc::AllocError;
 use validator::Step;
 use wire::Output;

@@ -3,7 +3,7 @@ use Rattle.validator.proofs.proposing.propose.Goals as goal
 
 pub returns : goal.returns
 returns g c node state at =
-    let sign = g.S.Sign.signature_of c.args.signer.now in
+    let sign = g.S.Sign.scheme.signature_of c.args.signer.now in
     let stock = c.args.batches.now in
     let named = c.nameable_agrees.ensures node state stock c.limits_hold.ensures at.batches in
     let round = c.round.ensures.value node state at.sound at.certificates in

@@ -4,7 +4,7 @@ use Rattle.std.specs.Io.KnownBytes.{Appends}
 use Rattle.std.specs.Int.{w32, to_be_bytes}
 use Rattle.std.proofs.lemmas.Result.{on_ok_weaker}
 use Rattle.wire.specs.Outputs.{output_bytes}
-use Rattle.spec_world.specs.Text.{frame_of}
+use Rattle.wire.specs.Outputs.{frame_of}
 use Rattle.wire_write.specs.Frames.{AppendsLess}
 use Rattle.wire_write.proofs.Appending.{part_front, part_behind, less_none, on_err, on_err_more}
 use Rattle.wire_write.proofs.frames.write_output.Goals as goal

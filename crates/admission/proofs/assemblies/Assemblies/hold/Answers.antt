@@ -1,7 +1,7 @@
 use Rattle.std.proofs.Common.{◌∙◌, ap, sym, subst, ℕ, Some}
 use Rattle.std.proofs.lemmas.Option.{same_Some}
-use Rattle.certify.specs.Assembled.{Assembled}
-use Rattle.admission.specs.Headers.{Headers, IsEntry, IsWith}
+use Rattle.certify.specs.Assembled.{AssemblyView}
+use Rattle.admission.specs.Headers.{AssembliesView, IsEntry, IsWith}
 use Rattle.admission.proofs.Looking.{updated, holds_with}
 use Rattle.admission.proofs.assemblies.Assemblies.hold.Goals as goal
 
@@ -10,15 +10,15 @@ invariant_of-self-2 c =
     let inside = c.self.inside in
     let charter = inside.committee.now in
     let own = inside.own.0 in
-    let old : Headers = record { charter = charter; own = own; rounds = inside.rounds.entries } in
-    let new : Headers = record { charter = charter; own = own; rounds = c.insert.new.self.entries } in
+    let old : AssembliesView = record { charter = charter; own = own; rounds = inside.rounds.entries } in
+    let new : AssembliesView = record { charter = charter; own = own; rounds = c.insert.new.self.entries } in
     let key = c.number-round.result in
     let made = c.in_ok-assembly.assembly in
     let is = c.in_ok-assembly.ensures in
     let entry : IsEntry old key made = record {
-      charter = ap (λ (a : Assembled). a.charter) is;
-      place = ap (λ (a : Assembled). a.header.body.round) is ∙ sym c.number-round.ensures.value;
-      author = ap (λ (a : Assembled). a.header.body.author.0) is ∙ c.requires.own ∙ sym (ap (λ (h : Headers). h.own) c.self.view_is);
+      charter = ap (λ (a : AssemblyView). a.charter) is;
+      place = ap (λ (a : AssemblyView). a.header.body.round) is ∙ sym c.number-round.ensures.value;
+      author = ap (λ (a : AssemblyView). a.header.body.author.0) is ∙ c.requires.own ∙ sym (ap (λ (h : AssembliesView). h.own) c.self.view_is);
       assembly = c.limits_hold.ensures;
     } in
     holds_with old new key (Some made) c.self.invariant (updated inside.rounds.entries c.insert.new.self.entries key (Some made) c.in_ok-insert.ensures.updates.0 charter own) c.insert.ensures.ordered
@@ -29,11 +29,11 @@ returns-clause-ok c =
     let inside = c.self.inside in
     let charter = inside.committee.now in
     let own = inside.own.0 in
-    let old : Headers = record { charter = charter; own = own; rounds = inside.rounds.entries } in
-    let new : Headers = record { charter = charter; own = own; rounds = c.insert.new.self.entries } in
+    let old : AssembliesView = record { charter = charter; own = own; rounds = inside.rounds.entries } in
+    let new : AssembliesView = record { charter = charter; own = own; rounds = c.insert.new.self.entries } in
     let key = c.number-round.result in
     let made = c.in_ok-assembly.assembly in
     let with = updated inside.rounds.entries c.insert.new.self.entries key (Some made) c.in_ok-insert.ensures.updates.0 charter own in
     rw (← c.self.view_is)
-    (subst (λ (a : Assembled). IsWith old new c.args.header.body.round (Some a)) c.in_ok-assembly.ensures
+    (subst (λ (a : AssemblyView). IsWith old new c.args.header.body.round (Some a)) c.in_ok-assembly.ensures
     (subst (λ (r : ℕ). IsWith old new r (Some made)) c.number-round.ensures.value with))

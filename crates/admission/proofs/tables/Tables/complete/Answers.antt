@@ -4,7 +4,7 @@ use Rattle.wire.specs.declared.output.Output.TheVariants as output
 use Rattle.spec_model.specs.Admitting.{order_outputs, vote_outputs}
 use Rattle.spec_model.specs.Slots.{certificate_digest}
 use Rattle.spec_model.specs.Words.{Certificate, Output}
-use Rattle.spec_model.specs.declared.admission.Admission.TheVariants as admission
+use Rattle.header.specs.declared.admission.Admission.TheVariants as admission
 use Rattle.spec_machine.specs.Machine.{grown}
 use Rattle.admission.specs.Headers.{IsForgotten, IsWith, counted_in}
 use Rattle.certify.specs.declared.added.Added.{Added}

@@ -2,7 +2,7 @@ use Rattle.std.proofs.Common.{◌++◌, List, [], ap, sym, ◌∙◌}
 use Rattle.wire.specs.declared.message.Message.TheVariants as message
 use Rattle.spec_model.specs.Admitting.{order_outputs}
 use Rattle.spec_model.specs.Words.{Message, Output}
-use Rattle.spec_model.specs.declared.admission.Admission.TheVariants as admission
+use Rattle.header.specs.declared.admission.Admission.TheVariants as admission
 use Rattle.spec_machine.specs.Machine.{certificate_of, grown}
 use Rattle.admission.specs.Batches.{changes_batches}
 use Rattle.admission.specs.Votes.{is_peers_header}

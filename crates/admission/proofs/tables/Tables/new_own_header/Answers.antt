@@ -19,7 +19,7 @@ pub returns-clause-at : goal.returns-clause-at
 returns-clause-at g c = λ node state event meets signs new.
     let tables = c.args.self.now in
     let header = c.args.header in
-    let sign : Digest → Signature = g.S.Sign.signature_of c.args.signer.now in
+    let sign : Digest → Signature = g.S.Sign.scheme.signature_of c.args.signer.now in
     let held = c.hold.new.self in
     let others = c.others_stay.ensures in
     let comes = comes_of node state event tables (message.Header header) meets new in

@@ -2,7 +2,7 @@ use Rattle.std.proofs.Common.{◌≡◌, ◌⊎◌, ap, sym, ◌∙◌, subst}
 use Rattle.wire.specs.declared.message.Message.TheVariants as message
 use Rattle.spec_model.specs.Admitting.{vote_outputs}
 use Rattle.spec_model.specs.Histories.{as_coin}
-use Rattle.spec_model.specs.declared.admission.Admission.TheVariants as admission
+use Rattle.header.specs.declared.admission.Admission.TheVariants as admission
 use Rattle.spec_machine.specs.Machine.{grown}
 use Rattle.dag.specs.Graph.{slots_in}
 use Rattle.admission.specs.Decisions.{vote_decision, known_outputs}

@@ -2,7 +2,7 @@ use Rattle.std.proofs.Common.{[], ap, sym, ◌∙◌}
 use Rattle.std.specs.Prelude.{Ok}
 use Rattle.wire.specs.declared.message.Message.TheVariants as message
 use Rattle.spec_model.specs.Admitting.{is_new, order_outputs}
-use Rattle.spec_model.specs.declared.admission.Admission.TheVariants as admission
+use Rattle.header.specs.declared.admission.Admission.TheVariants as admission
 use Rattle.spec_machine.specs.Machine.{grown}
 use Rattle.admission.specs.Decisions.{told, certificate_decision}
 use Rattle.admission.proofs.Answered.{certificate_answered}

@@ -11,14 +11,14 @@ pub returns-in-Err-clause-answer : goal.returns-in-Err-clause-answer
 returns-in-Err-clause-answer g c = λ node state event meets signs.
     let tables = c.args.self.now in
     let header = c.args.header in
-    let sign : Digest → Signature = g.S.Sign.signature_of c.args.signer.now in
+    let sign : Digest → Signature = g.S.Sign.scheme.signature_of c.args.signer.now in
     refused_answer _ (new_header_outputs tables sign header) (known_header_outputs tables sign header) (header_decision tables header) c.in-Err.refusal (header_answered node state event tables sign header meets signs) (sym c.in-Err.ensures)
 
 pub returns-in-Err-clause-refused : goal.returns-in-Err-clause-refused
 returns-in-Err-clause-refused g c = λ node state event meets signs.
     let tables = c.args.self.now in
     let header = c.args.header in
-    let sign : Digest → Signature = g.S.Sign.signature_of c.args.signer.now in
+    let sign : Digest → Signature = g.S.Sign.scheme.signature_of c.args.signer.now in
     refused_refuses _ (new_header_outputs tables sign header) (known_header_outputs tables sign header) (header_decision tables header) c.in-Err.refusal (header_answered node state event tables sign header meets signs) (sym c.in-Err.ensures)
 
 pub new_header-requires-clause-free : goal.new_header-requires-clause-free
@@ -28,7 +28,7 @@ pub returns-in-Ok-Known-clause-answer : goal.returns-in-Ok-Known-clause-answer
 returns-in-Ok-Known-clause-answer g c = λ node state event meets signs.
     let tables = c.args.self.now in
     let header = c.args.header in
-    let sign : Digest → Signature = g.S.Sign.signature_of c.args.signer.now in
+    let sign : Digest → Signature = g.S.Sign.scheme.signature_of c.args.signer.now in
     known_answer _ (known_header_outputs tables sign header) c.known_header.result c.known_step.result (header_answered node state event tables sign header meets signs
     ∙ ap (told (new_header_outputs tables sign header) (known_header_outputs tables sign header)) (sym c.in-Ok-Known.ensures ∙ ap (λ a. Ok a) c.in-Ok-Known.field-0-is))
     c.known_step.ensures.ok c.known_step.ensures.err c.known_header.ensures
@@ -37,7 +37,7 @@ pub returns-in-Ok-Known-clause-refused : goal.returns-in-Ok-Known-clause-refused
 returns-in-Ok-Known-clause-refused g c = λ node state event meets signs.
     let tables = c.args.self.now in
     let header = c.args.header in
-    let sign : Digest → Signature = g.S.Sign.signature_of c.args.signer.now in
+    let sign : Digest → Signature = g.S.Sign.scheme.signature_of c.args.signer.now in
     known_refuses _ (known_header_outputs tables sign header) _ (header_answered node state event tables sign header meets signs
     ∙ ap (told (new_header_outputs tables sign header) (known_header_outputs tables sign header)) (sym c.in-Ok-Known.ensures ∙ ap (λ a. Ok a) c.in-Ok-Known.field-0-is))
 
@@ -45,7 +45,7 @@ pub returns-in-Ok-New-clause-answer : goal.returns-in-Ok-New-clause-answer
 returns-in-Ok-New-clause-answer g c = λ node state event meets signs.
     let tables = c.args.self.now in
     let header = c.args.header in
-    let sign : Digest → Signature = g.S.Sign.signature_of c.args.signer.now in
+    let sign : Digest → Signature = g.S.Sign.scheme.signature_of c.args.signer.now in
     let is = header_answered node state event tables sign header meets signs ∙ ap (told (new_header_outputs tables sign header) (known_header_outputs tables sign header)) (sym c.in-Ok-New.ensures ∙ ap (λ a. Ok a) c.in-Ok-New.field-0-is) in
     new_answer _ (new_header_outputs tables sign header) c.new_header.result c.new_step.result is c.new_step.ensures.ok c.new_step.ensures.err c.new_header.ensures.outputs
 
@@ -53,7 +53,7 @@ pub returns-in-Ok-New-clause-refused : goal.returns-in-Ok-New-clause-refused
 returns-in-Ok-New-clause-refused g c = λ node state event meets signs.
     let tables = c.args.self.now in
     let header = c.args.header in
-    let sign : Digest → Signature = g.S.Sign.signature_of c.args.signer.now in
+    let sign : Digest → Signature = g.S.Sign.scheme.signature_of c.args.signer.now in
     new_refuses _ (new_header_outputs tables sign header) c.new_step.result (header_answered node state event tables sign header meets signs
     ∙ ap (told (new_header_outputs tables sign header) (known_header_outputs tables sign header)) (sym c.in-Ok-New.ensures ∙ ap (λ a. Ok a) c.in-Ok-New.field-0-is))
 

@@ -1,6 +1,6 @@
 use Rattle.std.proofs.Common.{◌≡◌, ◌≢◌, ◌<◌, List, Some, refl, ap, sym, ◌∙◌, slice_get, slice_set, length}
 use Rattle.std.specs.Prelude.{find}
-use Rattle.batchstore.specs.Stock.{Stock, held_at}
+use Rattle.batchstore.specs.Stock.{BatchStoreView, held_at}
 use Rattle.batchstore.specs.Answer.{with_ack}
 use Rattle.batchstore.specs.declared.held.Held.{Held}
 use Rattle.batchstore.proofs.Among.{is_of}
@@ -18,11 +18,11 @@ invariant_of-self-2 c =
     let digest = c.args.digest.now in
     let at : slice_get batches place ≡ Some old = sym c.in-Some.ensures in
     let now_at : held_at c.args.self.now digest ≡ Some old =
-    sym c.requires.place ∙ ap (λ (s : Stock). slice_get s.held place) (sym c.self.view_is) ∙ at in
+    sym c.requires.place ∙ ap (λ (s : BatchStoreView). slice_get s.held place) (sym c.self.view_is) ∙ at in
     let found : find (is_of digest) batches ≡ Some old = rw (← c.self.view_is) at now_at in
     let there : Stands batches digest place old = stands batches digest place old c.self.invariant.valid.distinct found at in
-    let ours : old.batch.author.0 ≡ inside.own.0 = own_of c.args.self.now digest old now_at c.requires.ours ∙ ap (λ (s : Stock). s.own) (sym c.self.view_is) in
-    let other : c.args.author.0 ≢ inside.own.0 = λ e. other_than c.args.self.now digest c.args.author.0 c.requires.other (e ∙ ap (λ (s : Stock). s.own) c.self.view_is) in
+    let ours : old.batch.author.0 ≡ inside.own.0 = own_of c.args.self.now digest old now_at c.requires.ours ∙ ap (λ (s : BatchStoreView). s.own) (sym c.self.view_is) in
+    let other : c.args.author.0 ≢ inside.own.0 = λ e. other_than c.args.self.now digest c.args.author.0 c.requires.other (e ∙ ap (λ (s : BatchStoreView). s.own) c.self.view_is) in
     let within : c.args.author.0 < length inside.committee.now.keys = rw (← c.self.view_is) at c.requires.member in
     elim c.if-becomes_nameable.branch [
       | then-becomes_nameable+in_ok-insert w ↦
@@ -53,10 +53,10 @@ returns-clause-ok c =
     let digest = c.args.digest.now in
     let at : slice_get batches place ≡ Some old = sym c.in-Some.ensures in
     let now_at : held_at c.args.self.now digest ≡ Some old =
-    sym c.requires.place ∙ ap (λ (s : Stock). slice_get s.held place) (sym c.self.view_is) ∙ at in
+    sym c.requires.place ∙ ap (λ (s : BatchStoreView). slice_get s.held place) (sym c.self.view_is) ∙ at in
     let found : find (is_of digest) batches ≡ Some old = rw (← c.self.view_is) at now_at in
     let there : Stands batches digest place old = stands batches digest place old c.self.invariant.valid.distinct found at in
-    let store : List Held → Stock = λ l. record { charter = inside.committee.now; own = inside.own.0; held = l } in
+    let store : List Held → BatchStoreView = λ l. record { charter = inside.committee.now; own = inside.own.0; held = l } in
     elim c.if-becomes_nameable.branch [
       | then-becomes_nameable+in_ok-insert w ↦
           let same : c.if-becomes_nameable.self-inside.held ≡ batches = rw w.self-inside-is refl in
@@ -65,7 +65,7 @@ returns-clause-ok c =
           c.set_members.ensures old at_inside ∙ ap (λ (l : List Held). slice_set l place (with_acks old members)) same in
           rw (w.self-inside-is)
           (ap store set ∙ ap store (acked_view batches digest place old c.args.author.0 members there c.insert.ensures)
-          ∙ ap (λ (s : Stock). with_ack s digest c.args.author.0) c.self.view_is)
+          ∙ ap (λ (s : BatchStoreView). with_ack s digest c.args.author.0) c.self.view_is)
       | else-becomes_nameable w ↦
           let same : c.if-becomes_nameable.self-inside.held ≡ batches = rw w.self-inside-is refl in
           let at_inside : slice_get c.if-becomes_nameable.self-inside.held place ≡ Some old = rw same at in
@@ -73,5 +73,5 @@ returns-clause-ok c =
           c.set_members.ensures old at_inside ∙ ap (λ (l : List Held). slice_set l place (with_acks old members)) same in
           rw (w.self-inside-is)
           (ap store set ∙ ap store (acked_view batches digest place old c.args.author.0 members there c.insert.ensures)
-          ∙ ap (λ (s : Stock). with_ack s digest c.args.author.0) c.self.view_is)
+          ∙ ap (λ (s : BatchStoreView). with_ack s digest c.args.author.0) c.self.view_is)
     ]

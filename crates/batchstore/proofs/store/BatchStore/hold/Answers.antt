@@ -3,7 +3,7 @@ use Rattle.std.specs.Prelude.{find}
 use Rattle.std.proofs.lemmas.Bool.{leb-false}
 use Rattle.committee.specs.declared.sets.MemberSet.{MemberSet}
 use Rattle.batchstore.specs.Answer.{with_batch}
-use Rattle.batchstore.specs.Stock.{Stock}
+use Rattle.batchstore.specs.Stock.{BatchStoreView}
 use Rattle.batchstore.specs.declared.held.Held.{Held}
 use Rattle.batchstore.proofs.Among.{is_of}
 use Rattle.batchstore.proofs.Answering.{unheld, has_room}
@@ -27,7 +27,7 @@ push-requires-clause-new c = rw (← c.self.view_is) at (unheld c.args.self.now 
 pub returns-clause-ok : goal.returns-clause-ok
 returns-clause-ok c =
     let inside = c.self.inside in
-    let store : List Held → Stock = λ l. record { charter = inside.committee.now; own = inside.own.0; held = l } in
+    let store : List Held → BatchStoreView = λ l. record { charter = inside.committee.now; own = inside.own.0; held = l } in
     let one : MemberSet → Held = λ m. record { batch = c.args.batch; acknowledged = m; named = false } in
     ap store c.in_ok-push.ensures.ok ∙ ap (λ (m : MemberSet). store (inside.held ++ one m ∷ [])) (none_is c.none.result c.none.ensures)
-    ∙ ap (λ (s : Stock). with_batch s c.args.batch) c.self.view_is
+    ∙ ap (λ (s : BatchStoreView). with_batch s c.args.batch) c.self.view_is

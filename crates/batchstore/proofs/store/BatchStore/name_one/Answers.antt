@@ -2,7 +2,7 @@ use Rattle.std.proofs.Common.{◌≡◌, List, ◌∷◌, [], Some, None, false,
 use Rattle.std.specs.Prelude.{◌==◌, find}
 use Rattle.std.proofs.lemmas.Bool.{eqb-true, not-true, not-false}
 use Rattle.wire.specs.declared.keys.Author.{Author}
-use Rattle.batchstore.specs.Stock.{Stock, IsStock, held_at}
+use Rattle.batchstore.specs.Stock.{BatchStoreView, IsStock, held_at}
 use Rattle.batchstore.specs.Answer.{with_names}
 use Rattle.batchstore.specs.declared.held.Held.{Held}
 use Rattle.batchstore.proofs.Among.{is_of}
@@ -23,7 +23,7 @@ returns-then-ne c =
     let valid : IsStock stock = subst IsStock c.self.view_is c.self.invariant.valid in
     let there : Stands stock.held digest c.in-Some.found.0 old = stands stock.held digest c.in-Some.found.0 old valid.distinct (sym c.in-Some.ensures.held) c.in-Some.ensures.place in
     let theirs : (old.batch.author.0 == stock.own) ≡ false =
-    ap (λ (a : Author). a.0 == stock.own) (sym c.author.ensures) ∙ ap (λ (s : Stock). c.author.result.0 == s.own) (sym c.self.view_is)
+    ap (λ (a : Author). a.0 == stock.own) (sym c.author.ensures) ∙ ap (λ (s : BatchStoreView). c.author.result.0 == s.own) (sym c.self.view_is)
     ∙ not-true (c.author.result.0 == c.self.inside.own.0) (sym c.ne.ensures ∙ c.if-ne.true) in
     sym (ap (λ (l : List Held). record stock { held = l }) (unmarked stock.own stock.held c.args.reference.now c.in-Some.found.0 old there theirs))
 
@@ -56,6 +56,6 @@ returns c =
     let there : Stands batches digest place old = stands batches digest place old c.self.invariant.valid.distinct found at in
     let ours : old.batch.author.0 ≡ inside.own.0 =
     ap (λ (a : Author). a.0) (sym c.author.ensures) ∙ eqb-true c.author.result.0 inside.own.0 (not-false (c.author.result.0 == inside.own.0) (sym c.ne.ensures ∙ c.if-ne.false)) in
-    let store : List Held → Stock = λ l. record { charter = inside.committee.now; own = inside.own.0; held = l } in
+    let store : List Held → BatchStoreView = λ l. record { charter = inside.committee.now; own = inside.own.0; held = l } in
     ap store (c.set_mark.ensures old at) ∙ ap store (marked_view inside.own.0 batches c.args.reference.now place old there ours)
-    ∙ ap (λ (s : Stock). with_names s (c.args.reference.now ∷ [])) c.self.view_is
+    ∙ ap (λ (s : BatchStoreView). with_names s (c.args.reference.now ∷ [])) c.self.view_is

@@ -1,24 +1,24 @@
 use Rattle.std.proofs.Common.{List, ℕ, sym, subst}
-use Rattle.book.specs.Book.{Shown}
+use Rattle.book.specs.Book.{BookView}
 use Rattle.spec_model.specs.Nodes.{Node}
-use Rattle.validator.specs.Setting.{Setting, node_of}
+use Rattle.validator.specs.Setting.{ConfigView, node_of}
 use Rattle.book.specs.OnTheWay.{AreOnTheWay, StandsSomewhere}
 use Rattle.book.proofs.OnTheWay.{some_way, way_somewhere, way_accepted}
 use Rattle.book.proofs.own.OwnBook.accept.Goals as goal
 
 pub invariant_of-self : goal.invariant_of-self
 invariant_of-self g c =
-    let before : Shown g.row.S.Denot = c.self.inside.book in
-    let later : Shown g.row.S.Denot = c.accept.new.self in
-    let node : Node = node_of g.S.Sign.own_key g.S.Sign.signature_of before.validator.setting in
+    let before : BookView g.row.S.Denot = c.self.inside.book in
+    let later : BookView g.row.S.Denot = c.accept.new.self in
+    let node : Node = node_of g.S.Sign.scheme before.validator.setting in
     let some = some_way node before c.self.invariant in
     let way = way_accepted node before later some.0 c.args.event c.accept.result c.accept.ensures.new c.accept.ensures.known c.accept.ensures.err some.1 in
-    subst (λ (s : Setting g.row.S.Denot). StandsSomewhere (node_of g.S.Sign.own_key g.S.Sign.signature_of s) later) (sym c.accept.ensures.setting) (way_somewhere node later some.0 way)
+    subst (λ (s : ConfigView g.row.S.Denot). StandsSomewhere (node_of g.S.Sign.scheme s) later) (sym c.accept.ensures.setting) (way_somewhere node later some.0 way)
 
 pub returns-clause-way : goal.returns-clause-way
 returns-clause-way g c =
-    let before : Shown g.row.S.Denot = c.self.inside.book in
-    let later : Shown g.row.S.Denot = c.accept.new.self in
-    let node : Node = node_of g.S.Sign.own_key g.S.Sign.signature_of before.validator.setting in
-    subst (λ (s : Shown g.row.S.Denot). (groups : List (List (List ℕ))) → AreOnTheWay (node_of g.S.Sign.own_key g.S.Sign.signature_of s.validator.setting) s groups → AreOnTheWay (node_of g.S.Sign.own_key g.S.Sign.signature_of s.validator.setting) later groups) c.self.view_is
+    let before : BookView g.row.S.Denot = c.self.inside.book in
+    let later : BookView g.row.S.Denot = c.accept.new.self in
+    let node : Node = node_of g.S.Sign.scheme before.validator.setting in
+    subst (λ (s : BookView g.row.S.Denot). (groups : List (List (List ℕ))) → AreOnTheWay (node_of g.S.Sign.scheme s.validator.setting) s groups → AreOnTheWay (node_of g.S.Sign.scheme s.validator.setting) later groups) c.self.view_is
     (λ groups way. way_accepted node before later groups c.args.event c.accept.result c.accept.ensures.new c.accept.ensures.known c.accept.ensures.err way)

@@ -7,6 +7,6 @@ use Rattle.book.proofs.own.OwnBook.order.Goals as goal
 
 pub returns-clause-order : goal.returns-clause-order
 returns-clause-order g c =
-    subst (λ it. IfOk c.order.result (λ digests. (run : Run) → Stands (node_of g.S.Sign.own_key g.S.Sign.signature_of it.validator.setting) run it
-    → digests.items ≡ drop c.args.from (order_of (node_of g.S.Sign.own_key g.S.Sign.signature_of it.validator.setting) (settled_in run))))
+    subst (λ it. IfOk c.order.result (λ digests. (run : Run) → Stands (node_of g.S.Sign.scheme it.validator.setting) run it
+    → digests.items ≡ drop c.args.from (order_of (node_of g.S.Sign.scheme it.validator.setting) (settled_in run))))
     c.self.view_is c.order.ensures.order

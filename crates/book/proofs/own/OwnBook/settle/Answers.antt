@@ -1,21 +1,21 @@
 use Rattle.std.proofs.Common.{◌∷◌, List, ℕ, length, ap, sym, subst}
-use Rattle.book.specs.Book.{Shown, SettlesNext, with_settled}
+use Rattle.book.specs.Book.{BookView, SettlesNext, with_settled}
 use Rattle.spec_model.specs.Nodes.{Node}
-use Rattle.validator.specs.Setting.{Setting, node_of}
+use Rattle.validator.specs.Setting.{ConfigView, node_of}
 use Rattle.book.specs.OnTheWay.{AreOnTheWay, StandsSomewhere}
 use Rattle.book.proofs.OnTheWay.{way_settled}
 use Rattle.book.proofs.own.OwnBook.settle.Goals as goal
 
 pub invariant_of-self : goal.invariant_of-self
 invariant_of-self g c =
-    let later : Shown g.row.S.Denot = c.settle.new.self in
-    let next = subst (λ (s : Shown g.row.S.Denot). SettlesNext (node_of g.S.Sign.own_key g.S.Sign.signature_of s.validator.setting) s c.args.synced) (sym c.self.view_is) c.requires in
-    subst (λ (s : Setting g.row.S.Denot). StandsSomewhere (node_of g.S.Sign.own_key g.S.Sign.signature_of s) later) (sym (ap (λ (s : Shown g.row.S.Denot). s.validator.setting) c.settle.ensures.rest)) (with_settled next.0 (length c.args.synced), c.settle.ensures.stands next.0 next.1 next.2)
+    let later : BookView g.row.S.Denot = c.settle.new.self in
+    let next = subst (λ (s : BookView g.row.S.Denot). SettlesNext (node_of g.S.Sign.scheme s.validator.setting) s c.args.synced) (sym c.self.view_is) c.requires in
+    subst (λ (s : ConfigView g.row.S.Denot). StandsSomewhere (node_of g.S.Sign.scheme s) later) (sym (ap (λ (s : BookView g.row.S.Denot). s.validator.setting) c.settle.ensures.rest)) (with_settled next.0 (length c.args.synced), c.settle.ensures.stands next.0 next.1 next.2)
 
 pub returns-clause-way : goal.returns-clause-way
 returns-clause-way g c =
-    let before : Shown g.row.S.Denot = c.self.inside.book in
-    let later : Shown g.row.S.Denot = c.settle.new.self in
-    let node : Node = node_of g.S.Sign.own_key g.S.Sign.signature_of before.validator.setting in
-    subst (λ (s : Shown g.row.S.Denot). (groups : List (List (List ℕ))) → AreOnTheWay (node_of g.S.Sign.own_key g.S.Sign.signature_of s.validator.setting) s (c.args.synced ∷ groups) → AreOnTheWay (node_of g.S.Sign.own_key g.S.Sign.signature_of s.validator.setting) later groups) c.self.view_is
+    let before : BookView g.row.S.Denot = c.self.inside.book in
+    let later : BookView g.row.S.Denot = c.settle.new.self in
+    let node : Node = node_of g.S.Sign.scheme before.validator.setting in
+    subst (λ (s : BookView g.row.S.Denot). (groups : List (List (List ℕ))) → AreOnTheWay (node_of g.S.Sign.scheme s.validator.setting) s (c.args.synced ∷ groups) → AreOnTheWay (node_of g.S.Sign.scheme s.validator.setting) later groups) c.self.view_is
     (λ groups way. way_settled node before later c.args.synced groups c.settle.ensures.stands way)

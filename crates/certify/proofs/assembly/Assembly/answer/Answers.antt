@@ -1,6 +1,6 @@
 use Rattle.std.proofs.Common.{◌∙◌, ap, sym, arith}
 use Rattle.certify.specs.Answer.{certificate_of}
-use Rattle.certify.specs.Assembled.{Assembled, with_vote}
+use Rattle.certify.specs.Assembled.{AssemblyView, with_vote}
 use Rattle.certify.specs.declared.added.Added.TheVariants.{Complete}
 use Rattle.certify.proofs.Places.{ours_member, ours_on, counts, completes}
 use Rattle.certify.proofs.assembly.Assembly.answer.Goals as goal
@@ -8,7 +8,7 @@ use Rattle.certify.proofs.assembly.Assembly.answer.Goals as goal
 pub returns-then-weight-quorum : goal.returns-then-weight-quorum
 returns-then-weight-quorum c =
     let inside = c.self.inside in
-    let old : Assembled = record { charter = inside.committee.now; header = inside.header; places = inside.places.items; complete = inside.complete } in
+    let old : AssemblyView = record { charter = inside.committee.now; header = inside.header; places = inside.places.items; complete = inside.complete } in
     let ours = rw (← c.self.view_is) at (sym c.is_ours.ensures ∙ c.if-not-is_ours.false) in
     let member = ours_member old c.args.vote.now ours in
     let on = ours_on old c.args.vote.now ours in
@@ -19,7 +19,7 @@ returns-then-weight-quorum c =
 pub returns : goal.returns
 returns c =
     let inside = c.self.inside in
-    let old : Assembled = record { charter = inside.committee.now; header = inside.header; places = inside.places.items; complete = inside.complete } in
+    let old : AssemblyView = record { charter = inside.committee.now; header = inside.header; places = inside.places.items; complete = inside.complete } in
     let ours = rw (← c.self.view_is) at (sym c.is_ours.ensures ∙ c.if-not-is_ours.false) in
     let member = ours_member old c.args.vote.now ours in
     let on = ours_on old c.args.vote.now ours in

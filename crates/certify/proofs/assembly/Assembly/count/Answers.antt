@@ -1,5 +1,5 @@
 use Rattle.std.proofs.Common.{◌≡◌, ◌∙◌, true, false, refl, sym, arith}
-use Rattle.certify.specs.Assembled.{Assembled}
+use Rattle.certify.specs.Assembled.{AssemblyView}
 use Rattle.certify.specs.declared.added.Added.TheVariants.{Counted}
 use Rattle.certify.proofs.Places.{kept-with, weight-with, counted-low, complete-high, of_member}
 use Rattle.certify.proofs.assembly.Assembly.count.Goals as goal
@@ -8,7 +8,7 @@ use Rattle.certify.proofs.assembly.Assembly.count.Goals.{in-Counted, in-Complete
 pub invariant_of-self : goal.invariant_of-self
 invariant_of-self c =
     let inside = c.self.inside in
-    let old : Assembled = record { charter = inside.committee.now; header = inside.header; places = inside.places.items; complete = inside.complete } in
+    let old : AssemblyView = record { charter = inside.committee.now; header = inside.header; places = inside.places.items; complete = inside.complete } in
     let added = rw (← c.self.view_is) at c.requires in
     elim c.match-added.branch [
       | in-Counted w ↦

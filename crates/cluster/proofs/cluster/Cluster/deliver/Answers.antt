@@ -15,13 +15,13 @@ returns-in_err-message-clause-memory g c = λ _.
       other = up.one;
       was = up.found;
       is = up.found;
-      becomes = λ world stands. (Settled 0, nothing_made (node_of g.S.Sign.own_key g.S.Sign.signature_of up.one.setting) g.D.Disk.content g.D.Disk.outcome _ world up.one up.desk up.has stands);
+      becomes = λ world stands. (Settled 0, nothing_made (node_of g.S.Sign.scheme up.one.setting) g.D.Disk.device _ world up.one up.desk up.has stands);
     }
 
 pub returns-clause-moves : goal.returns-clause-moves
 returns-clause-moves g c =
-    ok_weaker c.give.result _ _ (λ applied moved. delivered (node_of g.S.Sign.own_key g.S.Sign.signature_of) g.D.Disk.content g.D.Disk.outcome (g.V.Verify.accepts c.args.self.now.verifier) c.args.self.now.members c.args.node c.args.output c.args.to c.in_ok-message.message c.in_ok-message.ensures.ok applied c.give.new.self.members moved) c.give.ensures.moves
+    ok_weaker c.give.result _ _ (λ applied moved. delivered g.S.Sign.scheme g.D.Disk.device (g.V.Verify.accepts c.args.self.now.verifier) c.args.self.now.members c.args.node c.args.output c.args.to c.in_ok-message.message c.in_ok-message.ensures.ok applied c.give.new.self.members moved) c.give.ensures.moves
 
 pub returns-clause-memory : goal.returns-clause-memory
 returns-clause-memory g c = λ is.
-    delivered_some (node_of g.S.Sign.own_key g.S.Sign.signature_of) g.D.Disk.content g.D.Disk.outcome (g.V.Verify.accepts c.args.self.now.verifier) c.args.self.now.members c.args.node c.args.output c.args.to c.in_ok-message.message c.in_ok-message.ensures.ok c.give.new.self.members (c.give.ensures.memory is)
+    delivered_some g.S.Sign.scheme g.D.Disk.device (g.V.Verify.accepts c.args.self.now.verifier) c.args.self.now.members c.args.node c.args.output c.args.to c.in_ok-message.message c.in_ok-message.ensures.ok c.give.new.self.members (c.give.ensures.memory is)

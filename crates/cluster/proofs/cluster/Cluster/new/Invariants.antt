@@ -5,18 +5,18 @@ use Rattle.spec_world.specs.Runs.{first_bytes}
 use Rattle.spec_world.specs.Steps.{IsRun}
 use Rattle.spec_world.specs.World.{run_on}
 use Rattle.validator.specs.Setting.{node_of}
-use Rattle.cluster.specs.Member.{Kept, StandsAt, IsOn}
+use Rattle.cluster.specs.Member.{MemberView, StandsAt, IsOn}
 use Rattle.cluster.proofs.cluster.Cluster.new.Given as goal
 
 -- the nodes so far are of the first settings, and so many disks are left
 abbrev pub invariant-loop-config : goal.invariant-loop-config
 invariant-loop-config g l = record {
-  settings : map (λ (m : Kept g.row.S.Denot g.row.D.Denot). m.setting) l.members.items ≡ take l.config-index l.configs;
-  runs : All (λ (m : Kept g.row.S.Denot g.row.D.Denot). IsRun (node_of g.S.Sign.own_key g.S.Sign.signature_of m.setting) [] (run_on (first_bytes (node_of g.S.Sign.own_key g.S.Sign.signature_of m.setting)) [] [])) l.members.items;
-  begins : All (λ (m : Kept g.row.S.Denot g.row.D.Denot). StandsAt (node_of g.S.Sign.own_key g.S.Sign.signature_of m.setting) g.D.Disk.content g.D.Disk.outcome (run_on (first_bytes (node_of g.S.Sign.own_key g.S.Sign.signature_of m.setting)) [] []) m) l.members.items;
-  up : All (λ (m : Kept g.row.S.Denot g.row.D.Denot). m.desk ≢ None) l.members.items;
-  disks : AllZip (IsOn g.D.Disk.faults) (take l.config-index l.fn.disks.items) l.members.items;
+  settings : map (λ (m : MemberView g.row.S.Denot g.row.D.Denot). m.setting) l.members.items ≡ take l.config-index l.configs;
+  runs : All (λ (m : MemberView g.row.S.Denot g.row.D.Denot). IsRun (node_of g.S.Sign.scheme m.setting) [] (run_on (first_bytes (node_of g.S.Sign.scheme m.setting)) [] [])) l.members.items;
+  begins : All (λ (m : MemberView g.row.S.Denot g.row.D.Denot). StandsAt (node_of g.S.Sign.scheme m.setting) g.D.Disk.device (run_on (first_bytes (node_of g.S.Sign.scheme m.setting)) [] []) m) l.members.items;
+  up : All (λ (m : MemberView g.row.S.Denot g.row.D.Denot). m.desk ≢ None) l.members.items;
+  disks : AllZip (IsOn g.D.Disk.device) (take l.config-index l.fn.disks.items) l.members.items;
   left : l.disks.items ≡ drop l.config-index l.fn.disks.items;
   rest : l.config-index + vec_len l.disks ≡ length l.configs;
-  empty : All (λ (d : g.row.D.Denot). g.D.Disk.content d ≡ []) l.disks.items;
+  empty : All (λ (d : g.row.D.Denot). g.D.Disk.device.content d ≡ []) l.disks.items;
 }

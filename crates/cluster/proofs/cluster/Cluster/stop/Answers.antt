@@ -5,8 +5,8 @@ use Rattle.opening.proofs.Telling.{ok_weaker, err_weaker}
 use Rattle.spec_model.specs.Words.{Author}
 use Rattle.validator.specs.Setting.{node_of}
 use Rattle.cluster.specs.Answers.{Stops, IsJournal, IsLost}
-use Rattle.cluster.specs.Cluster.{Shown, named, at, IsThere, Moved, MovedSome, MovesOne}
-use Rattle.cluster.specs.Member.{Kept}
+use Rattle.cluster.specs.Cluster.{ClusterView, named, at, IsThere, Moved, MovedSome, MovesOne}
+use Rattle.cluster.specs.Member.{MemberView}
 use Rattle.cluster.specs.declared.error.ClusterError.TheVariants.{NoSuchNode, Memory}
 use Rattle.cluster.proofs.Places.{there_of, moves_one, others_stay, settings_stay, gone_where, none_there}
 use Rattle.cluster.proofs.cluster.Cluster.stop.Goals as goal
@@ -16,9 +16,9 @@ returns-in-Some-clause-moves g c =
     let members = c.self.inside.members.items in
     let one = c.index_mut.result.now in
     let later = c.stop.new.self in
-    let first = ap (λ (s : Shown g.row.S.Denot g.row.D.Denot g.row.V.Denot). position (λ member. named c.args.node member) s.members) c.self.view_is ∙ sym c.place_of.ensures ∙ c.in-Some.is in
+    let first = ap (λ (s : ClusterView g.row.S.Denot g.row.D.Denot g.row.V.Denot). position (λ member. named c.args.node member) s.members) c.self.view_is ∙ sym c.place_of.ensures ∙ c.in-Some.is in
     let there = there_of (λ member. named c.args.node member) members c.in-Some.place one first c.index_mut.ensures.value in
-    subst (λ (s : Shown g.row.S.Denot g.row.D.Denot g.row.V.Denot). IfOk c.stop.result (λ applied. Moved (node_of g.S.Sign.own_key g.S.Sign.signature_of) g.D.Disk.content g.D.Disk.outcome (λ own world. Stops own g.D.Disk.content g.D.Disk.outcome world applied) c.args.node s.members (set members c.in-Some.place later))) c.self.view_is
+    subst (λ (s : ClusterView g.row.S.Denot g.row.D.Denot g.row.V.Denot). IfOk c.stop.result (λ applied. Moved g.S.Sign.scheme g.D.Disk.device (λ own world. Stops own g.D.Disk.device world applied) c.args.node s.members (set members c.in-Some.place later))) c.self.view_is
     (ok_weaker c.stop.result _ _ (λ applied is. moves_one members c.args.node c.in-Some.place one later first there c.stop.ensures.setting _ is) c.stop.ensures.ok)
 
 pub returns-in-Some-clause-memory : goal.returns-in-Some-clause-memory
@@ -26,9 +26,9 @@ returns-in-Some-clause-memory g c =
     let members = c.self.inside.members.items in
     let one = c.index_mut.result.now in
     let later = c.stop.new.self in
-    let first = ap (λ (s : Shown g.row.S.Denot g.row.D.Denot g.row.V.Denot). position (λ member. named c.args.node member) s.members) c.self.view_is ∙ sym c.place_of.ensures ∙ c.in-Some.is in
+    let first = ap (λ (s : ClusterView g.row.S.Denot g.row.D.Denot g.row.V.Denot). position (λ member. named c.args.node member) s.members) c.self.view_is ∙ sym c.place_of.ensures ∙ c.in-Some.is in
     let there = there_of (λ member. named c.args.node member) members c.in-Some.place one first c.index_mut.ensures.value in
-    subst (λ (s : Shown g.row.S.Denot g.row.D.Denot g.row.V.Denot). IsErrOf c.stop.result Memory → MovedSome (node_of g.S.Sign.own_key g.S.Sign.signature_of) g.D.Disk.content g.D.Disk.outcome (λ applied own world. Stops own g.D.Disk.content g.D.Disk.outcome world applied) c.args.node s.members (set members c.in-Some.place later)) c.self.view_is
+    subst (λ (s : ClusterView g.row.S.Denot g.row.D.Denot g.row.V.Denot). IsErrOf c.stop.result Memory → MovedSome g.S.Sign.scheme g.D.Disk.device (λ applied own world. Stops own g.D.Disk.device world applied) c.args.node s.members (set members c.in-Some.place later)) c.self.view_is
     (λ is. moves_one members c.args.node c.in-Some.place one later first there c.stop.ensures.setting _ (c.stop.ensures.memory is))
 
 pub returns-in-Some-clause-others : goal.returns-in-Some-clause-others
@@ -36,9 +36,9 @@ returns-in-Some-clause-others g c =
     let members = c.self.inside.members.items in
     let one = c.index_mut.result.now in
     let later = c.stop.new.self in
-    let first = ap (λ (s : Shown g.row.S.Denot g.row.D.Denot g.row.V.Denot). position (λ member. named c.args.node member) s.members) c.self.view_is ∙ sym c.place_of.ensures ∙ c.in-Some.is in
+    let first = ap (λ (s : ClusterView g.row.S.Denot g.row.D.Denot g.row.V.Denot). position (λ member. named c.args.node member) s.members) c.self.view_is ∙ sym c.place_of.ensures ∙ c.in-Some.is in
     let there = there_of (λ member. named c.args.node member) members c.in-Some.place one first c.index_mut.ensures.value in
-    subst (λ (s : Shown g.row.S.Denot g.row.D.Denot g.row.V.Denot). (other : Author) → other ≢ c.args.node → at (set members c.in-Some.place later) other ≡ at s.members other) c.self.view_is
+    subst (λ (s : ClusterView g.row.S.Denot g.row.D.Denot g.row.V.Denot). (other : Author) → other ≢ c.args.node → at (set members c.in-Some.place later) other ≡ at s.members other) c.self.view_is
     (λ other differs. others_stay members c.args.node c.in-Some.place one later first there c.stop.ensures.setting other differs)
 
 pub returns-in-Some-clause-no_node : goal.returns-in-Some-clause-no_node
@@ -46,10 +46,10 @@ returns-in-Some-clause-no_node g c =
     let members = c.self.inside.members.items in
     let one = c.index_mut.result.now in
     let later = c.stop.new.self in
-    let first = ap (λ (s : Shown g.row.S.Denot g.row.D.Denot g.row.V.Denot). position (λ member. named c.args.node member) s.members) c.self.view_is ∙ sym c.place_of.ensures ∙ c.in-Some.is in
+    let first = ap (λ (s : ClusterView g.row.S.Denot g.row.D.Denot g.row.V.Denot). position (λ member. named c.args.node member) s.members) c.self.view_is ∙ sym c.place_of.ensures ∙ c.in-Some.is in
     let there = there_of (λ member. named c.args.node member) members c.in-Some.place one first c.index_mut.ensures.value in
     let gone = gone_where members c.args.node c.in-Some.place one later first there c.stop.ensures.setting in
-    subst (λ (s : Shown g.row.S.Denot g.row.D.Denot g.row.V.Denot). IsErrOf c.stop.result NoSuchNode ↔ (IsThere s.members c.args.node → ⊥)) c.self.view_is
+    subst (λ (s : ClusterView g.row.S.Denot g.row.D.Denot g.row.V.Denot). IsErrOf c.stop.result NoSuchNode ↔ (IsThere s.members c.args.node → ⊥)) c.self.view_is
     (λ is. gone.0 (c.stop.ensures.gone.0 is), λ never. c.stop.ensures.gone.1 (gone.1 never))
 
 pub returns-in-None-clause-no_node : goal.returns-in-None-clause-no_node
@@ -60,17 +60,17 @@ returns-in-Some-clause-errors g c =
     let members = c.self.inside.members.items in
     let one = c.index_mut.result.now in
     let later = c.stop.new.self in
-    let first = ap (λ (s : Shown g.row.S.Denot g.row.D.Denot g.row.V.Denot). position (λ member. named c.args.node member) s.members) c.self.view_is ∙ sym c.place_of.ensures ∙ c.in-Some.is in
+    let first = ap (λ (s : ClusterView g.row.S.Denot g.row.D.Denot g.row.V.Denot). position (λ member. named c.args.node member) s.members) c.self.view_is ∙ sym c.place_of.ensures ∙ c.in-Some.is in
     let there = there_of (λ member. named c.args.node member) members c.in-Some.place one first c.index_mut.ensures.value in
-    subst (λ (s : Shown g.row.S.Denot g.row.D.Denot g.row.V.Denot). IfErr c.stop.result (λ error. (error ≡ NoSuchNode) ⊎ ((error ≡ Memory) ⊎ (IsJournal error × MovesOne (λ (member : Kept g.row.S.Denot g.row.D.Denot). IsLost (node_of g.S.Sign.own_key g.S.Sign.signature_of member.setting) g.D.Disk.content g.D.Disk.outcome g.D.Disk.faults error member) c.args.node s.members (set members c.in-Some.place later))))) c.self.view_is
-    (err_weaker c.stop.result _ _ (λ error either. elim either [ inl none ↦ inl none | inr (inl memory) ↦ inr (inl memory) | inr (inr gone) ↦ inr (inr (gone.0, moves_one members c.args.node c.in-Some.place one later first there c.stop.ensures.setting (λ (member : Kept g.row.S.Denot g.row.D.Denot). IsLost (node_of g.S.Sign.own_key g.S.Sign.signature_of member.setting) g.D.Disk.content g.D.Disk.outcome g.D.Disk.faults error member) gone.1)) ]) c.stop.ensures.journal)
+    subst (λ (s : ClusterView g.row.S.Denot g.row.D.Denot g.row.V.Denot). IfErr c.stop.result (λ error. (error ≡ NoSuchNode) ⊎ ((error ≡ Memory) ⊎ (IsJournal error × MovesOne (λ (member : MemberView g.row.S.Denot g.row.D.Denot). IsLost (node_of g.S.Sign.scheme member.setting) g.D.Disk.device error member) c.args.node s.members (set members c.in-Some.place later))))) c.self.view_is
+    (err_weaker c.stop.result _ _ (λ error either. elim either [ inl none ↦ inl none | inr (inl memory) ↦ inr (inl memory) | inr (inr gone) ↦ inr (inr (gone.0, moves_one members c.args.node c.in-Some.place one later first there c.stop.ensures.setting (λ (member : MemberView g.row.S.Denot g.row.D.Denot). IsLost (node_of g.S.Sign.scheme member.setting) g.D.Disk.device error member) gone.1)) ]) c.stop.ensures.journal)
 
 pub returns-in-Some-clause-settings : goal.returns-in-Some-clause-settings
 returns-in-Some-clause-settings g c =
     let members = c.self.inside.members.items in
     let one = c.index_mut.result.now in
     let later = c.stop.new.self in
-    let first = ap (λ (s : Shown g.row.S.Denot g.row.D.Denot g.row.V.Denot). position (λ member. named c.args.node member) s.members) c.self.view_is ∙ sym c.place_of.ensures ∙ c.in-Some.is in
+    let first = ap (λ (s : ClusterView g.row.S.Denot g.row.D.Denot g.row.V.Denot). position (λ member. named c.args.node member) s.members) c.self.view_is ∙ sym c.place_of.ensures ∙ c.in-Some.is in
     let there = there_of (λ member. named c.args.node member) members c.in-Some.place one first c.index_mut.ensures.value in
-    subst (λ (s : Shown g.row.S.Denot g.row.D.Denot g.row.V.Denot). map (λ member. member.setting) (set members c.in-Some.place later) ≡ map (λ member. member.setting) s.members) c.self.view_is
+    subst (λ (s : ClusterView g.row.S.Denot g.row.D.Denot g.row.V.Denot). map (λ member. member.setting) (set members c.in-Some.place later) ≡ map (λ member. member.setting) s.members) c.self.view_is
     (settings_stay members c.args.node c.in-Some.place one later first there c.stop.ensures.setting)

@@ -7,8 +7,8 @@ use Rattle.spec_world.proofs.Beginning.{runs_begin}
 use Rattle.validator.specs.Setting.{node_of}
 use Rattle.committee.specs.Charter.{Charter}
 use Rattle.std.specs.Prelude.{All}
-use Rattle.wire.specs.Fields.{AreBytes}
-use Rattle.cluster.specs.Member.{Kept}
+use Rattle.wire.specs.Fields.{HasBytes}
+use Rattle.cluster.specs.Member.{MemberView}
 use Rattle.cluster.proofs.Counting.{told_nothing}
 use Rattle.cluster.proofs.Members.{begins_at, journal_err}
 use Rattle.journal.specs.declared.error.JournalError.TheVariants.{Device}
@@ -16,22 +16,22 @@ use Rattle.cluster.proofs.member.Member.open.Goals as goal
 
 pub returns-in-Ok-clause-begins : goal.returns-in-Ok-clause-begins
 returns-in-Ok-clause-begins g c = λ empty.
-    let node = node_of g.S.Sign.own_key g.S.Sign.signature_of c.args.config.now in
+    let node = node_of g.S.Sign.scheme c.args.config.now in
     let keys = c.keys_hold.ensures in
-    let opened = subst (λ (bytes : List ℕ). IsOpened node g.D.Disk.content g.D.Disk.outcome bytes c.in-Ok.desk) empty c.in-Ok.ensures.ok in
-    let member : Kept g.row.S.Denot g.row.D.Denot = record { setting = c.args.config.now; desk = Some c.in-Ok.desk; out = c.new.result } in
-    begins_at node g.D.Disk.content g.D.Disk.outcome member c.in-Ok.desk refl c.new.ensures.outputs c.new.ensures.order
-    (begins node g.D.Disk.content g.D.Disk.outcome c.in-Ok.desk c.limits_hold.ensures keys opened)
+    let opened = subst (λ (bytes : List ℕ). IsOpened node g.D.Disk.device bytes c.in-Ok.desk) empty c.in-Ok.ensures.ok in
+    let member : MemberView g.row.S.Denot g.row.D.Denot = record { setting = c.args.config.now; desk = Some c.in-Ok.desk; out = c.new.result } in
+    begins_at node g.D.Disk.device member c.in-Ok.desk refl c.new.ensures.outputs c.new.ensures.order
+    (begins node g.D.Disk.device c.in-Ok.desk c.limits_hold.ensures keys opened)
 
 pub returns-in-Err-clause-errors : goal.returns-in-Err-clause-errors
 returns-in-Err-clause-errors g c = λ empty.
-    let node = node_of g.S.Sign.own_key g.S.Sign.signature_of c.args.config.now in
-    no_refusal c.in-Err.failed.error [] (told node (g.D.Disk.content c.args.disk)) (ap (told node) empty ∙ told_nothing node) c.in-Err.ensures.err.tells
+    let node = node_of g.S.Sign.scheme c.args.config.now in
+    no_refusal c.in-Err.failed.error [] (told node (g.D.Disk.device.content c.args.disk)) (ap (told node) empty ∙ told_nothing node) c.in-Err.ensures.err.tells
 
 pub returns-in-Ok-clause-runs : goal.returns-in-Ok-clause-runs
 returns-in-Ok-clause-runs g c =
     let keys = c.keys_hold.ensures in
-    runs_begin (node_of g.S.Sign.own_key g.S.Sign.signature_of c.args.config.now) c.limits_hold.ensures keys
+    runs_begin (node_of g.S.Sign.scheme c.args.config.now) c.limits_hold.ensures keys
 
 pub returns-in-Err-clause-device : goal.returns-in-Err-clause-device
 returns-in-Err-clause-device g c = λ is. (c.in-Err.failed.disk, c.in-Err.ensures.cause.1.0 (journal_err c.in-Err.failed.error Device is))

@@ -4,4 +4,4 @@ use Rattle.cluster.proofs.worker.Worker.run.Given as goal
 
 -- it made some of the turns
 abbrev pub invariant-turns : goal.invariant-turns
-invariant-turns g l = HasRun (node_of g.S.Sign.own_key g.S.Sign.signature_of) g.D.Disk.content g.D.Disk.outcome (g.V.Verify.accepts l.verifier) l.made l.initial.self.member l.self.member
+invariant-turns g l = HasRun g.S.Sign.scheme g.D.Disk.device (g.V.Verify.accepts l.verifier) l.made l.initial.self.member l.self.member

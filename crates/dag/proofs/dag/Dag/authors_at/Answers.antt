@@ -3,7 +3,7 @@ use Rattle.std.specs.Prelude.{is_some, nat_lt, ◌&&◌}
 use Rattle.committee.specs.Sets.{has}
 use Rattle.committee.specs.declared.sets.MemberSet.{MemberSet}
 use Rattle.spec_laws.proofs.Lists.{given_or_none}
-use Rattle.dag.specs.Graph.{Graph, slots_in}
+use Rattle.dag.specs.Graph.{DagView, slots_in}
 use Rattle.dag.proofs.Entries.{of_members}
 use Rattle.dag.proofs.Looking.{all_in, one_in, one_out, some_copied}
 use Rattle.dag.proofs.dag.Dag.authors_at.Goals as goal
@@ -31,7 +31,7 @@ returns c other =
     let test : ℕ → Bool = λ a. is_some (slots_in c.args.self.now round a) in
     let members : test other ≡ true → other < size =
     λ passes. elim (given_or_none (slots_in c.args.self.now round other)) [
-      | inl held ↦ of_members inside.committee.now inside.floor inside.base inside.rows.items c.self.invariant round other held.0 (ap (λ (g : Graph). slots_in g round other) c.self.view_is ∙ held.1)
+      | inl held ↦ of_members inside.committee.now inside.floor inside.base inside.rows.items c.self.invariant round other held.0 (ap (λ (g : DagView). slots_in g round other) c.self.view_is ∙ held.1)
       | inr none ↦ let bad = rw none at passes in absurd cc
     ] in
     let end : c.loop-author.author ≡ size = omega (arith, c.loop-author-test.false, c.loop-author.auto.author-end, c.size-author-end.ensures.value) in

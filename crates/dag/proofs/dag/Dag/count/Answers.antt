@@ -1,7 +1,7 @@
 use Rattle.std.proofs.Common.{◌-◌, ◌∙◌, ℕ, ap, sym, None, slice_get}
 use Rattle.std.specs.Prelude.{nat_le, count_by, is_some, if◌then◌else◌}
 use Rattle.std.specs.Option.{option_map_or}
-use Rattle.dag.specs.Graph.{Graph, count_in}
+use Rattle.dag.specs.Graph.{DagView, count_in}
 use Rattle.dag.proofs.Looking.{count_kept}
 use Rattle.dag.proofs.dag.Dag.count.Goals as goal
 
@@ -12,7 +12,7 @@ returns-in-Some c =
     c.count.ensures ∙ ap (λ o. option_map_or (λ row. count_by is_some row) o 0) c.in-Some.ensures
     ∙ ap (λ (r : ℕ). option_map_or (λ row. count_by is_some row) (if nat_le inside.floor r then slice_get inside.rows.items (r - inside.floor) else None) 0) c.number.ensures.value
     ∙ sym (count_kept inside.committee.now inside.floor inside.base inside.rows.items round)
-    ∙ ap (λ (g : Graph). count_in g round) c.self.view_is
+    ∙ ap (λ (g : DagView). count_in g round) c.self.view_is
 
 pub returns-in-None : goal.returns-in-None
 returns-in-None c =
@@ -21,4 +21,4 @@ returns-in-None c =
     ap (λ o. option_map_or (λ row. count_by is_some row) o 0) c.in-None.ensures
     ∙ ap (λ (r : ℕ). option_map_or (λ row. count_by is_some row) (if nat_le inside.floor r then slice_get inside.rows.items (r - inside.floor) else None) 0) c.number.ensures.value
     ∙ sym (count_kept inside.committee.now inside.floor inside.base inside.rows.items round)
-    ∙ ap (λ (g : Graph). count_in g round) c.self.view_is
+    ∙ ap (λ (g : DagView). count_in g round) c.self.view_is

@@ -1,6 +1,6 @@
 use Rattle.std.proofs.Common.{◌≡◌, ◌-◌, ◌<◌, ◌∙◌, ap, sym, subst, drop, arith}
 use Rattle.dag.specs.Changes.{IsDropped}
-use Rattle.dag.specs.Graph.{Graph}
+use Rattle.dag.specs.Graph.{DagView}
 use Rattle.dag.specs.Kept.{Rows, graph_of, IsKept}
 use Rattle.dag.proofs.Dropping.{kept_from, seen_from}
 use Rattle.dag.proofs.dag.Dag.drop_below.Goals as goal
@@ -26,7 +26,7 @@ returns-clause-below c _ =
     let higher : inside.floor < round = omega (arith, c.if-number-floor.false, c.number-number.ensures.value, c.number-floor.ensures.value) in
     let all : c.drop_front.new.rows.items ≡ drop (round - inside.floor) rows =
     c.drop_front.ensures ∙ ap (λ k. drop k rows) (omega (arith, c.number-number.ensures.value, c.number-floor.ensures.value)) in
-    let graph : Rows → Graph = graph_of charter round inside.base in
+    let graph : Rows → DagView = graph_of charter round inside.base in
     let seen : IsDropped (graph_of charter inside.floor inside.base rows) (graph c.drop_front.new.rows.items) round =
     subst (λ (l : Rows). IsDropped (graph_of charter inside.floor inside.base rows) (graph l) round) (sym all) (seen_from charter inside.floor round inside.base rows higher) in
-    subst (λ (g : Graph). IsDropped g (graph c.drop_front.new.rows.items) round) c.self.view_is seen
+    subst (λ (g : DagView). IsDropped g (graph c.drop_front.new.rows.items) round) c.self.view_is seen

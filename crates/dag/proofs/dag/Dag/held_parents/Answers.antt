@@ -2,7 +2,7 @@ use Rattle.std.proofs.Common.{◌-◌, ◌∙◌, ℕ, List, ap, arith}
 use Rattle.std.specs.Prelude.{◌==◌, ◌&&◌}
 use Rattle.std.specs.List.{list_any}
 use Rattle.spec_model.specs.Words.{ParentReference}
-use Rattle.dag.specs.Graph.{Graph, slots_in}
+use Rattle.dag.specs.Graph.{DagView, slots_in}
 use Rattle.dag.specs.Kept.{entry_at, has_below}
 use Rattle.dag.specs.Rows.{names}
 use Rattle.dag.proofs.Entries.{parent_bit}
@@ -23,4 +23,4 @@ returns c author =
     ∙ ap (λ (r : ℕ). list_any (λ p. names (entry_at inside.floor rows (r - 1) p.author.0) p && (author == p.author.0)) c.as_slice.result.now) c.number.ensures.value
     ∙ ap (λ (parents : List ParentReference). list_any (λ p. names (entry_at inside.floor rows (x.header.round - 1) p.author.0) p && (author == p.author.0)) parents) c.as_slice.ensures.value
     ∙ parent_bit inside.committee.now inside.floor inside.base rows c.self.invariant x c.requires author
-    ∙ ap (λ (g : Graph). has_below (slots_in g) x author) c.self.view_is
+    ∙ ap (λ (g : DagView). has_below (slots_in g) x author) c.self.view_is

@@ -2,7 +2,7 @@ use Rattle.std.proofs.Common.{◌≡◌, ◌<◌, ◌-◌, ◌∙◌, Some, [], 
 use Rattle.std.specs.Prelude.{All, get_or}
 use Rattle.spec_model.specs.Holdings.{all_held}
 use Rattle.dag.specs.Changes.{IsWith}
-use Rattle.dag.specs.Graph.{Graph, slots_in}
+use Rattle.dag.specs.Graph.{DagView, slots_in}
 use Rattle.dag.specs.Kept.{Rows, graph_of, IsKept}
 use Rattle.dag.specs.declared.entry.Entry.{Entry}
 use Rattle.dag.proofs.Answering.{is_new}
@@ -19,7 +19,7 @@ invariant_of-self-2 c =
     let entry : Entry = record { certificate = x; digest = c.args.digest; parents = c.held_parents-parents.result; marked = false } in
     let size : c.size-size.result ≡ length charter.keys = c.size-size.ensures.value in
     let place : c.slot_of-place.result.0 ≡ x.header.round - inside.floor =
-    ap (λ p. p.0) c.slot_of-place.ensures.value ∙ ap (λ (g : Graph). x.header.round - g.floor) (sym c.self.view_is) in
+    ap (λ p. p.0) c.slot_of-place.ensures.value ∙ ap (λ (g : DagView). x.header.round - g.floor) (sym c.self.view_is) in
     let author : c.slot_of-place.result.1 ≡ x.header.author = ap (λ p. p.1) c.slot_of-place.ensures.value in
     let all : c.put.new.rows.items ≡ entered (length charter.keys) inside.floor rows entry =
     c.put.ensures
@@ -52,7 +52,7 @@ returns-clause-ok c =
     let entry : Entry = record { certificate = x; digest = c.args.digest; parents = c.held_parents-parents.result; marked = false } in
     let size : c.size-size.result ≡ length charter.keys = c.size-size.ensures.value in
     let place : c.slot_of-place.result.0 ≡ x.header.round - inside.floor =
-    ap (λ p. p.0) c.slot_of-place.ensures.value ∙ ap (λ (g : Graph). x.header.round - g.floor) (sym c.self.view_is) in
+    ap (λ p. p.0) c.slot_of-place.ensures.value ∙ ap (λ (g : DagView). x.header.round - g.floor) (sym c.self.view_is) in
     let author : c.slot_of-place.result.1 ≡ x.header.author = ap (λ p. p.1) c.slot_of-place.ensures.value in
     let all : c.put.new.rows.items ≡ entered (length charter.keys) inside.floor rows entry =
     c.put.ensures
@@ -76,7 +76,7 @@ returns-clause-ok c =
     } in
     let with : IsWith (graph_of charter inside.floor inside.base rows) (graph_of charter inside.floor inside.base c.put.new.rows.items) x =
     subst (λ l. IsWith (graph_of charter inside.floor inside.base rows) (graph_of charter inside.floor inside.base l) x) (sym all) (is_with charter inside.floor inside.base rows entry enters) in
-    subst (λ (g : Graph). IsWith g (graph_of charter inside.floor inside.base c.put.new.rows.items) x) c.self.view_is with
+    subst (λ (g : DagView). IsWith g (graph_of charter inside.floor inside.base c.put.new.rows.items) x) c.self.view_is with
 
 pub held_parents-parents-requires : goal.held_parents-parents-requires
 held_parents-parents-requires c = (high_above c.args.self.now.floor c.args.certificate.header.round (is_new c.args.self.now c.args.certificate c.requires.new).high).0

@@ -1,7 +1,7 @@
 use Rattle.std.proofs.Common.{◌≡◌, ◌-◌, ◌≤◌, ◌∙◌, ap, sym, subst, arith}
 use Rattle.committee.specs.Sets.{has}
 use Rattle.dag.specs.Changes.{IsMarked}
-use Rattle.dag.specs.Graph.{Graph}
+use Rattle.dag.specs.Graph.{DagView}
 use Rattle.dag.specs.Kept.{Rows, graph_of, IsKept}
 use Rattle.dag.specs.Rows.{marked_rows}
 use Rattle.dag.proofs.Changing.{mark_kept_with, mark_seen}
@@ -27,7 +27,7 @@ returns c =
     let above : inside.floor ≤ c.args.round = omega (arith, c.if-number-floor.false, c.number-number.ensures.value, c.number-floor.ensures.value) in
     let all : c.mark.new.rows.items ≡ marked_rows rows (c.args.round - inside.floor) authors =
     c.mark.ensures ∙ ap (λ k. marked_rows rows k authors) (omega (arith, c.number-number.ensures.value, c.number-floor.ensures.value)) in
-    let graph : Rows → Graph = graph_of charter inside.floor inside.base in
+    let graph : Rows → DagView = graph_of charter inside.floor inside.base in
     let seen : IsMarked (graph rows) (graph c.mark.new.rows.items) c.args.round authors =
     subst (λ (l : Rows). IsMarked (graph rows) (graph l) c.args.round authors) (sym all) (mark_seen charter inside.floor inside.base rows c.args.round authors above) in
-    subst (λ (g : Graph). IsMarked g (graph c.mark.new.rows.items) c.args.round authors) c.self.view_is seen
+    subst (λ (g : DagView). IsMarked g (graph c.mark.new.rows.items) c.args.round authors) c.self.view_is seen

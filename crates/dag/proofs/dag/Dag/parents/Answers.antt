@@ -1,5 +1,5 @@
 use Rattle.std.proofs.Common.{◌-◌, ◌∙◌, ℕ, ap}
-use Rattle.dag.specs.Graph.{Graph, has_parent_in}
+use Rattle.dag.specs.Graph.{DagView, has_parent_in}
 use Rattle.dag.specs.Kept.{graph_of}
 use Rattle.dag.proofs.Looking.{parents_kept}
 use Rattle.dag.proofs.dag.Dag.parents.Goals as goal
@@ -13,4 +13,4 @@ returns c member =
     c.parents.ensures member
     ∙ parents_kept charter inside.floor inside.base rows c.self.invariant c.number.result author member
     ∙ ap (λ (r : ℕ). has_parent_in (graph_of charter inside.floor inside.base rows) r author (r - 1) member) c.number.ensures.value
-    ∙ ap (λ (g : Graph). has_parent_in g c.args.round author (c.args.round - 1) member) c.self.view_is
+    ∙ ap (λ (g : DagView). has_parent_in g c.args.round author (c.args.round - 1) member) c.self.view_is

@@ -3,7 +3,7 @@ use Rattle.std.specs.Prelude.{nat_lt, ◌&&◌}
 use Rattle.committee.specs.Sets.{has}
 use Rattle.committee.specs.declared.sets.MemberSet.{MemberSet}
 use Rattle.spec_laws.proofs.Lists.{given_or_none}
-use Rattle.dag.specs.Graph.{Graph, slots_in, has_parent_in}
+use Rattle.dag.specs.Graph.{DagView, slots_in, has_parent_in}
 use Rattle.dag.proofs.Entries.{of_members}
 use Rattle.dag.proofs.Looking.{all_in, one_in, one_out}
 use Rattle.dag.proofs.dag.Dag.supporters.Goals as goal
@@ -37,7 +37,7 @@ returns c other =
     let test : ℕ → Bool = λ m. has_parent_in c.args.self.now (round + 1) m round author in
     let members : test other ≡ true → other < size =
     λ passes. elim (given_or_none (slots_in c.args.self.now (round + 1) other)) [
-      | inl held ↦ of_members inside.committee.now inside.floor inside.base inside.rows.items c.self.invariant (round + 1) other held.0 (ap (λ (g : Graph). slots_in g (round + 1) other) c.self.view_is ∙ held.1)
+      | inl held ↦ of_members inside.committee.now inside.floor inside.base inside.rows.items c.self.invariant (round + 1) other held.0 (ap (λ (g : DagView). slots_in g (round + 1) other) c.self.view_is ∙ held.1)
       | inr none ↦ let bad = rw none at passes in absurd cc
     ] in
     let end : c.loop-member.member ≡ size = omega (arith, c.loop-member-test.false, c.loop-member.auto.member-end, c.size-member-end.ensures.value) in

@@ -2,7 +2,7 @@ use Rattle.std.proofs.Common.{sym, subst}
 use Rattle.spec_model.specs.Admitting.{IsLegal}
 use Rattle.spec_model.specs.Giving.{kept}
 use Rattle.spec_model.specs.Histories.{History}
-use Rattle.validator.specs.Setting.{Setting, node_of}
+use Rattle.validator.specs.Setting.{ConfigView, node_of}
 use Rattle.validator.specs.Standing.{AreAtSound}
 use Rattle.book.specs.Book.{Stands, run_on}
 use Rattle.book.specs.OnTheWay.{StandsAtLegal}
@@ -11,14 +11,14 @@ use Rattle.desk.proofs.desk.Desk.open.Goals as goal
 
 pub new-requires : goal.new-requires
 new-requires g c =
-    subst (λ (s : Setting g.row.S.Denot). StandsAtLegal (node_of g.S.Sign.own_key g.S.Sign.signature_of s) c.in-Ok.validator.tables) (sym c.in-Ok.ensures.setting)
-    (legal_of (node_of g.S.Sign.own_key g.S.Sign.signature_of c.args.config.now) _ c.in-Ok.validator.tables c.in-Ok.ensures.stands)
+    subst (λ (s : ConfigView g.row.S.Denot). StandsAtLegal (node_of g.S.Sign.scheme s) c.in-Ok.validator.tables) (sym c.in-Ok.ensures.setting)
+    (legal_of (node_of g.S.Sign.scheme c.args.config.now) _ c.in-Ok.validator.tables c.in-Ok.ensures.stands)
 
 pub invariant_of-result : goal.invariant_of-result
 invariant_of-result g c =
-    let node = node_of g.S.Sign.own_key g.S.Sign.signature_of c.in-Ok.validator.setting in
-    let at = subst (λ (s : Setting g.row.S.Denot). StandsAtLegal (node_of g.S.Sign.own_key g.S.Sign.signature_of s) c.in-Ok.validator.tables) (sym c.in-Ok.ensures.setting)
-    (legal_of (node_of g.S.Sign.own_key g.S.Sign.signature_of c.args.config.now) _ c.in-Ok.validator.tables c.in-Ok.ensures.stands) in
+    let node = node_of g.S.Sign.scheme c.in-Ok.validator.setting in
+    let at = subst (λ (s : ConfigView g.row.S.Denot). StandsAtLegal (node_of g.S.Sign.scheme s) c.in-Ok.validator.tables) (sym c.in-Ok.ensures.setting)
+    (legal_of (node_of g.S.Sign.scheme c.args.config.now) _ c.in-Ok.validator.tables c.in-Ok.ensures.stands) in
     record {
       alive = λ up. c.in-Ok.ensures.alive;
       settled = λ up. nothing_taken node at.history c.new.result (c.new.ensures.stands at.history at.legal at.at);
@@ -26,14 +26,14 @@ invariant_of-result g c =
 
 pub returns-in-Ok-clause-ok : goal.returns-in-Ok-clause-ok
 returns-in-Ok-clause-ok g c =
-    let node = node_of g.S.Sign.own_key g.S.Sign.signature_of c.args.config.now in
+    let node = node_of g.S.Sign.scheme c.args.config.now in
     let validator = c.in-Ok.validator in
     let book = c.new.result in
-    let stands = subst (λ (s : Setting g.row.S.Denot). (began : History) → IsLegal (node_of g.S.Sign.own_key g.S.Sign.signature_of s) began → AreAtSound (node_of g.S.Sign.own_key g.S.Sign.signature_of s) validator.tables (kept (node_of g.S.Sign.own_key g.S.Sign.signature_of s) began)
-    → Stands (node_of g.S.Sign.own_key g.S.Sign.signature_of s) (run_on began) book) c.in-Ok.ensures.setting c.new.ensures.stands in
-    opened_of node g.D.Disk.content g.D.Disk.outcome (g.D.Disk.content c.args.disk) validator.tables book c.in-Ok.journal c.in-Ok.ensures.stands stands c.new.ensures.queue c.new.ensures.up c.in-Ok.ensures.alive c.in-Ok.ensures.configured c.in-Ok.ensures.same
+    let stands = subst (λ (s : ConfigView g.row.S.Denot). (began : History) → IsLegal (node_of g.S.Sign.scheme s) began → AreAtSound (node_of g.S.Sign.scheme s) validator.tables (kept (node_of g.S.Sign.scheme s) began)
+    → Stands (node_of g.S.Sign.scheme s) (run_on began) book) c.in-Ok.ensures.setting c.new.ensures.stands in
+    opened_of node g.D.Disk.device (g.D.Disk.device.content c.args.disk) validator.tables book c.in-Ok.journal c.in-Ok.ensures.stands stands c.new.ensures.queue c.new.ensures.up c.in-Ok.ensures.alive c.in-Ok.ensures.configured c.in-Ok.ensures.same
 
 pub returns-in-Err-clause-err : goal.returns-in-Err-clause-err
 returns-in-Err-clause-err g c =
-    not_opened_of (node_of g.S.Sign.own_key g.S.Sign.signature_of c.args.config.now) g.D.Disk.clock g.D.Disk.outcome_since g.D.Disk.outcome c.args.disk c.in-Err.failed.disk (g.D.Disk.content c.args.disk) c.in-Err.failed.error
+    not_opened_of (node_of g.S.Sign.scheme c.args.config.now) g.D.Disk.device c.args.disk c.in-Err.failed.disk (g.D.Disk.device.content c.args.disk) c.in-Err.failed.error
     c.in-Err.ensures.err c.in-Err.ensures.never_full c.in-Err.ensures.any_moment_err c.in-Err.ensures.keeps_err g.met.D.Disk.counts_now

@@ -13,11 +13,11 @@ use Rattle.flusher.proofs.flusher.Flusher.add.Goals as goal
 
 pub returns-in-Ok-clause-flusher : goal.returns-in-Ok-clause-flusher
 returns-in-Ok-clause-flusher g c =
-    let node = node_of g.S.Sign.own_key g.S.Sign.signature_of c.args.node.now.setting in
+    let node = node_of g.S.Sign.scheme c.args.node.now.setting in
     let flush = c.args.self.now.seat in
     let of = c.requires.flush_seat in
-    let file = g.D.Disk.content (disk_of c.args.self.now.journal) in
-    let later = g.D.Disk.content (disk_of c.append.new.self) in
+    let file = g.D.Disk.device.content (disk_of c.args.self.now.journal) in
+    let later = g.D.Disk.device.content (disk_of c.append.new.self) in
     record {
       seat = c.settle.ensures.settles.flush_of;
       rests = λ up. c.settle.ensures.settles.taken ∙ sym c.settle.ensures.settles.settled;
@@ -30,12 +30,12 @@ returns-in-Ok-clause-flusher g c =
 
 pub returns-in-Ok-clause-any_moment : goal.returns-in-Ok-clause-any_moment
 returns-in-Ok-clause-any_moment g c =
-    let node = node_of g.S.Sign.own_key g.S.Sign.signature_of c.args.node.now.setting in
+    let node = node_of g.S.Sign.scheme c.args.node.now.setting in
     let flush = c.args.self.now.seat in
     let of = c.requires.flush_seat in
-    let file = g.D.Disk.content (disk_of c.args.self.now.journal) in
-    weaker g.D.Disk.clock g.D.Disk.outcome_since (disk_of c.args.self.now.journal) (disk_of c.append.new.self)
-    (HoldsEither (node_of g.S.Sign.own_key g.S.Sign.signature_of) c.args.node.now flush.seat.view.firm (taken_by flush)) (IsBeforeOrAfter file c.args.group) c.append.ensures.any_moment
+    let file = g.D.Disk.device.content (disk_of c.args.self.now.journal) in
+    weaker g.D.Disk.device (disk_of c.args.self.now.journal) (disk_of c.append.new.self)
+    (HoldsEither g.S.Sign.scheme c.args.node.now flush.seat.view.firm (taken_by flush)) (IsBeforeOrAfter file c.args.group) c.append.ensures.any_moment
     (λ left is. holds_either node c.args.node.now.start flush.seat.view.firm (taken_by flush) file c.requires.holds (settled_begins c.args.node.now flush of)
     (taken_events c.args.node.now flush of node c.requires.legal) left
     (subst (λ (group : List (List ℕ)). IsBeforeOrAfter file group left) (c.requires.group ∙ group_behind c.args.node.now flush of) is))
@@ -50,12 +50,12 @@ returns-in_default-clause-flusher g c = record {
 
 pub returns-in_default-clause-any_moment : goal.returns-in_default-clause-any_moment
 returns-in_default-clause-any_moment g c =
-    let node = node_of g.S.Sign.own_key g.S.Sign.signature_of c.args.node.now.setting in
+    let node = node_of g.S.Sign.scheme c.args.node.now.setting in
     let flush = c.args.self.now.seat in
     let of = c.requires.flush_seat in
-    let file = g.D.Disk.content (disk_of c.args.self.now.journal) in
-    weaker g.D.Disk.clock g.D.Disk.outcome_since (disk_of c.args.self.now.journal) (disk_of c.append.new.self)
-    (HoldsEither (node_of g.S.Sign.own_key g.S.Sign.signature_of) c.args.node.now flush.seat.view.firm (taken_by flush)) (IsBeforeOrAfter file c.args.group) c.append.ensures.any_moment
+    let file = g.D.Disk.device.content (disk_of c.args.self.now.journal) in
+    weaker g.D.Disk.device (disk_of c.args.self.now.journal) (disk_of c.append.new.self)
+    (HoldsEither g.S.Sign.scheme c.args.node.now flush.seat.view.firm (taken_by flush)) (IsBeforeOrAfter file c.args.group) c.append.ensures.any_moment
     (λ left is. holds_either node c.args.node.now.start flush.seat.view.firm (taken_by flush) file c.requires.holds (settled_begins c.args.node.now flush of)
     (taken_events c.args.node.now flush of node c.requires.legal) left
     (subst (λ (group : List (List ℕ)). IsBeforeOrAfter file group left) (c.requires.group ∙ group_behind c.args.node.now flush of) is))

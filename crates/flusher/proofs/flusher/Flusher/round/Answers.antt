@@ -1,6 +1,6 @@
 use Rattle.std.proofs.Common.{rules, ◌≡◌, inr, ◌+◌, length, sym, ap, ◌∙◌, subst}
 use Rattle.validator.specs.Setting.{node_of}
-use Rattle.spec_model.specs.Histories.{Begins}
+use Rattle.wire.specs.Lists.{Begins}
 use Rattle.node_seats.specs.Views.{IsSame}
 use Rattle.node_seats.proofs.Beginnings.{begins_trans}
 use Rattle.node_seats.proofs.Same.{same_then}
@@ -73,19 +73,19 @@ tell_settled-requires-clause-flush g c = elim c.match-found.branch [
 
 pub returns-clause-flusher : goal.returns-clause-flusher
 returns-clause-flusher g c =
-    let of = node_of g.S.Sign.own_key g.S.Sign.signature_of in
+    let of = node_of g.S.Sign.scheme in
     let had = c.requires.flusher in
-    let is : IsFlusherOf of g.D.Disk.content g.D.Disk.outcome c.args.node.now c.match-found.self = elim c.match-found.branch [
-      | in-Some+in_ok-count-in-Some w ↦ subst (λ f. IsFlusherOf of g.D.Disk.content g.D.Disk.outcome c.args.node.now f) (sym w.self-is) w.in_ok-count-in-Some.ensures.flusher
+    let is : IsFlusherOf of g.D.Disk.device c.args.node.now c.match-found.self = elim c.match-found.branch [
+      | in-Some+in_ok-count-in-Some w ↦ subst (λ f. IsFlusherOf of g.D.Disk.device c.args.node.now f) (sym w.self-is) w.in_ok-count-in-Some.ensures.flusher
       | in-None w ↦
-          subst (λ f. IsFlusherOf of g.D.Disk.content g.D.Disk.outcome c.args.node.now f) (sym w.self-is) (record {
+          subst (λ f. IsFlusherOf of g.D.Disk.device c.args.node.now f) (sym w.self-is) (record {
             seat = c.in-Ok.ensures.flush;
             rests = λ up. (c.in-Ok.ensures.takes.none (is_none _ w.in-None.is)).0 ∙ had.rests up ∙ sym c.in-Ok.ensures.flush_settled;
             alive = had.alive;
-            holds = λ up. subst (λ f. Holds (of c.args.node.now.setting) (g.D.Disk.content c.args.self.now.journal.disk) (from_start c.args.node.now f)) (sym c.in-Ok.ensures.flush_firm) (had.holds up);
+            holds = λ up. subst (λ f. Holds (of c.args.node.now.setting) (g.D.Disk.device.content c.args.self.now.journal.disk) (from_start c.args.node.now f)) (sym c.in-Ok.ensures.flush_firm) (had.holds up);
           })
     ] in
-    subst (λ f. IsFlusherOf of g.D.Disk.content g.D.Disk.outcome c.args.node.now (record { journal = c.match-found.self.journal; seat = f; down = c.match-found.self.down })) (sym c.tell_settled.ensures.flush) is
+    subst (λ f. IsFlusherOf of g.D.Disk.device c.args.node.now (record { journal = c.match-found.self.journal; seat = f; down = c.match-found.self.down })) (sym c.tell_settled.ensures.flush) is
 
 pub returns-clause-told : goal.returns-clause-told
 returns-clause-told g c =

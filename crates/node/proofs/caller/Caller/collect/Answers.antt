@@ -6,5 +6,5 @@ use Rattle.node.proofs.caller.Caller.collect.Goals as goal
 
 pub returns-clause-gives : goal.returns-clause-gives
 returns-clause-gives g c =
-    subst (λ it. IfSome c.collect.result (λ output. Gives (node_of g.S.Sign.own_key g.S.Sign.signature_of it.node.setting) c.collect.new.seat output))
+    subst (λ it. IfSome c.collect.result (λ output. Gives (node_of g.S.Sign.scheme it.node.setting) c.collect.new.seat output))
     c.self.view_is c.collect.ensures.gives

@@ -7,5 +7,5 @@ use Rattle.node.proofs.caller.Caller.order.Goals as goal
 
 pub returns-clause-order : goal.returns-clause-order
 returns-clause-order g c =
-    subst (λ it. IfOk c.order.result (λ digests. digests.items ≡ drop c.args.from (order_of (node_of g.S.Sign.own_key g.S.Sign.signature_of it.node.setting) (firm_by c.order.new.seat))))
+    subst (λ it. IfOk c.order.result (λ digests. digests.items ≡ drop c.args.from (order_of (node_of g.S.Sign.scheme it.node.setting) (firm_by c.order.new.seat))))
     c.self.view_is c.order.ensures.order

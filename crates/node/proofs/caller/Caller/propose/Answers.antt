@@ -7,5 +7,5 @@ use Rattle.node.proofs.caller.Caller.propose.Goals as goal
 
 pub returns-clause-header : goal.returns-clause-header
 returns-clause-header g c =
-    subst (λ it. IfOk c.propose.result (λ found. found ≡ propose_of (node_of g.S.Sign.own_key g.S.Sign.signature_of it.node.setting) (seen_by c.propose.new.seat)))
+    subst (λ it. IfOk c.propose.result (λ found. found ≡ propose_of (node_of g.S.Sign.scheme it.node.setting) (seen_by c.propose.new.seat)))
     c.self.view_is c.propose.ensures.header

@@ -8,5 +8,5 @@ use Rattle.node.proofs.caller.Caller.ready.Goals as goal
 
 pub returns-clause-ready : goal.returns-clause-ready
 returns-clause-ready g c =
-    subst (λ it. c.ready.result ≡ not (is_missing_parents (admit (node_of g.S.Sign.own_key g.S.Sign.signature_of it.node.setting) (seen_by c.ready.new.seat) c.args.event.now)))
+    subst (λ it. c.ready.result ≡ not (is_missing_parents (admit (node_of g.S.Sign.scheme it.node.setting) (seen_by c.ready.new.seat) c.args.event.now)))
     c.self.view_is c.ready.ensures.ready

@@ -8,10 +8,10 @@ use Rattle.node_run.proofs.caller.Caller.is_ready.Goals as goal
 
 pub returns-then-passes-clause-ready : goal.returns-then-passes-clause-ready
 returns-then-passes-clause-ready g c = λ is.
-    subst (λ it. is_missing_parents (admit (node_of g.S.Sign.own_key g.S.Sign.signature_of it.node.setting) (seen_by c.ready.new.self.seat) c.args.event.now) ≡ false)
+    subst (λ it. is_missing_parents (admit (node_of g.S.Sign.scheme it.node.setting) (seen_by c.ready.new.self.seat) c.args.event.now) ≡ false)
     c.self.view_is (not_true _ (sym c.ready.ensures.ready ∙ is))
 
 pub returns-then-passes-clause-lacks : goal.returns-then-passes-clause-lacks
 returns-then-passes-clause-lacks g c = λ _ _ is.
-    subst (λ it. is_missing_parents (admit (node_of g.S.Sign.own_key g.S.Sign.signature_of it.node.setting) (seen_by c.ready.new.self.seat) c.args.event.now) ≡ true)
+    subst (λ it. is_missing_parents (admit (node_of g.S.Sign.scheme it.node.setting) (seen_by c.ready.new.self.seat) c.args.event.now) ≡ true)
     c.self.view_is (not_false _ (sym c.ready.ensures.ready ∙ is))

@@ -1,6 +1,6 @@
 use Rattle.std.proofs.Common.{◌≡◌, None, ap, subst, sym, ◌∙◌}
 use Rattle.header.specs.Checks.{fault_of, accepts_all}
-use Rattle.spec_model.specs.Histories.{Begins}
+use Rattle.wire.specs.Lists.{Begins}
 use Rattle.spec_model.specs.Proposing.{propose}
 use Rattle.spec_model.specs.Words.{Author}
 use Rattle.node_shared.specs.Home.{seen_by}
@@ -15,8 +15,8 @@ pub returns-in_default-clause-proposed : goal.returns-in_default-clause-proposed
 returns-in_default-clause-proposed g c =
     let before = c.args.self.now in
     let mid = c.propose.new.self in
-    let node = node_of g.S.Sign.own_key g.S.Sign.signature_of before.node.setting in
-    let found = subst (λ it. c.in_ok-header.field-0 ≡ propose (node_of g.S.Sign.own_key g.S.Sign.signature_of it.node.setting) (seen_by mid.seat)) c.self.view_is c.in_ok-header.ensures.header in
+    let node = node_of g.S.Sign.scheme before.node.setting in
+    let found = subst (λ it. c.in_ok-header.field-0 ≡ propose (node_of g.S.Sign.scheme it.node.setting) (seen_by mid.seat)) c.self.view_is c.in_ok-header.ensures.header in
     none_proposed node before mid (c.propose.ensures.looked.same.mine ∙ ap (λ it. it.seat.view.mine) c.self.view_is) (c.propose.ensures.looked.same.start ∙ ap (λ it. it.seat.view.start) c.self.view_is)
     (subst (λ it. Begins it.seat.view.seen mid.seat.view.seen) c.self.view_is c.propose.ensures.looked.more)
     c.in_ok-header.field-0 found c.in_default.is
@@ -25,8 +25,8 @@ pub returns-in_default-recheck-clause-proposed : goal.returns-in_default-recheck
 returns-in_default-recheck-clause-proposed g c =
     let before = c.args.self.now in
     let mid = c.propose.new.self in
-    let node = node_of g.S.Sign.own_key g.S.Sign.signature_of before.node.setting in
-    let found = subst (λ it. c.in_ok-header.field-0 ≡ propose (node_of g.S.Sign.own_key g.S.Sign.signature_of it.node.setting) (seen_by mid.seat)) c.self.view_is c.in_ok-header.ensures.header in
+    let node = node_of g.S.Sign.scheme before.node.setting in
+    let found = subst (λ it. c.in_ok-header.field-0 ≡ propose (node_of g.S.Sign.scheme it.node.setting) (seen_by mid.seat)) c.self.view_is c.in_ok-header.ensures.header in
     let at_node = ap (λ it. it.setting) (c.propose.ensures.stays.node ∙ ap (λ it. it.node) c.self.view_is) in
     let setting = c.config.ensures.config ∙ sym c.config.ensures.node ∙ at_node in
     let setting-2 = c.config-2.ensures.config ∙ sym c.config-2.ensures.node ∙ at_node in
@@ -41,8 +41,8 @@ returns-clause-proposed g c =
     let before = c.args.self.now in
     let mid = c.propose.new.self in
     let later = c.submit.new.node in
-    let node = node_of g.S.Sign.own_key g.S.Sign.signature_of before.node.setting in
-    let found = subst (λ it. c.in_ok-header.field-0 ≡ propose (node_of g.S.Sign.own_key g.S.Sign.signature_of it.node.setting) (seen_by mid.seat)) c.self.view_is c.in_ok-header.ensures.header in
+    let node = node_of g.S.Sign.scheme before.node.setting in
+    let found = subst (λ it. c.in_ok-header.field-0 ≡ propose (node_of g.S.Sign.scheme it.node.setting) (seen_by mid.seat)) c.self.view_is c.in_ok-header.ensures.header in
     let start = c.propose.ensures.looked.same.start ∙ ap (λ it. it.seat.view.start) c.self.view_is in
     let number = c.propose.ensures.looked.same.number ∙ ap (λ it. it.seat.view.number) c.self.view_is in
     let mine = c.propose.ensures.looked.same.mine ∙ ap (λ it. it.seat.view.mine) c.self.view_is in
@@ -52,7 +52,7 @@ returns-clause-proposed g c =
     let setting = c.config.ensures.config ∙ sym c.config.ensures.node ∙ at_node in
     let passed = subst (λ it. fault_of it accepts_all c.in-Ok.event ≡ None) (c.committee-committee.ensures ∙ ap (λ it. it.charter) setting) c.in-Ok.ensures.passed in
     let own = c.in-Ok.ensures.checked ∙ ap (λ (it : Author). record { sender = it; message = message.Header c.in-Some.header }) (c.own-own.ensures ∙ ap (λ it. it.own) setting-2) in
-    let done = subst (λ it. IsSubmitted (node_of g.S.Sign.own_key g.S.Sign.signature_of it) c.in-Ok.event mid later c.submit.result) at_node c.submit.ensures.submitted in
+    let done = subst (λ it. IsSubmitted (node_of g.S.Sign.scheme it) c.in-Ok.event mid later c.submit.result) at_node c.submit.ensures.submitted in
     was_proposed node before mid mine start more later c.in_ok-header.field-0 c.in-Some.header c.in-Ok.event c.submit.result c.newness.result found c.in-Some.is own passed (submits_more node c.in-Ok.event mid.seat.view later.seat.view done.answer done.submits)
     (submitted_since node c.in-Ok.event before mid later c.submit.result start number mine more done) c.newness.ensures.ok
 

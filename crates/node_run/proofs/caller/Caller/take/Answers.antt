@@ -17,7 +17,7 @@ returns-in-Err-clause-handles g c =
 
 pub returns-then-not-may_go-clause-handles : goal.returns-then-not-may_go-clause-handles
 returns-then-not-may_go-clause-handles g c =
-    let node = node_of g.S.Sign.own_key g.S.Sign.signature_of c.args.self.now.node.setting in
+    let node = node_of g.S.Sign.scheme c.args.self.now.node.setting in
     let charter = c.committee.ensures ∙ ap (λ setting. setting.charter) c.config.ensures.config ∙ ap (λ caller. caller.setting.charter) c.self.view_is in
     let passed = subst (λ it. fault_of it is_pair_signature c.in-Ok.event ≡ None) charter c.in-Ok.ensures.passed in
     subst (λ (event : Event). Handles node (fault_of c.args.self.now.setting.charter is_pair_signature event) event c.args.self.now c.may_go.new.self (Ok (Waits c.in-Ok.event)))
@@ -26,13 +26,13 @@ returns-then-not-may_go-clause-handles g c =
 
 pub returns-clause-handles : goal.returns-clause-handles
 returns-clause-handles g c =
-    let node = node_of g.S.Sign.own_key g.S.Sign.signature_of c.args.self.now.node.setting in
+    let node = node_of g.S.Sign.scheme c.args.self.now.node.setting in
     let mid = c.may_go.new.self in
     let same = c.may_go.ensures.same in
     let charter = c.committee.ensures ∙ ap (λ setting. setting.charter) c.config.ensures.config ∙ ap (λ caller. caller.setting.charter) c.self.view_is in
     let passed = subst (λ it. fault_of it is_pair_signature c.in-Ok.event ≡ None) charter c.in-Ok.ensures.passed in
-    let there = subst (λ caller. IsSubmitted (node_of g.S.Sign.own_key g.S.Sign.signature_of caller.node.setting) c.in-Ok.event caller c.submit.new.node c.submit.result) c.self-2.view_is c.submit.ensures.submitted in
-    let here = subst (λ it. IsSubmitted (node_of g.S.Sign.own_key g.S.Sign.signature_of it.setting) c.in-Ok.event mid c.submit.new.node c.submit.result) c.may_go.ensures.stays.node there in
+    let there = subst (λ caller. IsSubmitted (node_of g.S.Sign.scheme caller.node.setting) c.in-Ok.event caller c.submit.new.node c.submit.result) c.self-2.view_is c.submit.ensures.submitted in
+    let here = subst (λ it. IsSubmitted (node_of g.S.Sign.scheme it.setting) c.in-Ok.event mid c.submit.new.node c.submit.result) c.may_go.ensures.stays.node there in
     subst (λ (event : Event). Handles node (fault_of c.args.self.now.setting.charter is_pair_signature event) event c.args.self.now c.submit.new.node c.submit.result)
     c.in-Ok.ensures.checked
     (submitted node c.in-Ok.event c.args.self.now c.submit.new.node _ c.submit.result passed

@@ -1,5 +1,5 @@
 use Rattle.std.proofs.Common.{◌≡◌, ◌≤◌, length, ap, ◌∙◌, subst}
-use Rattle.spec_model.specs.Histories.{Begins}
+use Rattle.wire.specs.Lists.{Begins}
 use Rattle.node_seats.proofs.Beginnings.{begins_trans}
 use Rattle.node_seats.proofs.Same.{same_then, same_seat, same_told, still_seen}
 use Rattle.node_seats.proofs.words.Words.catch_up_firm.Goals as goal

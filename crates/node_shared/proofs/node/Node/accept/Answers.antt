@@ -1,9 +1,9 @@
 use Rattle.std.proofs.Common.{rules, ◌∷◌, [], ◌++◌, length, sym, ap, ◌∙◌, subst}
 use Rattle.std.proofs.lemmas.List.{length-map}
-use Rattle.spec_model.specs.Histories.{Begins}
+use Rattle.wire.specs.Lists.{Begins}
 use Rattle.spec_model.specs.Admitting.{IsLegal}
 use Rattle.spec_model.specs.Words.{Event}
-use Rattle.validator.specs.Setting.{node_of, Setting}
+use Rattle.validator.specs.Setting.{node_of, ConfigView}
 use Rattle.node_seats.specs.Views.{events, mark}
 use Rattle.node_shared.specs.Calls.{Brought}
 use Rattle.node_shared.proofs.Called.{looked_stays, brought_none, brought_new}
@@ -16,14 +16,14 @@ returns-in-Err-clause-submits g c =
     let told = c.know_down.ensures in
     let behind = c.know_down.new.locked.seat in
     let seen = told.stays.seen ∙ first.seen ∙ ap (λ l. l.seat.view.seen) (sym first.locked) ∙ sym told.stays_locked.seen in
-    submits_refused c.args.self.now (node_of g.S.Sign.own_key g.S.Sign.signature_of) behind c.know_down.new.locked.book c.know_down.new.locked.book c.args.event told.home
+    submits_refused c.args.self.now g.S.Sign.scheme behind c.know_down.new.locked.book c.know_down.new.locked.book c.args.event told.home
     c.args.seat.now.view c.know_down.new.seat.view _ (search rules) (c.requires.of.start ∙ sym told.home.of_node.start)
     (subst (λ l. Begins c.args.seat.now.view.seen l) (sym told.stays.seen ∙ seen) first.looked.more) seen (told.stays.same.mine ∙ first.looked.same.mine)
 
 pub returns-in-Err-clause-brought : goal.returns-in-Err-clause-brought
 returns-in-Err-clause-brought g c =
-    brought_none (node_of g.S.Sign.own_key g.S.Sign.signature_of) c.args.self.now c.args.seat.now c.know_down.new.seat
-    (looked_stays (node_of g.S.Sign.own_key g.S.Sign.signature_of) c.args.self.now c.args.seat.now c.see_all.new.seat c.know_down.new.seat c.see_all.ensures.looked c.know_down.ensures.stays)
+    brought_none g.S.Sign.scheme c.args.self.now c.args.seat.now c.know_down.new.seat
+    (looked_stays g.S.Sign.scheme c.args.self.now c.args.seat.now c.see_all.new.seat c.know_down.new.seat c.see_all.ensures.looked c.know_down.ensures.stays)
 
 pub raise-requires-clause-legal : goal.raise-requires-clause-legal
 raise-requires-clause-legal g c =
@@ -32,10 +32,10 @@ raise-requires-clause-legal g c =
     let mid = c.know_down.new.seat in
     let setting = ap (λ n. n.setting) c.self.view_is in
     let seen = told.stays.seen ∙ first.seen ∙ ap (λ l. l.seat.view.seen) (sym first.locked) ∙ sym told.stays_locked.seen in
-    let legal = legal_with c.args.self.now (node_of g.S.Sign.own_key g.S.Sign.signature_of) c.know_down.new.locked.seat c.know_down.new.locked.book c.accept.new.self c.args.event told.home (c.in-Ok.ensures.new c.if-receipt.true)
+    let legal = legal_with c.args.self.now g.S.Sign.scheme c.know_down.new.locked.seat c.know_down.new.locked.book c.accept.new.self c.args.event told.home (c.in-Ok.ensures.new c.if-receipt.true)
     mid.view.start mid.view.seen (told.stays.same.start ∙ first.looked.same.start ∙ c.requires.of.start ∙ sym told.home.of_node.start) seen in
-    subst (λ (s : Setting g.row.S.Denot). IsLegal (node_of g.S.Sign.own_key g.S.Sign.signature_of s) (mid.view.start ++ (events mid.view.seen ++ g.C.Call.event ∷ []))) (sym setting)
-    (subst (λ (e : Event). IsLegal (node_of g.S.Sign.own_key g.S.Sign.signature_of c.args.self.now.setting) (mid.view.start ++ (events mid.view.seen ++ e ∷ []))) (sym c.requires.call) legal)
+    subst (λ (s : ConfigView g.row.S.Denot). IsLegal (node_of g.S.Sign.scheme s) (mid.view.start ++ (events mid.view.seen ++ g.C.Call.event ∷ []))) (sym setting)
+    (subst (λ (e : Event). IsLegal (node_of g.S.Sign.scheme c.args.self.now.setting) (mid.view.start ++ (events mid.view.seen ++ e ∷ []))) (sym c.requires.call) legal)
 
 pub returns-then-receipt-clause-home : goal.returns-then-receipt-clause-home
 returns-then-receipt-clause-home g c =
@@ -44,7 +44,7 @@ returns-then-receipt-clause-home g c =
     let raised = c.raise.ensures in
     let last = c.catch_up.ensures in
     let seen = told.stays.seen ∙ first.seen ∙ ap (λ l. l.seat.view.seen) (sym first.locked) ∙ sym told.stays_locked.seen in
-    home_with c.args.self.now (node_of g.S.Sign.own_key g.S.Sign.signature_of) c.know_down.new.locked.seat c.know_down.new.locked.book c.accept.new.self c.args.event told.home (c.in-Ok.ensures.new c.if-receipt.true)
+    home_with c.args.self.now g.S.Sign.scheme c.know_down.new.locked.seat c.know_down.new.locked.book c.accept.new.self c.args.event told.home (c.in-Ok.ensures.new c.if-receipt.true)
     c.catch_up.new.seat c.know_down.new.seat.view.number c.in-Ok.ensures.setting (search rules)
     (last.seen ∙ raised.seen ∙ ap (λ l. l ++ mark c.know_down.new.seat.view.number g.C.Call.event ∷ []) seen ∙ ap (λ e. c.know_down.new.locked.seat.view.seen ++ mark c.know_down.new.seat.view.number e ∷ []) c.requires.call)
     (search rules)
@@ -59,7 +59,7 @@ returns-then-receipt-clause-submits g c =
     let mid = c.know_down.new.seat in
     let behind = c.know_down.new.locked.seat in
     let seen = told.stays.seen ∙ first.seen ∙ ap (λ l. l.seat.view.seen) (sym first.locked) ∙ sym told.stays_locked.seen in
-    submits_new c.args.self.now (node_of g.S.Sign.own_key g.S.Sign.signature_of) behind c.know_down.new.locked.book c.accept.new.self c.args.event told.home (c.in-Ok.ensures.new c.if-receipt.true)
+    submits_new c.args.self.now g.S.Sign.scheme behind c.know_down.new.locked.book c.accept.new.self c.args.event told.home (c.in-Ok.ensures.new c.if-receipt.true)
     c.args.seat.now.view c.catch_up.new.other.view c.in-Ok.receipt (c.requires.of.start ∙ sym told.home.of_node.start)
     (subst (λ l. Begins c.args.seat.now.view.seen l) (sym told.stays.seen ∙ seen) first.looked.more) c.if-receipt.true c.in-Ok.ensures.ticket c.in-Ok.ensures.limit
     (ap (λ s. s.view.seen) last.other ∙ raised.seen ∙ ap (λ l. l ++ mark mid.view.number g.C.Call.event ∷ []) seen ∙ ap (λ e. behind.view.seen ++ mark mid.view.number e ∷ []) c.requires.call
@@ -74,30 +74,30 @@ returns-then-receipt-clause-brought g c =
     let mid = c.know_down.new.seat in
     let setting = ap (λ n. n.setting) c.self.view_is in
     let seen = told.stays.seen ∙ first.seen ∙ ap (λ l. l.seat.view.seen) (sym first.locked) ∙ sym told.stays_locked.seen in
-    let legal = legal_with c.args.self.now (node_of g.S.Sign.own_key g.S.Sign.signature_of) c.know_down.new.locked.seat c.know_down.new.locked.book c.accept.new.self c.args.event told.home (c.in-Ok.ensures.new c.if-receipt.true)
+    let legal = legal_with c.args.self.now g.S.Sign.scheme c.know_down.new.locked.seat c.know_down.new.locked.book c.accept.new.self c.args.event told.home (c.in-Ok.ensures.new c.if-receipt.true)
     mid.view.start mid.view.seen (told.stays.same.start ∙ first.looked.same.start ∙ c.requires.of.start ∙ sym told.home.of_node.start) seen in
-    let looked = looked_stays (node_of g.S.Sign.own_key g.S.Sign.signature_of) c.args.self.now c.args.seat.now c.see_all.new.seat mid first.looked told.stays in
-    subst (λ s. Brought (node_of g.S.Sign.own_key g.S.Sign.signature_of) c.args.self.now c.args.seat.now s) (sym c.catch_up.ensures.other)
-    (brought_new (node_of g.S.Sign.own_key g.S.Sign.signature_of) c.args.self.now c.args.seat.now mid c.raise.new.seat g.C.Call.event looked raised.same raised.down raised.firm raised.seen raised.mine
-    (subst (λ (e : Event). IsLegal (node_of g.S.Sign.own_key g.S.Sign.signature_of c.args.self.now.setting) (mid.view.start ++ (events mid.view.seen ++ e ∷ []))) (sym c.requires.call) legal))
+    let looked = looked_stays g.S.Sign.scheme c.args.self.now c.args.seat.now c.see_all.new.seat mid first.looked told.stays in
+    subst (λ s. Brought g.S.Sign.scheme c.args.self.now c.args.seat.now s) (sym c.catch_up.ensures.other)
+    (brought_new g.S.Sign.scheme c.args.self.now c.args.seat.now mid c.raise.new.seat g.C.Call.event looked raised.same raised.down raised.firm raised.seen raised.mine
+    (subst (λ (e : Event). IsLegal (node_of g.S.Sign.scheme c.args.self.now.setting) (mid.view.start ++ (events mid.view.seen ++ e ∷ []))) (sym c.requires.call) legal))
 
 pub returns-else-receipt-clause-home : goal.returns-else-receipt-clause-home
 returns-else-receipt-clause-home g c =
-    home_known c.args.self.now (node_of g.S.Sign.own_key g.S.Sign.signature_of) c.know_down.new.locked.seat c.know_down.new.locked.book c.accept.new.self c.args.event c.know_down.ensures.home (c.in-Ok.ensures.known c.if-receipt.false)
+    home_known c.args.self.now g.S.Sign.scheme c.know_down.new.locked.seat c.know_down.new.locked.book c.accept.new.self c.args.event c.know_down.ensures.home (c.in-Ok.ensures.known c.if-receipt.false)
 
 pub returns-else-receipt-clause-submits : goal.returns-else-receipt-clause-submits
 returns-else-receipt-clause-submits g c =
     let first = c.see_all.ensures in
     let told = c.know_down.ensures in
     let seen = told.stays.seen ∙ first.seen ∙ ap (λ l. l.seat.view.seen) (sym first.locked) ∙ sym told.stays_locked.seen in
-    submits_known c.args.self.now (node_of g.S.Sign.own_key g.S.Sign.signature_of) c.know_down.new.locked.seat c.know_down.new.locked.book c.accept.new.self c.args.event told.home (c.in-Ok.ensures.known c.if-receipt.false)
+    submits_known c.args.self.now g.S.Sign.scheme c.know_down.new.locked.seat c.know_down.new.locked.book c.accept.new.self c.args.event told.home (c.in-Ok.ensures.known c.if-receipt.false)
     c.args.seat.now.view c.know_down.new.seat.view c.in-Ok.receipt (c.requires.of.start ∙ sym told.home.of_node.start)
     (subst (λ l. Begins c.args.seat.now.view.seen l) (sym told.stays.seen ∙ seen) first.looked.more) c.if-receipt.false c.in-Ok.ensures.ticket seen (told.stays.same.mine ∙ first.looked.same.mine)
 
 pub returns-else-receipt-clause-brought : goal.returns-else-receipt-clause-brought
 returns-else-receipt-clause-brought g c =
-    brought_none (node_of g.S.Sign.own_key g.S.Sign.signature_of) c.args.self.now c.args.seat.now c.know_down.new.seat
-    (looked_stays (node_of g.S.Sign.own_key g.S.Sign.signature_of) c.args.self.now c.args.seat.now c.see_all.new.seat c.know_down.new.seat c.see_all.ensures.looked c.know_down.ensures.stays)
+    brought_none g.S.Sign.scheme c.args.self.now c.args.seat.now c.know_down.new.seat
+    (looked_stays g.S.Sign.scheme c.args.self.now c.args.seat.now c.see_all.new.seat c.know_down.new.seat c.see_all.ensures.looked c.know_down.ensures.stays)
 
 pub raise-requires-clause-seen : goal.raise-requires-clause-seen
 raise-requires-clause-seen g c =

@@ -8,13 +8,13 @@ use Rattle.node_shared.proofs.node.Node.give.Goals as goal
 
 pub returns-clause-home : goal.returns-clause-home
 returns-clause-home g c =
-    home_where c.args.self.now (node_of g.S.Sign.own_key g.S.Sign.signature_of) c.know_down.new.locked.seat c.know_down.new.locked.book c.release.new.self c.know_down.ensures.home
+    home_where c.args.self.now g.S.Sign.scheme c.know_down.new.locked.seat c.know_down.new.locked.book c.release.new.self c.know_down.ensures.home
     (queue_setting c.know_down.new.locked.book c.release.new.self (drop 1 c.know_down.new.locked.book.queue) (is_some c.release.result) c.release.ensures.queue)
     (λ down. sym (queue_down c.know_down.new.locked.book c.release.new.self (drop 1 c.know_down.new.locked.book.queue) (is_some c.release.result) c.release.ensures.queue) ∙ down) c.release.ensures.stands
 
 pub returns-clause-learned : goal.returns-clause-learned
 returns-clause-learned g c =
-    learned_stays (node_of g.S.Sign.own_key g.S.Sign.signature_of) c.args.self.now c.args.seat.now c.know_all.new.seat c.know_down.new.seat c.know_all.ensures.learned c.know_down.ensures.stays
+    learned_stays g.S.Sign.scheme c.args.self.now c.args.seat.now c.know_all.new.seat c.know_down.new.seat c.know_all.ensures.learned c.know_down.ensures.stays
 
 pub returns-clause-gives : goal.returns-clause-gives
 returns-clause-gives g c =
@@ -22,8 +22,8 @@ returns-clause-gives g c =
     let began = told.stays.same.start ∙ c.know_all.ensures.learned.of_node.start in
     let firm = told.stays.firm ∙ c.know_all.ensures.firm ∙ ap (λ l. l.seat.view.firm) (sym c.know_all.ensures.locked) ∙ sym told.stays_locked.firm in
     gives_both _ _ c.release.result
-    (given c.args.self.now (node_of g.S.Sign.own_key g.S.Sign.signature_of) c.know_down.new.locked.seat c.know_down.new.seat c.know_down.new.locked.book told.home began firm c.release.result c.release.ensures.goes_out)
-    (put_out_by c.args.self.now (node_of g.S.Sign.own_key g.S.Sign.signature_of) c.know_down.new.locked.seat c.know_down.new.seat c.know_down.new.locked.book told.home began firm c.release.result c.release.ensures.goes_out)
+    (given c.args.self.now g.S.Sign.scheme c.know_down.new.locked.seat c.know_down.new.seat c.know_down.new.locked.book told.home began firm c.release.result c.release.ensures.goes_out)
+    (put_out_by c.args.self.now g.S.Sign.scheme c.know_down.new.locked.seat c.know_down.new.seat c.know_down.new.locked.book told.home began firm c.release.result c.release.ensures.goes_out)
 
 pub returns-clause-next : goal.returns-clause-next
 returns-clause-next g c = gives_next c.args.locked.now.book c.know_all.new.locked.book c.know_down.new.locked.book _ c.release.result (ap (λ l. l.book) c.know_all.ensures.locked) c.know_down.ensures.book c.release.ensures.output

@@ -3,4 +3,4 @@ use Rattle.validator.specs.Setting.{node_of}
 use Rattle.node_shared.proofs.node.Node.know_all.Given as goal
 
 abbrev pub ghosts-catch_up_firm : goal.ghosts-catch_up_firm
-ghosts-catch_up_firm g a = record { judged = IsLegal (node_of g.S.Sign.own_key g.S.Sign.signature_of a.self.now.key.setting) }
+ghosts-catch_up_firm g a = record { judged = IsLegal (node_of g.S.Sign.scheme a.self.now.key.setting) }

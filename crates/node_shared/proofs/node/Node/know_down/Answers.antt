@@ -13,7 +13,7 @@ returns-then-read_down-clause-home g c =
     let knows = ap (λ s. s.view.down) c.read_down.ensures.down ∙ c.if-read_down.true in
     let first = ap (λ s. s) c.tell.ensures.same in
     let stays = subst (λ s. Stays s c.tell-then-read_down.new.to) first (stays_told c.tell.new.from c.tell-then-read_down.new.to c.read_down.new.seat.view told) in
-    home_down c.args.self.now (node_of g.S.Sign.own_key g.S.Sign.signature_of) c.args.locked.now.seat c.tell-then-read_down.new.to c.args.locked.now.book c.fail.new.self c.requires.home
+    home_down c.args.self.now g.S.Sign.scheme c.args.locked.now.seat c.tell-then-read_down.new.to c.args.locked.now.book c.fail.new.self c.requires.home
     c.fail.ensures.down c.fail.ensures.stands stays (ap (λ s. s.view.down) told ∙ or_second c.tell.new.from.view.down c.read_down.new.seat.view.down knows)
 
 pub returns-then-read_down-clause-book : goal.returns-then-read_down-clause-book
@@ -33,7 +33,7 @@ returns-then-read_down-clause-stays g c =
     (stays_read c.tell.new.to c.read_down.new.seat c.read_down.result c.read_down.ensures.down c.read_down.ensures.stays))
 
 pub returns-else-read_down-clause-home : goal.returns-else-read_down-clause-home
-returns-else-read_down-clause-home g c = subst (λ s. IsAtHome (node_of g.S.Sign.own_key g.S.Sign.signature_of) c.args.self.now s c.args.locked.now.book) (sym c.tell.ensures.same) c.requires.home
+returns-else-read_down-clause-home g c = subst (λ s. IsAtHome g.S.Sign.scheme c.args.self.now s c.args.locked.now.book) (sym c.tell.ensures.same) c.requires.home
 
 pub returns-else-read_down-clause-book : goal.returns-else-read_down-clause-book
 returns-else-read_down-clause-book g c =

@@ -7,12 +7,12 @@ use Rattle.node_shared.proofs.node.Node.order.Goals as goal
 
 pub returns-clause-learned : goal.returns-clause-learned
 returns-clause-learned g c =
-    learned_stays (node_of g.S.Sign.own_key g.S.Sign.signature_of) c.args.self.now c.args.seat.now c.know_all.new.seat c.know_down.new.seat c.know_all.ensures.learned c.know_down.ensures.stays
+    learned_stays g.S.Sign.scheme c.args.self.now c.args.seat.now c.know_all.new.seat c.know_down.new.seat c.know_all.ensures.learned c.know_down.ensures.stays
 
 pub returns-clause-order : goal.returns-clause-order
 returns-clause-order g c =
     let told = c.know_down.ensures in
-    ordered c.args.self.now (node_of g.S.Sign.own_key g.S.Sign.signature_of) c.know_down.new.locked.seat c.know_down.new.seat c.know_down.new.locked.book told.home (told.stays.same.start ∙ c.know_all.ensures.learned.of_node.start)
+    ordered c.args.self.now g.S.Sign.scheme c.know_down.new.locked.seat c.know_down.new.seat c.know_down.new.locked.book told.home (told.stays.same.start ∙ c.know_all.ensures.learned.of_node.start)
     (told.stays.firm ∙ c.know_all.ensures.firm ∙ ap (λ l. l.seat.view.firm) (sym c.know_all.ensures.locked) ∙ sym told.stays_locked.firm) _ c.args.from c.order-order.result c.order-order.ensures.order
 
 pub release-requires-clause-fits : goal.release-requires-clause-fits

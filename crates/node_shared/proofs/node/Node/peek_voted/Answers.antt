@@ -4,7 +4,7 @@ use Rattle.spec_model.specs.Histories.{History}
 use Rattle.validator.specs.Setting.{node_of}
 use Rattle.node_shared.specs.Home.{IsAtHome}
 use Rattle.spec_model.specs.Giving.{kept, unless_low}
-use Rattle.validator.specs.Standing.{Standing, AreAtSound}
+use Rattle.validator.specs.Standing.{ValidatorView, AreAtSound}
 use Rattle.book.specs.Book.{history_in}
 use Rattle.spec_model.specs.Holdings.{floor as floor_of, voted_digest}
 use Rattle.node_shared.proofs.Readings.{seen_of}
@@ -12,12 +12,12 @@ use Rattle.node_shared.proofs.node.Node.peek_voted.Goals as goal
 
 pub returns-clause-voted : goal.returns-clause-voted
 returns-clause-voted g c =
-    let home : IsAtHome (node_of g.S.Sign.own_key g.S.Sign.signature_of) c.args.self.now c.acquire-turn.result.1.value.seat c.acquire-turn.result.1.value.book = search rules in
-    let now : IsAtHome (node_of g.S.Sign.own_key g.S.Sign.signature_of) c.args.self.now c.see_all.new.locked.seat c.see_all.new.locked.book = search rules in
+    let home : IsAtHome g.S.Sign.scheme c.args.self.now c.acquire-turn.result.1.value.seat c.acquire-turn.result.1.value.book = search rules in
+    let now : IsAtHome g.S.Sign.scheme c.args.self.now c.see_all.new.locked.seat c.see_all.new.locked.book = search rules in
     let seen : c.see_all.new.seat.view.seen ≡ c.see_all.new.locked.seat.view.seen = search rules in
-    let told = subst (λ (v : Standing g.row.S.Denot). (history : History) → AreAtSound (node_of g.S.Sign.own_key g.S.Sign.signature_of v.setting) v.tables (kept (node_of g.S.Sign.own_key g.S.Sign.signature_of v.setting) history)
-    → c.voted-voted.result ≡ unless_low (floor_of (node_of g.S.Sign.own_key g.S.Sign.signature_of v.setting) history) c.args.round (voted_digest history c.args.round c.args.author.0)) c.validator.ensures c.voted-voted.ensures.history in
-    seen_of c.args.self.now (node_of g.S.Sign.own_key g.S.Sign.signature_of) c.see_all.new.locked.seat c.see_all.new.seat c.see_all.new.locked.book now c.see_all.ensures.looked.of_node.start
+    let told = subst (λ (v : ValidatorView g.row.S.Denot). (history : History) → AreAtSound (node_of g.S.Sign.scheme v.setting) v.tables (kept (node_of g.S.Sign.scheme v.setting) history)
+    → c.voted-voted.result ≡ unless_low (floor_of (node_of g.S.Sign.scheme v.setting) history) c.args.round (voted_digest history c.args.round c.args.author.0)) c.validator.ensures c.voted-voted.ensures.history in
+    seen_of c.args.self.now g.S.Sign.scheme c.see_all.new.locked.seat c.see_all.new.seat c.see_all.new.locked.book now c.see_all.ensures.looked.of_node.start
     (λ node history. c.voted-voted.result ≡ unless_low (floor_of node history) c.args.round (voted_digest history c.args.round c.args.author.0)) seen (λ run stands. told (history_in run) stands.at)
 
 pub acquire-turn-requires : goal.acquire-turn-requires

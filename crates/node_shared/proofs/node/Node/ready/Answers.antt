@@ -6,7 +6,7 @@ use Rattle.validator.specs.Setting.{node_of}
 use Rattle.node_shared.specs.Home.{IsAtHome}
 use Rattle.spec_model.specs.Giving.{kept}
 use Rattle.spec_model.specs.Admitting.{admit, IsLegal}
-use Rattle.validator.specs.Standing.{Standing, AreAtSound}
+use Rattle.validator.specs.Standing.{ValidatorView, AreAtSound}
 use Rattle.book.specs.Book.{history_in}
 use Rattle.spec_machine.specs.Machine.{is_missing_parents}
 use Rattle.node_shared.proofs.Readings.{seen_of}
@@ -14,13 +14,13 @@ use Rattle.node_shared.proofs.node.Node.ready.Goals as goal
 
 pub returns-clause-ready : goal.returns-clause-ready
 returns-clause-ready g c =
-    let home : IsAtHome (node_of g.S.Sign.own_key g.S.Sign.signature_of) c.args.self.now c.acquire-turn.result.1.value.seat c.acquire-turn.result.1.value.book = search rules in
-    let now : IsAtHome (node_of g.S.Sign.own_key g.S.Sign.signature_of) c.args.self.now c.see_all.new.locked.seat c.see_all.new.locked.book = search rules in
+    let home : IsAtHome g.S.Sign.scheme c.args.self.now c.acquire-turn.result.1.value.seat c.acquire-turn.result.1.value.book = search rules in
+    let now : IsAtHome g.S.Sign.scheme c.args.self.now c.see_all.new.locked.seat c.see_all.new.locked.book = search rules in
     let seen : c.see_all.new.seat.view.seen ≡ c.see_all.new.locked.seat.view.seen = search rules in
-    let told = subst (λ (v : Standing g.row.S.Denot). (history : History) → IsLegal (node_of g.S.Sign.own_key g.S.Sign.signature_of v.setting) history
-    → AreAtSound (node_of g.S.Sign.own_key g.S.Sign.signature_of v.setting) v.tables (kept (node_of g.S.Sign.own_key g.S.Sign.signature_of v.setting) history)
-    → c.ready-ready.result ≡ not (is_missing_parents (admit (node_of g.S.Sign.own_key g.S.Sign.signature_of v.setting) history c.args.event.now))) c.validator.ensures c.ready-ready.ensures.history in
-    seen_of c.args.self.now (node_of g.S.Sign.own_key g.S.Sign.signature_of) c.see_all.new.locked.seat c.see_all.new.seat c.see_all.new.locked.book now c.see_all.ensures.looked.of_node.start
+    let told = subst (λ (v : ValidatorView g.row.S.Denot). (history : History) → IsLegal (node_of g.S.Sign.scheme v.setting) history
+    → AreAtSound (node_of g.S.Sign.scheme v.setting) v.tables (kept (node_of g.S.Sign.scheme v.setting) history)
+    → c.ready-ready.result ≡ not (is_missing_parents (admit (node_of g.S.Sign.scheme v.setting) history c.args.event.now))) c.validator.ensures c.ready-ready.ensures.history in
+    seen_of c.args.self.now g.S.Sign.scheme c.see_all.new.locked.seat c.see_all.new.seat c.see_all.new.locked.book now c.see_all.ensures.looked.of_node.start
     (λ node history. c.ready-ready.result ≡ not (is_missing_parents (admit node history c.args.event.now))) seen (λ run stands. told (history_in run) stands.legal stands.at)
 
 pub acquire-turn-requires : goal.acquire-turn-requires

@@ -8,10 +8,10 @@ use Rattle.node_shared.proofs.node.Node.round_now.Goals as goal
 
 pub returns-clause-round : goal.returns-clause-round
 returns-clause-round g c =
-    let home : IsAtHome (node_of g.S.Sign.own_key g.S.Sign.signature_of) c.args.self.now c.acquire-turn.result.1.value.seat c.acquire-turn.result.1.value.book = search rules in
-    let now : IsAtHome (node_of g.S.Sign.own_key g.S.Sign.signature_of) c.args.self.now c.see_all.new.locked.seat c.see_all.new.locked.book = search rules in
+    let home : IsAtHome g.S.Sign.scheme c.args.self.now c.acquire-turn.result.1.value.seat c.acquire-turn.result.1.value.book = search rules in
+    let now : IsAtHome g.S.Sign.scheme c.args.self.now c.see_all.new.locked.seat c.see_all.new.locked.book = search rules in
     let seen : c.see_all.new.seat.view.seen ≡ c.see_all.new.locked.seat.view.seen = search rules in
-    seen_of c.args.self.now (node_of g.S.Sign.own_key g.S.Sign.signature_of) c.see_all.new.locked.seat c.see_all.new.seat c.see_all.new.locked.book now c.see_all.ensures.looked.of_node.start
+    seen_of c.args.self.now g.S.Sign.scheme c.see_all.new.locked.seat c.see_all.new.seat c.see_all.new.locked.book now c.see_all.ensures.looked.of_node.start
     (λ node history. c.round_now-round.result ≡ round_of node history) seen c.round_now-round.ensures
 
 pub acquire-turn-requires : goal.acquire-turn-requires

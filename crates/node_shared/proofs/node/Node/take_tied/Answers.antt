@@ -6,7 +6,7 @@ use Rattle.node_shared.proofs.node.Node.take_tied.Goals as goal
 
 pub returns-clause-home : goal.returns-clause-home
 returns-clause-home g c =
-    home_taken c.args.self.now (node_of g.S.Sign.own_key g.S.Sign.signature_of) c.args.locked.now.seat c.args.locked.now.book c.args.flush.now c.requires.home c.requires.tied
+    home_taken c.args.self.now g.S.Sign.scheme c.args.locked.now.seat c.args.locked.now.book c.args.flush.now c.requires.home c.requires.tied
     c.take.new.self c.in-Some.group c.requires.rests (of_some _ _ _ c.in-Some.is c.in_ok-group.ensures.group) (of_some _ _ _ c.in-Some.is c.in_ok-group.ensures.taken)
     (of_some _ _ _ c.in-Some.is c.in_ok-group.ensures.stands) (of_some _ _ _ c.in-Some.is c.in_ok-group.ensures.records)
 
@@ -15,7 +15,7 @@ returns-clause-takes g c = record {
   none = search rules;
   group =
       rw c.taken-flush.ensures
-      (takes_next c.args.self.now (node_of g.S.Sign.own_key g.S.Sign.signature_of) c.args.locked.now.seat c.args.locked.now.book c.args.flush.now c.requires.home c.requires.tied
+      (takes_next c.args.self.now g.S.Sign.scheme c.args.locked.now.seat c.args.locked.now.book c.args.flush.now c.requires.home c.requires.tied
       c.take.new.self c.in-Some.group c.requires.rests (of_some _ _ _ c.in-Some.is c.in_ok-group.ensures.group) (of_some _ _ _ c.in-Some.is c.in_ok-group.ensures.taken)
       (of_some _ _ _ c.in-Some.is c.in_ok-group.ensures.stands) (of_some _ _ _ c.in-Some.is c.in_ok-group.ensures.records));
   err = search rules;

@@ -1,17 +1,17 @@
 use Rattle.std.proofs.Common.{List, ℕ, subst, sym}
 use Rattle.std.proofs.lemmas.Result.{IfOk-weaker}
 use Rattle.spec_model.specs.Words.{Author}
-use Rattle.sequencer.specs.Sequence.{Sequence, ComesTo, IsPrepared, IsMadeOf}
+use Rattle.sequencer.specs.Sequence.{SequencerView, ComesTo, IsPrepared, IsMadeOf}
 use Rattle.sequencer.proofs.Ready.{ready_with}
 use Rattle.sequencer.proofs.sequencer.Sequencer.prepare_coin.Goals as goal
 
 pub returns : goal.returns
 returns c =
     let inside = c.self.inside in
-    let v : Sequence = record { graph = inside.dag; coins = inside.coins; last = inside.last; order = inside.order.items } in
+    let v : SequencerView = record { graph = inside.dag; coins = inside.coins; last = inside.last; order = inside.order.items } in
     IfOk-weaker c.new.result _ _
     (λ prepared made node state event comes adds.
-    subst (λ (s : Sequence). IsPrepared node state event s prepared) c.self.view_is
+    subst (λ (s : SequencerView). IsPrepared node state event s prepared) c.self.view_is
     (ready_with node state event v c.args.value c.wave_of-last.result c.in_ok-chain.chain.items prepared (subst (ComesTo node state event) (sym c.self.view_is) comes) adds c.wave_of-last.ensures
     (λ at. c.in_ok-chain.ensures {u = tt} at)
     (subst (λ (l : List (ℕ × Author)). IsMadeOf inside.dag inside.last l prepared.committed) c.deref.ensures.value (made inside.last))))

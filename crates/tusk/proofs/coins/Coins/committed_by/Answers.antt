@@ -3,7 +3,7 @@ use Rattle.std.proofs.lemmas.Bool.{cases_Bool}
 use Rattle.std.proofs.lemmas.Result.{IfOk-weaker}
 use Rattle.spec_model.specs.Ordering.{newer_to}
 use Rattle.dag.specs.Changes.{IsWith}
-use Rattle.dag.specs.Graph.{Graph}
+use Rattle.dag.specs.Graph.{DagView}
 use Rattle.tusk.proofs.Adding.{IsNew, is_new, extends, no_leader, enough_with, certificate_some, certificate_none, not_enough}
 use Rattle.tusk.proofs.Supporting.{led_by, led_by_none}
 use Rattle.tusk.proofs.coins.Coins.committed_by.Goals as goal
@@ -46,7 +46,7 @@ returns-in-Some c =
     let base : c.committed_to-base.result ≡ wave_of last = c.committed_to-base.ensures in
     let higher : wave_of last < wave = omega (arith, base, c.if-wave-base.false) in
     let next : slot.0 + 1 ≡ certificate.header.round = omega (arith, c.in-Some.ensures.round, level, higher) in
-    let supported = λ (after : Graph) (new : IsNew graph certificate) (more : IsWith graph after certificate).
+    let supported = λ (after : DagView) (new : IsNew graph certificate) (more : IsWith graph after certificate).
     enough_with graph after certificate coins is new more slot.0 slot.1.0 led.certificate led.held next _
     (λ m. c.supporters_with-supporters.ensures led.certificate m led.held) ∙ sym c.is_enough-supported.ensures in
     elim (cases_Bool c.is_enough-supported.result) [

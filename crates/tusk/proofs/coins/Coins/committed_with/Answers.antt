@@ -6,7 +6,7 @@ use Rattle.spec_laws.proofs.Growing.{is_in}
 use Rattle.spec_laws.proofs.Weighing.{size_some}
 use Rattle.spec_model.specs.Ordering.{has_support, is_directly_committed, newer_to}
 use Rattle.spec_model.specs.Words.{Author}
-use Rattle.dag.specs.Graph.{Graph, IsGraph, slots_in}
+use Rattle.dag.specs.Graph.{DagView, IsGraph, slots_in}
 use Rattle.tusk.proofs.Adding.{same_slots, one_coin, coin_last, grows_some, grows_none}
 use Rattle.tusk.proofs.Chains.{top_within}
 use Rattle.tusk.proofs.Supporting.{IsLed, leader_chosen, led_by, led_by_none}
@@ -14,7 +14,7 @@ use Rattle.tusk.proofs.coins.Coins.committed_with.Goals as goal
 use Rattle.tusk.specs.Chain.{ledger_in, slot_of, wave_of, IsAt, IsChain}
 
 -- with the coin of the next wave, whose leader has support
-with_support : (graph : Graph) (coins : List ℕ) (value : ℕ) (last : Option ℕ) (wave : ℕ) (leader : ℕ × Author) (chain : List (ℕ × Author))
+with_support : (graph : DagView) (coins : List ℕ) (value : ℕ) (last : Option ℕ) (wave : ℕ) (leader : ℕ × Author) (chain : List (ℕ × Author))
     → IsGraph graph → IsAt graph coins last → wave ≡ length coins + 1 → wave_of last < wave
     → (led : IsLed (ledger_in graph (coins ++ value ∷ [])) wave leader.0 leader.1.0)
     → has_support (ledger_in graph (coins ++ value ∷ [])) led.certificate ≡ true
@@ -27,7 +27,7 @@ with_support graph coins value last wave leader chain is at next higher led supp
     (is_in (slots_in graph) leader.0 leader.1.0 led.certificate is.placed led.held) led.leads supported all
 
 -- with one that commits nothing
-with_none : (graph : Graph) (coins : List ℕ) (value : ℕ) (last : Option ℕ) (wave : ℕ) (chain : List (ℕ × Author))
+with_none : (graph : DagView) (coins : List ℕ) (value : ℕ) (last : Option ℕ) (wave : ℕ) (chain : List (ℕ × Author))
     → IsGraph graph → IsAt graph coins last → wave ≡ length coins + 1
     → is_directly_committed (ledger_in graph (coins ++ value ∷ [])) wave ≡ false → chain ≡ []
     → IsChain (ledger_in graph (coins ++ value ∷ [])) last chain

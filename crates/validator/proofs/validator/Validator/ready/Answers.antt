@@ -14,7 +14,7 @@ use Rattle.validator.proofs.validator.Validator.ready.Goals as goal
 
 pub is_ready-requires : goal.is_ready-requires
 is_ready-requires g c =
-    let node : Node = node_of g.S.Sign.own_key g.S.Sign.signature_of c.self.inside.config.now in
+    let node : Node = node_of g.S.Sign.scheme c.self.inside.config.now in
     let tables : Tables = c.self.inside.tables in
     let event = c.args.event.now in
     let passed : fault_of node.charter accepts_all event ≡ None = ap (λ v. fault_of v.setting.charter accepts_all event) c.self.view_is ∙ c.requires.passed in
@@ -23,18 +23,18 @@ is_ready-requires g c =
 
 pub returns-clause-at : goal.returns-clause-at
 returns-clause-at g c =
-    let node : Node = node_of g.S.Sign.own_key g.S.Sign.signature_of c.self.inside.config.now in
+    let node : Node = node_of g.S.Sign.scheme c.self.inside.config.now in
     let tables : Tables = c.self.inside.tables in
     let event = c.args.event.now in
     let passed : fault_of node.charter accepts_all event ≡ None = ap (λ v. fault_of v.setting.charter accepts_all event) c.self.view_is ∙ c.requires.passed in
     let within : IsMessage event.message = subst (λ (m : Message). IsMessage m) c.message.ensures c.limits_hold-2.ensures in
-    subst (λ v. (state : State) → AreAtSound (node_of g.S.Sign.own_key g.S.Sign.signature_of v.setting) v.tables state
-    → c.is_ready.result ≡ is_ready (node_of g.S.Sign.own_key g.S.Sign.signature_of v.setting) state event) c.self.view_is
+    subst (λ v. (state : State) → AreAtSound (node_of g.S.Sign.scheme v.setting) v.tables state
+    → c.is_ready.result ≡ is_ready (node_of g.S.Sign.scheme v.setting) state event) c.self.view_is
     (λ state is. c.is_ready.ensures node state (meets_at node state event tables c.limits_hold.ensures within passed is))
 
 pub returns-clause-history : goal.returns-clause-history
 returns-clause-history g c = λ history legal is.
-    let node : Node = node_of g.S.Sign.own_key g.S.Sign.signature_of c.args.self.now.setting in
+    let node : Node = node_of g.S.Sign.scheme c.args.self.now.setting in
     let event = c.args.event.now in
     let within : IsMessage event.message = subst (λ (m : Message). IsMessage m) c.message.ensures c.limits_hold-2.ensures in
     returns-clause-at g c (kept node history) is ∙ c.state_is_ready.ensures node history event legal (record { message = within; passed = c.requires.passed })

@@ -2,7 +2,7 @@
 #![tactic(auto)]
 
 ghost use Rattle.std.specs.Prelude.{◌≡◌};
-ghost use Rattle.seed.specs.Seeds.{seed_of};
+ghost use Rattle.sigface.specs.Seeds.{seed_of};
 
 use sha2::{Digest as Hashing, Sha256};
 use sigface::Sign;
@@ -23,7 +23,7 @@ impl TableSeed {
     /// The seed of this signer: begun with its signature of the SHA-256 (FIPS 180-4) of the letter L. It is as
     /// secret as the signer's key.
     pub fn of<S: Sign>(signer: &S) -> TableSeed
-        ensures { result ≡ seed_of (S.signature_of signer.now) }
+        ensures { result ≡ seed_of (S.scheme.signature_of signer.now) }
     {
         let signature = signer.sign(&Digest(Sha256::digest([SEED_LETTER])));
         let mut begun = DefaultHasher::new();

@@ -1,7 +1,7 @@
 use Rattle.std.proofs.Common.{◌+◌, ◌/◌, length, ◌∙◌}
-use Rattle.spec_model.proofs.Ranges.{mapped_more}
+use Rattle.header.proofs.Ranges.{mapped_more}
 use Rattle.spec_model.specs.Admitting.{piece_at}
-use Rattle.spec_model.proofs.admission.Outputs.push_order.Goals as goal
+use Rattle.header.proofs.admission.Outputs.push_order.Goals as goal
 
 pub loop-piece-preserved : goal.loop-piece-preserved
 loop-piece-preserved c =

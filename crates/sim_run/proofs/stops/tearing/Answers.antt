@@ -1,7 +1,7 @@
 use Rattle.std.proofs.Common.{arith}
-use Rattle.sim_disk.specs.Stops.{IsTornBy}
-use Rattle.sim_disk.proofs.Possible.{torn_possible}
-use Rattle.sim_disk.proofs.tearing.Goals as goal
+use Rattle.sim_run.specs.Stops.{IsTornBy}
+use Rattle.sim_run.proofs.Possible.{torn_possible}
+use Rattle.sim_run.proofs.stops.tearing.Goals as goal
 
 pub returns : goal.returns
 returns c =

@@ -23,7 +23,7 @@ pub struct Node<S: Sign> {
 impl<S: Sign> Node<S> {
     /// How many members its committee has.
     pub fn size(&self) -> u16
-        ensures value { result ≡ size_of (node_view S.own_key S.signature_of self.now) }
+        ensures value { result ≡ size_of (node_view S.scheme self.now) }
         ensures least { 0 < result }
         ensures greatest { result ≤ MAX_MEMBERS }
     {
@@ -32,14 +32,14 @@ impl<S: Sign> Node<S> {
 
     /// What members who are a quorum weigh at least.
     pub fn quorum(&self) -> u64
-        ensures { result ≡ quorum (node_view S.own_key S.signature_of self.now) }
+        ensures { result ≡ quorum (node_view S.scheme self.now) }
     {
         self.committee.quorum()
     }
 
     /// An author is the node itself.
     pub fn is_own(&self, author: Author) -> bool
-        ensures { result ≡ is_own (node_view S.own_key S.signature_of self.now) author }
+        ensures { result ≡ is_own (node_view S.scheme self.now) author }
     {
         author == self.own
     }

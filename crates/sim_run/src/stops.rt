@@ -3,7 +3,7 @@
 
 ghost use Rattle.std.specs.Prelude.{ℕ, List, IfOk};
 ghost use Rattle.diskmodel.specs.Memory.{state_of};
-ghost use Rattle.sim_disk.specs.Stops.{WillLeave, IsTornBy};
+ghost use Rattle.sim_run.specs.Stops.{WillLeave, IsTornBy};
 
 use diskmodel::MemDisk;
 use std::alloc::{AllocError, Global};

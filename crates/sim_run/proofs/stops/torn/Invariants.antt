@@ -2,7 +2,7 @@ use Rattle.std.proofs.Common.{◌≡◌, ℕ, ◌<◌, length, get_or}
 use Rattle.std.specs.Prelude.{if◌then◌else◌}
 use Rattle.diskmodel.specs.Memory.{content_of, state_of}
 use Rattle.diskmodel.specs.Outcomes.{is_written}
-use Rattle.sim_disk.proofs.torn.Given as goal
+use Rattle.sim_run.proofs.stops.torn.Given as goal
 
 -- the places before this one
 abbrev pub invariant-loop-place : goal.invariant-loop-place

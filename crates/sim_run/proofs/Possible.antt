@@ -5,7 +5,7 @@ use Rattle.std.proofs.lemmas.List.Elements.{All-from_get_or}
 use Rattle.diskmodel.specs.declared.memory.MemDisk.{MemDisk}
 use Rattle.diskmodel.specs.Memory.{content_of, state_of, CanStopAt}
 use Rattle.diskmodel.specs.Outcomes.{is_written}
-use Rattle.sim_disk.specs.Stops.{IsTornBy}
+use Rattle.sim_run.specs.Stops.{IsTornBy}
 
 small : (b : Bool) (byte other found : ℕ) → byte < 256 → other < 256 → found ≡ (if b then byte else other) → found < 256
 small true byte other found small_byte small_other is = omega (arith, is, small_byte)

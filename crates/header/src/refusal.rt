@@ -1,7 +1,7 @@
 //! Why an event is refused.
 
 ghost use Rattle.std.specs.Prelude.{◌≡◌};
-ghost use Rattle.spec_model.specs.declared.refusal.Refusal.TheVariants.{Memory};
+ghost use Rattle.header.specs.declared.refusal.Refusal.TheVariants.{Memory};
 
 use std::alloc::{AllocError, AllocFailed};
 use thiserror::Error;

@@ -1,5 +1,5 @@
 use Rattle.std.proofs.Common.{◌≡◌, ◌++◌, drop, length}
-use Rattle.spec_model.proofs.admission.order_digests.Given as goal
+use Rattle.header.proofs.admission.order_digests.Given as goal
 
 -- those so far and those that are left are all
 abbrev pub invariant-loop-digest : goal.invariant-loop-digest

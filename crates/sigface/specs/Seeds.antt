@@ -4,7 +4,7 @@ use Rattle.std.specs.Hash.DefaultHasher as sip
 use Rattle.sha2.specs.Sha256.{sha256}
 use Rattle.wire.specs.declared.keys.Digest.{Digest}
 use Rattle.wire.specs.declared.keys.Signature.{Signature}
-use Rattle.seed.specs.declared.TableSeed.{TableSeed}
+use Rattle.sigface.specs.declared.seed.TableSeed.{TableSeed}
 
 -- what is signed for a seed: the digest of the letter L
 abbrev pub seed_digest : Digest
