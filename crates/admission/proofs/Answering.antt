@@ -34,7 +34,8 @@ pub answered_as : (node : Node) (state : State) (event : Event) (m : Message) �
     → answered node state event ≡ answered node state (record { sender = event.sender; message = m })
 answered_as node state event m is = ap (λ (x : Message). answered node state (record { sender = event.sender; message = x })) is
 
-pub after_as : (P : State → Type 0) (node : Node) (state : State) (event : Event) (m : Message) → event.message ≡ m → P (after node state (record { sender = event.sender; message = m })) → P (after node state event)
+pub after_as : (P : State → Type 0) (node : Node) (state : State) (event : Event) (m : Message) → event.message ≡ m
+    → P (after node state (record { sender = event.sender; message = m })) → P (after node state event)
 after_as P node state event m is holds = subst (λ (x : Message). P (after node state (record { sender = event.sender; message = x }))) (sym is) holds
 
 -- the store is the node's
@@ -46,7 +47,8 @@ the_own node state stock own has is = ap (λ (n : ℕ). record { 0 = n }) (sym (
 pub answer_held : (node : Node) (state : State) (stock : BatchStoreView) (batch : BatchView) (held : BatchView) → HasBatches node state stock
     → option_map batch_of (held_at stock (digest_of batch)) ≡ Some held → batch_answer node state batch ≡ held_batch_answer node held batch
 answer_held node state stock batch held has is =
-    ap (λ (o : Option BatchView). when o gives (λ h. held_batch_answer node h batch) else if nat_le node.charter.batches (length state.batches) then Refused StoreFull else New (batch_outputs node batch))
+    ap (λ (o : Option BatchView). when o gives (λ h. held_batch_answer node h batch) else if nat_le node.charter.batches (length state.batches)
+    then Refused StoreFull else New (batch_outputs node batch))
     (batch_read node state stock has (digest_of batch) ∙ is)
 
 -- what is found under a digest has it
@@ -74,7 +76,8 @@ same_room node state stock has =
 pub answer_free : (node : Node) (state : State) (stock : BatchStoreView) (batch : BatchView) → HasBatches node state stock → held_at stock (digest_of batch) ≡ None
     → batch_answer node state batch ≡ (if is_full stock then Refused StoreFull else New (batch_outputs node batch))
 answer_free node state stock batch has is =
-    ap (λ (o : Option BatchView). when o gives (λ h. held_batch_answer node h batch) else if nat_le node.charter.batches (length state.batches) then Refused StoreFull else New (batch_outputs node batch))
+    ap (λ (o : Option BatchView). when o gives (λ h. held_batch_answer node h batch) else if nat_le node.charter.batches (length state.batches)
+    then Refused StoreFull else New (batch_outputs node batch))
     (batch_read node state stock has (digest_of batch) ∙ ap (option_map batch_of) is)
     ∙ ap (λ b. if b then Refused StoreFull else New (batch_outputs node batch)) (same_room node state stock has)
 

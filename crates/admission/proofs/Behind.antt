@@ -45,7 +45,8 @@ nothing_more test (Some y) passes x fails = refl
 nothing_more test None true x fails = fails
 nothing_more test None false x fails = refl
 
-pub batch_comes : (node : Node) (state : State) (stock : BatchStoreView) (batch : BatchView) → HasBatches node state stock → HasBatches node (behind node state (message.Batch batch)) (with_batch stock batch)
+pub batch_comes : (node : Node) (state : State) (stock : BatchStoreView) (batch : BatchView) → HasBatches node state stock
+    → HasBatches node (behind node state (message.Batch batch)) (with_batch stock batch)
 batch_comes node state stock batch has =
     let new : Held = record { batch = batch; acknowledged = no_members; named = false } in
     let said : (test : Held → Bool) (digest : Digest) → test new ≡ false

@@ -12,7 +12,7 @@ use Rattle.spec_machine.specs.Machine.{after}
 use Rattle.spec_machine.specs.Sound.{IsSound}
 use Rattle.votebook.specs.Votes.{Votes, ForgetsTo}
 use Rattle.certify.specs.Assembled.{AssemblyView}
-use Rattle.admission.specs.Headers.{AssembliesView, assembly_at, header_in, IsWith, IsForgotten}
+use Rattle.admission.specs.Headers.{AssembliesView, assembly_at, IsForgotten}
 use Rattle.admission.specs.Headers as headers
 use Rattle.admission.specs.HeaderLaws.{OthersCome}
 use Rattle.sequencer.specs.Laws.{SequenceStays}

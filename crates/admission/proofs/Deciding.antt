@@ -8,7 +8,8 @@ use Rattle.committee.specs.Charter.{Charter, weight, quorum_of}
 use Rattle.wire.specs.declared.output.Output.TheVariants as output
 use Rattle.spec_laws.proofs.Lists.{given_or_none}
 use Rattle.spec_laws.proofs.Votes.{slot_is}
-use Rattle.spec_model.specs.Admitting.{when◌gives◌else◌, is_own, header_outputs, vote_outputs, order_outputs, known_header_answer, header_answer, held_answer, vote_answer, held_certificate_answer, certificate_answer, coin_answer, same_header, may_name}
+use Rattle.spec_model.specs.Admitting.{when◌gives◌else◌, is_own, header_outputs, vote_outputs, order_outputs, known_header_answer, header_answer}
+use Rattle.spec_model.specs.Admitting.{held_answer, vote_answer, held_certificate_answer, certificate_answer, coin_answer, same_header, may_name}
 use Rattle.spec_model.specs.Holdings.{is_low, is_full, all_held}
 use Rattle.spec_model.specs.Nodes.{Node}
 use Rattle.spec_model.specs.Slots.{Slots, same_digest, header_digest, certificate_digest}
@@ -17,9 +18,9 @@ use Rattle.spec_model.specs.Words.{Author, Certificate, Coin, Digest, Header, Ou
 use Rattle.header.specs.declared.admission.Admission.{Admission}
 use Rattle.header.specs.declared.admission.Admission.TheVariants as admission
 use Rattle.header.specs.declared.refusal.Refusal.{Refusal}
-use Rattle.header.specs.declared.refusal.Refusal.TheVariants.{TooOld, MissingParents, MissingBatch, Equivocation, CertConflict, DigestClash, AlreadyProposed, NotOurs, CoinOutOfTurn, CoinEarly, CoinConflict}
+use Rattle.header.specs.declared.refusal.Refusal.TheVariants.{TooOld, MissingParents, MissingBatch, Equivocation, CertConflict, DigestClash}
+use Rattle.header.specs.declared.refusal.Refusal.TheVariants.{AlreadyProposed, NotOurs, CoinOutOfTurn, CoinEarly, CoinConflict}
 use Rattle.spec_machine.specs.Sound.{IsSound}
-use Rattle.dag.specs.Answer.{answer}
 use Rattle.dag.specs.Answer as dag
 use Rattle.dag.specs.Graph.{slots_in}
 use Rattle.dag.specs.declared.answers.Added.TheVariants as added
@@ -28,7 +29,9 @@ use Rattle.votebook.specs.Votes.{voted_in}
 use Rattle.admission.specs.Headers.{header_in}
 use Rattle.admission.specs.HeaderLaws.{VotesAgree}
 use Rattle.admission.proofs.Answering.{may_name_all_alike}
-use Rattle.admission.specs.Decisions.{told, is_own_of, voted_by, voted_decision, header_decision, vote_by, new_header_outputs, known_header_outputs, certified_decision, vote_decision, known_outputs, as_decision, certificate_decision, taken_decision, coin_decision}
+use Rattle.admission.specs.Decisions.{told, is_own_of, voted_by, voted_decision, header_decision, vote_by, new_header_outputs, known_header_outputs}
+use Rattle.admission.specs.Decisions.{certified_decision, vote_decision, known_outputs, as_decision, certificate_decision, taken_decision}
+use Rattle.admission.specs.Decisions.{coin_decision}
 use Rattle.admission.specs.Standing.{AreAt}
 use Rattle.admission.specs.declared.tables.answer.Answer.{Answer}
 use Rattle.admission.specs.declared.tables.answer.Answer.TheVariants.{New, Known}
@@ -79,7 +82,8 @@ peers_case outs new false = refl
 -- what is known of an own header
 known_own : (node : Node) (state : State) (tables : Tables) (sign : Digest → Signature) (header : Header) (new : List Output) → IsSound node state → AreAt node state tables
     → is_own node header.body.author ≡ true
-    → known_header_answer node state header ≡ option_map (λ v. told new (known_header_outputs tables sign header) (voted_decision tables v header)) (voted_by tables header.body.author header.body.round)
+    → known_header_answer node state header ≡ option_map (λ v. told new (known_header_outputs tables sign header) (voted_decision tables v header))
+    (voted_by tables header.body.author header.body.round)
 known_own node state tables sign header new sound at mine =
     let round = header.body.round in
     let ours : is_own_of tables header.body.author ≡ true = own_is node state tables header.body.author at ∙ mine in
@@ -99,7 +103,8 @@ known_own node state tables sign header new sound at mine =
 -- what is known of the header of another member
 known_peers : (node : Node) (state : State) (tables : Tables) (sign : Digest → Signature) (header : Header) (new : List Output) → AreAt node state tables → node.sign ≡ sign
     → is_own node header.body.author ≡ false
-    → known_header_answer node state header ≡ option_map (λ v. told new (known_header_outputs tables sign header) (voted_decision tables v header)) (voted_by tables header.body.author header.body.round)
+    → known_header_answer node state header ≡ option_map (λ v. told new (known_header_outputs tables sign header) (voted_decision tables v header))
+    (voted_by tables header.body.author header.body.round)
 known_peers node state tables sign header new at signs theirs =
     let round = header.body.round in
     let author = header.body.author in
@@ -114,7 +119,10 @@ known_peers node state tables sign header new at signs theirs =
           rw (theirs, none, others, nothing) refl
       | inl found ↦
           let something : voted_in tables.votes author round ≡ Some found.0 = votes ∙ found.1 in
-          rw (theirs, found.1, others, something) (ap (λ (a : Admission). Some a) (ap (λ (o : List Output). if same_digest found.0 (header_digest header.body) then admission.Known o else admission.Refused Equivocation) vote ∙ peers_case (output.Vote (vote_by tables.own sign header.body) ∷ []) new (same_digest found.0 (header_digest header.body))))
+          rw (theirs, found.1, others, something)
+          (ap (λ (a : Admission). Some a)
+          (ap (λ (o : List Output). if same_digest found.0 (header_digest header.body) then admission.Known o else admission.Refused Equivocation)
+          vote ∙ peers_case (output.Vote (vote_by tables.own sign header.body) ∷ []) new (same_digest found.0 (header_digest header.body))))
     ]
 
 pub header_told : (node : Node) (state : State) (tables : Tables) (sign : Digest → Signature) (header : Header) → IsSound node state → AreAt node state tables → node.sign ≡ sign
@@ -142,7 +150,8 @@ header_told node state tables sign header sound at signs =
     (sym (floor_is node state tables at))
     ∙ ap (λ (slots : Slots). told new known (if is_low tables.sequencer.graph.floor header.body.round then Err TooOld
     else option_map_or (λ v. voted_decision tables v header) (voted_by tables header.body.author header.body.round)
-    (if not (all_held slots tables.sequencer.graph.floor header.body) then Err MissingParents else if not (list_all (may_name node state header) header.body.batches) then Err MissingBatch else Ok New)))
+    (if not (all_held slots tables.sequencer.graph.floor header.body) then Err MissingParents
+    else if not (list_all (may_name node state header) header.body.batches) then Err MissingBatch else Ok New)))
     (sym at.sequence.slots)
     ∙ ap (λ (named : Bool). told new known (if is_low tables.sequencer.graph.floor header.body.round then Err TooOld
     else option_map_or (λ v. voted_decision tables v header) (voted_by tables header.body.author header.body.round)
@@ -194,7 +203,8 @@ vote_told agree node state later tables vote sound at =
     ∙ ap (λ (own : Author). on own state.slots (floor_in node state) (state.own_headers vote.round) (is_some (state.counted vote.round vote.voter.0))) (sym at.own)
     ∙ ap (λ (slots : Slots). on tables.own slots (floor_in node state) (state.own_headers vote.round) (is_some (state.counted vote.round vote.voter.0))) (sym at.sequence.slots)
     ∙ ap (λ (floor : ℕ). on tables.own (slots_in tables.sequencer.graph) floor (state.own_headers vote.round) (is_some (state.counted vote.round vote.voter.0))) (sym at.sequence.floor)
-    ∙ ap (λ (held : Option Header). on tables.own (slots_in tables.sequencer.graph) tables.sequencer.graph.floor held (is_some (state.counted vote.round vote.voter.0))) (sym (at.headers.held vote.round))
+    ∙ ap (λ (held : Option Header). on tables.own (slots_in tables.sequencer.graph) tables.sequencer.graph.floor held
+    (is_some (state.counted vote.round vote.voter.0))) (sym (at.headers.held vote.round))
     ∙ ap (λ (voted : Bool). on tables.own (slots_in tables.sequencer.graph) tables.sequencer.graph.floor (header_in tables.headers vote.round) voted)
     (sym ((agree node state tables.headers sound at.headers).voted vote.round vote.voter.0))
 

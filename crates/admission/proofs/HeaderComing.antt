@@ -99,7 +99,8 @@ header_grown node state header before held sound member at own free with =
     and_true true = refl
     and_true false = refl
 
-pub header_comes : FloorsAgree → (node : Node) (state : State) (sender : Author) (header : Header) (before : AssembliesView) → Comes node state (record { sender = sender; message = message.Header header })
+pub header_comes : FloorsAgree → (node : Node) (state : State) (sender : Author) (header : Header) (before : AssembliesView)
+    → Comes node state (record { sender = sender; message = message.Header header })
     → IsAt node state before → is_own node header.body.author ≡ true → HeaderComesTo node state (record { sender = sender; message = message.Header header }) header before
 header_comes agree node state sender header before step at own =
     let event : Event = record { sender = sender; message = message.Header header } in

@@ -112,7 +112,8 @@ certified node assembled own long =
     let header = assembled.header in
     let weighs = weight charter (λ voter. is_some (vote_in assembled voter)) in
     let made : Certificate = record { header = header.body; votes = votes_by node (vote_in assembled) } in
-    let same : weighs ≡ votes_weight charter assembled.places = weight-same charter (λ voter. is_some (vote_in assembled voter)) (has_voted assembled.places) (λ voter within. voted_is assembled voter) in
+    let same : weighs ≡ votes_weight charter assembled.places = weight-same charter (λ voter. is_some (vote_in assembled voter))
+    (has_voted assembled.places) (λ voter within. voted_is assembled voter) in
     ap (λ b. if b && nat_le (quorum node) weighs then Some made else None) own
     ∙ ap (λ w. if nat_le (quorum node) w then Some made else None) same
     ∙ ap (λ b. if b then Some made else None) (not_low (votes_weight charter assembled.places) (quorum node))

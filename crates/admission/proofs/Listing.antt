@@ -31,7 +31,8 @@ may_be stock h o =
     && nat_le (quorum_of stock.charter) (weight stock.charter (λ member. (member == stock.own) || option_map_or (λ (x : Held). is_in x.acknowledged member) o false)))
     && not (option_map_or (λ (x : Held). x.named) o false))
 
-same_may : (node : Node) (state : State) (stock : BatchStoreView) → HasBatches node state stock → (h : Held) → held_at stock (digest_in h) ≡ Some h → may_be_named stock.charter stock.own h ≡ is_nameable node state h.batch
+same_may : (node : Node) (state : State) (stock : BatchStoreView) → HasBatches node state stock → (h : Held) → held_at stock (digest_in h) ≡ Some h
+    → may_be_named stock.charter stock.own h ≡ is_nameable node state h.batch
 same_may node state stock has h there =
     asked_twice (h.batch.author.0 == stock.own) (nat_le (quorum_of stock.charter) (weight stock.charter (λ member. (member == stock.own) || is_in h.acknowledged member))) (not h.named)
     ∙ ap (may_be stock h) (sym there)

@@ -31,7 +31,8 @@ found (e ∷ es) round =
     ]
 
 -- so where a table is these entries, at a number that is the round
-pub looked : (inside headers : AssembliesView) (number round : ℕ) (o : Option AssemblyView) → o ≡ lookup (is_at (nat_cmp number)) inside.rounds → number ≡ round → inside ≡ headers → assembly_at headers round ≡ o
+pub looked : (inside headers : AssembliesView) (number round : ℕ) (o : Option AssemblyView) → o ≡ lookup (is_at (nat_cmp number)) inside.rounds
+    → number ≡ round → inside ≡ headers → assembly_at headers round ≡ o
 looked inside headers number round o is same view =
     ap (λ h. assembly_at h round) (sym view) ∙ ap (assembly_at inside) (sym same) ∙ sym (found inside.rounds number) ∙ sym is
 
@@ -110,7 +111,8 @@ holds_without old new last was less rise = record {
 }
 
 -- what a vote is answered by what its round has
-pub answer_of : (headers : AssembliesView) (vote : Vote) (o : Option AssemblyView) → assembly_at headers vote.round ≡ o → answer_in headers vote ≡ option_map_or (λ assembled. answer assembled vote) o NotOurs
+pub answer_of : (headers : AssembliesView) (vote : Vote) (o : Option AssemblyView) → assembly_at headers vote.round ≡ o → answer_in headers vote
+    ≡ option_map_or (λ assembled. answer assembled vote) o NotOurs
 answer_of headers vote o is = ap (λ o. option_map_or (λ assembled. answer assembled vote) o NotOurs) is
 
 -- a tree with another value at a key that has one

@@ -60,7 +60,8 @@ own_read node state stock has digest =
     ap (λ (n : ℕ). option_map_or (λ (h : Held). h.batch.author.0 == n) (held_at stock digest) false) has.own
     ∙ said_of node state stock has digest (λ batch. batch.author.0 == node.own.0)
 
-pub holds_read : (node : Node) (state : State) (stock : BatchStoreView) → HasBatches node state stock → (digest : Digest) (member : ℕ) → holds stock digest member ≡ states.holds node state digest member
+pub holds_read : (node : Node) (state : State) (stock : BatchStoreView) → HasBatches node state stock → (digest : Digest) (member : ℕ)
+    → holds stock digest member ≡ states.holds node state digest member
 holds_read node state stock has digest member =
     ap (λ (n : ℕ). (member == n) || has_acked stock digest member) has.own ∙ ap (λ b. (member == node.own.0) || b) (has.acked digest member)
 

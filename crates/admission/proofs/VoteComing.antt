@@ -100,7 +100,8 @@ met node state vote before assembled sound holds at new held =
 -- ---- the answer
 
 -- the vote is counted, or completes the certificate
-answered_is : (node : Node) (assembled : AssemblyView) (vote : Vote) → assembled.charter ≡ node.charter → vote.voter.0 < size_of node → is_on assembled.header.body vote ≡ true → is_again assembled vote ≡ false
+answered_is : (node : Node) (assembled : AssemblyView) (vote : Vote) → assembled.charter ≡ node.charter → vote.voter.0 < size_of node
+    → is_on assembled.header.body vote ≡ true → is_again assembled vote ≡ false
     → answer assembled vote ≡ (if is_too_few assembled vote then Counted else Complete (certify.certificate_of assembled.header.body (with assembled vote).places))
 answered_is node assembled vote charter member on first =
     let here = lt-ltb vote.voter.0 (length assembled.charter.keys) (subst (λ (c : Charter). vote.voter.0 < length c.keys) (sym charter) member) in
@@ -110,7 +111,8 @@ answered_is node assembled vote charter member on first =
     ∙ ap (λ b. if b then Again else if is_too_few assembled vote then Counted else made) first
 
 -- the votes that count with it are those of the assembly with it
-counted_is : (node : Node) (state : State) (vote : Vote) (before : AssembliesView) (assembled : AssemblyView) → IsAt node state before → IsMet node state vote before assembled → vote.voter.0 < size_of node → (voter : ℕ)
+counted_is : (node : Node) (state : State) (vote : Vote) (before : AssembliesView) (assembled : AssemblyView) → IsAt node state before
+    → IsMet node state vote before assembled → vote.voter.0 < size_of node → (voter : ℕ)
     → counted_with node state (message.Vote vote) vote.round voter ≡ vote_in (with assembled vote) voter
 counted_is node state vote before assembled at is member voter =
     let voted = vote_with assembled vote voter (omega (arith, member, is.long)) is.on in
@@ -126,7 +128,8 @@ counted_is node state vote before assembled at is member voter =
     joined false o none = or_none o
 
 -- the certificate that the vote completes at the state is that of the assembly with it
-completed_is : (node : Node) (state : State) (vote : Vote) (before : AssembliesView) (assembled : AssemblyView) → IsAt node state before → IsMet node state vote before assembled → vote.voter.0 < size_of node
+completed_is : (node : Node) (state : State) (vote : Vote) (before : AssembliesView) (assembled : AssemblyView) → IsAt node state before
+    → IsMet node state vote before assembled → vote.voter.0 < size_of node
     → certificate_of node state (message.Vote vote)
     ≡ (if is_too_few assembled vote then None else Some (certify.certificate_of assembled.header.body (with assembled vote).places))
 completed_is node state vote before assembled at is member =
@@ -143,12 +146,14 @@ added_is true certificate = refl
 added_is false certificate = refl
 
 -- what is counted behind either answer
-vote_after : (few : Bool) (certificate : Certificate) (assembled : AssemblyView) (vote : Vote) (voter : ℕ) → vote_in (after (if few then Counted else Complete certificate) assembled vote) voter ≡ vote_in (with assembled vote) voter
+vote_after : (few : Bool) (certificate : Certificate) (assembled : AssemblyView) (vote : Vote) (voter : ℕ)
+    → vote_in (after (if few then Counted else Complete certificate) assembled vote) voter ≡ vote_in (with assembled vote) voter
 vote_after true certificate assembled vote voter = refl
 vote_after false certificate assembled vote voter = refl
 
 -- with the vote a table is at the state with all that it adds
-vote_grown : (node : Node) (state : State) (vote : Vote) (before later : AssembliesView) (assembled : AssemblyView) → IsAt node state before → IsMet node state vote before assembled → vote.voter.0 < size_of node
+vote_grown : (node : Node) (state : State) (vote : Vote) (before later : AssembliesView) (assembled : AssemblyView) → IsAt node state before
+    → IsMet node state vote before assembled → vote.voter.0 < size_of node
     → IsWith before later vote.round (counted_in (answer assembled vote) before vote) → IsAt node (grown node state (message.Vote vote)) later
 vote_grown node state vote before later assembled at is member with' =
     let m : Message = message.Vote vote in
@@ -198,7 +203,8 @@ was_completed None certificate is = absurd cc
 was_completed (Some made) certificate is = ap certificate_in is
 
 -- a table that is at a state has an assembly where the state has an own header
-there : (node : Node) (state : State) (before : AssembliesView) (round : ℕ) (header : Header) → IsAt node state before → state.own_headers round ≡ Some header → (a : AssemblyView) × (assembly_at before round ≡ Some a)
+there : (node : Node) (state : State) (before : AssembliesView) (round : ℕ) (header : Header) → IsAt node state before → state.own_headers round
+    ≡ Some header → (a : AssemblyView) × (assembly_at before round ≡ Some a)
 there node state before round header at held =
     elim (given_or_none (assembly_at before round)) [
       | inl found ↦ found

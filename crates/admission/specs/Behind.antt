@@ -7,7 +7,7 @@ use Rattle.spec_model.specs.Words.{Event}
 use Rattle.spec_machine.specs.Laws.{Comes, LowIsToTheFloor}
 use Rattle.spec_machine.specs.Machine.{after, certificate_of}
 use Rattle.votebook.specs.Votes.{ForgetsTo}
-use Rattle.admission.specs.Headers.{AssembliesView, IsForgotten}
+use Rattle.admission.specs.Headers.{IsForgotten}
 use Rattle.admission.specs.Headers as headers
 use Rattle.admission.specs.HeaderLaws.{is_other, OthersCome}
 use Rattle.sequencer.specs.Sequence as sequence

@@ -9,7 +9,8 @@ use Rattle.spec_model.specs.Words.{Author, Certificate, Coin, Digest, Header, He
 use Rattle.header.specs.declared.admission.Admission.{Admission}
 use Rattle.header.specs.declared.admission.Admission.TheVariants as admission
 use Rattle.header.specs.declared.refusal.Refusal.{Refusal}
-use Rattle.header.specs.declared.refusal.Refusal.TheVariants.{Memory, TooOld, MissingParents, MissingBatch, Equivocation, CertConflict, DigestClash, AlreadyProposed, NotOurs, CoinOutOfTurn, CoinEarly, CoinConflict}
+use Rattle.header.specs.declared.refusal.Refusal.TheVariants.{Memory, TooOld, MissingParents, MissingBatch, Equivocation, CertConflict, DigestClash}
+use Rattle.header.specs.declared.refusal.Refusal.TheVariants.{AlreadyProposed, NotOurs, CoinOutOfTurn, CoinEarly, CoinConflict}
 use Rattle.committee.specs.Charter.{quorum_of}
 use Rattle.dag.specs.Answer.{answer}
 use Rattle.dag.specs.Graph.{slots_in, stake_in}

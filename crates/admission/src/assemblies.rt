@@ -87,7 +87,7 @@ impl<'a> Assemblies<'a> {
         }
     }
 
-    /// Holds an own header with the own vote on it, for a round that has none. `AllocError` where a growth was refused:
+    /// Holds an own header with the own vote on it, for a round that has none. `AllocError` where an allocation failed:
     /// nothing has changed then.
     pub fn hold(&mut self, alloc: Global, header: Header, vote: Vote) -> Result<(), AllocError>
         requires own { header.body.author.0 ≡ self.old.own }
@@ -106,7 +106,7 @@ impl<'a> Assemblies<'a> {
         Ok(())
     }
 
-    /// What comes of a vote. `AllocError` where a growth for the certificate was refused.
+    /// What comes of a vote. `AllocError` where an allocation for the certificate failed.
     pub fn answer(&self, vote: &Vote) -> Result<Added, AllocError>
         ensures { IfOk result (λ added. added ≡ answer_in self.now vote.now) }
     {

@@ -102,7 +102,7 @@ fn is_full(batches: &BatchStore) -> bool
 ///
 /// # Errors
 /// `DigestClash` where another batch is held under its digest, `StoreFull` where it is new and as many are held as the
-/// committee allows, `Memory` where a growth was refused. They change nothing.
+/// committee allows, `Memory` where an allocation failed. They change nothing.
 pub fn take_batch(
     alloc: Global,
     own: Author,
@@ -139,7 +139,7 @@ pub fn is_new_batch(batches: &BatchStore, digest: &Digest) -> bool
 /// Takes an acknowledgement by a member into the store.
 ///
 /// # Errors
-/// `NotOurs` where no own batch of the digest is held, `Memory` where a growth was refused. They change nothing.
+/// `NotOurs` where no own batch of the digest is held, `Memory` where an allocation failed. They change nothing.
 pub fn take_ack(alloc: Global, batches: &mut BatchStore, ack: &BatchAck) -> Result<Step, Refusal>
     requires { ack.now.author.0 < length batches.old.charter.keys }
     ensures answer { AnswersFrom batches.old (message.BatchAck ack.now) result }

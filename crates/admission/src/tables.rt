@@ -21,8 +21,8 @@ use crate::facts::starts_empty;
 use batchstore::BatchStore;
 use committee::Committee;
 pub use facts::others_are_ready;
-use sigface::TableSeed;
 use sequencer::Sequencer;
+use sigface::TableSeed;
 use std::alloc::{AllocError, Global};
 use votebook::VoteBook;
 use wire::{Author, Digest, Round};
@@ -51,7 +51,7 @@ impl<'a> Drop for Tables<'a> {
 
 impl<'a> Tables<'a> {
     /// Those of a member that has taken nothing: they hold the genesis. They begin their hashes at the seed.
-    /// `AllocError` where a growth was refused.
+    /// `AllocError` where an allocation failed.
     pub fn new(
         alloc: Global,
         committee: &'a Committee,

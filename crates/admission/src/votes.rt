@@ -9,8 +9,8 @@ use std::alloc::AllocError;
 use votebook::VoteBook;
 use wire::{Digest, Header};
 
-/// Keeps the vote for a header of another member, whose author and round have none. `AllocError` where a growth was
-/// refused, which changes nothing.
+/// Keeps the vote for a header of another member, whose author and round have none. `AllocError` where an allocation
+/// failed, which changes nothing.
 pub fn keep_vote(votes: &mut VoteBook, header: &Header, digest: Digest) -> Result<(), AllocError>
     requires digested { digest ≡ header_digest header.now.body }
     requires free { voted_in votes.old header.now.body.author header.now.body.round ≡ None }

@@ -9,7 +9,7 @@ use thiserror::Error;
 /// Why a transaction isn't taken. Printed as its number and its name.
 #[derive(Clone, Copy, Debug, PartialEq, Eq, Error)]
 pub enum MakeError {
-    /// A growth was refused.
+    /// An allocation failed.
     #[error("1 Memory")]
     Memory,
     /// The transaction has more than `MAX_TRANSACTION_BYTES` bytes.

@@ -43,7 +43,7 @@ impl Model for BatchMaker {
 }
 
 impl BatchMaker {
-    /// A maker whose open batch has no transaction. `AllocError` where a growth was refused.
+    /// A maker whose open batch has no transaction. `AllocError` where an allocation failed.
     pub fn new(alloc: Global, author: Author, worker: u16) -> Result<BatchMaker, AllocError>
         ensures { IfOk result (λ maker. maker ≡ record { author = author; worker = worker; transactions = [] }) }
     {
@@ -79,8 +79,8 @@ impl BatchMaker {
         Ok(Some(self.exchange(next)?))
     }
 
-    /// The open batch, or none where it has no transaction; afterwards no transaction is open. `AllocError` where a
-    /// growth was refused.
+    /// The open batch, or none where it has no transaction; afterwards no transaction is open. `AllocError` where an
+    /// allocation failed.
     pub fn seal(&mut self) -> Result<Option<Batch>, AllocError>
         ensures none { IfOk result (λ sealed. IsNone sealed ↔ (self.old.transactions ≡ [])) }
         ensures whole { IfOk result (λ sealed. IfSome sealed (λ batch. batch ≡ self.old)) }

@@ -77,11 +77,13 @@ pub found : (digest : Digest) (front : List Held) (held : Held) (back : List Hel
 found digest [] held back is none = ap (λ b. cond b (Some held) (find (is_of digest) back)) (ap (λ (d : Digest). bytes_eq digest.0 d.0) is ∙ same_digest digest)
 found digest (h ∷ front) held back is none = ap (λ b. cond b (Some h) (find (is_of digest) (front ++ held ∷ back))) none.0 ∙ found digest front held back is none.1
 
-none_found_by : (digest : Digest) (h : Held) (rest : List Held) (b : Bool) → is_of digest h ≡ b → (is_of digest h ≡ false → None_of digest rest) → find (is_of digest) (h ∷ rest) ≡ None → None_of digest (h ∷ rest)
+none_found_by : (digest : Digest) (h : Held) (rest : List Held) (b : Bool) → is_of digest h ≡ b → (is_of digest h ≡ false → None_of digest rest)
+    → find (is_of digest) (h ∷ rest) ≡ None → None_of digest (h ∷ rest)
 none_found_by digest h rest true is later none = let there : Some h ≡ None = sym (ap (λ b. cond b (Some h) (find (is_of digest) rest)) is) ∙ none in absurd cc
 none_found_by digest h rest false is later none = (is, later is)
 
-found_is_by : (digest : Digest) (h : Held) (rest : List Held) (held : Held) (b : Bool) → is_of digest h ≡ b → (is_of digest h ≡ false → digest_in held ≡ digest) → find (is_of digest) (h ∷ rest) ≡ Some held → digest_in held ≡ digest
+found_is_by : (digest : Digest) (h : Held) (rest : List Held) (held : Held) (b : Bool) → is_of digest h ≡ b
+    → (is_of digest h ≡ false → digest_in held ≡ digest) → find (is_of digest) (h ∷ rest) ≡ Some held → digest_in held ≡ digest
 found_is_by digest h rest held true there_is later is =
     let there : Some h ≡ Some held = sym (ap (λ b. cond b (Some h) (find (is_of digest) rest)) there_is) ∙ is in
     let same : h ≡ held = cc in
@@ -101,7 +103,8 @@ found_is digest (h ∷ rest) held is =
     found_is_by digest h rest held (is_of digest h) refl (λ there_isnt. found_is digest rest held (sym (ap (λ b. cond b (Some h) (find (is_of digest) rest)) there_isnt) ∙ is)) is
 
 -- a change of the batch of a digest alone
-pub map-others : (change : Held → Held) (digest : Digest) → ((held : Held) → is_of digest held ≡ false → change held ≡ held) → (batches : List Held) → None_of digest batches → map change batches ≡ batches
+pub map-others : (change : Held → Held) (digest : Digest) → ((held : Held) → is_of digest held ≡ false → change held ≡ held) → (batches : List Held)
+    → None_of digest batches → map change batches ≡ batches
 map-others change digest keeps [] none = refl
 map-others change digest keeps (h ∷ rest) none =
     ap (λ (x : Held). x ∷ map change rest) (keeps h none.0) ∙ ap (λ l. h ∷ l) (map-others change digest keeps rest none.1)

@@ -28,7 +28,8 @@ to_name-none charter own held is = ap (λ b. cond b (Some (as_reference held.bat
 pub to_name-some : (charter : Charter) (own : ℕ) (held : Held) → may_be_named charter own held ≡ true → to_name charter own held ≡ Some (as_reference held.batch)
 to_name-some charter own held is = ap (λ b. cond b (Some (as_reference held.batch)) None) is
 
-absent_more : (digest : Digest) (h : Held) (rest : List BatchReference) (b : Bool) → is_of digest h ≡ false → Absent digest rest → Absent digest (cons_option (cond b (Some (as_reference h.batch)) None) rest)
+absent_more : (digest : Digest) (h : Held) (rest : List BatchReference) (b : Bool) → is_of digest h ≡ false → Absent digest rest
+    → Absent digest (cons_option (cond b (Some (as_reference h.batch)) None) rest)
 absent_more digest h rest true here later = (here, later)
 absent_more digest h rest false here later = later
 

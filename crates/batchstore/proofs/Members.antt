@@ -23,7 +23,8 @@ has-with_member members member other =
       | inl same ↦
           let is : other ≡ member = eqb-true other member same in
           let bit : bit_at (bit_or members.bits (2 ^ member)) other ≡ 1 =
-          bit_at_or members.bits (2 ^ member) other ∙ ap (max (bit_at members.bits other)) (ap (bit_at (2 ^ member)) is ∙ bit_at-pow_same member) ∙ max_one (bit_at members.bits other) (bit_at-lt members.bits other) in
+          bit_at_or members.bits (2 ^ member) other ∙ ap (max (bit_at members.bits other)) (ap (bit_at (2 ^ member)) is ∙ bit_at-pow_same member)
+          ∙ max_one (bit_at members.bits other) (bit_at-lt members.bits other) in
           rw (same, or-true (has members other)) (ap (λ bit. bit == 1) bit)
       | inr apart ↦
           let differs : other ≢ member = λ e. (let same = eq-eqb other member e in absurd cc) in

@@ -72,7 +72,8 @@ swapped-less : (batches : List BatchReference) (a b : BatchReference) → compar
 swapped-less [] a b less = placed-greater a [] b (turned a.digest b.digest Less less) ∙ sym (placed-less b [] a less)
 swapped-less (first ∷ rest) a b less = beside first rest a b (compared a.digest first.digest) (compared b.digest first.digest) refl refl less (swapped-less rest a b less)
 
-swapped_by : (batches : List BatchReference) (a b : BatchReference) (o : Ordering) → compared a.digest b.digest ≡ o → bytes_eq a.digest.0 b.digest.0 ≡ false → placed (placed batches a) b ≡ placed (placed batches b) a
+swapped_by : (batches : List BatchReference) (a b : BatchReference) (o : Ordering) → compared a.digest b.digest ≡ o → bytes_eq a.digest.0 b.digest.0
+    ≡ false → placed (placed batches a) b ≡ placed (placed batches b) a
 swapped_by batches a b Less is apart = swapped-less batches a b is
 swapped_by batches a b Equal is apart =
     let same : bytes_eq a.digest.0 b.digest.0 ≡ true = sym (is_eq-slice_cmp a.digest.0 b.digest.0) ∙ ap is_eq is in absurd cc
@@ -178,6 +179,7 @@ removed (entry ∷ entries) digest =
   where
     removed_by : (entry : Digest × ℕ) (entries : List (Digest × ℕ)) (digest : Digest) (same : Bool) → is_eq (compared digest entry.0) ≡ same
         → map reference_of (remove_entry (is_at (compared digest)) entries) ≡ without digest (map reference_of entries)
-        → map reference_of (cond (is_eq (compared digest entry.0)) entries (entry ∷ remove_entry (is_at (compared digest)) entries)) ≡ cond same (map reference_of entries) (reference_of entry ∷ without digest (map reference_of entries))
+        → map reference_of (cond (is_eq (compared digest entry.0)) entries (entry ∷ remove_entry (is_at (compared digest)) entries))
+        ≡ cond same (map reference_of entries) (reference_of entry ∷ without digest (map reference_of entries))
     removed_by entry entries digest true is later = ap (λ b. map reference_of (cond b entries (entry ∷ remove_entry (is_at (compared digest)) entries))) is
     removed_by entry entries digest false is later = ap (λ b. map reference_of (cond b entries (entry ∷ remove_entry (is_at (compared digest)) entries))) is ∙ ap (λ l. reference_of entry ∷ l) later

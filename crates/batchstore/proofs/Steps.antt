@@ -1,5 +1,6 @@
 -- What a store keeps behind each of its steps.
-use Rattle.std.proofs.Common.{◌≡◌, ◌≢◌, ℕ, suc, ◌<◌, Bool, true, false, cond, List, [], ◌∷◌, ◌++◌, length, Option, Some, None, refl, sym, ap, subst, ◌∙◌, inl, inr, arith, take, drop, slice_get, slice_set, length-append}
+use Rattle.std.proofs.Common.{◌≡◌, ◌≢◌, ℕ, suc, ◌<◌, Bool, true, false, cond, List, [], ◌∷◌, ◌++◌, length, Option, Some, None, refl, sym, ap, subst}
+use Rattle.std.proofs.Common.{◌∙◌, inl, inr, arith, take, drop, slice_get, slice_set, length-append}
 use Rattle.std.specs.Prelude.{◌&&◌, ◌||◌, ◌==◌, ◌⊎◌, not, map, find, AllPairs}
 use Rattle.std.specs.List.{AllByRecursion, list_any}
 use Rattle.std.specs.Map.{remove_entry}
@@ -22,7 +23,8 @@ use Rattle.batchstore.specs.Stock.{BatchStoreView, IsStock, IsHeld, held_at, has
 use Rattle.batchstore.specs.Answer.{with_member, acked_by, named_by}
 use Rattle.batchstore.specs.Kept.{IsKept, compared, reference_of}
 use Rattle.batchstore.specs.declared.held.Held.{Held}
-use Rattle.batchstore.proofs.Among.{digest_in, is_of, None_of, Distinct, same_digest, set_parted, parted, others, found_is, none_found, map-others, map-one, all-one, digests-one, length-one, map-push, others_differ}
+use Rattle.batchstore.proofs.Among.{digest_in, is_of, None_of, Distinct, same_digest, set_parted, parted, others, found_is, none_found, map-others}
+use Rattle.batchstore.proofs.Among.{map-one, all-one, digests-one, length-one, map-push, others_differ}
 use Rattle.batchstore.proofs.Placed.{Absent, inserted, removed, without}
 use Rattle.batchstore.proofs.Listing.{listing, to_name-none, to_name-some, unlisted, gains, stays, loses, push-none}
 use Rattle.batchstore.proofs.Members.{more_is}
@@ -39,7 +41,8 @@ pub record Stands (batches : List Held) (digest : Digest) (place : ℕ) (held : 
   pub before : None_of digest (take place batches)
   pub behind : None_of digest (drop (suc place) batches)
 
-pub stands : (batches : List Held) (digest : Digest) (place : ℕ) (held : Held) → Distinct batches → find (is_of digest) batches ≡ Some held → slice_get batches place ≡ Some held → Stands batches digest place held
+pub stands : (batches : List Held) (digest : Digest) (place : ℕ) (held : Held) → Distinct batches → find (is_of digest) batches ≡ Some held
+    → slice_get batches place ≡ Some held → Stands batches digest place held
 stands batches digest place held distinct found at =
     let stood = parted batches place held at in
     let is = found_is digest batches held found in
@@ -94,7 +97,8 @@ pub pushed : (charter : Charter) (own : ℕ) (batches : List Held) (listed : Lis
     → IsKept (stock_in charter own (batches ++ new ∷ [])) listed
 pushed charter own batches listed digest new kept is none room empty unnamed =
     let apart : None_of (digest_in new) batches = subst (λ d. None_of d batches) is (none_found digest batches none) in
-    let may : may_be_named charter own new ≡ false = ap (λ b. (new.batch.author.0 == own) && (b && not new.named)) (alone charter own new kept.valid.charter kept.valid.own empty) ∙ and-false (new.batch.author.0 == own) in
+    let may : may_be_named charter own new ≡ false = ap (λ b. (new.batch.author.0 == own) && (b && not new.named))
+    (alone charter own new kept.valid.charter kept.valid.own empty) ∙ and-false (new.batch.author.0 == own) in
     let fresh : IsHeld charter own new = record {
       acknowledged = λ m there_is. (let there_isnt = empty m in absurd cc);
       named = λ there_is. absurd cc;
@@ -186,8 +190,11 @@ acked_new charter own batches listed digest place old member members kept there 
     let behind : None_of (digest_in old) back = subst (λ d. None_of d back) (sym there.is) there.behind in
     let around = listed_around charter own batches listed digest place old kept there in
     let absent : Absent digest (map reference_of listed) =
-    subst (Absent digest) (sym around) (subst (λ d. Absent d (listing charter own (front ++ old ∷ back))) there.is (unlisted charter own front old back (to_name-none charter own old may_not) before behind)) in
-    let reference : ◌≡◌ {A = BatchReference} (reference_of (digest, old.batch.worker)) (as_reference old.batch) = ap (λ (d : Digest). record { digest = d; worker = old.batch.worker }) (sym there.is) in
+    subst (Absent digest) (sym around)
+    (subst (λ d. Absent d (listing charter own (front ++ old ∷ back))) there.is
+    (unlisted charter own front old back (to_name-none charter own old may_not) before behind)) in
+    let reference : ◌≡◌ {A = BatchReference} (reference_of (digest, old.batch.worker)) (as_reference old.batch) =
+    ap (λ (d : Digest). record { digest = d; worker = old.batch.worker }) (sym there.is) in
     changed charter own batches listed (insert_entry compared listed digest old.batch.worker) digest place old new kept there refl
     (still_held charter own old member members ours inside other more)
     (inserted listed digest old.batch.worker absent ∙ ap (λ l. placed l (reference_of (digest, old.batch.worker))) around ∙ ap (placed (listing charter own (front ++ old ∷ back))) reference
@@ -275,7 +282,9 @@ and_or_false true false c h = refl
 and_or_false false b c h = refl
 
 both_ways : (own : ℕ) (references : List BatchReference) (last : BatchReference) (held : Held) (first : Bool) → ((held.batch.author.0 == own) && list_any (λ r. is_of r.digest held) references) ≡ first
-    → named_by own (last ∷ []) (cond first (with_mark held) held) ≡ cond ((held.batch.author.0 == own) && (list_any (λ r. is_of r.digest held) references || list_any (λ r. is_of r.digest held) (last ∷ []))) (with_mark held) held
+    → named_by own (last ∷ []) (cond first (with_mark held) held)
+    ≡ cond ((held.batch.author.0 == own) && (list_any (λ r. is_of r.digest held) references || list_any (λ r. is_of r.digest held) (last ∷ [])))
+    (with_mark held) held
 both_ways own references last held true is =
     let parts = and_parts (held.batch.author.0 == own) (list_any (λ r. is_of r.digest held) references) is in
     cond-same ((held.batch.author.0 == own) && list_any (λ r. is_of r.digest held) (last ∷ [])) (with_mark held)

@@ -1,5 +1,6 @@
 -- What a store of batches has, and what is true of its batches.
-use Rattle.std.specs.Prelude.{◌≡◌, ◌≢◌, ℕ, ◌<◌, ◌≤◌, ◌==◌, ◌&&◌, ◌||◌, not, nat_le, Bool, true, false, List, [], length, map, find, fold, filter_map, Option, Some, None, option_map, All, AllPairs, if◌then◌else◌}
+use Rattle.std.specs.Prelude.{◌≡◌, ◌≢◌, ℕ, ◌<◌, ◌≤◌, ◌==◌, ◌&&◌, ◌||◌, not, nat_le, Bool, true, false, List, [], length, map, find, fold, filter_map}
+use Rattle.std.specs.Prelude.{Option, Some, None, option_map, All, AllPairs, if◌then◌else◌}
 use Rattle.std.specs.Option.{option_map_or}
 use Rattle.std.specs.Str.{bytes_eq}
 use Rattle.wire.specs.Batches.{BatchView}

@@ -52,7 +52,8 @@ module _ {S : Type 0} (node : Node) (before later : BookView S) (event : Event) 
     down = down;
   }
 
-  pub takes_known : OutputsGiven → IsTaken node event → Answers node before event (λ answer. answer ≡ Known outputs) → later ≡ record before { queue = before.queue ++ ticketed before.accepted outputs }
+  pub takes_known : OutputsGiven → IsTaken node event → Answers node before event (λ answer. answer ≡ Known outputs) → later
+      ≡ record before { queue = before.queue ++ ticketed before.accepted outputs }
       → TakesKnown node before later event
   takes_known given taken_by answers is = record {
     taken_by = taken_by;
@@ -63,13 +64,27 @@ module _ {S : Type 0} (node : Node) (before later : BookView S) (event : Event) 
   }
 
 -- a known event leaves all but the queue
-pub queue_alone : {S : Type 0} (before later : BookView S) (queue : List Waiting) → later.validator ≡ before.validator → later.pending ≡ before.pending → later.queue ≡ queue → later.reached ≡ before.reached
-    → later.accepted ≡ before.accepted → later.taken ≡ before.taken → later.settled ≡ before.settled → later.ordered ≡ before.ordered → later.down ≡ before.down → later ≡ record before { queue = queue }
+pub queue_alone : {S : Type 0} (before later : BookView S) (queue : List Waiting) → later.validator ≡ before.validator → later.pending
+    ≡ before.pending → later.queue ≡ queue → later.reached ≡ before.reached
+    → later.accepted ≡ before.accepted → later.taken ≡ before.taken → later.settled ≡ before.settled → later.ordered ≡ before.ordered → later.down
+    ≡ before.down → later ≡ record before { queue = queue }
 queue_alone before later queue validator pending queue_is reached accepted taken settled ordered down =
-    λ i. record { validator = validator i; pending = pending i; queue = queue_is i; accepted = accepted i; taken = taken i; settled = settled i; ordered = ordered i; reached = reached i; down = down i }
+    λ i. record {
+      validator = validator i;
+      pending = pending i;
+      queue = queue_is i;
+      accepted = accepted i;
+      taken = taken i;
+      settled =
+          settled i;
+      ordered = ordered i;
+      reached = reached i;
+      down = down i;
+    }
 
 -- why it may be refused
-pub may_refuse : {S : Type 0} (node : Node) (run : Run) (book : BookView S) (event : Event) (why : Refusal) → (why ≡ refusal.Memory) ⊎ (admit node (history_in run) event ≡ Refused why) → why ≢ refusal.Down
+pub may_refuse : {S : Type 0} (node : Node) (run : Run) (book : BookView S) (event : Event) (why : Refusal) → (why ≡ refusal.Memory)
+    ⊎ (admit node (history_in run) event ≡ Refused why) → why ≢ refusal.Down
     → MayRefuse node run book event why
 may_refuse node run book event refusal.Memory comes up = tt
 may_refuse node run book event refusal.Down comes up = absurd (up refl)

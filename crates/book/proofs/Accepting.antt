@@ -48,7 +48,8 @@ now_said before later count from to first noted upto said =
     elim (cases_eq to from) [
       | inl same ↦ ap (length_at (count + 1) first) (noted.0 same) ∙ stays count (count + 1) first before upto (omega arith) ∙ said ∙ sym same
       | inr other ↦ ap (length_at (count + 1) first) (noted.1 other)
-          ∙ there (count + 1) first before (record { ticket = count + 1; length = to }) (All-weaker (λ r. r.ticket ≤ count) (λ r. r.ticket ≤ count + 1) (λ r is. omega (arith, is)) before upto) (omega arith)
+          ∙ there (count + 1) first before (record { ticket = count + 1; length = to })
+          (All-weaker (λ r. r.ticket ≤ count) (λ r. r.ticket ≤ count + 1) (λ r is. omega (arith, is)) before upto) (omega arith)
     ]
 
 module _ {S : Type 0} (given : OutputsGiven) (node : Node) (run : Run) (before later : BookView S) (event : Event) (outputs : List Output) (at : Stands node run before) where
@@ -74,8 +75,10 @@ module _ {S : Type 0} (given : OutputsGiven) (node : Node) (run : Run) (before l
         accepted = omega (arith, accepted, at.accepted, long);
         taken = taken ∙ at.taken;
         settled = settled ∙ at.settled;
-        due = subst (All (IsDue node (with_accepted run event))) (sym (queue ∙ ap (λ n. before.queue ++ ticketed (n + 1) outputs) at.accepted)) (due_new given node run event outputs before.queue is at.due);
-        rising = subst TicketsRise (sym (queue ∙ ap (λ n. before.queue ++ ticketed (n + 1) outputs) at.accepted)) (rise_new node run (length run.accepted + 1) outputs before.queue (omega arith) at.due at.rising);
+        due = subst (All (IsDue node (with_accepted run event))) (sym (queue ∙ ap (λ n. before.queue ++ ticketed (n + 1) outputs) at.accepted))
+            (due_new given node run event outputs before.queue is at.due);
+        rising = subst TicketsRise (sym (queue ∙ ap (λ n. before.queue ++ ticketed (n + 1) outputs) at.accepted))
+            (rise_new node run (length run.accepted + 1) outputs before.queue (omega arith) at.due at.rising);
         ordered = ordered ∙ at.ordered;
         lengths = λ count low high. ap (λ n. length_at count n later.reached) ordered ∙ said count low (omega (arith, high, long)) noted' from;
         tickets = subst (λ n. UpTo n later.reached) (sym long) (tickets_stay before.reached later.reached (length run.accepted) _ _ noted' at.tickets);

@@ -15,7 +15,15 @@ length_record bytes = omega arith
 
 pub length_body : (records : List (List ℕ)) → length (body_bytes records) ≡ body_len records
 length_body [] = refl
-length_body (bytes ∷ records) = omega (arith, length-append (record_bytes bytes) (body_bytes records), length_body records, length_record bytes, sum_by-cons (λ (b : List ℕ). 4 + length b) bytes records)
+length_body (bytes ∷ records) =
+    omega (
+      arith,
+      length-append (record_bytes bytes) (body_bytes records),
+      length_body records,
+      length_record bytes,
+      sum_by-cons
+          (λ (b : List ℕ). 4 + length b) bytes records,
+    )
 
 -- how long the bytes are
 pub length_draft : (bytes : List ℕ) (count : ℕ) (draft : IsDraft bytes count) → length bytes ≡ 4 + body_len draft.records
@@ -39,7 +47,8 @@ written_put old new count draft bytes same =
     ∙ ap (λ l. draft.front ++ l) (ap (λ l. body_bytes draft.records ++ l) (sym (append-nil (record_bytes bytes))) ∙ sym (flat_map-append record_bytes draft.records (bytes ∷ [])))
 
 -- their records
-pub records_put : (old new : List ℕ) (count : ℕ) (draft : IsDraft old count) (later : IsDraft new (count + 1)) (bytes : List ℕ) → FitsGroup (draft.records ++ bytes ∷ []) → new ≡ old ++ record_bytes bytes
+pub records_put : (old new : List ℕ) (count : ℕ) (draft : IsDraft old count) (later : IsDraft new (count + 1)) (bytes : List ℕ)
+    → FitsGroup (draft.records ++ bytes ∷ []) → new ≡ old ++ record_bytes bytes
     → later.records ≡ draft.records ++ bytes ∷ []
 records_put old new count draft later bytes fits same =
     records_of_draft new (count + 1) later (draft.records ++ bytes ∷ []) draft.front fits.not_long draft.room (written_put old new count draft bytes same)
@@ -57,14 +66,16 @@ pub written_back : (old new : List ℕ) (count : ℕ) (draft : IsDraft old count
 written_back old new count draft others last parts same =
     let bytes : body_bytes draft.records ≡ body_bytes others ++ record_bytes last =
     ap body_bytes parts ∙ flat_map-append record_bytes others (last ∷ []) ∙ ap (λ l. body_bytes others ++ l) (append-nil (record_bytes last)) in
-    let whole : old ≡ (draft.front ++ body_bytes others) ++ record_bytes last = draft.written ∙ ap (λ l. draft.front ++ l) bytes ∙ sym (append_assoc draft.front (body_bytes others) (record_bytes last)) in
+    let whole : old ≡ (draft.front ++ body_bytes others) ++ record_bytes last = draft.written ∙ ap (λ l. draft.front ++ l) bytes
+    ∙ sym (append_assoc draft.front (body_bytes others) (record_bytes last)) in
     let tail = length_record last in
     let long : length old - (4 + length last) ≡ length (draft.front ++ body_bytes others) =
     omega (arith, ap length whole, length-append (draft.front ++ body_bytes others) (record_bytes last), tail) in
     same ∙ ap (take (length old - (4 + length last))) whole ∙ take_at (draft.front ++ body_bytes others) (record_bytes last) (length old - (4 + length last)) (sym long)
 
 -- the bytes of a group: the length of the body stands in the room before it, and a closed gate behind it
-pub closes : (bytes closed : List ℕ) (count len : ℕ) (draft : IsDraft bytes count) → len ≡ body_len draft.records → closed ≡ (to_be_bytes w32 len ++ drop 4 bytes) ++ 0 ∷ [] → closed ≡ group_bytes draft.records
+pub closes : (bytes closed : List ℕ) (count len : ℕ) (draft : IsDraft bytes count) → len ≡ body_len draft.records → closed
+    ≡ (to_be_bytes w32 len ++ drop 4 bytes) ++ 0 ∷ [] → closed ≡ group_bytes draft.records
 closes bytes closed count len draft is same =
     let body : drop 4 bytes ≡ body_bytes draft.records = ap (drop 4) draft.written ∙ drop_at draft.front (body_bytes draft.records) 4 draft.room in
     same ∙ ap (λ n. (to_be_bytes w32 n ++ drop 4 bytes) ++ 0 ∷ []) is ∙ ap (λ l. (to_be_bytes w32 (body_len draft.records) ++ l) ++ 0 ∷ []) body

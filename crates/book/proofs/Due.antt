@@ -77,7 +77,8 @@ put_known given node history event outputs is =
 -- tickets go on rising behind outputs whose ticket is no lower
 all_from : (low ticket : ℕ) (outputs : List Output) → low ≤ ticket → All (λ w. low ≤ w.ticket) (ticketed ticket outputs)
 all_from low ticket outputs le =
-    All-map (λ w. low ≤ w.ticket) (λ (output : Output). record { ticket = ticket; output = output }) outputs (All-weaker (Contains outputs) (λ o. low ≤ ticket) (λ o inside. le) outputs (All-contains_itself outputs))
+    All-map (λ w. low ≤ w.ticket) (λ (output : Output). record { ticket = ticket; output = output }) outputs
+    (All-weaker (Contains outputs) (λ o. low ≤ ticket) (λ o inside. le) outputs (All-contains_itself outputs))
 
 rise_same : (ticket : ℕ) (outputs : List Output) → TicketsRise (ticketed ticket outputs)
 rise_same ticket [] = tt
@@ -96,7 +97,8 @@ rise_new node run ticket outputs queue le due rise =
     rise_more queue ticket outputs (All-weaker (IsDue node run) (λ w. w.ticket ≤ ticket) (λ w is. omega (arith, is.within, le)) queue due) rise
 
 -- the queue behind a new event
-pub due_new : (given : OutputsGiven) (node : Node) (run : Run) (event : Event) (outputs : List Output) (queue : List Waiting) → admit node (history_in run) event ≡ New outputs → All (IsDue node run) queue
+pub due_new : (given : OutputsGiven) (node : Node) (run : Run) (event : Event) (outputs : List Output) (queue : List Waiting)
+    → admit node (history_in run) event ≡ New outputs → All (IsDue node run) queue
     → All (IsDue node (with_accepted run event)) (queue ++ ticketed (length run.accepted + 1) outputs)
 due_new given node run event outputs queue is due =
     let longer = run.accepted ++ event ∷ [] in
@@ -109,7 +111,8 @@ due_new given node run event outputs queue is due =
     (due_all node (with_accepted run event) (length run.accepted + 1) outputs (omega (arith, long)) out)
 
 -- and behind a known one
-pub due_known : (given : OutputsGiven) (node : Node) (run : Run) (event : Event) (outputs : List Output) (queue : List Waiting) → admit node (history_in run) event ≡ Known outputs → All (IsDue node run) queue
+pub due_known : (given : OutputsGiven) (node : Node) (run : Run) (event : Event) (outputs : List Output) (queue : List Waiting)
+    → admit node (history_in run) event ≡ Known outputs → All (IsDue node run) queue
     → All (IsDue node run) (queue ++ ticketed (length run.accepted) outputs)
 due_known given node run event outputs queue is due =
     let out = subst (λ h. All (λ o. GoesOut node h (put_out o)) outputs) (sym (history_now run)) (put_known given node (history_in run) event outputs is) in

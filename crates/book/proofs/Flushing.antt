@@ -24,7 +24,8 @@ begins_take : {X : Type 0} (one other : List X) → Begins one other → take (l
 begins_take one other begins = ap (take (length one)) begins.parts ∙ take-append-le (length one) one begins.rest (omega arith) ∙ take_all (length one) one (omega arith)
 
 -- the taken and the pending ones stay as many as were accepted
-pub count_stays : (taken count accepted : ℕ) (pending group left : List (List ℕ)) → IsLongestBeginning pending group left → count ≡ length group → taken + length pending ≡ accepted → taken + count + length left ≡ accepted
+pub count_stays : (taken count accepted : ℕ) (pending group left : List (List ℕ)) → IsLongestBeginning pending group left → count ≡ length group
+    → taken + length pending ≡ accepted → taken + count + length left ≡ accepted
 count_stays taken count accepted pending group left longest counts all = omega (arith, counts, all, ap length longest.parts, length-append group left)
 
 take_begins : {X : Type 0} (count : ℕ) (xs : List X) → Begins (take count xs) xs
@@ -91,7 +92,8 @@ module _ {S : Type 0} (node : Node) (run : Run) (before later : BookView S) (at 
       })
 
   -- the group has the records of those events
-  pub records_taken : (group : List (List ℕ)) → IsLongestBeginning before.pending group later.pending → group ≡ map record_of (drop (length run.taken) (take (length run.taken + length group) run.accepted))
+  pub records_taken : (group : List (List ℕ)) → IsLongestBeginning before.pending group later.pending → group
+      ≡ map record_of (drop (length run.taken) (take (length run.taken + length group) run.accepted))
   records_taken group longest =
       sym (take_at group later.pending (length group) refl) ∙ ap (take (length group)) (sym longest.parts ∙ at.pending)
       ∙ take-map record_of (length group) (drop (length run.taken) run.accepted) ∙ ap (map record_of) (sym (drop-take (length run.taken) (length group) run.accepted))
@@ -126,7 +128,8 @@ module _ {S : Type 0} (node : Node) (run : Run) (before later : BookView S) (at 
         settled = omega (arith, is, number);
         due = due_same node run (with_settled run (length group)) before.queue refl refl at.due;
         rising = at.rising;
-        ordered = ordered ∙ ap (λ n. length_at n before.ordered before.reached) is ∙ at.lengths count (omega arith) (omega (arith, within, high)) ∙ ap (λ l. length (order node (run.began ++ l))) first;
+        ordered = ordered ∙ ap (λ n. length_at n before.ordered before.reached) is ∙ at.lengths count (omega arith) (omega (arith, within, high))
+            ∙ ap (λ l. length (order node (run.began ++ l))) first;
         lengths = λ c low top. lengths c (omega (arith, low, number, is)) ∙ at.lengths c (omega (arith, low, number)) top;
         tickets = tickets (length run.accepted) at.tickets;
       })
@@ -150,7 +153,8 @@ stands_down {S} node run before later same at = subst (Stands node run) (sym sam
 })
 
 -- and so does one whose first output left
-pub stands_released : {S : Type 0} (node : Node) (run : Run) (before later : BookView S) (first : Waiting) (rest : List Waiting) → before.queue ≡ first ∷ rest → later ≡ record before { queue = rest } → Stands node run before → Stands node run later
+pub stands_released : {S : Type 0} (node : Node) (run : Run) (before later : BookView S) (first : Waiting) (rest : List Waiting) → before.queue
+    ≡ first ∷ rest → later ≡ record before { queue = rest } → Stands node run before → Stands node run later
 stands_released {S} node run before later first rest parts same at =
     let due : All (IsDue node run) (first ∷ rest) = subst (All (IsDue node run)) parts at.due in
     let rising : TicketsRise (first ∷ rest) = subst TicketsRise parts at.rising in

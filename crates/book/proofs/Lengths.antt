@@ -70,7 +70,8 @@ head_is : (items : List Reached) (first : Reached) → 0 < length items → firs
 head_is [] first some is = absurd (omega (arith, some))
 head_is (r ∷ rest) first some is = ap (λ q. q ∷ rest) (sym is)
 
-pub first_stands : (items rest : List Reached) (front : Option (Bor Reached)) (next : Reached) (len : ℕ) → len ≡ length items → (IsSome front ↔ (0 < len)) → IfSome front (λ x. x.now ≡ get_or items 0 x.now)
+pub first_stands : (items rest : List Reached) (front : Option (Bor Reached)) (next : Reached) (len : ℕ) → len ≡ length items
+    → (IsSome front ↔ (0 < len)) → IfSome front (λ x. x.now ≡ get_or items 0 x.now)
     → option_copied front ≡ Some next → rest ≡ drop 1 items → items ≡ next ∷ rest
 first_stands items rest None next len long some is copied behind = absurd (none-some next copied)
 first_stands items rest (Some x) next len long some is copied behind =
@@ -80,8 +81,10 @@ first_stands items rest (Some x) next len long some is copied behind =
     head_is items x.now (omega (arith, there, long)) is ∙ (λ i. same i ∷ back i)
 
 -- which says what was said before
-pub left_to : (count later before : ℕ) (items rest : List Reached) (next : Reached) → items ≡ next ∷ rest → next.ticket ≤ count → count ≤ later → length_at later next.length rest ≡ length_at later before items
+pub left_to : (count later before : ℕ) (items rest : List Reached) (next : Reached) → items ≡ next ∷ rest → next.ticket ≤ count → count ≤ later
+    → length_at later next.length rest ≡ length_at later before items
 left_to count later before items rest next is low le = sym (left_away later before items rest next is (omega (arith, low, le)))
 
-pub said_here : (count before : ℕ) (items rest : List Reached) (next : Reached) (said : ℕ → ℕ) → items ≡ next ∷ rest → count < next.ticket → ((later : ℕ) → count ≤ later → length_at later before items ≡ said later) → before ≡ said count
+pub said_here : (count before : ℕ) (items rest : List Reached) (next : Reached) (said : ℕ → ℕ) → items ≡ next ∷ rest → count < next.ticket
+    → ((later : ℕ) → count ≤ later → length_at later before items ≡ said later) → before ≡ said count
 said_here count before items rest next said is high all = sym (ends_at count before items rest next is high) ∙ all count (omega arith)

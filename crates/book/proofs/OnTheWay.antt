@@ -2,7 +2,8 @@
 use Rattle.std.proofs.Common.{◌≡◌, ℕ, ◌+◌, ◌≤◌, List, [], ◌∷◌, ◌++◌, length, take, drop, map, Bool, true, false, Ok, Err, inl, inr, ⊎_elim, refl, sym, ap, ◌∙◌, subst, arith, drop-drop, append-nil}
 use Rattle.std.specs.Prelude.{Result, IfOk, OnErr, Option, Some, None, IfSome, IsNone}
 use Rattle.std.specs.declared.alloc.AllocError.{AllocError}
-use Rattle.std.proofs.lemmas.List.{nil_from_length, take_all, take-take, drop_at, take-append-le, take-append-drop, length-take-le, drop-append-le, drop-map, map-append, length-append, length-map, length-drop}
+use Rattle.std.proofs.lemmas.List.{nil_from_length, take_all, take-take, drop_at, take-append-le, take-append-drop, length-take-le, drop-append-le}
+use Rattle.std.proofs.lemmas.List.{drop-map, map-append, length-append, length-map, length-drop}
 use Rattle.std.proofs.lemmas.Grind.{flat_map-append}
 use Rattle.spec_model.specs.Histories.{History}
 use Rattle.wire.specs.Lists.{Begins}
@@ -28,7 +29,8 @@ module _ {S : Type 0} (node : Node) where
   way_first began book at = record { run = run_on began; stands = at; are = refl }
 
   -- they stay where the runs stay
-  pub way_same : (before later : BookView S) (groups : List (List (List ℕ))) → ((run : Run) → Stands node run before → Stands node run later) → AreOnTheWay node before groups → AreOnTheWay node later groups
+  pub way_same : (before later : BookView S) (groups : List (List (List ℕ))) → ((run : Run) → Stands node run before → Stands node run later)
+      → AreOnTheWay node before groups → AreOnTheWay node later groups
   way_same before later groups same way = record { run = way.run; stands = same way.run way.stands; are = way.are }
 
   -- and when an event is taken
@@ -70,7 +72,8 @@ module _ {S : Type 0} (node : Node) where
       -- what begins a list begins more of its first elements
       first_of : (taken accepted : History) → Begins taken accepted → (count : ℕ) → take (length taken) (take (length taken + count) accepted) ≡ taken
       first_of taken accepted begins count =
-          take-take (length taken) (length taken + count) accepted (omega arith) ∙ ap (take (length taken)) begins.parts ∙ take-append-le (length taken) taken begins.rest (omega arith) ∙ take_all (length taken) taken (omega arith)
+          take-take (length taken) (length taken + count) accepted (omega arith) ∙ ap (take (length taken)) begins.parts
+          ∙ take-append-le (length taken) taken begins.rest (omega arith) ∙ take_all (length taken) taken (omega arith)
 
   -- the first of them may be settled
   pub way_settles : (book : BookView S) (first : List (List ℕ)) (rest : List (List (List ℕ))) → AreOnTheWay node book (first ∷ rest) → SettlesNext node book first
@@ -95,7 +98,8 @@ module _ {S : Type 0} (node : Node) where
             ∙ drop_at first (all_records rest) (length first) refl;
       }
     where
-      within : (run : Run) (group : List (List ℕ)) → Begins group (map record_of (drop (length run.settled) run.taken)) → Begins run.settled run.taken → length run.settled + length group ≤ length run.taken
+      within : (run : Run) (group : List (List ℕ)) → Begins group (map record_of (drop (length run.settled) run.taken)) → Begins run.settled run.taken
+          → length run.settled + length group ≤ length run.taken
       within run group begins settled =
           let rest = drop (length run.settled) run.taken in
           omega (arith, begins_length group (map record_of rest) begins, length-map rest record_of, length-drop (length run.settled) run.taken, begins_length run.settled run.taken settled)
@@ -131,7 +135,12 @@ module _ {S : Type 0} (node : Node) where
           written = written;
           records = records;
           counts = counts;
-          is = rest ∙ (λ i. record (taken i) { pending = pending i; settled = (settled ∙ ap (λ (s : BookView S). s.settled + length group) taken) i; ordered = later.ordered; reached = later.reached });
+          is = rest ∙ (λ i. record (taken i) {
+            pending = pending i;
+            settled = (settled ∙ ap (λ (s : BookView S). s.settled + length group) taken) i;
+            ordered = later.ordered;
+            reached = later.reached;
+          });
           stands = λ run at.
               stands (with_taken run (length group)) (stands_taken node run before middle at group longest taken) (record {
                 rest = [];

@@ -23,7 +23,8 @@ others_packed group (next ∷ others) packed = packed.2
 pub first_is_longest : (group : List (List ℕ)) (others : List (List (List ℕ))) → ArePacked (group ∷ others) → IsLongestBeginning (all_records (group ∷ others)) group (all_records others)
 first_is_longest group others packed = record { parts = refl; fits = first_fits group others packed; longest = stops group others packed }
   where
-    stops : (group : List (List ℕ)) (others : List (List (List ℕ))) → ArePacked (group ∷ others) → (next : List ℕ) (rest : List (List ℕ)) → all_records others ≡ next ∷ rest → FitsGroup (group ++ next ∷ []) → ⊥
+    stops : (group : List (List ℕ)) (others : List (List (List ℕ))) → ArePacked (group ∷ others) → (next : List ℕ) (rest : List (List ℕ))
+        → all_records others ≡ next ∷ rest → FitsGroup (group ++ next ∷ []) → ⊥
     stops group [] packed next rest same fits = absurd (omega (arith, ap length same))
     stops group ([] ∷ others) packed next rest same fits = absurd packed.1
     stops group ((first ∷ more) ∷ others) packed next rest same fits =
@@ -141,12 +142,14 @@ empty_tells items view len result long is packed same = (
 -- ---- behind a put
 
 pub packed_in_last : {X E : Type 0} (r : Result X E) (items later : List (List (List ℕ))) (bytes : List ℕ) → HasRoom items (length bytes)
-    → OnOk r ((front : List (List (List ℕ))) (last : List (List ℕ)) → items ≡ front ++ last ∷ [] → later ≡ front ++ (last ++ bytes ∷ []) ∷ []) → OnErr r (later ≡ items) → ArePacked items → ArePacked later
+    → OnOk r ((front : List (List (List ℕ))) (last : List (List ℕ)) → items ≡ front ++ last ∷ [] → later ≡ front ++ (last ++ bytes ∷ []) ∷ [])
+    → OnErr r (later ≡ items) → ArePacked items → ArePacked later
 packed_in_last (Ok x) items later bytes room ok err packed = subst ArePacked (sym (ok room.0 room.1 room.2)) (put_last items room.0 room.1 bytes room.2 (room.3 bytes refl) packed)
 packed_in_last (Err e) items later bytes room ok err packed = subst ArePacked (sym err) packed
 
 pub records_in_last : {X E : Type 0} (r : Result X E) (items later : List (List (List ℕ))) (bytes : List ℕ) (view : List (List ℕ)) → HasRoom items (length bytes)
-    → OnOk r ((front : List (List (List ℕ))) (last : List (List ℕ)) → items ≡ front ++ last ∷ [] → later ≡ front ++ (last ++ bytes ∷ []) ∷ []) → all_records items ≡ view → OnOk r (all_records later ≡ view ++ bytes ∷ [])
+    → OnOk r ((front : List (List (List ℕ))) (last : List (List ℕ)) → items ≡ front ++ last ∷ [] → later ≡ front ++ (last ++ bytes ∷ []) ∷ [])
+    → all_records items ≡ view → OnOk r (all_records later ≡ view ++ bytes ∷ [])
 records_in_last (Ok x) items later bytes view room ok is = ap all_records (ok room.0 room.1 room.2) ∙ put_last_records items room.0 room.1 bytes room.2 ∙ ap (λ l. l ++ bytes ∷ []) is
 records_in_last (Err e) items later bytes view room ok is = tt
 
@@ -155,7 +158,8 @@ pub packed_behind : {X E : Type 0} (r : Result X E) (items later : List (List (L
 packed_behind (Ok x) items later bytes none fits ok err packed = subst ArePacked (sym ok) (put_next items bytes none fits packed)
 packed_behind (Err e) items later bytes none fits ok err packed = subst ArePacked (sym err) packed
 
-pub records_at_end : {X E : Type 0} (r : Result X E) (items later : List (List (List ℕ))) (bytes : List ℕ) (view : List (List ℕ)) → OnOk r (later ≡ items ++ (bytes ∷ []) ∷ []) → all_records items ≡ view
+pub records_at_end : {X E : Type 0} (r : Result X E) (items later : List (List (List ℕ))) (bytes : List ℕ) (view : List (List ℕ))
+    → OnOk r (later ≡ items ++ (bytes ∷ []) ∷ []) → all_records items ≡ view
     → OnOk r (all_records later ≡ view ++ bytes ∷ [])
 records_at_end (Ok x) items later bytes view ok is = ap all_records ok ∙ records_behind items (bytes ∷ []) ∙ ap (λ l. l ++ bytes ∷ []) is
 records_at_end (Err e) items later bytes view ok is = tt

@@ -5,7 +5,8 @@ use Rattle.std.specs.Prelude.{Result, Ok, Err, OnOk, OnErr}
 -- three parts, one behind the other
 pub behind_three : (old first second third one two three : List ℕ) → one ≡ old ++ first → two ≡ one ++ second → three ≡ two ++ third → three ≡ old ++ (first ++ second ++ third)
 behind_three old first second third one two three is_one is_two is_three =
-    is_three ∙ ap (λ (l : List ℕ). l ++ third) (is_two ∙ ap (λ (l : List ℕ). l ++ second) is_one) ∙ ap (λ (l : List ℕ). l ++ third) (append_assoc old first second) ∙ append_assoc old (first ++ second) third
+    is_three ∙ ap (λ (l : List ℕ). l ++ third) (is_two ∙ ap (λ (l : List ℕ). l ++ second) is_one)
+    ∙ ap (λ (l : List ℕ). l ++ third) (append_assoc old first second) ∙ append_assoc old (first ++ second) third
 
 -- and what comes behind them
 module _ {T E : Type 0} where

@@ -60,7 +60,8 @@ module _ {S : Type 0} (node : Node) (run : Run) (book : BookView S) (at : Stands
       ap (λ l. run.began ++ l) (sym (take-append-drop ticket run.settled)) ∙ sym (append_assoc run.began (take ticket run.settled) (drop ticket run.settled))
       ∙ ap (λ l. (run.began ++ l) ++ drop ticket run.settled) (sym same)
 
-  pub goes_out_settled : GivenGrows → (ticket : ℕ) (output : Output) (later : List Waiting) → book.queue ≡ record { ticket = ticket; output = output } ∷ later → ticket ≤ book.settled → GoesOutSettled node run output
+  pub goes_out_settled : GivenGrows → (ticket : ℕ) (output : Output) (later : List Waiting) → book.queue
+      ≡ record { ticket = ticket; output = output } ∷ later → ticket ≤ book.settled → GoesOutSettled node run output
   goes_out_settled grows ticket output later parts within =
       let first : Waiting = record { ticket = ticket; output = output } in
       let due : IsDue node run first = All-head (IsDue node run) first later (subst (All (IsDue node run)) parts at.due) in
@@ -78,12 +79,14 @@ module _ {S : Type 0} (node : Node) (run : Run) (book : BookView S) (at : Stands
       → take (end - start) (drop start whole) ≡ drop from (order node (settled_in run))
   reads grows whole from end start is end_is start_is =
       let settled = order node (settled_in run) in
-      let begins : Begins settled whole = subst (Begins settled) (ap (order node) (sym whole_is) ∙ sym is) (grows node (settled_in run) (at.settled_begins.rest ++ at.taken_begins.rest) (subst (IsLegal node) whole_is at.legal)) in
+      let begins : Begins settled whole = subst (Begins settled) (ap (order node) (sym whole_is) ∙ sym is)
+      (grows node (settled_in run) (at.settled_begins.rest ++ at.taken_begins.rest) (subst (IsLegal node) whole_is at.legal)) in
       let long = begins_length settled whole begins in
       let ends : end ≡ length settled = omega (arith, end_is, long, at.ordered) in
       parts_of settled begins.rest whole begins.parts from end start ends start_is
     where
-      parts_of : (settled rest whole : List Digest) → whole ≡ settled ++ rest → (from end start : ℕ) → end ≡ length settled → start ≡ min end from → take (end - start) (drop start whole) ≡ drop from settled
+      parts_of : (settled rest whole : List Digest) → whole ≡ settled ++ rest → (from end start : ℕ) → end ≡ length settled → start ≡ min end from
+          → take (end - start) (drop start whole) ≡ drop from settled
       parts_of settled rest whole is from end start ends starts =
           let low : start ≤ length settled = omega (arith, starts, ends) in
           let cut : drop start whole ≡ drop start settled ++ rest = ap (drop start) is ∙ drop-append-le start settled rest low in
@@ -92,4 +95,5 @@ module _ {S : Type 0} (node : Node) (run : Run) (book : BookView S) (at : Stands
           by_cases : (from ≤ end) ⊎ (end < from) → drop start settled ≡ drop from settled
           by_cases (inl le) = ap (λ n. drop n settled) (omega (arith, starts, le))
           by_cases (inr more) =
-              nil_from_length (drop start settled) (omega (arith, length-drop start settled, starts, ends, more)) ∙ sym (nil_from_length (drop from settled) (omega (arith, length-drop from settled, ends, more)))
+              nil_from_length (drop start settled) (omega (arith, length-drop start settled, starts, ends, more))
+              ∙ sym (nil_from_length (drop from settled) (omega (arith, length-drop from settled, ends, more)))

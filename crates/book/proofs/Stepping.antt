@@ -9,7 +9,7 @@ use Rattle.spec_model.specs.Histories.{History}
 use Rattle.spec_model.specs.Nodes.{Node, IsNode}
 use Rattle.spec_model.specs.Words.{Event, Output}
 use Rattle.spec_records.specs.Records.{record_of}
-use Rattle.spec_world.specs.World.{World, Waiting, not_begun, gate_synced, events_of, taken_in, first_of, group_in, put_out, content_in}
+use Rattle.spec_world.specs.World.{World, Waiting, not_begun, gate_synced, events_of, taken_in, first_of, group_in, put_out}
 use Rattle.spec_world.specs.Steps.{Move, accept, settle, release, ticketed, with_new, with_known, with_given, group_to, IsAnswered, IsRun}
 use Rattle.spec_world.proofs.GoingOn.{groups_settle}
 use Rattle.spec_world.proofs.Groups.{first_and_others, taken_more}
@@ -96,7 +96,8 @@ module _ {S : Type 0} (node : Node) (world : World) (before later : BookView S) 
       let others = events_of (drop 1 world.groups) in
       let all : taken_in world ≡ some ++ others = first_and_others world in
       let number : length world.settled + length group ≡ length some = omega (arith, ap length is, length-map more record_of, length-append world.settled more) in
-      let settled : take (length world.settled + length group) (taken_in world) ≡ some = ap (take (length world.settled + length group)) all ∙ take_at some others (length world.settled + length group) (sym number) in
+      let settled : take (length world.settled + length group) (taken_in world) ≡ some = ap (take (length world.settled + length group)) all
+      ∙ take_at some others (length world.settled + length group) (sym number) in
       record {
         next = record world { settled = some; groups = drop 1 world.groups; phase = not_begun };
         step = record { done = done; is = refl };
@@ -147,7 +148,8 @@ run_there world next group count none is began accepted settled idle =
       settled = (again ∙ sym settled) i;
     })
 
-module _ {S : Type 0} (node : Node) (moves : List Move) (world : World) (before later : BookView S) (sound : IsNode node) (run : IsRun node moves world) (is_of : IsOf node world before) (none : world.groups ≡ []) where
+module _ {S : Type 0} (node : Node) (moves : List Move) (world : World) (before later : BookView S) (sound : IsNode node)
+    (run : IsRun node moves world) (is_of : IsOf node world before) (none : world.groups ≡ []) where
   flushes : (old new : List ℕ) (count : ℕ) → Flushes node before later old new count → FlushesThere node world (length world.settled + count) old new later
   flushes old new count flush =
       let all : taken_in world ≡ world.settled = ap (λ (l : List History). world.settled ++ events_of l) none ∙ append-nil world.settled in

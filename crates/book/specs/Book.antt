@@ -153,3 +153,7 @@ pub record GoesOutSettled (node : Node) (run : Run) (output : Output) : Type 0 w
   pub settled : ticket ≤ length run.settled
   pub goes_out : GoesOut node (history_to ticket run) (put_out output)
   pub may : MayGive node (settled_in run) output
+
+-- a book stands at each run at which it stood before
+abbrev pub StandsAsBefore : {S : Type 0} → Node → BookView S → BookView S → Type 0
+StandsAsBefore node before later = (run : Run) → Stands node run before → Stands node run later

@@ -4,3 +4,4 @@ pub mod Queue
 pub mod Book
 pub mod Steps
 pub mod OnTheWay
+pub mod Showing

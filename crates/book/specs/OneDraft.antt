@@ -23,9 +23,11 @@ module _ (bytes : List ℕ) (count : ℕ) where
   made_once a b same p q = subst (λ (r : List (List ℕ) × List ℕ). (s : Said r) → made a p ≡ made r s) same (λ s. ap (made a) (said_once a p s)) q
 
   -- whose records those of the draft are
-  pub records_of_draft : (draft : IsDraft bytes count) (records : List (List ℕ)) (front : List ℕ) → body_len records ≤ MAX_GROUP_BYTES → length front ≡ LENGTH_BYTES → bytes ≡ front ++ body_bytes records → draft.records ≡ records
+  pub records_of_draft : (draft : IsDraft bytes count) (records : List (List ℕ)) (front : List ℕ) → body_len records ≤ MAX_GROUP_BYTES → length front
+      ≡ LENGTH_BYTES → bytes ≡ front ++ body_bytes records → draft.records ≡ records
   records_of_draft draft records front short room written =
-      let behind = sym (drop_at draft.front (body_bytes draft.records) LENGTH_BYTES draft.room) ∙ ap (drop LENGTH_BYTES) (sym draft.written ∙ written) ∙ drop_at front (body_bytes records) LENGTH_BYTES room in
+      let behind = sym (drop_at draft.front (body_bytes draft.records) LENGTH_BYTES draft.room) ∙ ap (drop LENGTH_BYTES) (sym draft.written ∙ written)
+      ∙ drop_at front (body_bytes records) LENGTH_BYTES room in
       same_body draft.records records draft.not_long short behind
 
   same_front : (one other : List ℕ) (a b : List ℕ) → length one ≡ LENGTH_BYTES → length other ≡ LENGTH_BYTES → one ++ a ≡ other ++ b → one ≡ other

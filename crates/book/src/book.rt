@@ -76,14 +76,16 @@ impl<'a, S: Sign> Model for Book<'a, S> {
     ghost use Rattle.std.specs.Coded.{codes};
     ghost use Rattle.votebook.specs.contracts.book.VoteBook as votes;
     ghost use Rattle.book.specs.Book.{BookView};
-    ghost use Rattle.book.specs.Queue.{queue_of, HasOutput};
+    ghost use Rattle.book.specs.Queue.{HasOutput};
     ghost use Rattle.book.specs.declared.book.TheConstants.{MAX_ACCEPTED};
 
     ghost Value = { BookView S };
 
     ghost coded = { Prim.hlevel (codes, S.code, votes.the_row.coded) };
 
-    ghost view = { λ b. record { validator = b.validator; pending = b.pending; queue = queue_of b.queue.items; accepted = b.accepted; taken = b.taken; settled = b.settled; ordered = b.ordered; reached = b.reached.items; down = b.down } };
+    ghost use Rattle.book.specs.Showing.{shown_of};
+
+    ghost view = { shown_of };
 
     ghost invariant = { λ b. (b.accepted ≤ MAX_ACCEPTED) × (b.taken + length b.pending ≡ b.accepted) × All HasOutput b.queue.items };
 }
@@ -99,7 +101,7 @@ impl<'a, S: Sign> Book<'a, S> {
     ghost use Rattle.validator.specs.Setting.{node_of};
     ghost use Rattle.validator.specs.Standing.{AreAtSound};
     ghost use Rattle.book.specs.Pending.{IsLongestBeginning};
-    ghost use Rattle.book.specs.Book.{Run, Stands, run_on, history_in, settled_in, with_taken, with_settled, TakesNew, TakesKnown, MayRefuse, IsFull, HasPlace, releasable, SettlesNext, GoesOutSettled};
+    ghost use Rattle.book.specs.Book.{Run, Stands, StandsAsBefore, run_on, history_in, settled_in, with_taken, with_settled, TakesNew, TakesKnown, MayRefuse, IsFull, HasPlace, releasable, SettlesNext, GoesOutSettled};
 
     /// A book over this validator that has accepted nothing.
     pub fn new(alloc: Global, validator: Validator<'a, S>) -> Book<'a, S>
@@ -214,8 +216,8 @@ impl<'a, S: Sign> Book<'a, S> {
         self.accepted == MAX_ACCEPTED && self.validator.is_new(event)
     }
 
-    /// Takes the longest beginning of the pending records that fits a group; `None` where nothing is pending. `AllocError` where a
-    /// growth was refused: nothing was taken then.
+    /// Takes the longest beginning of the pending records that fits a group; `None` where nothing is pending. `AllocError` where an
+    /// allocation failed: nothing was taken then.
     pub fn take(&mut self) -> Result<Option<Group>, AllocError>
         ensures none { IfOk result (λ group. IsNone group ↔ (self.old.pending ≡ [])) }
         ensures group { IfOk result (λ group. IfSome group (λ group. IsLongestBeginning self.old.pending group self.new.pending)) }
@@ -259,8 +261,7 @@ impl<'a, S: Sign> Book<'a, S> {
     pub fn release(&mut self) -> Option<Output>
         ensures output { result ≡ releasable self.old }
         ensures queue { self.new ≡ (if is_some result then record self.old { queue = drop 1 self.old.queue } else self.old) }
-        ensures stands { let node = node_of S.scheme self.old.validator.setting in (run : Run) → Stands node run self.old
-            → Stands node run self.new }
+        ensures stands { let node = node_of S.scheme self.old.validator.setting in StandsAsBefore node self.old self.new }
         // What it gives may be given out behind what is settled.
         ensures goes_out { let node = node_of S.scheme self.old.validator.setting in IfSome result (λ output. (run : Run) → Stands node run self.old
             → GoesOutSettled node run output) }
@@ -278,8 +279,7 @@ impl<'a, S: Sign> Book<'a, S> {
     /// Takes the book down, as where a device call failed or the journal is full. From now on nothing is accepted or released.
     pub fn fail(&mut self)
         ensures down { self.new ≡ record self.old { down = true } }
-        ensures stands { let node = node_of S.scheme self.old.validator.setting in (run : Run) → Stands node run self.old
-            → Stands node run self.new }
+        ensures stands { let node = node_of S.scheme self.old.validator.setting in StandsAsBefore node self.old self.new }
     {
         self.down = true;
     }
@@ -325,7 +325,7 @@ impl<'a, S: Sign> Book<'a, S> {
     /// its end.
     ///
     /// # Errors
-    /// `Down` where the book is down, `Memory` where a growth was refused.
+    /// `Down` where the book is down, `Memory` where an allocation failed.
     pub fn order(&self, from: u64) -> Result<Vec<Digest>, Refusal>
         ensures order { let node = node_of S.scheme self.now.validator.setting in IfOk result (λ digests. (run : Run) → Stands node run self.now
             → digests.items ≡ drop from (order_of node (settled_in run))) }

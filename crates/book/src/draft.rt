@@ -32,7 +32,7 @@ impl Model for Draft {
 }
 
 impl Draft {
-    /// One without a record. `AllocError` where a growth was refused.
+    /// One without a record. `AllocError` where an allocation failed.
     pub(crate) fn new(alloc: Global) -> Result<Draft, AllocError>
         ensures { IfOk result (λ draft. draft ≡ []) }
     {
@@ -60,8 +60,8 @@ impl Draft {
         self.bytes.len() + len <= MAX_GROUP_BYTES
     }
 
-    /// Puts the record of an event, which has this length, behind the others, among which it fits. `AllocError` where a growth was
-    /// refused: nothing has changed then.
+    /// Puts the record of an event, which has this length, behind the others, among which it fits. `AllocError` where an allocation
+    /// failed: nothing has changed then.
     pub(crate) fn put(&mut self, event: &Checked, len: usize) -> Result<(), AllocError>
         requires len { len ≡ length (record_bytes event.now) }
         requires short { LENGTH_BYTES + len ≤ MAX_GROUP_BYTES }
@@ -91,7 +91,7 @@ impl Draft {
         self.count -= 1;
     }
 
-    /// The group of its records, which are some. Where a growth was refused, the draft is handed back.
+    /// The group of its records, which are some. Where an allocation failed, the draft is handed back.
     pub(crate) fn close(self) -> Result<Group, Draft>
         requires { FitsGroup self }
         ensures ok { IfOk result (λ group. group ≡ self) }

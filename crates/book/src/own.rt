@@ -49,7 +49,7 @@ impl<'a, S: Sign> OwnBook<'a, S> {
     ghost use Rattle.spec_records.specs.Records.{record_of};
     ghost use Rattle.validator.specs.Setting.{node_of};
     ghost use Rattle.validator.specs.Standing.{AreAtSound};
-    ghost use Rattle.book.specs.Book.{Run, Stands, run_on, with_settled, SettlesNext, TakesNew, TakesKnown, MayRefuse, GoesOutSettled, releasable, history_in, settled_in};
+    ghost use Rattle.book.specs.Book.{Run, Stands, StandsAsBefore, run_on, with_settled, SettlesNext, TakesNew, TakesKnown, MayRefuse, GoesOutSettled, releasable, history_in, settled_in};
     ghost use Rattle.book.specs.declared.book.TheConstants.{MAX_ACCEPTED};
     ghost use Rattle.spec_model.specs.Admitting.{IsLegal};
     ghost use Rattle.spec_model.specs.Giving.{kept};
@@ -94,7 +94,7 @@ impl<'a, S: Sign> OwnBook<'a, S> {
     }
 
     /// Takes the longest beginning of the pending records that fits a group, which is then the last on the way; `None` where
-    /// nothing is pending. `AllocError` where a growth was refused: nothing was taken then.
+    /// nothing is pending. `AllocError` where an allocation failed: nothing was taken then.
     pub fn take(&mut self) -> Result<Option<Group>, AllocError>
         ensures none { IfOk result (λ taken. IsNone taken ↔ (self.old.pending ≡ [])) }
         ensures group { IfOk result (λ taken. IfSome taken (λ group. IsLongestBeginning self.old.pending group self.new.pending)) }
@@ -135,8 +135,7 @@ impl<'a, S: Sign> OwnBook<'a, S> {
     pub fn release(&mut self) -> Option<Output>
         ensures output { result ≡ releasable self.old }
         ensures queue { self.new ≡ (if is_some result then record self.old { queue = drop 1 self.old.queue } else self.old) }
-        ensures stands { let node = node_of S.scheme self.old.validator.setting in (run : Run) → Stands node run self.old
-            → Stands node run self.new }
+        ensures stands { let node = node_of S.scheme self.old.validator.setting in StandsAsBefore node self.old self.new }
         ensures goes_out { let node = node_of S.scheme self.old.validator.setting in IfSome result (λ output. (run : Run) → Stands node run self.old
             → GoesOutSettled node run output) }
         ensures way { let node = node_of S.scheme self.old.validator.setting in (groups : List (List (List ℕ))) → AreOnTheWay node self.old groups
@@ -249,7 +248,7 @@ impl<'a, S: Sign> OwnBook<'a, S> {
     /// The order behind the settled records, from this place on. It is empty past its end.
     ///
     /// # Errors
-    /// `Down` where the book is down, `Memory` where a growth was refused.
+    /// `Down` where the book is down, `Memory` where an allocation failed.
     pub fn order(&self, from: u64) -> Result<Vec<Digest>, Refusal>
         ensures order { let node = node_of S.scheme self.now.validator.setting in IfOk result (λ digests. (run : Run) → Stands node run self.now
             → digests.items ≡ drop from (order_of node (settled_in run))) }

@@ -48,7 +48,7 @@ impl Pending {
         self.drafts.is_empty()
     }
 
-    /// Puts the record of an event, which has this length, behind the others. `AllocError` where a growth was refused: nothing has
+    /// Puts the record of an event, which has this length, behind the others. `AllocError` where an allocation failed: nothing has
     /// changed then.
     pub(crate) fn put(&mut self, event: &Checked, len: usize) -> Result<(), AllocError>
         requires short { LENGTH_BYTES + len ≤ MAX_GROUP_BYTES }
@@ -77,7 +77,7 @@ impl Pending {
         }
     }
 
-    /// Takes the longest beginning that fits a group; `None` where there is no record. `AllocError` where a growth was refused:
+    /// Takes the longest beginning that fits a group; `None` where there is no record. `AllocError` where an allocation failed:
     /// nothing has changed then.
     pub(crate) fn take(&mut self) -> Result<Option<Group>, AllocError>
         ensures none { IfOk result (λ group. IsNone group ↔ (self.old ≡ [])) }
@@ -110,7 +110,7 @@ fn last_has_room(drafts: &VecDeque<Draft>, len: usize) -> bool
     }
 }
 
-// Puts the record of an event, which has this length, into the last group, which it fits. Where a growth is refused nothing has
+// Puts the record of an event, which has this length, into the last group, which it fits. Where an allocation fails nothing has
 // changed.
 fn put_into_last(
     drafts: &mut VecDeque<Draft>,
@@ -131,7 +131,7 @@ fn put_into_last(
     put
 }
 
-// Puts the record of an event, which has this length, into a group of its own behind the others. Where a growth is refused nothing
+// Puts the record of an event, which has this length, into a group of its own behind the others. Where an allocation fails nothing
 // has changed.
 fn put_behind(
     alloc: Global,

@@ -25,7 +25,7 @@ pub(crate) fn record_len(event: &Checked) -> usize
 }
 
 /// Puts the record of an event, its kind, the sender and the message, with its length before it, behind these bytes. `AllocError`
-/// where a growth was refused: a part of it may stand there then.
+/// where an allocation failed: a part of it may stand there then.
 pub(crate) fn put_record(bytes: &mut Vec<u8>, event: &Checked, len: usize) -> Result<(), AllocError>
     requires len { len ≡ length (record_of event.now) }
     requires short { LENGTH_BYTES + len ≤ MAX_GROUP_BYTES }

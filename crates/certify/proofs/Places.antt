@@ -218,7 +218,8 @@ counted-low old vote is =
     ]
 
 -- with one that makes the certificate they weigh a quorum
-pub complete-high : (old : AssemblyView) (vote : Vote) (certificate : Certificate) → answer old vote ≡ Complete certificate → quorum_of old.charter ≤ votes_weight old.charter (with_vote old.places vote)
+pub complete-high : (old : AssemblyView) (vote : Vote) (certificate : Certificate) → answer old vote ≡ Complete certificate
+    → quorum_of old.charter ≤ votes_weight old.charter (with_vote old.places vote)
 complete-high old vote certificate is =
     elim (cases_Bool (is_ours old vote)) [
       | inr off ↦ let never = rw off at is in absurd cc

@@ -57,7 +57,7 @@ fn is_on(body: &HeaderBody, digest: &Digest, vote: &Vote) -> bool
 }
 
 impl<'a> Assembly<'a> {
-    /// An assembly of the header, with the own vote on it counted. `AllocError` where a growth was refused.
+    /// An assembly of the header, with the own vote on it counted. `AllocError` where an allocation failed.
     pub fn start(
         alloc: Global,
         committee: &'a Committee,
@@ -84,8 +84,8 @@ impl<'a> Assembly<'a> {
         })
     }
 
-    /// Counts a vote, if it is a member's and on the header and the votes don't make a certificate yet. Where a growth is
-    /// refused nothing changes.
+    /// Counts a vote, if it is a member's and on the header and the votes don't make a certificate yet. Where an allocation
+    /// fails nothing changes.
     pub fn add(&mut self, vote: Vote) -> Result<Added, AllocError>
         ensures answer { IfOk result (λ added. added ≡ answer self.old vote) }
         ensures after { IfOk result (λ added. self.new ≡ after added self.old vote) }
@@ -96,7 +96,7 @@ impl<'a> Assembly<'a> {
         Ok(added)
     }
 
-    /// What comes of a vote. `AllocError` where a growth for the certificate was refused.
+    /// What comes of a vote. `AllocError` where an allocation for the certificate failed.
     pub fn answer(&self, vote: &Vote) -> Result<Added, AllocError>
         ensures { IfOk result (λ added. added ≡ answer self.now vote.now) }
     {

@@ -4,7 +4,6 @@ use Rattle.std.specs.Prelude.{Result, Ok, Err, IfOk, OnOk, All, is_some, if◌th
 use Rattle.std.specs.List.{AllZip}
 use Rattle.std.proofs.lemmas.List.Elements.{All-append, All-push}
 use Rattle.header.specs.Checks.{Accepts}
-use Rattle.spec_model.specs.Nodes.{Node}
 use Rattle.spec_model.specs.Words.{Author, Event}
 use Rattle.validator.specs.Setting.{ConfigView}
 use Rattle.cluster.specs.Member.{MemberView}
@@ -50,7 +49,15 @@ module _ {S D : Type 0} (scheme : Scheme S) (device : Device D) (accepts : Accep
   one_act : (count : ℕ) (act : Act) (before later : MemberView S D) → later.setting ≡ before.setting → is_some later.desk ≡ is_some before.desk → Hears before.setting.own act
       → rounds_in (act ∷ []) ≡ so_many (is_some before.desk) count → HasActed scheme device accepts act before later → HasRun scheme device accepts count before later
   one_act count act before later setting there hears counted acted =
-      record { setting = setting; there = there; acts = act ∷ []; have = (before, refl, acted); heard = All-push (λ one. Hears before.setting.own one) [] act (heard_none before.setting.own) hears; rounds = counted }
+      record {
+        setting = setting;
+        there = there;
+        acts = act ∷ [];
+        have = (before, refl, acted);
+        heard = All-push (λ one. Hears before.setting.own one)
+            [] act (heard_none before.setting.own) hears;
+        rounds = counted;
+      }
 
   pub took_one : (event : Event) (applied : Applied) (before later : MemberView S D) → later.setting ≡ before.setting → is_some later.desk ≡ is_some before.desk → IsHeard before.setting.own event
       → HasActed scheme device accepts (take event applied) before later → HasRun scheme device accepts 0 before later
@@ -98,7 +105,8 @@ zip_more R (a ∷ xs) [] x y all one = absurd all
 zip_more R (a ∷ xs) (b ∷ ys) x y all one = (all.0, zip_more R xs ys x y all.1 one)
 
 -- what came of jobs, each of which ended well
-pub gathered : {W A B E : Type 0} (R : A → B → Type 0) (view : W → A) (jobs : List W) (ended : List (Result B E)) (values : List B) → AllZip (λ job one. IfOk one (λ value. R (view job) value)) jobs ended
+pub gathered : {W A B E : Type 0} (R : A → B → Type 0) (view : W → A) (jobs : List W) (ended : List (Result B E)) (values : List B)
+    → AllZip (λ job one. IfOk one (λ value. R (view job) value)) jobs ended
     → AllZip (λ one value. one ≡ Ok value) ended values → AllZip R (map view jobs) values
 gathered R view [] [] [] all well = tt
 gathered {W} {A} {B} {E} R view (job ∷ jobs) (one ∷ ended) (value ∷ values) all well =

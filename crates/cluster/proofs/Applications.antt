@@ -1,10 +1,9 @@
 -- What a call of apply did, whatever it answered.
-use Rattle.std.proofs.Common.{◌≡◌, ◌≢◌, ◌⊎◌, ℕ, inl, inr, List, map, Result, Ok, Err, refl, subst}
+use Rattle.std.proofs.Common.{◌≡◌, ◌≢◌, ◌⊎◌, inl, inr, List, map, Result, Ok, Err, refl, subst}
 use Rattle.std.specs.Prelude.{IfOk, IfErr, IsErrOf}
 use Rattle.header.specs.Checks.{Accepts}
-use Rattle.spec_model.specs.Nodes.{Node}
 use Rattle.spec_model.specs.Words.{Author}
-use Rattle.validator.specs.Setting.{ConfigView, node_of}
+use Rattle.validator.specs.Setting.{node_of}
 use Rattle.cluster.specs.Answers.{IsJournal, IsLost, IsGone}
 use Rattle.cluster.specs.Applying.{Became, moved, moved_some, refused, gone, IsApplied}
 use Rattle.cluster.specs.Cluster.{at, actor, Does, Moved, MovedSome, MovesOne, IsStopOf}
@@ -53,7 +52,8 @@ module _ {S D : Type 0} (scheme : Scheme S) (device : Device D) (accepts : Accep
         fails (Journal cause) is = absurd (elim (err_is Applied result (λ error. (error ≡ NoSuchNode) ⊎ (error ≡ Memory)) (Journal cause) errors is) [ inl so ↦ (cc) | inr so ↦ (cc) ])
 
     -- one that delivers
-    pub is_delivered : IfErr result (λ error. (error ≡ NoSuchNode) ⊎ (error ≡ NoSuchOutput) → later ≡ before) → IfErr result (λ error. IsJournal error → ⊥) → IsApplied scheme device accepts before step later
+    pub is_delivered : IfErr result (λ error. (error ≡ NoSuchNode) ⊎ (error ≡ NoSuchOutput) → later ≡ before)
+        → IfErr result (λ error. IsJournal error → ⊥) → IsApplied scheme device accepts before step later
     is_delivered unchanged never = record { became = became result moves fails; others = others; settings = settings }
       where
         fails : (error : ClusterError) → IsErrOf result error → Fails error
@@ -63,17 +63,24 @@ module _ {S D : Type 0} (scheme : Scheme S) (device : Device D) (accepts : Accep
         fails (Journal cause) is = absurd (err_is Applied result (λ error. IsJournal error → ⊥) (Journal cause) never is tt)
 
     -- one that stops a machine
-    pub is_stopped : (device : Device D) → IsStopOf step → (IsErrOf result NoSuchNode → later ≡ before)
-        → IfErr result (λ error. (error ≡ NoSuchNode) ⊎ ((error ≡ Memory) ⊎ (IsJournal error × MovesOne (λ member. IsLost (node_of scheme member.setting) device error member) (actor step) before later)))
+    pub is_stopped : IsStopOf step → (IsErrOf result NoSuchNode → later ≡ before)
+        → IfErr result (λ error. (error ≡ NoSuchNode)
+        ⊎ ((error ≡ Memory) ⊎ (IsJournal error × MovesOne (λ member. IsLost (node_of scheme member.setting) device error member) (actor step)
+        before later)))
         → IsApplied scheme device accepts before step later
-    is_stopped device stop unchanged errors = record { became = became result moves fails; others = others; settings = settings }
+    is_stopped stop unchanged errors = record { became = became result moves fails; others = others; settings = settings }
       where
         lost : (error : ClusterError) → MovesOne (λ member. IsLost (node_of scheme member.setting) device error member) (actor step) before later → MovesOne IsGone (actor step) before later
         lost error is = record { one = is.one; other = is.other; was = is.was; is = is.is; becomes = is.becomes.gone }
 
-        either : (error : ClusterError) → IsErrOf result error → (error ≡ NoSuchNode) ⊎ ((error ≡ Memory) ⊎ (IsJournal error × MovesOne (λ member. IsLost (node_of scheme member.setting) device error member) (actor step) before later))
+        either : (error : ClusterError) → IsErrOf result error → (error ≡ NoSuchNode)
+            ⊎ ((error ≡ Memory) ⊎ (IsJournal error × MovesOne (λ member. IsLost (node_of scheme member.setting) device error member) (actor step)
+            before later))
         either error is =
-            err_is Applied result (λ error. (error ≡ NoSuchNode) ⊎ ((error ≡ Memory) ⊎ (IsJournal error × MovesOne (λ member. IsLost (node_of scheme member.setting) device error member) (actor step) before later))) error errors is
+            err_is Applied result
+            (λ error. (error ≡ NoSuchNode)
+            ⊎ ((error ≡ Memory) ⊎ (IsJournal error × MovesOne (λ member. IsLost (node_of scheme member.setting) device error member) (actor step)
+            before later))) error errors is
 
         fails : (error : ClusterError) → IsErrOf result error → Fails error
         fails Memory is = memory is

@@ -20,7 +20,9 @@ ok_history : (one other : History) → ◌≡◌ {A = Result History ℕ} (Ok on
 ok_history one other same = cc
 
 -- an event that is read is one more
-one_more : (history later : History) (event : Event) (place : ℕ) (new : Bool) → option_map_or (λ (h : History). Ok h) (if new then Some (history ++ event ∷ []) else None) (Err place) ≡ Ok later → length later ≡ length history + 1
+one_more : (history later : History) (event : Event) (place : ℕ) (new : Bool)
+    → option_map_or (λ (h : History). Ok h) (if new then Some (history ++ event ∷ []) else None) (Err place) ≡ Ok later → length later
+    ≡ length history + 1
 one_more history later event place true is = let same : history ++ event ∷ [] ≡ later = ok_history (history ++ event ∷ []) later is in omega (arith, ap length same, length-append history (event ∷ []))
 one_more history later event place false is = absurd (cc)
 
@@ -41,7 +43,9 @@ events_read node history last (one ∷ rest) is = by_first (read_event node hist
     failed : (place : ℕ) → ◌≡◌ {A = Result History ℕ} (Err place) (Ok last) → ⊥
     failed place same = cc
 
-    by_first : (r : Result History ℕ) → read_event node history one ≡ r → ((later : History) → read_event node history one ≡ Ok later → length last ≡ length later + length rest) → length last ≡ length history + length (one ∷ rest)
+    by_first : (r : Result History ℕ) → read_event node history one ≡ r
+        → ((later : History) → read_event node history one ≡ Ok later → length last ≡ length later + length rest) → length last
+        ≡ length history + length (one ∷ rest)
     by_first (Ok later) e others = omega (arith, event_read node history later one e, others later e)
     by_first (Err place) e others = absurd (failed place (sym (read_err node history one rest place e) ∙ is))
 

@@ -19,7 +19,6 @@ use Rattle.spec_model.specs.Words.{Author, Digest, Event, Message, Output}
 use Rattle.spec_world.proofs.Ballots.{joined_of}
 use Rattle.spec_world.specs.Steps.{Move, accept, release}
 use Rattle.spec_world.specs.World.{World, Waiting, Outgoing, put_out, read, Given}
-use Rattle.validator.specs.Setting.{ConfigView}
 use Rattle.wire.specs.declared.message.Message.TheVariants as message
 use Rattle.wire.specs.declared.output.Output.TheVariants as output
 use Rattle.cluster.specs.Answers.{TakesIn, MakesRound, Stops}
@@ -114,7 +113,8 @@ module _ {S D : Type 0} (device : Device D) where
 
     module _ (turns : List Turn) (are_members : AreMembers cluster) (reached : IsReached cluster (Fair cluster value) turns worlds) where
       -- no vote in what an honest member put out is forged, and it is no coin
-      given_fair : (number : ℕ) → cluster.honest number ≡ true → (one : Given) → Contains (worlds number).given one → (out : Output) → one.outgoing ≡ put_out out → (m : Message) → message_of out ≡ Some m
+      given_fair : (number : ℕ) → cluster.honest number ≡ true → (one : Given) → Contains (worlds number).given one → (out : Output) → one.outgoing
+          ≡ put_out out → (m : Message) → message_of out ≡ Some m
           → NoForgery cluster worlds m × HasCoin value m
       given_fair number honest one there (output.Batch batch) is m same =
           subst (λ (x : Message). NoForgery cluster worlds x × HasCoin value x) (same_Some (message.Batch batch) m same) (λ vote inside signer good. absurd (Contains-nothing vote inside), tt)
@@ -132,7 +132,8 @@ module _ {S D : Type 0} (device : Device D) where
 
       -- what an honest member put out is fair where it is delivered
       sent_fair : (from : Author) → cluster.honest from.0 ≡ true → (place : ℕ) (m : Message) → message_at members from place ≡ Some m → NoForgery cluster worlds m × HasCoin value m
-      sent_fair from honest place m is = by_output (slice_get among.member.out.outputs place) refl (sym (ap (option_and_then (λ (k : MemberView S D). option_and_then message_of (slice_get k.out.outputs place))) among.is) ∙ is)
+      sent_fair from honest place m is = by_output (slice_get among.member.out.outputs place) refl
+          (sym (ap (option_and_then (λ (k : MemberView S D). option_and_then message_of (slice_get k.out.outputs place))) among.is) ∙ is)
         where
           among : StandsAmong scheme device members from (cluster.node from.0) (worlds from.0)
           among = stand from honest
@@ -159,8 +160,10 @@ module _ {S D : Type 0} (device : Device D) where
         takes_may event (Reopened count) moves before later takes fair = absurd takes
 
         -- the moves that are made of a fair move of the cluster
-        pub does_may : (step : moves.Move) (applied : Applied) (world : World) (moves : List Move) (before later : DeskView S D) → Does own device cluster.accepts members step applied world moves before later
-            → ((event : Event) → handed_in cluster members step ≡ Some event → fault_of cluster.charter cluster.accepts event ≡ None → NoneForged cluster members event.message × HasCoin value event.message)
+        pub does_may : (step : moves.Move) (applied : Applied) (world : World) (moves : List Move) (before later : DeskView S D)
+            → Does own device cluster.accepts members step applied world moves before later
+            → ((event : Event) → handed_in cluster members step ≡ Some event → fault_of cluster.charter cluster.accepts event ≡ None
+            → NoneForged cluster members event.message × HasCoin value event.message)
             → MayLead cluster value worlds moves
         does_may (Deliver from output to) applied world moves before later (message, is, takes) fair = by_sender (cluster.honest from.0) refl
           where

@@ -49,7 +49,9 @@ module _ {S D : Type 0} (scheme : Scheme S) (device : Device D) (cluster : Clust
     pub stands : StandsAt own device to other
     pub setting : other.setting ≡ one.setting
 
-  module _ (own : Node) (worlds : Worlds) (Kind : List Move → DeskView S D → DeskView S D → Type 0) (may : (moves : List Move) (a b : DeskView S D) → Kind moves a b → MayLead cluster value worlds moves) (world : World) (one other : MemberView S D) where
+  module _ (own : Node) (worlds : Worlds) (Kind : List Move → DeskView S D → DeskView S D → Type 0)
+      (may : (moves : List Move) (a b : DeskView S D) → Kind moves a b → MayLead cluster value worlds moves) (world : World)
+      (one other : MemberView S D) where
     makes_on : Makes own device Kind world one other → GoesOn own worlds world one other
     makes_on is =
         let behind = is.behind in
@@ -114,7 +116,8 @@ module _ {S D : Type 0} (scheme : Scheme S) (device : Device D) (cluster : Clust
   among_also before later number own world same among = record { member = among.member; is = same ∙ among.is; set_up = among.set_up; stands = among.stands }
 
   -- a member that isn't honest did something
-  others_on : (before later : List (MemberView S D)) (number : Author) → cluster.honest number.0 ≡ false → ((other : Author) → other ≢ number → at later other ≡ at before other) → AreAt before → AreAt later
+  others_on : (before later : List (MemberView S D)) (number : Author) → cluster.honest number.0 ≡ false
+      → ((other : Author) → other ≢ number → at later other ≡ at before other) → AreAt before → AreAt later
   others_on before later number off others are = record {
     worlds = are.worlds;
     turns = are.turns;
@@ -145,19 +148,21 @@ module _ {S D : Type 0} (scheme : Scheme S) (device : Device D) (cluster : Clust
   -- and went on
   honest_on : (before later : List (MemberView S D)) (number : Author) → cluster.honest number.0 ≡ true → (one other : MemberView S D) → at before number ≡ Some one → at later number ≡ Some other
       → ((other : Author) → other ≢ number → at later other ≡ at before other) → (are : AreAt before)
-      → (node_of scheme one.setting ≡ cluster.node number.0 → StandsAt (node_of scheme one.setting) device (are.worlds number.0) one → GoesOn (node_of scheme one.setting) are.worlds (are.worlds number.0) one other) → AreAt later
+      → (node_of scheme one.setting ≡ cluster.node number.0 → StandsAt (node_of scheme one.setting) device (are.worlds number.0) one
+      → GoesOn (node_of scheme one.setting) are.worlds (are.worlds number.0) one other) → AreAt later
   honest_on before later number honest one other was is others are goes =
       let among = are.stand number honest in
       let same : among.member ≡ one = some_is among.member one (sym among.is ∙ was) in
       let own : node_of scheme one.setting ≡ cluster.node number.0 = ap (λ (m : MemberView S D). node_of scheme m.setting) (sym same) ∙ among.set_up in
-      let stood : StandsAt (cluster.node number.0) device (are.worlds number.0) one = subst (λ (m : MemberView S D). StandsAt (cluster.node number.0) device (are.worlds number.0) m) same among.stands in
+      let stood : StandsAt (cluster.node number.0) device (are.worlds number.0) one =
+      subst (λ (m : MemberView S D). StandsAt (cluster.node number.0) device (are.worlds number.0) m) same among.stands in
       let stood_own : StandsAt (node_of scheme one.setting) device (are.worlds number.0) one = subst (λ (n : Node). StandsAt n device (are.worlds number.0) one) (sym own) stood in
       went own (goes own stood_own)
     where
       went : node_of scheme one.setting ≡ cluster.node number.0 → GoesOn (node_of scheme one.setting) are.worlds (are.worlds number.0) one other → AreAt later
       went own on =
           honest_turned before later number on.to
-          (record { member = other; is = is; set_up = ap scheme on.setting ∙ own; stands = subst (λ (n : Node). StandsAt n device on.to other) own on.stands })
+          (record { member = other; is = is; set_up = ap (node_of scheme) on.setting ∙ own; stands = subst (λ (n : Node). StandsAt n device on.to other) own on.stands })
           others are
           (turns_to cluster value number.0 honest on.moves are.worlds on.to on.may (subst (λ (n : Node). Leads n (are.worlds number.0) on.moves on.to) own on.leads))
 
@@ -166,20 +171,26 @@ module _ {S D : Type 0} (scheme : Scheme S) (device : Device D) (cluster : Clust
       may : cluster.honest (actor step).0 ≡ true → (own : Node) → own ≡ cluster.node (actor step).0 → (answer : Applied) (moves : List Move) (a b : DeskView S D)
           → Does own device cluster.accepts before step answer (are.worlds (actor step).0) moves a b → MayLead cluster value are.worlds moves
       may honest own same answer moves a b does =
-          does_may device scheme cluster value are.worlds before are.stand are.turns are_members are.reached own (ap (λ (n : Node). n.charter) same ∙ (are_members (actor step).0 honest).charter) step answer (are.worlds (actor step).0) moves a b does
+          does_may device scheme cluster value are.worlds before are.stand are.turns are_members are.reached own
+          (ap (λ (n : Node). n.charter) same ∙ (are_members (actor step).0 honest).charter) step answer (are.worlds (actor step).0) moves a b does
           (λ event handed passed. fair event handed honest passed)
 
-      honest_became : cluster.honest (actor step).0 ≡ true → ((other : Author) → other ≢ actor step → at later other ≡ at before other) → Became scheme device cluster.accepts before step later → AreAt later
+      honest_became : cluster.honest (actor step).0 ≡ true → ((other : Author) → other ≢ actor step → at later other ≡ at before other)
+          → Became scheme device cluster.accepts before step later → AreAt later
       honest_became honest others (moved answer is) =
           honest_on before later (actor step) honest is.one is.other is.was is.is others are
           (λ own stands.
-          makes_on (node_of scheme is.one.setting) are.worlds (Does (node_of scheme is.one.setting) device cluster.accepts before step answer (are.worlds (actor step).0)) (may honest (node_of scheme is.one.setting) own answer)
+          makes_on (node_of scheme is.one.setting) are.worlds
+          (Does (node_of scheme is.one.setting) device cluster.accepts before step answer (are.worlds (actor step).0))
+          (may honest (node_of scheme is.one.setting) own answer)
           (are.worlds (actor step).0) is.one is.other (is.becomes (are.worlds (actor step).0) stands))
       honest_became honest others (moved_some is) =
           honest_on before later (actor step) honest is.one is.other is.was is.is others are
           (λ own stands.
           let some = is.becomes (are.worlds (actor step).0) stands in
-          makes_some_on (node_of scheme is.one.setting) are.worlds (Does (node_of scheme is.one.setting) device cluster.accepts before step some.0 (are.worlds (actor step).0)) (may honest (node_of scheme is.one.setting) own some.0)
+          makes_some_on (node_of scheme is.one.setting) are.worlds
+          (Does (node_of scheme is.one.setting) device cluster.accepts before step some.0 (are.worlds (actor step).0))
+          (may honest (node_of scheme is.one.setting) own some.0)
           (are.worlds (actor step).0) is.one is.other some.1)
       honest_became honest others (refused same) = subst AreAt (sym same) are
       honest_became honest others (gone stop is) =
@@ -243,7 +254,8 @@ module _ {S D : Type 0} (scheme : Scheme S) (device : Device D) (cluster : Clust
   -- ---- what they agree on
 
   -- an order is none, or it was given out
-  gave : (worlds : Worlds) (number : ℕ) → cluster.honest number ≡ true → (digests : List Digest) → IsLongest (cluster.node number) (worlds number) digests → (digests ≡ []) ⊎ GaveIt cluster worlds number digests
+  gave : (worlds : Worlds) (number : ℕ) → cluster.honest number ≡ true → (digests : List Digest)
+      → IsLongest (cluster.node number) (worlds number) digests → (digests ≡ []) ⊎ GaveIt cluster worlds number digests
   gave worlds number honest digests longest = elim longest.given [
     | inl none ↦ inl none
     | inr some ↦ inr (record { honest = honest; given = some.0; among = some.1; is = some.2 })
@@ -252,7 +264,8 @@ module _ {S D : Type 0} (scheme : Scheme S) (device : Device D) (cluster : Clust
   none_begins : (one other : List Digest) → one ≡ [] → Begins one other
   none_begins one other none = record { rest = other; parts = ap (λ (l : List Digest). l ++ other) (sym none) }
 
-  orders_of : (worlds : Worlds) → AreAgreed cluster worlds → (number also : ℕ) (one other : List Digest) → (one ≡ []) ⊎ GaveIt cluster worlds number one → (other ≡ []) ⊎ GaveIt cluster worlds also other → Agree one other
+  orders_of : (worlds : Worlds) → AreAgreed cluster worlds → (number also : ℕ) (one other : List Digest) → (one ≡ [])
+      ⊎ GaveIt cluster worlds number one → (other ≡ []) ⊎ GaveIt cluster worlds also other → Agree one other
   orders_of worlds agreed number also one other (inl none) second = inl (none_begins one other none)
   orders_of worlds agreed number also one other (inr first) (inl none) = inr (none_begins other one none)
   orders_of worlds agreed number also one other (inr first) (inr second) = agreed.orders number also one other first second

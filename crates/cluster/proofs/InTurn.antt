@@ -11,7 +11,8 @@ use Rattle.spec_world.specs.World.{World}
 -- ---- turns behind turns
 
 module _ (cluster : Cluster) (Assumed : Worlds → Turn → Type 0) where
-  turns_join : (turns more : List Turn) (first middle last : Worlds) → Leads cluster Assumed first turns middle → Leads cluster Assumed middle more last → Leads cluster Assumed first (turns ++ more) last
+  turns_join : (turns more : List Turn) (first middle last : Worlds) → Leads cluster Assumed first turns middle
+      → Leads cluster Assumed middle more last → Leads cluster Assumed first (turns ++ more) last
   turns_join [] more first middle last same then = subst (λ (w : Worlds). Leads cluster Assumed w more last) (sym same) then
   turns_join (turn ∷ turns) more first middle last leads then = (leads.0, leads.1, leads.2, turns_join turns more leads.0 middle last leads.3 then)
 

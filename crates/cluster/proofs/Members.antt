@@ -1,11 +1,12 @@
 -- A member behind a move.
 use Rattle.std.proofs.Common.{◌≡◌, ◌⊎◌, ℕ, inl, inr, List, [], length, refl, sym, ap, ◌∙◌, subst, arith}
 use Rattle.std.specs.Prelude.{◌<◌, Option, Some, Contains, Result, Err}
+use Rattle.diskmodel.specs.Disk.{Device}
 use Rattle.desk.specs.AtWorld.{IsAt, LeadsTo, IsStop}
 use Rattle.desk.specs.Desk.{DeskView, IsOpened}
 use Rattle.journal.specs.Journal.{disk_of}
 use Rattle.journal.specs.declared.error.JournalError.{JournalError}
-use Rattle.journal.specs.declared.error.JournalError.TheVariants.{Device}
+use Rattle.journal.specs.declared.error.JournalError.TheVariants as errors
 use Rattle.spec_model.specs.Nodes.{Node}
 use Rattle.spec_world.specs.Steps.{Move}
 use Rattle.spec_world.specs.Runs.{first_bytes}
@@ -59,7 +60,8 @@ module _ {S D : Type 0} (node : Node) (device : Device D) (world : World) (befor
         stands = at_next behind.to behind.at behind.out;
       }
 
-  pub makes_some : (Does : List Move → DeskView S D → DeskView S D → Type 0) (middle : DeskView S D) → HasMoved node device (λ moves one other. ((moves ≡ []) × (other ≡ one)) ⊎ Does moves one other) world desk middle
+  pub makes_some : (Does : List Move → DeskView S D → DeskView S D → Type 0) (middle : DeskView S D)
+      → HasMoved node device (λ moves one other. ((moves ≡ []) × (other ≡ one)) ⊎ Does moves one other) world desk middle
       → ((w : World) → IsAt node device w middle → HasPutOut node w before.out → HasCollectedSome node device w middle next before.out later.out) → MakesSome node device Does world before later
   makes_some Does middle moved collects =
       let behind = collects moved.to moved.at (put_out_same node world moved.to before.out moved.quiet stands.out) in
@@ -93,7 +95,8 @@ stopped node device world before later found count left opened counted moves by 
     (record { found = found; left = left; opened = opened; counted = counted; by = by })
 
 -- a move of another kind that this one is
-module _ {S D : Type 0} (node : Node) (device : Device D) (One Other : List Move → DeskView S D → DeskView S D → Type 0) (so : (moves : List Move) (a b : DeskView S D) → One moves a b → Other moves a b) (world : World) (before later : MemberView S D) where
+module _ {S D : Type 0} (node : Node) (device : Device D) (One Other : List Move → DeskView S D → DeskView S D → Type 0)
+    (so : (moves : List Move) (a b : DeskView S D) → One moves a b → Other moves a b) (world : World) (before later : MemberView S D) where
   pub makes_as : Makes node device One world before later → Makes node device Other world before later
   makes_as is = record {
     desk = is.desk;
@@ -128,7 +131,8 @@ module _ {S D : Type 0} (node : Node) (device : Device D) (One Other : List Move
   }
 
 -- memory was refused before anything happened
-pub nothing_made : {S D : Type 0} (node : Node) (device : Device D) (Does : List Move → DeskView S D → DeskView S D → Type 0) (world : World) (one : MemberView S D) (desk : DeskView S D) → one.desk ≡ Some desk
+pub nothing_made : {S D : Type 0} (node : Node) (device : Device D) (Does : List Move → DeskView S D → DeskView S D → Type 0) (world : World)
+    (one : MemberView S D) (desk : DeskView S D) → one.desk ≡ Some desk
     → StandsAt node device world one → MakesSome node device Does world one one
 nothing_made node device Does world one desk is stands =
     makes_some node device world one one desk desk is is refl stands Does desk (not_moved node device Does world desk (stands.at desk is))
@@ -156,7 +160,7 @@ journal_is one other same = cc
 pub journal_err : {T : Type 0} (one other : JournalError) → ◌≡◌ {A = Result T ClusterError} (Err (Journal one)) (Err (Journal other)) → one ≡ other
 journal_err one other same = cc
 
-pub err_of : {T : Type 0} (one : JournalError) → ◌≡◌ {A = Result T JournalError} (Err one) (Err Device) → one ≡ Device
+pub err_of : {T : Type 0} (one : JournalError) → ◌≡◌ {A = Result T JournalError} (Err one) (Err errors.Device) → one ≡ errors.Device
 err_of one same = cc
 
 -- a disk counted a failure more than one that counts as this does

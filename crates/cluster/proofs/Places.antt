@@ -34,7 +34,9 @@ found_at p xs place is = find_at p xs ∙ ap (slice_get xs) (sym (first_of p xs 
 -- and where none passes nothing is found
 pub none_found : {X : Type 0} (p : X → Bool) (xs : List X) → position p xs ≡ None → find p xs ≡ None
 none_found {X} p xs is = elim (cases_lt (position_or_len p xs) (length xs)) [
-  | inl less ↦ (let some : position p xs ≡ Some (position_or_len p xs) = ap (λ (b : Bool). cond b (Some (position_or_len p xs)) None) (lt-ltb (position_or_len p xs) (length xs) less) in let bad : ◌≡◌ {A = Option ℕ} None (Some (position_or_len p xs)) = sym is ∙ some in absurd cc)
+  | inl less ↦ (let some : position p xs ≡ Some (position_or_len p xs) = ap (λ (b : Bool). cond b (Some (position_or_len p xs)) None)
+      (lt-ltb (position_or_len p xs) (length xs) less) in let bad : ◌≡◌ {A = Option ℕ} None (Some (position_or_len p xs)) = sym is ∙ some in
+      absurd cc)
   | inr past ↦ find_at p xs ∙ slice_get_past xs (position_or_len p xs) past
 ]
 
@@ -70,7 +72,9 @@ there_some {S} {D} members number is = by_found (at members number) refl is
 
 -- ---- a member that becomes another one of the same settings
 
-module _ {S D : Type 0} (members : List (MemberView S D)) (number : Author) (place : ℕ) (one later : MemberView S D) (first : position (λ member. named number member) members ≡ Some place) (there : slice_get members place ≡ Some one) (setting : later.setting ≡ one.setting) where
+module _ {S D : Type 0} (members : List (MemberView S D)) (number : Author) (place : ℕ) (one later : MemberView S D)
+    (first : position (λ member. named number member) members ≡ Some place) (there : slice_get members place ≡ Some one)
+    (setting : later.setting ≡ one.setting) where
   found : at members number ≡ Some one
   found = found_at (λ member. named number member) members place first ∙ there
 
@@ -95,7 +99,8 @@ module _ {S D : Type 0} (members : List (MemberView S D)) (number : Author) (pla
         | inl so ↦ absurd (differs (same_number (eqb-true one.setting.own.0 other.0 so) (eqb-true one.setting.own.0 number.0 is_named)))
         | inr off ↦ off
       ] in
-      find_past (λ member. named other member) members place later one (ap (λ m. named other m) (get_or_from_slice_get members place one one there) ∙ not_it) (ap (λ s. s.own.0 == other.0) setting ∙ not_it)
+      find_past (λ member. named other member) members place later one (ap (λ m. named other m) (get_or_from_slice_get members place one one there)
+      ∙ not_it) (ap (λ s. s.own.0 == other.0) setting ∙ not_it)
     where
       same_number : one.setting.own.0 ≡ other.0 → one.setting.own.0 ≡ number.0 → other ≡ number
       same_number a b = let same : other.0 ≡ number.0 = sym a ∙ b in (λ i. record { 0 = same i })

@@ -76,7 +76,12 @@ module _ (node : Node) (moves : List Move) (world next : World) (sound : IsNode 
           order = record {
             given = elim was.out.order.given [
               | inl none ↦ inl (is ∙ none)
-              | inr some ↦ inr (some.0, subst (λ (l : List Given). Contains l some.0) (sym given) (Contains-append_left world.given (one ∷ []) some.0 some.1), some.2 ∙ ap (λ (l : List Digest). Some l) (sym is))
+              | inr some ↦ inr (
+                some.0,
+                subst (λ (l : List Given). Contains l some.0) (sym given)
+                    (Contains-append_left world.given (one ∷ []) some.0 some.1),
+                some.2 ∙ ap (λ (l : List Digest). Some l) (sym is),
+              )
             ];
             begins = λ some other there told. subst (Begins other) (sym whole) (given_begins node moves next sound run some other there told);
           };

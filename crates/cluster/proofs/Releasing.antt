@@ -79,7 +79,8 @@ module _ {S D : Type 0} (node : Node) (device : Device D) where
               ∙ sym (map-append (λ (w : Waiting). w.output) so_far.kept.took (more.waiting ∷ []));
         };
         to = to.next;
-        leads = subst (λ (l : List Move). Leads node world l to.next) (sym (map-append release so_far.went (waiting ∷ []))) (leads_join node world (map release so_far.went) (release waiting ∷ []) so_far.to to.next so_far.leads to.leads);
+        leads = subst (λ (l : List Move). Leads node world l to.next) (sym (map-append release so_far.went (waiting ∷ [])))
+            (leads_join node world (map release so_far.went) (release waiting ∷ []) so_far.to to.next so_far.leads to.leads);
         at = to.is_at;
         whole = release_out node to.is_at.moves so_far.to to.next so_far.at.sound to.is_at.run more.waiting.output _ released.is between later so_far.whole more.outputs more.order;
       }
@@ -102,7 +103,8 @@ module _ {S D : Type 0} (node : Node) (device : Device D) where
   -- ---- both
 
   -- a desk that is down gives nothing out
-  pub nothing_collected : (world : World) (one : desk.DeskView S D) (out : GivenOutView) → one.book.down ≡ true → IsAt node device world one → HasPutOut node world out → HasCollected node device world one one out out
+  pub nothing_collected : (world : World) (one : desk.DeskView S D) (out : GivenOutView) → one.book.down ≡ true → IsAt node device world one
+      → HasPutOut node world out → HasCollected node device world one one out out
   nothing_collected world one out down at was = record {
     went = [];
     kept = record { took = []; queue = refl; outputs = sym (append-nil out.outputs); same = refl };

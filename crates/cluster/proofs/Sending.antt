@@ -6,7 +6,7 @@ use Rattle.spec_model.specs.Nodes.{Node}
 use Rattle.spec_model.specs.Words.{Author, Message}
 use Rattle.spec_world.specs.Steps.{Move}
 use Rattle.spec_world.specs.World.{World}
-use Rattle.validator.specs.Setting.{ConfigView, node_of}
+use Rattle.validator.specs.Setting.{node_of}
 use Rattle.cluster.specs.Answers.{TakesIn}
 use Rattle.cluster.specs.Cluster.{message_at, Does, Moved, MovedSome}
 use Rattle.cluster.specs.Member.{MemberView}
@@ -16,7 +16,8 @@ use Rattle.cluster.proofs.Members.{makes_as, makes_some_as}
 use Rattle.diskmodel.specs.Disk.{Device}
 use Rattle.sigface.specs.Scheme.{Scheme}
 
-module _ {S D : Type 0} (scheme : Scheme S) (device : Device D) (accepts : Accepts) (members : List (MemberView S D)) (from : Author) (output : ℕ) (to : Author) (message : Message) (is : message_at members from output ≡ Some message) where
+module _ {S D : Type 0} (scheme : Scheme S) (device : Device D) (accepts : Accepts) (members : List (MemberView S D)) (from : Author) (output : ℕ)
+    (to : Author) (message : Message) (is : message_at members from output ≡ Some message) where
   sent : (own : Node) (world : World) (applied : Applied) (moves : List Move) (a b : desk.DeskView S D) → TakesIn own accepts (record { sender = from; message = message }) applied moves a b
       → Does own device accepts members (Deliver from output to) applied world moves a b
   sent own world applied moves a b does = (message, is, does)

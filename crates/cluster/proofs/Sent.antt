@@ -3,6 +3,7 @@ use Rattle.std.proofs.Common.{◌≡◌, ◌⊎◌, ℕ, inl, inr, Option, Some,
 use Rattle.std.specs.Prelude.{◌≢◌, IfSome, IsNone}
 use Rattle.spec_model.specs.Words.{Author, Event, Message, Output}
 use Rattle.wire.specs.Outputs.{receiver_of}
+use Rattle.wire.specs.declared.output_bytes.TheConstants.{TO_ALL}
 use Rattle.cluster.specs.Outputs.{message_of}
 use Rattle.cluster.specs.Threads.{IsSent, IsHeard}
 
@@ -15,7 +16,7 @@ where_none (Some one) holds is = absurd cc
 where_none None holds is = holds refl
 
 pub sent : (sender : Author) (output : Output) (message : Message) (receiver : Option Author) → message_of output ≡ Some message → IfSome receiver (λ to. to.0 ≡ receiver_of output)
-    → (IsNone receiver → (receiver_of output ≡ 65535) ⊎ (message_of output ≡ None)) → IsSent receiver (record { sender = sender; message = message })
+    → (IsNone receiver → (receiver_of output ≡ TO_ALL) ⊎ (message_of output ≡ None)) → IsSent receiver (record { sender = sender; message = message })
 sent sender output message receiver is named unnamed = record {
   output = output;
   message = is;
@@ -24,7 +25,8 @@ sent sender output message receiver is named unnamed = record {
 }
 
 -- it is heard as what its parts are
-pub heard_as : (own : Author) (event : Event) (sender : Author) (message : Message) → sender ≡ event.sender → message ≡ event.message → IsHeard own event → IsHeard own (record { sender = sender; message = message })
+pub heard_as : (own : Author) (event : Event) (sender : Author) (message : Message) → sender ≡ event.sender → message ≡ event.message
+    → IsHeard own event → IsHeard own (record { sender = sender; message = message })
 heard_as own event sender message by is heard = record {
   output = heard.output;
   message = heard.message ∙ ap (λ m. Some m) (sym is);

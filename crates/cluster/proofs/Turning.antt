@@ -73,19 +73,22 @@ module _ {S D : Type 0} (node : Node) (device : Device D) where
   }
 
   -- a desk moved
-  pub moved : (Does : List Move → DeskView S D → DeskView S D → Type 0) (world : World) (moves : List Move) (before later : DeskView S D) → AllQuiet moves → LeadsTo node device world moves later → Does moves before later
+  pub moved : (Does : List Move → DeskView S D → DeskView S D → Type 0) (world : World) (moves : List Move) (before later : DeskView S D)
+      → AllQuiet moves → LeadsTo node device world moves later → Does moves before later
       → HasMoved node device Does world before later
   moved Does world moves before later quiet to does = record { moves = moves; does = does; to = to.next; leads = to.leads; at = to.is_at; quiet = leads_given node moves world to.next quiet to.leads }
 
   module _ (accepts : Accepts) (event : Event) (world : World) (before later : DeskView S D) (passed : fault_of node.charter accepts event ≡ None) (at : IsAt node device world before) where
-    pub took : before.book.down ≡ false → (ticket : ℕ) (new : Bool) → (new ≡ true → TakesNew node before.book later.book event) → (new ≡ false → TakesKnown node before.book later.book event) → ticket ≡ later.book.accepted
+    pub took : before.book.down ≡ false → (ticket : ℕ) (new : Bool) → (new ≡ true → TakesNew node before.book later.book event)
+        → (new ≡ false → TakesKnown node before.book later.book event) → ticket ≡ later.book.accepted
         → ((w : World) → IsAt node device w before → LeadsTo node device w (accept event ∷ []) later)
         → HasMoved node device (TakesIn node accepts event (Took ticket new)) world before later
     took up ticket new takes_new takes_known counted step =
         moved (TakesIn node accepts event (Took ticket new)) world (accept event ∷ []) before later (tt, tt) (step world at)
         (record { passed = passed; up = up; takes_new = takes_new; takes_known = takes_known; counted = counted; by = refl })
 
-    pub refused : (why : Refusal) → why ≢ refusal.Memory → ((why ≡ refusal.Down) ↔ (before.book.down ≡ true)) → ((run : Run) → Stands node run before.book → MayRefuse node run before.book event why) → later ≡ before
+    pub refused : (why : Refusal) → why ≢ refusal.Memory → ((why ≡ refusal.Down) ↔ (before.book.down ≡ true))
+        → ((run : Run) → Stands node run before.book → MayRefuse node run before.book event why) → later ≡ before
         → HasMoved node device (TakesIn node accepts event (Refused why)) world before later
     refused why not_memory down may same =
         stays (TakesIn node accepts event (Refused why)) world before later at same
@@ -122,11 +125,14 @@ module _ {S D : Type 0} (node : Node) (device : Device D) where
             ok_is one other so = cc
         by_pending (first ∷ rest) is =
             let some = some_pending first rest is in
-            moved (MakesRound node device world (Settled count)) world (take_to (length world.settled + count) ∷ device_call ∷ device_call ∷ device_call ∷ device_call ∷ settle ∷ []) before later (tt, (tt, (tt, (tt, (tt, (tt, tt)))))) (steps some world at)
+            moved (MakesRound node device world (Settled count)) world
+            (take_to (length world.settled + count) ∷ device_call ∷ device_call ∷ device_call ∷ device_call ∷ settle ∷ []) before later
+            (tt, (tt, (tt, (tt, (tt, (tt, tt)))))) (steps some world at)
             (record { up = up; idle = λ none. absurd (some none); flushes = flushes; by = λ _. refl })
 
     pub fault : (error : FlushError) → ((error ≡ errors.Down) ↔ (before.book.down ≡ true)) → ((error ≡ errors.Down) ⊎ (error ≡ errors.Memory) → later ≡ before)
-        → (error ≡ errors.Full → FindsNoRoom node before.book later.book (device.content (disk_of before.journal))) → (error ≡ errors.Device → FailsWithRoom node before.book later.book (device.content (disk_of before.journal)))
+        → (error ≡ errors.Full → FindsNoRoom node before.book later.book (device.content (disk_of before.journal)))
+        → (error ≡ errors.Device → FailsWithRoom node before.book later.book (device.content (disk_of before.journal)))
         → ((error ≡ errors.Full) ⊎ (error ≡ errors.Device) → (w : World) → IsAt node device w before → (count : ℕ) × LeadsTo node device w (take_to count ∷ []) later)
         → HasMoved node device (MakesRound node device world (Fault error)) world before later
     fault errors.Memory down unchanged full fails steps =
@@ -157,7 +163,8 @@ module _ {S D : Type 0} (node : Node) (device : Device D) where
         })
 
   -- what a stop leaves of a desk in its world is told as a history
-  pub left_told : (world : World) (desk : DeskView S D) → IsAt node device world desk → (found : List ℕ) → device.outcome (disk_of desk.journal) found → (history : History) × (told node found ≡ Ok history)
+  pub left_told : (world : World) (desk : DeskView S D) → IsAt node device world desk → (found : List ℕ) → device.outcome (disk_of desk.journal) found
+      → (history : History) × (told node found ≡ Ok history)
   left_told world desk at found may = elim (at.is_of.left found may) [ inl settled ↦ (_, settled) | inr all ↦ (_, all) ]
 
   -- a desk that was opened on bytes that are told as these are

@@ -168,9 +168,9 @@ pub record IsGone {S D : Type 0} (before later : MemberView S D) : Type 0 where
 
 -- A node whose machine stopped is gone. One that stood at a world was refused for want of memory or a fault of the disk alone, a fault only
 -- where its disk counted a failure.
-pub record IsLost {S D : Type 0} (node : Node) (device : Device D) (error : ClusterError) (before later : MemberView S D) : Type 0 where
+pub record IsLost {S D : Type 0} (node : Node) (disks : Device D) (error : ClusterError) (before later : MemberView S D) : Type 0 where
   pub gone : IsGone before later
   pub desk : DeskView S D
   pub was : before.desk ≡ Some desk
-  pub device : error ≡ errors.Journal journal.Device → CountsMore device (disk_of desk.journal)
-  pub fault : (world : World) → StandsAt node device world before → IsJournalFault error
+  pub device : error ≡ errors.Journal journal.Device → CountsMore disks (disk_of desk.journal)
+  pub fault : (world : World) → StandsAt node disks world before → IsJournalFault error

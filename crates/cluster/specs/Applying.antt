@@ -14,7 +14,7 @@ use Rattle.spec_model.specs.Words.{Author, Digest, Event, Message}
 use Rattle.spec_world.specs.Runs.{first_bytes}
 use Rattle.spec_world.specs.Steps.{IsRun}
 use Rattle.spec_world.specs.World.{World, put_out, run_on}
-use Rattle.validator.specs.Setting.{ConfigView, node_of}
+use Rattle.validator.specs.Setting.{node_of}
 use Rattle.wire.specs.declared.message.Message.TheVariants as message
 use Rattle.cluster.specs.Answers.{IsGone}
 use Rattle.cluster.specs.Cluster.{at, actor, message_at, Does, MovesOne, Moved, MovedSome, IsStopOf}

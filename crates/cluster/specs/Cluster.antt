@@ -64,12 +64,15 @@ pub record MovesOne {S D : Type 0} (Becomes : MemberView S D → MemberView S D 
   pub becomes : Becomes one other
 
 -- the member of a number makes a move of this kind in each world at which it stands, and then all goes out that may
-abbrev pub Moved : {S D : Type 0} → Scheme S → Device D → (Node → World → List world.Move → desk.DeskView S D → desk.DeskView S D → Type 0) → Author → List (MemberView S D) → List (MemberView S D) → Type 0
+abbrev pub Moved : {S D : Type 0} → Scheme S → Device D → (Node → World → List world.Move → desk.DeskView S D → desk.DeskView S D → Type 0) → Author
+    → List (MemberView S D) → List (MemberView S D) → Type 0
 Moved scheme device Kind number before later = MovesOne (λ member other. (world : World) → StandsAt (node_of scheme member.setting) device world member
     → Makes (node_of scheme member.setting) device (Kind (node_of scheme member.setting) world) world member other) number before later
 
 -- or memory was refused in it
-abbrev pub MovedSome : {S D : Type 0} → Scheme S → Device D → (Applied → Node → World → List world.Move → desk.DeskView S D → desk.DeskView S D → Type 0) → Author → List (MemberView S D) → List (MemberView S D) → Type 0
+abbrev pub MovedSome : {S D : Type 0} → Scheme S → Device D
+    → (Applied → Node → World → List world.Move → desk.DeskView S D → desk.DeskView S D → Type 0) → Author → List (MemberView S D)
+    → List (MemberView S D) → Type 0
 MovedSome scheme device Kind number before later = MovesOne (λ member other. (world : World) → StandsAt (node_of scheme member.setting) device world member
     → (applied : Applied) × MakesSome (node_of scheme member.setting) device (Kind applied (node_of scheme member.setting) world) world member other) number before later
 

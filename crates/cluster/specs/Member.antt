@@ -1,5 +1,5 @@
 -- A member of a cluster: what contracts see of it, and at which world it stands.
-use Rattle.std.specs.Prelude.{◌≡◌, ◌⊎◌, ℕ, List, [], ◌∷◌, ◌++◌, map, Bool, true, false, Option, Some, None, Contains}
+use Rattle.std.specs.Prelude.{◌≡◌, ◌⊎◌, List, [], ◌∷◌, ◌++◌, map, Bool, true, false, Option, Some, None, Contains}
 use Rattle.book.specs.Book.{Run, Stands, history_in, releasable}
 use Rattle.desk.specs.AtWorld.{IsAt}
 use Rattle.desk.specs.Desk as desk

@@ -3,6 +3,7 @@ use Rattle.std.specs.Prelude.{◌≡◌, ◌⊎◌, List, [], ◌∷◌, flat_ma
 use Rattle.spec_model.specs.Words.{Author, Message, Output}
 use Rattle.spec_world.specs.World.{Outgoing, put_out, read, Given}
 use Rattle.wire.specs.Outputs.{receiver_of}
+use Rattle.wire.specs.declared.output_bytes.TheConstants.{TO_ALL}
 use Rattle.wire.specs.declared.message.Message.TheVariants as message
 use Rattle.wire.specs.declared.output.Output.TheVariants as output
 
@@ -17,7 +18,7 @@ message_of (output.Order start digests) = None
 
 -- an output is for a member: it names it, or is for all
 abbrev pub IsFor : Output → Author → Type 0
-IsFor output member = (receiver_of output ≡ member.0) ⊎ (receiver_of output ≡ 65535)
+IsFor output member = (receiver_of output ≡ member.0) ⊎ (receiver_of output ≡ TO_ALL)
 
 -- the outputs among what was given out, in order
 abbrev pub output_in : Outgoing → List Output

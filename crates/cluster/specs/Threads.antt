@@ -6,8 +6,9 @@ use Rattle.spec_model.specs.Nodes.{Node}
 use Rattle.spec_model.specs.Words.{Author, Event, Output}
 use Rattle.spec_world.specs.Steps.{Move}
 use Rattle.spec_world.specs.World.{World}
-use Rattle.validator.specs.Setting.{ConfigView, node_of}
+use Rattle.validator.specs.Setting.{node_of}
 use Rattle.wire.specs.Outputs.{receiver_of}
+use Rattle.wire.specs.declared.output_bytes.TheConstants.{TO_ALL}
 use Rattle.cluster.specs.Answers.{TakesIn, MakesRound, Makes}
 use Rattle.cluster.specs.Member.{MemberView, StandsAt}
 use Rattle.cluster.specs.Outputs.{message_of, IsFor}
@@ -22,7 +23,7 @@ pub record IsSent (receiver : Option Author) (event : Event) : Type 0 where
   pub output : Output
   pub message : message_of output ≡ Some event.message
   pub named : (to : Author) → receiver ≡ Some to → receiver_of output ≡ to.0
-  pub unnamed : receiver ≡ None → receiver_of output ≡ 65535
+  pub unnamed : receiver ≡ None → receiver_of output ≡ TO_ALL
 
 -- what comes to a member is of another one, and is the message of an output that is for it
 pub record IsHeard (own : Author) (event : Event) : Type 0 where

@@ -64,7 +64,7 @@ impl<'a, S: Sign, D: StopDisk + Drop, V: Verify + Drop> Cluster<'a, S, D, V> {
     /// Opens a node for each of these settings, each on the disk at its place.
     ///
     /// # Errors
-    /// `Journal` where an opening fails, `Memory` where a growth was refused.
+    /// `Journal` where an opening fails, `Memory` where an allocation failed.
     pub fn new(
         alloc: Global,
         configs: &'a [Config<S>],
@@ -104,7 +104,7 @@ impl<'a, S: Sign, D: StopDisk + Drop, V: Verify + Drop> Cluster<'a, S, D, V> {
     ///
     /// # Errors
     /// `NoSuchNode` and `NoSuchOutput`, which change nothing. `Journal` where a stopped node could not be opened: it is gone
-    /// from then on, and what it put out can still be delivered. `Memory` where a growth was refused, also behind the move:
+    /// from then on, and what it put out can still be delivered. `Memory` where an allocation failed, also after the move:
     /// what could not be put out then waits in the node.
     pub fn apply(&mut self, step: Move) -> Result<Applied, ClusterError>
         // The node that moves makes just this move in its world, and what may go out behind it goes out.
@@ -143,7 +143,7 @@ impl<'a, S: Sign, D: StopDisk + Drop, V: Verify + Drop> Cluster<'a, S, D, V> {
     /// The header that a node proposes behind all that it accepted. None where it proposes none.
     ///
     /// # Errors
-    /// `NoSuchNode` where there is no such node, or it is gone; `Memory` where a growth was refused.
+    /// `NoSuchNode` where there is no such node, or it is gone; `Memory` where an allocation failed.
     pub fn propose(&self, node: Author) -> Result<Option<Header>, ClusterError>
         ensures ok { IfOk result (λ found. (member : MemberView S D) × (at self.now.members node ≡ Some member) × Proposes (node_of S.scheme member.setting) member found) }
         ensures no_node { IsErrOf result ClusterError.NoSuchNode ↔ (IsThere self.now.members node → ⊥) }
@@ -192,7 +192,7 @@ impl<'a, S: Sign, D: StopDisk + Drop, V: Verify + Drop> Cluster<'a, S, D, V> {
     /// is not sent. It returns once all threads have ended.
     ///
     /// # Errors
-    /// `Memory` where a thread was refused, or a growth outside a round; the cluster is gone then. A round that wants memory
+    /// `Memory` where a thread was refused, or an allocation outside a round failed; the cluster is gone then. A round that wants memory
     /// settles nothing, and the next one tries again. The other threads still make their turns, so no gate may wait without
     /// limit for another thread.
     pub fn run_threads<R, G>(

@@ -78,7 +78,7 @@ impl GivenOut {
 }
 
 /// Reads the settled order, and then takes all outputs that may go out. Where the desk is down nothing goes out.
-/// `AllocError` where a growth was refused: what goes out after that waits in the desk.
+/// `AllocError` where an allocation failed: what goes out after that waits in the desk.
 pub(crate) fn collect<S: Sign, D: StopDisk>(
     desk: &mut Desk<'_, S, D>,
     given: &mut GivenOut,

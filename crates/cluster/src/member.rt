@@ -129,7 +129,7 @@ impl<'a, S: Sign, D: StopDisk> Member<'a, S, D> {
     /// The header that it proposes behind all that it accepted. None where it proposes none.
     ///
     /// # Errors
-    /// `NoSuchNode` where it is gone; `Memory` where a growth was refused.
+    /// `NoSuchNode` where it is gone; `Memory` where an allocation failed.
     pub(crate) fn propose(&self) -> Result<Option<Header>, ClusterError>
         ensures ok { IfOk result (λ found. Proposes (node_of S.scheme self.now.setting) self.now found) }
         ensures gone { IsErrOf result ClusterError.NoSuchNode ↔ (self.now.desk ≡ None) }
@@ -144,7 +144,7 @@ impl<'a, S: Sign, D: StopDisk> Member<'a, S, D> {
     /// Gives it a message, and then takes what it puts out.
     ///
     /// # Errors
-    /// `NoSuchNode` where it is gone; `Memory` where a growth was refused.
+    /// `NoSuchNode` where it is gone; `Memory` where an allocation failed.
     pub(crate) fn take_in<V: Verify>(
         &mut self,
         verifier: &V,
@@ -172,7 +172,7 @@ impl<'a, S: Sign, D: StopDisk> Member<'a, S, D> {
     /// Lets it make one round, and then takes what it puts out.
     ///
     /// # Errors
-    /// `NoSuchNode` where it is gone; `Memory` where a growth was refused behind the round.
+    /// `NoSuchNode` where it is gone; `Memory` where an allocation failed behind the round.
     pub(crate) fn flush(&mut self) -> Result<Applied, ClusterError>
         ensures ok { let node = node_of S.scheme self.old.setting in IfOk result (λ applied. (world : World) → StandsAt node D.device world self.old
             → Makes node D.device (MakesRound node D.device world applied) world self.old self.new) }
@@ -196,7 +196,7 @@ impl<'a, S: Sign, D: StopDisk> Member<'a, S, D> {
     /// Stops its machine, opens it again, and then takes what it puts out.
     ///
     /// # Errors
-    /// `NoSuchNode` where it is gone; `Journal` where it can't be opened: it is gone then. `Memory` where a growth was refused
+    /// `NoSuchNode` where it is gone; `Journal` where it can't be opened: it is gone then. `Memory` where an allocation failed
     /// behind the opening.
     pub(crate) fn stop(&mut self, alloc: Global) -> Result<Applied, ClusterError>
     where

@@ -126,7 +126,7 @@ impl Inbox {
     }
 }
 
-/// Puts each envelope into the inboxes that it is for, until nobody can send one any more. `AllocError` where a growth was refused.
+/// Puts each envelope into the inboxes that it is for, until nobody can send one any more. `AllocError` where an allocation failed.
 pub(crate) fn route<R: Wait>(
     rt: &R,
     envelopes: Receiver<Envelope>,

@@ -51,8 +51,8 @@ where
     }
 }
 
-/// Runs each member in a thread of its own for so many turns, and carries their messages in this one. `AllocError` where a growth was
-/// refused, or a thread.
+/// Runs each member in a thread of its own for so many turns, and carries their messages in this one. `AllocError` where an allocation
+/// failed, or a thread.
 pub(crate) fn run_members<'a, R, S, D, V, G>(
     rt: &R,
     alloc: Global,

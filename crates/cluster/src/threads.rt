@@ -42,7 +42,7 @@ impl<R: Wait, O: Runner<R, J, X>, J, X> Promise<X> for Ran<R, O, J> {
 }
 
 /// Does each job in a thread of its own, and something else in this one. Gives what came of them in their order, once all threads have
-/// ended. `AllocError` where a growth was refused, or a thread, or what is done in this one answers it.
+/// ended. `AllocError` where an allocation failed, or a thread, or what is done in this one answers it.
 pub(crate) fn run_in_threads<R, O, J, X, B>(
     rt: &R,
     alloc: Global,

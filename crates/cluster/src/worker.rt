@@ -64,7 +64,7 @@ impl<'a, S: Sign, D: StopDisk + Drop, G: Gate + Drop> Worker<'a, S, D, G> {
     /// Makes so many turns.
     ///
     /// # Errors
-    /// `Memory` where a growth was refused, here or to the router.
+    /// `Memory` where an allocation failed, here or to the router.
     pub(crate) fn run<R: Wait, V: Verify>(
         mut self,
         rt: &R,

@@ -22,7 +22,8 @@ pub answer-read : (file : Members) (list : List Data) (stakes : List ℕ) (depth
     → list_any is_no_key list ≡ false → repeats (filter_map key_of list) ≡ false
     → Some depth ≡ depth_in file → Some workers ≡ workers_in file → Some batches ≡ batches_in file
     → stakes_in (length list) file ≡ Some stakes
-    → answer file ≡ (if list_any (λ stake. nat_le (2 * sum stakes / 3 + 1) stake) stakes then Err BadStake else Ok (record { keys = filter_map key_of list; stakes = stakes; depth = depth; workers = workers; batches = batches }))
+    → answer file ≡ (if list_any (λ stake. nat_le (2 * sum stakes / 3 + 1) stake) stakes then Err BadStake
+    else Ok (record { keys = filter_map key_of list; stakes = stakes; depth = depth; workers = workers; batches = batches }))
 answer-read file list stakes depth workers batches listed size each distinct deep worked batched staked =
     rw (← listed, size, each, distinct, ← deep, ← worked, ← batched, staked)
 

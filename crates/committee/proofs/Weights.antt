@@ -137,7 +137,8 @@ weight-or-and charter p q =
     let stake = stake_of charter in
     let ms = numbers (length charter.keys) in
     sum-plus (λ m. cond (p m) (stake m) 0) (λ m. cond (q m) (stake m) 0) ms
-    ∙ sum-same (λ m. cond (p m) (stake m) 0 + cond (q m) (stake m) 0) (λ m. cond (p m || q m) (stake m) 0 + cond (p m && q m) (stake m) 0) 0 (length charter.keys) (λ m low high. both_tests (p m) (q m) (stake m))
+    ∙ sum-same (λ m. cond (p m) (stake m) 0 + cond (q m) (stake m) 0) (λ m. cond (p m || q m) (stake m) 0 + cond (p m && q m) (stake m) 0) 0
+    (length charter.keys) (λ m low high. both_tests (p m) (q m) (stake m))
     ∙ sym (sum-plus (λ m. cond (p m || q m) (stake m) 0) (λ m. cond (p m && q m) (stake m) 0) ms)
 
 -- sets that share nobody weigh together what their union weighs
@@ -226,7 +227,8 @@ weight-listed charter member_of (x ∷ xs) within apart =
     let rest = weight-listed charter member_of xs (All-tail (λ y. member_of y < length charter.keys) x xs within) (λ i j d before inside. apart (suc i) (suc j) d (omega arith) (omega arith)) in
     let absent = none_listed member_of (member_of x) xs (λ k d inside. apart zero (suc k) d (omega arith) (omega arith)) in
     let more = weight-more charter (λ m. list_any (λ y. member_of y == m) xs) (member_of x) (All-head (λ y. member_of y < length charter.keys) x xs within) absent in
-    weight-same charter (λ m. list_any (λ y. member_of y == m) (x ∷ xs)) (λ m. list_any (λ y. member_of y == m) xs || (m == member_of x)) (λ m inside. turned (member_of x) m (list_any (λ y. member_of y == m) xs))
+    weight-same charter (λ m. list_any (λ y. member_of y == m) (x ∷ xs)) (λ m. list_any (λ y. member_of y == m) xs || (m == member_of x))
+    (λ m inside. turned (member_of x) m (list_any (λ y. member_of y == m) xs))
     ∙ omega (arith, more, rest, sum_by-cons (λ y. stake_of charter (member_of y)) x xs)
 
 -- where each stake is 1 members are counted

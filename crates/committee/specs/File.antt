@@ -1,5 +1,6 @@
 -- What a committee file says.
-use Rattle.std.specs.Prelude.{codes, pos, negsuc, ℕ, ◌%◌, length, replicate, Bool, ◌==◌, ◌&&◌, ◌||◌, not, nat_le, ℤ, List, [], ◌∷◌, Option, Some, None, is_some, is_none, option_map, option_and_then, if◌then◌else◌}
+use Rattle.std.specs.Prelude.{codes, pos, negsuc, ℕ, ◌%◌, length, replicate, Bool, ◌==◌, ◌&&◌, ◌||◌, not, nat_le, ℤ, List, [], ◌∷◌, Option, Some}
+use Rattle.std.specs.Prelude.{None, is_some, is_none, option_map, option_and_then, if◌then◌else◌}
 use Rattle.std.specs.List.{list_any, filter_map}
 use Rattle.std.specs.Option.{option_map_or}
 use Rattle.toml.specs.Data.{Data, as_integer, Items, no_items, item, Members, get_member, as_array}

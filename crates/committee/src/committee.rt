@@ -66,7 +66,7 @@ impl Committee {
     ///
     /// # Errors
     /// The first that applies: `NotToml`, `BadSize`, `BadKey`, `RepeatedKey`, `BadLimit`, `BadStake`; or
-    /// `Memory`, where a growth was refused, in place of any other answer. A text of white space and comments
+    /// `Memory`, where an allocation failed, in place of any other answer. A text of white space and comments
     /// takes no memory.
     pub fn read(alloc: Global, text: &str) -> Result<Committee, CommitteeError>
         ensures ok { IfOk result (λ committee. answer_to (parse_document text.now) ≡ Ok committee) }

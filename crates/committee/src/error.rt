@@ -9,7 +9,7 @@ use thiserror::Error;
 /// Why a text is no committee file. Printed as its number and its name.
 #[derive(Clone, Copy, Debug, PartialEq, Eq, Error)]
 pub enum CommitteeError {
-    /// A growth was refused.
+    /// An allocation failed.
     #[error("1 Memory")]
     Memory,
     /// The text is no TOML.

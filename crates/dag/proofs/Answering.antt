@@ -36,7 +36,8 @@ is_new graph c is =
     let all = parts c (is_low graph.floor c.header.round) (all_held (slots_in graph) graph.floor c.header) (slots_in graph c.header.round c.header.author.0) is in
     record { high = all.0; free = all.1; held = all.2 }
 
-pub answer_held : (graph : DagView) (c held : Certificate) → is_low graph.floor c.header.round ≡ false → slots_in graph c.header.round c.header.author.0 ≡ Some held → answer graph c ≡ held_answer held c
+pub answer_held : (graph : DagView) (c held : Certificate) → is_low graph.floor c.header.round ≡ false
+    → slots_in graph c.header.round c.header.author.0 ≡ Some held → answer graph c ≡ held_answer held c
 answer_held graph c held high there = rw (high, there) refl
 
 pub answer_free : (graph : DagView) (c : Certificate) → is_low graph.floor c.header.round ≡ false → slots_in graph c.header.round c.header.author.0 ≡ None → answer graph c ≡ free_answer graph c

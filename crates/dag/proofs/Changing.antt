@@ -1,5 +1,6 @@
 -- What is kept where marks are set.
-use Rattle.std.proofs.Common.{◌≡◌, ◌≢◌, ℕ, zero, suc, ◌+◌, ◌-◌, ◌<◌, ◌≤◌, Bool, true, false, List, [], ◌∷◌, ◌++◌, map, length, Option, Some, None, inl, inr, refl, ap, sym, ◌∙◌, subst, arith, add-one, slice_get, slice_set, get_or, take, drop}
+use Rattle.std.proofs.Common.{◌≡◌, ◌≢◌, ℕ, zero, suc, ◌+◌, ◌-◌, ◌<◌, ◌≤◌, Bool, true, false, List, [], ◌∷◌, ◌++◌, map, length, Option, Some, None}
+use Rattle.std.proofs.Common.{inl, inr, refl, ap, sym, ◌∙◌, subst, arith, add-one, slice_get, slice_set, get_or, take, drop}
 use Rattle.std.proofs.Math.Path.{fun_ext}
 use Rattle.std.specs.Prelude.{nat_le, option_map, option_and_then, is_some, All, if◌then◌else◌, ◌==◌, ◌&&◌, ◌||◌}
 use Rattle.std.specs.Option.{option_map_or}
@@ -124,7 +125,8 @@ full_marked size (row ∷ rows) (suc place) authors full (suc k) d within =
 
 -- ---- what they have
 
-slot_marked : (from : ℕ) (authors : ℕ → Bool) (row : List (Option Entry)) (author : ℕ) → slice_get (marked_from from authors row) author ≡ option_map (after (authors (from + author))) (slice_get row author)
+slot_marked : (from : ℕ) (authors : ℕ → Bool) (row : List (Option Entry)) (author : ℕ) → slice_get (marked_from from authors row) author
+    ≡ option_map (after (authors (from + author))) (slice_get row author)
 slot_marked from authors [] author = refl
 slot_marked from authors (slot ∷ row) zero =
     let level : from ≡ from + 0 = omega arith in

@@ -27,7 +27,8 @@ not_less : (one other : ℕ) → nat_lt one other ≡ false → other ≤ one
 not_less one other not = grind (arith, not)
 
 -- paths between certificates from a round on are the same where slots agree from there on
-paths_from : (n low : ℕ) (one other : Slots) → AgreeFrom low one other → (steps : ℕ) (start end : Certificate) → low ≤ end.header.round → has_path n one steps start end ≡ has_path n other steps start end
+paths_from : (n low : ℕ) (one other : Slots) → AgreeFrom low one other → (steps : ℕ) (start end : Certificate) → low ≤ end.header.round
+    → has_path n one steps start end ≡ has_path n other steps start end
 paths_from n low one other agree zero start end above = refl
 paths_from n low one other agree (suc steps) start end above =
     let round = end.header.round + 1 in

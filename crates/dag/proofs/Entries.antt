@@ -31,7 +31,8 @@ pub record IsInRow {X : Type 0} (rows : List (List (Option X))) (author : ℕ) :
   pub there : slice_get rows place ≡ Some row
   pub within : author < length row
 
-in_row : {X : Type 0} (rows : List (List (Option X))) (place author : ℕ) (x : X) → option_and_then (λ row. option_and_then (λ held. held) (slice_get row author)) (slice_get rows place) ≡ Some x → IsInRow rows author
+in_row : {X : Type 0} (rows : List (List (Option X))) (place author : ℕ) (x : X)
+    → option_and_then (λ row. option_and_then (λ held. held) (slice_get row author)) (slice_get rows place) ≡ Some x → IsInRow rows author
 in_row rows place author x is =
     elim (given_or_none (slice_get rows place)) [
       | inr none ↦ let bad = rw none at is in absurd cc
@@ -67,7 +68,8 @@ round_below floor rows round author x is =
 pub all_at : {X : Type 0} (P : X → Type 0) (xs : List X) (i : ℕ) (x : X) → All P xs → slice_get xs i ≡ Some x → P x
 all_at P xs i x all there = subst P (get_or_from_slice_get xs i x x there) (all i x (slice_get_within xs i x there))
 
-pub author_within : {X : Type 0} (size floor : ℕ) (rows : List (List (Option X))) (round author : ℕ) (x : X) → All (λ row. length row ≡ size) rows → row_at floor rows round author ≡ Some x → author < size
+pub author_within : {X : Type 0} (size floor : ℕ) (rows : List (List (Option X))) (round author : ℕ) (x : X) → All (λ row. length row ≡ size) rows
+    → row_at floor rows round author ≡ Some x → author < size
 author_within size floor rows round author x all is =
     let has = row_has floor rows round author x is in
     let long : length has.row ≡ size = all_at (λ row. length row ≡ size) rows has.place has.row all has.there in
@@ -75,7 +77,8 @@ author_within size floor rows round author x all is =
 
 -- ---- what is kept and what contracts see
 
-pub entry_seen : (charter : Charter) (floor base : ℕ) (rows : Rows) (round author : ℕ) (e : Entry) → entry_at floor rows round author ≡ Some e → slots_in (graph_of charter floor base rows) round author ≡ Some e.certificate
+pub entry_seen : (charter : Charter) (floor base : ℕ) (rows : Rows) (round author : ℕ) (e : Entry) → entry_at floor rows round author ≡ Some e
+    → slots_in (graph_of charter floor base rows) round author ≡ Some e.certificate
 entry_seen charter floor base rows round author e is = slot_kept charter floor base rows round author ∙ ap (option_map (λ entry. entry.certificate)) is
 
 pub nothing_seen : (charter : Charter) (floor base : ℕ) (rows : Rows) (round author : ℕ) → entry_at floor rows round author ≡ None → slots_in (graph_of charter floor base rows) round author ≡ None
@@ -87,7 +90,8 @@ pub record IsOfEntry (floor : ℕ) (rows : Rows) (round author : ℕ) (c : Certi
   pub there : entry_at floor rows round author ≡ Some entry
   pub of : entry.certificate ≡ c
 
-pub seen_entry : (charter : Charter) (floor base : ℕ) (rows : Rows) (round author : ℕ) (c : Certificate) → slots_in (graph_of charter floor base rows) round author ≡ Some c → IsOfEntry floor rows round author c
+pub seen_entry : (charter : Charter) (floor base : ℕ) (rows : Rows) (round author : ℕ) (c : Certificate)
+    → slots_in (graph_of charter floor base rows) round author ≡ Some c → IsOfEntry floor rows round author c
 seen_entry charter floor base rows round author c is =
     elim (given_or_none (entry_at floor rows round author)) [
       | inl e ↦ record { entry = e.0; there = e.1; of = same_Some e.0.certificate c (sym (entry_seen charter floor base rows round author e.0 e.1) ∙ is) }
@@ -118,7 +122,8 @@ of_members charter floor base rows kept round author c is =
 pub all_low : (slots : Slots) (floor round : ℕ) (parents : List ParentReference) → (nat_lt 0 floor && nat_le (round - 1) floor) ≡ true → list_all (is_held slots floor round) parents ≡ true
 all_low slots floor round [] low = refl
 all_low slots floor round (p ∷ parents) low =
-    and_from _ _ (or_right (option_map_or (λ c. same_digest (certificate_digest c.header) p.certificate) (slots (round - 1) p.author.0) false) (nat_lt 0 floor && nat_le (round - 1) floor) low) (all_low slots floor round parents low)
+    and_from _ _ (or_right (option_map_or (λ c. same_digest (certificate_digest c.header) p.certificate) (slots (round - 1) p.author.0) false)
+    (nat_lt 0 floor && nat_le (round - 1) floor) low) (all_low slots floor round parents low)
 
 -- a parent is named where contracts see that it is held
 or_false : (b : Bool) → (b || false) ≡ b
@@ -139,7 +144,8 @@ named_held charter floor base rows kept round high p =
     ]
 
 pub all_named : (charter : Charter) (floor base : ℕ) (rows : Rows) → IsKept charter floor base rows → (round : ℕ) → (nat_lt 0 floor && nat_le (round - 1) floor) ≡ false
-    → (parents : List ParentReference) → list_all (λ p. names (entry_at floor rows (round - 1) p.author.0) p) parents ≡ list_all (is_held (slots_in (graph_of charter floor base rows)) floor round) parents
+    → (parents : List ParentReference) → list_all (λ p. names (entry_at floor rows (round - 1) p.author.0) p) parents
+    ≡ list_all (is_held (slots_in (graph_of charter floor base rows)) floor round) parents
 all_named charter floor base rows kept round high parents =
     ap (λ (test : ParentReference → Bool). list_all test parents) (fun_ext (named_held charter floor base rows kept round high))
 

@@ -1,5 +1,6 @@
 -- What is kept with one certificate more.
-use Rattle.std.proofs.Common.{◌≡◌, ◌≢◌, ℕ, suc, ◌+◌, ◌-◌, ◌<◌, ◌≤◌, true, false, List, [], ◌∷◌, ◌++◌, map, max, length, Option, Some, None, inl, inr, refl, ap, sym, ◌∙◌, subst, arith, get_or, slice_set, replicate, length-append}
+use Rattle.std.proofs.Common.{◌≡◌, ◌≢◌, ℕ, suc, ◌+◌, ◌-◌, ◌<◌, ◌≤◌, true, false, List, [], ◌∷◌, ◌++◌, map, max, length, Option, Some, None, inl, inr}
+use Rattle.std.proofs.Common.{refl, ap, sym, ◌∙◌, subst, arith, get_or, slice_set, replicate, length-append}
 use Rattle.std.specs.Prelude.{nat_le, nat_lt, option_map, All, ◌==◌, ◌&&◌}
 use Rattle.std.specs.List.{list_all}
 use Rattle.std.specs.Option.{option_map_or, option_or}
@@ -103,7 +104,8 @@ entry_here charter floor base rows entry enters round author here =
     let within = le-leb floor header.round (high_above floor header.round enters.high).1 in
     let row = full_row size rows (header.round - floor) enters.kept.full in
     ap (λ r. entry_at floor (entered size floor rows entry) r author) (sym place.0) ∙ ap (entry_at floor (entered size floor rows entry) header.round) (sym place.1)
-    ∙ rw within (slot_here (extended size rows (header.round - floor)) (header.round - floor) header.author.0 (Some entry) (long_enough size rows (header.round - floor)) (omega (arith, row, enters.member)))
+    ∙ rw within (slot_here (extended size rows (header.round - floor)) (header.round - floor) header.author.0 (Some entry)
+    (long_enough size rows (header.round - floor)) (omega (arith, row, enters.member)))
 
 entry_other_at : (size floor : ℕ) (rows : Rows) (entry : Entry) (round author : ℕ) → floor ≤ round → floor ≤ entry.certificate.header.round → is_of_slot round author entry.certificate.header ≡ false
     → at_place (entered size floor rows entry) (round - floor) author ≡ at_place rows (round - floor) author

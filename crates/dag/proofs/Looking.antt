@@ -1,5 +1,6 @@
 -- What look-ups find.
-use Rattle.std.proofs.Common.{◌≡◌, ℕ, zero, suc, ◌+◌, ◌-◌, ◌<◌, ◌≤◌, Bool, true, false, cond, List, [], ◌∷◌, map, length, Option, Some, None, inl, inr, refl, ap, sym, ◌∙◌, arith, slice_get, option_copied, Bor}
+use Rattle.std.proofs.Common.{◌≡◌, ℕ, zero, suc, ◌+◌, ◌-◌, ◌<◌, ◌≤◌, Bool, true, false, cond, List, [], ◌∷◌, map, length, Option, Some, None, inl}
+use Rattle.std.proofs.Common.{inr, refl, ap, sym, ◌∙◌, arith, slice_get, option_copied, Bor}
 use Rattle.std.proofs.Math.Path.{fun_ext}
 use Rattle.std.specs.Prelude.{nat_le, nat_lt, option_map, is_some, All, count_by, sum_by, if◌then◌else◌, ◌==◌, ◌&&◌, ◌||◌}
 use Rattle.std.specs.Option.{option_map_or}
@@ -56,7 +57,8 @@ some_same : {X Y : Type 0} (f : X → Y) (o : Option X) → ◌≡◌ {A = ℕ} 
 some_same f (Some x) = refl
 some_same f None = refl
 
-count_mapped : (o : Option (List (Option Entry))) → option_map_or (λ row. count_by is_some row) (option_map (λ row. map (option_map placed_of) row) o) 0 ≡ option_map_or (λ row. count_by is_some row) o 0
+count_mapped : (o : Option (List (Option Entry))) → option_map_or (λ row. count_by is_some row) (option_map (λ row. map (option_map placed_of) row) o)
+    0 ≡ option_map_or (λ row. count_by is_some row) o 0
 count_mapped None = refl
 count_mapped (Some row) =
     sum_mapped (option_map placed_of) (λ placed. cond (is_some placed) 1 0) row ∙ ap (λ (f : Option Entry → ℕ). count_with f row) (fun_ext (some_same placed_of))

@@ -31,7 +31,8 @@ pub record IsOver (n : ℕ) (slots : Slots) (steps : ℕ) (child end : Certifica
   pub path : has_path n slots steps parent end ≡ true
 
 -- the first step of a path
-pub first_step : (n : ℕ) (slots : Slots) → AreInPlace slots → (steps : ℕ) (child end : Certificate) → IsIn slots child → IsIn slots end → has_path n slots (suc steps) child end ≡ true → IsOver n slots steps child end
+pub first_step : (n : ℕ) (slots : Slots) → AreInPlace slots → (steps : ℕ) (child end : Certificate) → IsIn slots child → IsIn slots end
+    → has_path n slots (suc steps) child end ≡ true → IsOver n slots steps child end
 first_step n slots placed zero child end held held' path =
     let found = any_to (λ c. has_path n slots zero child c && is_parent end c) (round_of n slots (end.header.round + 1)) path in
     let parts = and_parts (has_path n slots zero child found.0) (is_parent end found.0) found.2 in
@@ -80,7 +81,8 @@ pub record ReachesOver (n : ℕ) (slots : Slots) (child end : Certificate) : Typ
   pub reached : reaches n slots parent end ≡ true
 
 -- what is reached below a certificate is reached over a parent
-pub reached_first : (n : ℕ) (slots : Slots) → AreInPlace slots → (child end : Certificate) → IsIn slots child → IsIn slots end → end.header.round < child.header.round → reaches n slots child end ≡ true → ReachesOver n slots child end
+pub reached_first : (n : ℕ) (slots : Slots) → AreInPlace slots → (child end : Certificate) → IsIn slots child → IsIn slots end
+    → end.header.round < child.header.round → reaches n slots child end ≡ true → ReachesOver n slots child end
 reached_first n slots placed child end held held' lower reached =
     let path = (and_parts (nat_le end.header.round child.header.round) (has_path n slots (child.header.round - end.header.round) child end) reached).1 in
     let steps = (child.header.round - 1) - end.header.round in
@@ -92,7 +94,10 @@ reached_first n slots placed child end held held' lower reached =
       parent = over.parent;
       held = over.held;
       names = over.names;
-      reached = and_from (nat_le end.header.round over.parent.header.round) (has_path n slots (over.parent.header.round - end.header.round) over.parent end) (le-leb end.header.round over.parent.header.round (omega (arith, below, lower))) (subst (λ k. has_path n slots k over.parent end ≡ true) rest over.path);
+      reached = and_from (nat_le end.header.round over.parent.header.round)
+          (has_path n slots (over.parent.header.round - end.header.round) over.parent end)
+          (le-leb end.header.round over.parent.header.round (omega (arith, below, lower)))
+          (subst (λ k. has_path n slots k over.parent end ≡ true) rest over.path);
     }
 
 -- and what a parent reaches its child reaches

@@ -30,7 +30,8 @@ pub stays : (n floor : ℕ) (before after : Slots) (c : Certificate) → IsMore 
 stays n floor before after c more round author d held = more.grown round author ∙ ap (λ o. option_or o (slots_of (c ∷ []) round author)) held
 
 -- what is held of another slot was held
-pub same_elsewhere : (n floor : ℕ) (before after : Slots) (c : Certificate) → IsMore n floor before after c → (round author : ℕ) → is_of_slot round author c.header ≡ false → after round author ≡ before round author
+pub same_elsewhere : (n floor : ℕ) (before after : Slots) (c : Certificate) → IsMore n floor before after c → (round author : ℕ)
+    → is_of_slot round author c.header ≡ false → after round author ≡ before round author
 same_elsewhere n floor before after c more round author other =
     elim (given_or_none (before round author)) [
       | inl old ↦ stays n floor before after c more round author old.0 old.1 ∙ sym old.1
@@ -87,7 +88,8 @@ extends n floor before after c more = record {
 }
 
 -- parents that are held stay so
-pub held_after : (n floor : ℕ) (before after : Slots) (c : Certificate) → IsMore n floor before after c → (header : HeaderBody) → all_held before floor header ≡ true → all_held after floor header ≡ true
+pub held_after : (n floor : ℕ) (before after : Slots) (c : Certificate) → IsMore n floor before after c → (header : HeaderBody)
+    → all_held before floor header ≡ true → all_held after floor header ≡ true
 held_after n floor before after c more header held =
     all_stay (is_held before floor header.round) (is_held after floor header.round) header.parents
     (λ p. held_stays before after floor floor header.round p (stays n floor before after c more) (omega arith)) held

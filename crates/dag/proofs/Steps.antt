@@ -1,5 +1,6 @@
 -- What loops over a row and over parents have done, and one step more.
-use Rattle.std.proofs.Common.{length-append, ◌≡◌, ℕ, zero, suc, ◌+◌, ◌-◌, ◌<◌, ◌≤◌, Bool, true, false, List, [], ◌∷◌, ◌++◌, map, length, Option, Some, None, refl, ap, sym, ◌∙◌, arith, add-one, slice_set, replicate}
+use Rattle.std.proofs.Common.{length-append, ◌≡◌, ℕ, zero, suc, ◌+◌, ◌-◌, ◌<◌, ◌≤◌, Bool, true, false, List, [], ◌∷◌, ◌++◌, map, length, Option}
+use Rattle.std.proofs.Common.{Some, None, refl, ap, sym, ◌∙◌, arith, add-one, slice_set, replicate}
 use Rattle.std.specs.Prelude.{◌||◌, sum_by}
 use Rattle.std.specs.List.{list_any, range_with_len}
 use Rattle.std.proofs.Math.Seq.{set-append_seam}
@@ -31,7 +32,8 @@ any_more test count =
 pub sum_more : (f : ℕ → ℕ) (count : ℕ) → sum_by f (range_with_len 0 (count + 1)) ≡ sum_by f (range_with_len 0 count) + f count
 sum_more f count =
     let same : 0 + count ≡ count = omega arith in
-    ap (λ k. sum_by f (range_with_len 0 k)) (add-one count) ∙ ap (sum_by f) (range_end 0 count) ∙ sum_by_push f (range_with_len 0 count) (0 + count) ∙ ap (λ k. sum_by f (range_with_len 0 count) + f k) same
+    ap (λ k. sum_by f (range_with_len 0 k)) (add-one count) ∙ ap (sum_by f) (range_end 0 count) ∙ sum_by_push f (range_with_len 0 count) (0 + count)
+    ∙ ap (λ k. sum_by f (range_with_len 0 count) + f k) same
 
 -- ---- the row of the genesis
 

@@ -18,7 +18,8 @@ use Rattle.dag.proofs.Paths.{in_round, parent_below, reached_level, reached_self
 use Rattle.dag.proofs.Tests.{same_test, any_from}
 
 -- what reaches a certificate reaches its parent
-pub reaches_on : (n : ℕ) (slots : Slots) (start child end : Certificate) → Contains (round_of n slots (end.header.round + 1)) child → is_parent end child ≡ true → reaches n slots start child ≡ true → reaches n slots start end ≡ true
+pub reaches_on : (n : ℕ) (slots : Slots) (start child end : Certificate) → Contains (round_of n slots (end.header.round + 1)) child
+    → is_parent end child ≡ true → reaches n slots start child ≡ true → reaches n slots start end ≡ true
 reaches_on n slots start child end inside names reached =
     let parts = and_parts (nat_le child.header.round start.header.round) (has_path n slots (start.header.round - child.header.round) start child) reached in
     let within = leb-true child.header.round start.header.round parts.0 in
@@ -59,7 +60,9 @@ reaches_from n slots start end lower reached =
     }
 
 -- where the leader before reaches a certificate it reaches its parent
-pub past_on : (ledger : Ledger) (previous : Option Certificate) (child end : Certificate) → Contains (round_of (ordering.size_in ledger) ledger.slots (end.header.round + 1)) child → is_parent end child ≡ true → is_past ledger previous child ≡ true
+pub past_on : (ledger : Ledger) (previous : Option Certificate) (child end : Certificate)
+    → Contains (round_of (ordering.size_in ledger) ledger.slots (end.header.round + 1)) child → is_parent end child ≡ true
+    → is_past ledger previous child ≡ true
     → is_past ledger previous end ≡ true
 past_on ledger None child end inside names past = absurd cc
 past_on ledger (Some leader) child end inside names past = reaches_on (ordering.size_in ledger) ledger.slots leader child end inside names past
@@ -184,7 +187,8 @@ none_from graph round author below other none =
     ap (λ o. option_map_or (λ start. option_map_or (reaches (size_in graph) (slots_in graph) start) (slots_in graph below other) false) o false) none
 
 -- a walk of one step more
-pub walked : (graph : DagView) → IsGraph graph → (start author past : ℕ) (above : ℕ → Bool) → past < start → ((other : ℕ) → above other ≡ reaches_in graph start author (start - past) other) → (other : ℕ)
+pub walked : (graph : DagView) → IsGraph graph → (start author past : ℕ) (above : ℕ → Bool) → past < start
+    → ((other : ℕ) → above other ≡ reaches_in graph start author (start - past) other) → (other : ℕ)
     → is_parent_of graph (start - past) ((start - past) - 1) above other ≡ reaches_in graph start author (start - (past + 1)) other
 walked graph is start author past above within so_far other =
     let below : (start - past) - 1 ≡ start - (past + 1) = omega arith in

@@ -1,5 +1,6 @@
 -- What a DAG holds.
-use Rattle.std.specs.Prelude.{◌≡◌, ℕ, ◌+◌, ◌-◌, ◌<◌, ◌≤◌, ◌&&◌, cond, nat_le, Bool, true, false, List, All, length, count_by, sum_by, Option, Some, None, is_some, option_map, option_and_then, slice_get, if◌then◌else◌}
+use Rattle.std.specs.Prelude.{◌≡◌, ℕ, ◌+◌, ◌-◌, ◌<◌, ◌≤◌, ◌&&◌, cond, nat_le, Bool, true, false, List, All, length, count_by, sum_by, Option, Some}
+use Rattle.std.specs.Prelude.{None, is_some, option_map, option_and_then, slice_get, if◌then◌else◌}
 use Rattle.std.specs.List.{list_any}
 use Rattle.std.specs.Option.{option_map_or}
 use Rattle.wire.specs.declared.round.TheConstants.Round.{MAX}

@@ -43,7 +43,8 @@ module _ {S D : Type 0} (node : Node) (device : Device D) (before later : DeskVi
         | inr off ↦ (let takes = known off in accepts node device world before is up law later event (inr takes) (ap (λ (b : book.BookView S). b.down) takes.is ∙ up) same)
       ]
 
-  pub release_step : steps.ReleaseIsAStep S → (answer : Option Output) → answer ≡ book.releasable before.book → later.book ≡ (if is_some answer then record before.book { queue = drop 1 before.book.queue } else before.book)
+  pub release_step : steps.ReleaseIsAStep S → (answer : Option Output) → answer ≡ book.releasable before.book → later.book
+      ≡ (if is_some answer then record before.book { queue = drop 1 before.book.queue } else before.book)
       → ((run : book.Run) → book.Stands node run before.book → book.Stands node run later.book) → later.journal ≡ before.journal
       → IfSome answer (λ output. (world : World) → IsAt node device world before → (ticket : ℕ) × LeadsTo node device world (release (record { ticket = ticket; output = output }) ∷ []) later)
   release_step law None is queue stands same = tt
@@ -55,7 +56,8 @@ module _ {S D : Type 0} (node : Node) (device : Device D) (before later : DeskVi
       none_down b so o may = let none : ◌≡◌ {A = Option Output} None (Some o) = sym (ap (λ (d : Bool). if d then None else settled_head b.settled b.queue) so) ∙ may in cc
 
   pub flush_steps : steps.FlushIsSteps S → before.book.down ≡ false → (answer : Result ℕ FlushError)
-      → IfOk answer (λ count. before.book.pending ≢ [] → Flushes node before.book later.book (device.content (disk_of before.journal)) (device.content (disk_of later.journal)) count) → OnOk answer (IsAlive device later.journal)
+      → IfOk answer (λ count. before.book.pending ≢ [] → Flushes node before.book later.book (device.content (disk_of before.journal))
+      (device.content (disk_of later.journal)) count) → OnOk answer (IsAlive device later.journal)
       → IfOk answer (λ count. before.book.pending ≢ [] → (world : World) → IsAt node device world before
       → LeadsTo node device world (take_to (length world.settled + count) ∷ device_call ∷ device_call ∷ device_call ∷ device_call ∷ settle ∷ []) later)
   flush_steps law up (Err error) flushed alive = tt
@@ -63,7 +65,8 @@ module _ {S D : Type 0} (node : Node) (device : Device D) (before later : DeskVi
       flushes node device world before is up law later (device.content (disk_of before.journal)) (device.content (disk_of later.journal)) count refl refl (flushed some) alive
 
   pub flush_fails : steps.FailIsAStep S → before.book.down ≡ false → (answer : Result ℕ FlushError)
-      → (IsErrOf answer errors.Full → FindsNoRoom node before.book later.book (device.content (disk_of before.journal))) → (IsErrOf answer errors.Full → later.journal ≡ before.journal) → IsAlive device before.journal
+      → (IsErrOf answer errors.Full → FindsNoRoom node before.book later.book (device.content (disk_of before.journal)))
+      → (IsErrOf answer errors.Full → later.journal ≡ before.journal) → IsAlive device before.journal
       → (IsErrOf answer errors.Device → FailsWithRoom node before.book later.book (device.content (disk_of before.journal)))
       → ((bytes : List ℕ) → device.outcome (disk_of later.journal) bytes → IsWithOrWithout before.book.pending (device.content (disk_of before.journal)) bytes)
       → IfErr answer (λ error. (error ≡ errors.Full) ⊎ (error ≡ errors.Device) → (world : World) → IsAt node device world before → (count : ℕ) × LeadsTo node device world (take_to count ∷ []) later)
@@ -76,8 +79,8 @@ module _ {S D : Type 0} (node : Node) (device : Device D) (before later : DeskVi
           let kept = same (ap (λ (e : FlushError). Err e) is_full) in
           goes_down node device world before is up law later found.0 (λ bytes may.
           inl (ap (told node) (alive.firm bytes (subst (λ (j : Journal D). device.outcome (disk_of j) bytes) kept may)) ∙ (is.is_of.up up).told_as))
-      fails_as (inr device) world is =
-          let found = fails (ap (λ (e : FlushError). Err e) device) in
+      fails_as (inr is_device) world is =
+          let found = fails (ap (λ (e : FlushError). Err e) is_device) in
           goes_down node device world before is up law later found.0 (λ bytes may.
           told_either node device (steps.run_of world) before.book before.journal is.is_of_world.stands (is.is_of.up up) found.0.group later.book.pending found.0.takes bytes (left bytes may))
 
@@ -85,7 +88,7 @@ module _ {S D : Type 0} (node : Node) (device : Device D) (before later : DeskVi
 pub alive_at_ok : {D : Type 0} (device : Device D) (journal : Journal D) (answer : Result ℕ FlushError) → IsErrOf answer errors.Device ⊎ IsAlive device journal
     → OnOk answer (IsAlive device journal)
 alive_at_ok device journal (Err error) either = tt
-alive_at_ok device journal (Ok count) (inl device) = absurd cc
+alive_at_ok device journal (Ok count) (inl failed) = absurd cc
 alive_at_ok device journal (Ok count) (inr alive) = alive
 
 -- the settled order was read

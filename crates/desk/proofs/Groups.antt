@@ -1,5 +1,6 @@
 -- The group that a round takes: the longest beginning that fits.
-use Rattle.std.proofs.Common.{◌≡◌, ℕ, ◌+◌, ◌≤◌, Bool, true, false, cond, inl, inr, List, [], ◌∷◌, ◌++◌, length, take, map, refl, sym, ap, ◌∙◌, subst, arith, append_assoc, append-nil, length-append, length-take}
+use Rattle.std.proofs.Common.{◌≡◌, ℕ, ◌+◌, ◌≤◌, Bool, true, false, cond, inl, inr, List, [], ◌∷◌, ◌++◌, length, take, map, refl, sym, ap, ◌∙◌, subst}
+use Rattle.std.proofs.Common.{arith, append_assoc, append-nil, length-append, length-take}
 use Rattle.std.specs.Prelude.{nat_le, get_or, drop}
 use Rattle.std.proofs.lemmas.Bool.{cases_Bool, and_from, le-leb}
 use Rattle.std.proofs.lemmas.List.{map-append, length-map}
@@ -58,7 +59,8 @@ filled_is group (event ∷ events) (bytes ∷ more) rest parts fits longest =
     let others : map record_of events ≡ more ++ rest = ap (λ (l : List (List ℕ)). drop 1 l) parts in
     let longer = group ++ event ∷ [] in
     let same : map record_of group ++ bytes ∷ more ≡ map record_of longer ++ more =
-    sym (append_assoc (map record_of group) (bytes ∷ []) more) ∙ ap (λ (b : List ℕ). map record_of group ++ b ∷ [] ++ more) (sym first) ∙ ap (λ (l : List (List ℕ)). l ++ more) (sym (record_push group event)) in
+    sym (append_assoc (map record_of group) (bytes ∷ []) more) ∙ ap (λ (b : List ℕ). map record_of group ++ b ∷ [] ++ more) (sym first)
+    ∙ ap (λ (l : List (List ℕ)). l ++ more) (sym (record_push group event)) in
     let fitting : FitsGroup (map record_of longer ++ more) = subst FitsGroup same (fits (omega arith)) in
     let some : 1 ≤ length (map record_of longer) = omega (arith, ap length (record_push group event), length-append (map record_of group) (record_of event ∷ [])) in
     fill_more group event events (fits_true (map record_of longer) (fits_less (map record_of longer) more fitting some))
@@ -79,4 +81,14 @@ pub longest_once : (events : History) (group rest other behind : List (List ℕ)
     → length group ≡ length other
 longest_once events group rest other behind one two =
     let same : take (length group) events ≡ take (length other) events = sym (group_is events group rest one) ∙ group_is events other behind two in
-    omega (arith, ap length same, length-take (length group) events, length-take (length other) events, ap length one.parts, ap length two.parts, length-append group rest, length-append other behind, length-map events record_of)
+    omega (
+      arith,
+      ap length same,
+      length-take (length group) events,
+      length-take (length other) events,
+      ap length one.parts,
+      ap length two.parts,
+      length-append group rest,
+      length-append other behind,
+      length-map events record_of,
+    )

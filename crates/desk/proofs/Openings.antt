@@ -1,15 +1,17 @@
 -- A desk that is opened.
-use Rattle.std.proofs.Common.{◌≡◌, ◌≢◌, ℕ, ◌≤◌, false, inl, inr, List, [], ◌++◌, Result, Ok, refl, sym, ap, ◌∙◌, append-nil}
+use Rattle.std.proofs.Common.{◌≡◌, ◌≢◌, ℕ, ◌≤◌, false, inl, inr, List, [], ◌++◌, Result, Ok, Err, refl, sym, ap, ◌∙◌, append-nil}
 use Rattle.admission.specs.declared.tables.Tables.{Tables}
 use Rattle.book.specs.Book as book
 use Rattle.book.specs.OnTheWay.{StandsAtLegal}
-use Rattle.diskmodel.specs.Disk.{AtEachMoment, Device}
+use Rattle.diskmodel.specs.Disk.{Device}
 use Rattle.journal.specs.Format.{stands}
 use Rattle.journal.specs.Journal.{disk_of, IsAlive}
 use Rattle.journal.specs.declared.error.JournalError.{JournalError}
 use Rattle.journal.specs.declared.error.JournalError.TheVariants as errors
 use Rattle.journal.specs.declared.journal.Journal.{Journal}
-use Rattle.opening.specs.Told.{told, Tells, StandsAt, IsToldAsOneOf, KeepsRecords}
+use Rattle.journal.specs.declared.error.Failed.{Failed}
+use Rattle.opening.specs.Laws.{IsOpening}
+use Rattle.opening.specs.Told.{told, StandsAt}
 use Rattle.spec_model.specs.Admitting.{IsLegal}
 use Rattle.spec_model.specs.Giving.{kept}
 use Rattle.spec_model.specs.Histories.{History}
@@ -43,14 +45,15 @@ opened_of node device bytes tables one journal at stands_at queue up alive confi
     }
 
 -- an opening that failed
-pub not_opened_of : {D : Type 0} (node : Node) (device : Device D) (old new : D) (bytes : List ℕ) (cause : JournalError)
-    → (cause ≢ errors.Device → Tells cause (told node bytes)) → cause ≢ errors.Full → AtEachMoment device old new (IsToldAsOneOf node (device.outcome old)) → AtEachMoment device old new (KeepsRecords node (device.outcome old))
-    → ((disk : D) (t : ℕ) (c : List ℕ) → t ≤ device.clock disk → device.outcome disk c → device.outcome_since disk t c) → IsNotOpened node cause bytes (device.outcome old) (device.outcome new)
-not_opened_of {D} node device old new bytes cause tells never at keeping counts = record {
-  tells = tells;
-  never_full = never;
-  left = λ found left. at.each found (counts new (device.clock old) found at.later left);
-  keeps = λ found left. keeping.each found (counts new (device.clock old) found keeping.later left);
+pub not_opened_of : {T D : Type 0} (node : Node) (device : Device D) (disk_in : T → D) (disk : D) (failed : Failed JournalError D)
+    → IsOpening node device disk_in disk (Err failed)
+    → ((one : D) (t : ℕ) (c : List ℕ) → t ≤ device.clock one → device.outcome one c → device.outcome_since one t c)
+    → IsNotOpened node failed.error (device.content disk) (device.outcome disk) (device.outcome failed.disk)
+not_opened_of node device disk_in disk failed at counts = record {
+  tells = at.tells;
+  never_full = at.never_full;
+  left = λ found left. at.any_moment.each found (counts failed.disk (device.clock disk) found at.any_moment.later left);
+  keeps = λ found left. at.keeps.each found (counts failed.disk (device.clock disk) found at.keeps.later left);
 }
 
 -- a book that stands at a run that has done nothing has taken what it settled
@@ -58,7 +61,8 @@ pub nothing_taken : {S : Type 0} (node : Node) (history : History) (one : book.B
 nothing_taken node history one at = at.taken ∙ sym at.settled
 
 -- an opening that failed behind a stop of the machine
-pub stopped_of : (node : Node) (error : JournalError) (found : List ℕ) (before possible left : List ℕ → Type 0) → ((bytes : List ℕ) → possible bytes → before bytes) → IsNotOpened node error found possible left → IsNotOpened node error found before left
+pub stopped_of : (node : Node) (error : JournalError) (found : List ℕ) (before possible left : List ℕ → Type 0)
+    → ((bytes : List ℕ) → possible bytes → before bytes) → IsNotOpened node error found possible left → IsNotOpened node error found before left
 stopped_of node error found before possible left fewer one = record {
   tells = one.tells;
   never_full = one.never_full;

@@ -1,5 +1,5 @@
 -- Runs of one move.
-use Rattle.std.proofs.Common.{List, [], ◌∷◌, refl}
+use Rattle.std.proofs.Common.{[], ◌∷◌, refl}
 use Rattle.spec_model.specs.Nodes.{Node}
 use Rattle.spec_world.specs.World.{World}
 use Rattle.spec_world.specs.Steps.{Move, IsStep, Leads}

@@ -79,6 +79,6 @@ pub left_firm : {D : Type 0} (node : Node) (device : Device D) (run : book.Run) 
 left_firm {D} node device run journal told_as alive bytes left = inl (ap (told node) (alive.firm bytes left) ∙ told_as)
 
 -- what may be left at the end of a call may be left at some moment of it
-pub left_by : {D : Type 0} (device : Device D) (old new : D) (P : List ℕ → Type 0) (bytes : List ℕ) (device : Device D)
+pub left_by : {D : Type 0} (device : Device D) (old new : D) (P : List ℕ → Type 0) (bytes : List ℕ)
     → AtEachMoment device old new P → ((disk : D) (t : ℕ) (c : List ℕ) → t ≤ device.clock disk → device.outcome disk c → device.outcome_since disk t c) → device.outcome new bytes → P bytes
-left_by {D} device old new P bytes device at counts left = at.each bytes (counts new (device.clock old) bytes at.later left)
+left_by {D} device old new P bytes at counts left = at.each bytes (counts new (device.clock old) bytes at.later left)

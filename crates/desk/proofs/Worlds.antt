@@ -64,7 +64,8 @@ module _ {S D : Type 0} (node : Node) (device : Device D) (world : World) (befor
   -- ---- events, outputs, reads
 
   -- behind a move that leaves the disk, and what is settled, as it was
-  pub stays : (later : DeskView S D) (move : Move) (next : World) → IsStep node world move next → IsKept world next → steps.IsOf node next later.book → later.book.down ≡ false → later.journal ≡ before.journal
+  pub stays : (later : DeskView S D) (move : Move) (next : World) → IsStep node world move next → IsKept world next → steps.IsOf node next later.book
+      → later.book.down ≡ false → later.journal ≡ before.journal
       → LeadsTo node device world (move ∷ []) later
   stays later move next step kept of up_later same =
       let still = is.is_of.up up in
@@ -93,7 +94,8 @@ module _ {S D : Type 0} (node : Node) (device : Device D) (world : World) (befor
         };
       }
 
-  pub accepts : steps.AcceptIsAStep S → (later : DeskView S D) (event : Event) → book.TakesNew node before.book later.book event ⊎ book.TakesKnown node before.book later.book event → later.book.down ≡ false → later.journal ≡ before.journal
+  pub accepts : steps.AcceptIsAStep S → (later : DeskView S D) (event : Event) → book.TakesNew node before.book later.book event
+      ⊎ book.TakesKnown node before.book later.book event → later.book.down ≡ false → later.journal ≡ before.journal
       → LeadsTo node device world (accept event ∷ []) later
   accepts law later event takes up_later same =
       let moves = law node world before.book later.book event is.is_of_world takes in
@@ -282,7 +284,8 @@ module _ {S D : Type 0} (node : Node) (device : Device D) where
       → (desk : DeskView S D) → IsOpened node device bytes desk → (moves : List Move) × IsStop world moves × LeadsTo node device world moves desk
   stops world before is bytes may desk opened = elim (cases_Bool before.book.down) [ inl so ↦ down so | inr off ↦ up off ]
     where
-      at_once : told node bytes ≡ Ok (world.began ++ world.settled) → StandsFor node (content_in world) (world.began ++ world.settled) → (moves : List Move) × IsStop world moves × LeadsTo node device world moves desk
+      at_once : told node bytes ≡ Ok (world.began ++ world.settled) → StandsFor node (content_in world) (world.began ++ world.settled)
+          → (moves : List Move) × IsStop world moves × LeadsTo node device world moves desk
       at_once told_as stands =
           (restart (content_in world) ∷ [], (content_in world, inl refl), restarts bytes desk is.sound opened is.moves world is.run (world.began ++ world.settled) told_as stands)
 

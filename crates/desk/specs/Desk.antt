@@ -1,10 +1,12 @@
 -- A node with one owner: what contracts see of it, and of which run it is.
 use Rattle.std.specs.Prelude.{◌≡◌, ◌≢◌, ◌⊎◌, ℕ, false, List, [], ◌++◌, Ok}
+use Rattle.diskmodel.specs.Disk.{Device}
 use Rattle.book.specs.Book as book
 use Rattle.journal.specs.Format.{stands}
 use Rattle.journal.specs.Journal.{disk_of, IsAlive}
 use Rattle.journal.specs.declared.error.JournalError.{JournalError}
-use Rattle.journal.specs.declared.error.JournalError.TheVariants.{Device, Full}
+use Rattle.journal.specs.declared.error.JournalError.TheVariants as errors
+use Rattle.journal.specs.declared.error.JournalError.TheVariants.{Full}
 use Rattle.journal.specs.declared.journal.Journal.{Journal}
 use Rattle.opening.specs.Told.{told, Tells, IsToldAsOneOf, KeepsRecords}
 use Rattle.spec_model.specs.Histories.{History}
@@ -54,7 +56,7 @@ pub record IsOpened {S D : Type 0} (node : Node) (device : Device D) (before : L
 -- It was not opened: the error is what the bytes are told as, unless memory or the disk failed; and what a stop leaves is told as one
 -- outcome from before, and is one byte for byte, or has the records of one, or where these are none the configuration alone.
 pub record IsNotOpened (node : Node) (error : JournalError) (before : List ℕ) (possible outcome : List ℕ → Type 0) : Type 0 where
-  pub tells : error ≢ Device → Tells error (told node before)
+  pub tells : error ≢ errors.Device → Tells error (told node before)
   pub never_full : error ≢ Full
   pub left : (bytes : List ℕ) → outcome bytes → IsToldAsOneOf node possible bytes
   pub keeps : (bytes : List ℕ) → outcome bytes → KeepsRecords node possible bytes

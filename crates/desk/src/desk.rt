@@ -46,7 +46,7 @@ impl<'a, S: Sign, D: Disk> Desk<'a, S, D> {
     ghost use Rattle.diskmodel.specs.Disk.{AtEachMoment, TellsFault};
     ghost use Rattle.header.specs.Checks.{fault_of, accepts_all};
     ghost use Rattle.journal.specs.Journal.{disk_of, TellsFaultBack, IsAlive};
-    ghost use Rattle.book.specs.Book.{Run, Stands, TakesNew, TakesKnown, MayRefuse, GoesOutSettled, releasable, history_in, settled_in};
+    ghost use Rattle.book.specs.Book.{Run, Stands, StandsAsBefore, TakesNew, TakesKnown, MayRefuse, GoesOutSettled, releasable, history_in, settled_in};
     ghost use Rattle.book.specs.OnTheWay.{Flushes, FindsNoRoom, FailsWithRoom, IsWithOrWithout};
     ghost use Rattle.book.specs.declared.book.TheConstants.{MAX_ACCEPTED};
     ghost use Rattle.spec_model.specs.Admitting.{admit};
@@ -56,9 +56,8 @@ impl<'a, S: Sign, D: Disk> Desk<'a, S, D> {
     ghost use Rattle.spec_world.specs.Steps.{accept as accept_event, take_to, device_call, settle, read_order, release as release_output};
     ghost use Rattle.spec_world.specs.World.{World};
     ghost use Rattle.validator.specs.Setting.{node_of};
-    ghost use Rattle.opening.specs.Laws.{IsLeft, IsNoRefusal};
-    ghost use Rattle.opening.specs.Told.{IsToldAsOneOf, KeepsRecords};
-    ghost use Rattle.desk.specs.Desk.{IsOf, IsOpened, IsNotOpened};
+    ghost use Rattle.opening.specs.Laws.{IsOpening};
+    ghost use Rattle.desk.specs.Desk.{IsOpened, IsNotOpened};
     ghost use Rattle.desk.specs.AtWorld.{IsAt, LeadsTo};
 
     /// Opens a node on a disk, with a book that has accepted nothing.
@@ -73,15 +72,8 @@ impl<'a, S: Sign, D: Disk> Desk<'a, S, D> {
         ensures setting { IfOk result (λ desk. desk.book.validator.setting ≡ config.now) }
         ensures ok { IfOk result (λ desk. IsOpened (node_of S.scheme config.now) D.device (D.device.content disk) desk) }
         ensures err { IfErr result (λ failed. IsNotOpened (node_of S.scheme config.now) failed.error (D.device.content disk) (D.device.outcome disk) (D.device.outcome failed.disk)) }
-        // It answers Device exactly where the disk has failed.
-        ensures cause { TellsFaultBack D.device (λ desk. disk_of desk.journal) JournalError.Device disk result }
-        // What a stop leaves in a world of this node is never refused.
-        ensures never_refused { IfErr result (λ failed. IsLeft (node_of S.scheme config.now) (D.device.content disk) → IsNoRefusal failed.error) }
-        // A stop at any moment of the call leaves what is told as one outcome from before it is, and the records, whoever's they are.
-        ensures any_moment { IfOk result (λ desk. AtEachMoment D.device disk (disk_of desk.journal) (IsToldAsOneOf (node_of S.scheme config.now) (D.device.outcome disk))) }
-        ensures any_moment_err { IfErr result (λ failed. AtEachMoment D.device disk failed.disk (IsToldAsOneOf (node_of S.scheme config.now) (D.device.outcome disk))) }
-        ensures keeps { IfOk result (λ desk. AtEachMoment D.device disk (disk_of desk.journal) (KeepsRecords (node_of S.scheme config.now) (D.device.outcome disk))) }
-        ensures keeps_err { IfErr result (λ failed. AtEachMoment D.device disk failed.disk (KeepsRecords (node_of S.scheme config.now) (D.device.outcome disk))) }
+        // Its errors, and what a stop at any moment of it leaves.
+        ensures opening { IsOpening (node_of S.scheme config.now) D.device (λ desk. disk_of desk.journal) disk result }
     {
         match reopen(alloc, config, disk) {
             Ok((validator, journal)) => Ok(Desk {
@@ -156,8 +148,7 @@ impl<'a, S: Sign, D: Disk> Desk<'a, S, D> {
     pub fn release(&mut self) -> Option<Output>
         ensures output { result ≡ releasable self.old.book }
         ensures queue { self.new.book ≡ (if is_some result then record self.old.book { queue = drop 1 self.old.book.queue } else self.old.book) }
-        ensures stands { let node = node_of S.scheme self.old.book.validator.setting in (run : Run) → Stands node run self.old.book
-            → Stands node run self.new.book }
+        ensures stands { let node = node_of S.scheme self.old.book.validator.setting in StandsAsBefore node self.old.book self.new.book }
         ensures goes_out { let node = node_of S.scheme self.old.book.validator.setting in IfSome result (λ output. (run : Run) → Stands node run self.old.book
             → GoesOutSettled node run output) }
         ensures same { self.new.journal ≡ self.old.journal }
@@ -173,7 +164,7 @@ impl<'a, S: Sign, D: Disk> Desk<'a, S, D> {
     /// The order behind the settled records, from this place on. It is empty past its end.
     ///
     /// # Errors
-    /// `Down` exactly where the desk is down, `Memory` where a growth was refused.
+    /// `Down` exactly where the desk is down, `Memory` where an allocation failed.
     pub fn order(&self, from: u64) -> Result<Vec<Digest>, Refusal>
         ensures order { let node = node_of S.scheme self.now.book.validator.setting in IfOk result (λ digests. (run : Run) → Stands node run self.now.book
             → digests.items ≡ drop from (order_of node (settled_in run))) }
@@ -204,7 +195,7 @@ impl<'a, S: Sign, D: Disk> Desk<'a, S, D> {
     }
 
     /// The header that the node proposes, behind all that was accepted. None where its round has an own header, or is past
-    /// `Round::MAX`. `AllocError` where a growth was refused.
+    /// `Round::MAX`. `AllocError` where an allocation failed.
     pub fn propose(&self) -> Result<Option<Header>, AllocError>
         ensures { let node = node_of S.scheme self.now.book.validator.setting in IfOk result (λ found. (run : Run) → Stands node run self.now.book
             → found ≡ propose_of node (history_in run)) }

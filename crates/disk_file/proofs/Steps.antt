@@ -11,14 +11,15 @@ use Rattle.diskmodel.proofs.Calls.{firm_only}
 use Rattle.diskmodel.proofs.Kept.{state-push, state_possible, state_in_firm, state_firm_bytes, kept_write, kept_cut, kept_sync}
 use Rattle.diskmodel.proofs.Torn.{length-written}
 use Rattle.diskmodel.proofs.Moments.{outcomes_write, outcomes_cut, outcomes_sync, firm_sync}
-use Rattle.disk_file.specs.declared.story.Story.{Story}
+use Rattle.disk_file.specs.declared.story.TapeView.{TapeView}
 use Rattle.disk_file.specs.Stories.{begun, Adds, SameCalls, held, MayLeave, IsSound}
 
 -- a list of calls on a file that began with these bytes is sound
 abbrev Sound : List ℕ → List Call → Type 0
 Sound first calls = Keeps first calls (state first calls).firm (state first calls).smallest (state first calls).greatest (state first calls).spans (state first calls).content
 
-sound_from : (first : List ℕ) (calls : List Call) (firm : List ℕ) (smallest greatest : ℕ) (spans : List Span) (content : List ℕ) → Keeps first calls firm smallest greatest spans content → Sound first calls
+sound_from : (first : List ℕ) (calls : List Call) (firm : List ℕ) (smallest greatest : ℕ) (spans : List Span) (content : List ℕ)
+    → Keeps first calls firm smallest greatest spans content → Sound first calls
 sound_from first calls firm smallest greatest spans content kept = record {
   firm_is = refl;
   smallest_is = refl;
@@ -35,17 +36,17 @@ pub firm_begun : (bytes : List ℕ) → LeavesOnly (held (begun bytes)) (MayLeav
 firm_begun bytes found left = firm_only bytes found left
 
 -- there is this call more, whatever has failed
-pub record Longer (call : Call) (old new : Story) : Type 0 where
+pub record Longer (call : Call) (old new : TapeView) : Type 0 where
   pub first : new.first ≡ old.first
   pub calls : new.calls ≡ old.calls ++ call ∷ []
 
-pub same_calls : (one other third : Story) → SameCalls one other → SameCalls other third → SameCalls one third
+pub same_calls : (one other third : TapeView) → SameCalls one other → SameCalls other third → SameCalls one third
 same_calls one other third first second = record { first = second.first ∙ first.first; calls = second.calls ∙ first.calls }
 
-pub longer_by : (call : Call) (old new : Story) → Adds call old new → Longer call old new
+pub longer_by : (call : Call) (old new : TapeView) → Adds call old new → Longer call old new
 longer_by call old new adds = record { first = adds.first; calls = adds.calls }
 
-pub longer : (call : Call) (old before added new : Story) → SameCalls old before → Adds call before added → SameCalls added new → Longer call old new
+pub longer : (call : Call) (old before added new : TapeView) → SameCalls old before → Adds call before added → SameCalls added new → Longer call old new
 longer call old before added new same adds later = record {
   first = later.first ∙ adds.first ∙ same.first;
   calls = later.calls ∙ adds.calls ∙ ap (λ (calls : List Call). calls ++ call ∷ []) same.calls;
@@ -56,14 +57,14 @@ pub anyway : {T E : Type 0} {P : Type 0} (r : Result T E) → P → OnOk r P
 anyway (Ok x) holds = search holds
 anyway (Err e) holds = search rules
 
-module _ (call : Call) (old new : Story) (more : Longer call old new) where
+module _ (call : Call) (old new : TapeView) (more : Longer call old new) where
   sound_of : Sound old.first (old.calls ++ call ∷ []) → IsSound new
   sound_of sound = subst (λ (first : List ℕ). Sound first new.calls) (sym more.first) (subst (λ (calls : List Call). Sound old.first calls) (sym more.calls) sound)
 
   held_of : held new ≡ (state old.first (old.calls ++ call ∷ [])).content
   held_of = ap (λ (first : List ℕ). (state first new.calls).content) more.first ∙ ap (λ (calls : List Call). (state old.first calls).content) more.calls
 
-module _ (old new : Story) (at : ℕ) (bytes : List ℕ) (sound : IsSound old) (within : at ≤ length (held old)) (more : Longer (Wrote at bytes) old new) where
+module _ (old new : TapeView) (at : ℕ) (bytes : List ℕ) (sound : IsSound old) (within : at ≤ length (held old)) (more : Longer (Wrote at bytes) old new) where
   pub write_sound : AreBytes bytes → IsSound new
   write_sound are = sound_of (Wrote at bytes) old new more (sound_from _ _ _ _ _ _ _ (kept_write _ _ _ _ _ _ _ at bytes sound are within))
 
@@ -78,7 +79,7 @@ module _ (old new : Story) (at : ℕ) (bytes : List ℕ) (sound : IsSound old) (
       subst (λ (first : List ℕ). ComesBy (IsTorn at (length bytes)) (IsOutcome old.first old.calls) (IsOutcome first new.calls)) (sym more.first)
       (outcomes_write _ _ _ _ _ _ _ sound at bytes new.calls within (inl more.calls))
 
-module _ (old new : Story) (len : ℕ) (sound : IsSound old) (within : len ≤ length (held old)) (more : Longer (Cut len) old new) where
+module _ (old new : TapeView) (len : ℕ) (sound : IsSound old) (within : len ≤ length (held old)) (more : Longer (Cut len) old new) where
   pub cut_sound : IsSound new
   cut_sound = sound_of (Cut len) old new more (sound_from _ _ _ _ _ _ _ (kept_cut _ _ _ _ _ _ _ len sound within))
 
@@ -93,7 +94,7 @@ module _ (old new : Story) (len : ℕ) (sound : IsSound old) (within : len ≤ l
       subst (λ (first : List ℕ). ComesBy (IsCut len) (IsOutcome old.first old.calls) (IsOutcome first new.calls)) (sym more.first)
       (outcomes_cut _ _ _ _ _ _ _ sound len new.calls within (inl more.calls))
 
-module _ (old new : Story) (sound : IsSound old) (more : Longer Synced old new) where
+module _ (old new : TapeView) (sound : IsSound old) (more : Longer Synced old new) where
   pub sync_sound : IsSound new
   sync_sound = sound_of Synced old new more (sound_from _ _ _ _ _ _ _ (kept_sync _ _ _ _ _ _ _ sound))
 

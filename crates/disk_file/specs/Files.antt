@@ -1,12 +1,12 @@
 -- What clauses see of a disk over a file.
 use Rattle.std.specs.Prelude.{◌≡◌, Bool, true, false, List, ℕ, IsSome, Result, IsErr, OnOk, OnErr}
 use Rattle.diskmodel.specs.declared.disk.DiskFault.{DiskFault}
-use Rattle.disk_file.specs.declared.story.Story.{Story}
+use Rattle.disk_file.specs.declared.story.TapeView.{TapeView}
 use Rattle.disk_file.specs.declared.disk.FileDisk.{FileDisk}
 use Rattle.disk_file.specs.Stories.{held, MayLeave}
 
 -- the bytes that it was opened with, its calls since, and how often one has failed
-abbrev pub story_of : FileDisk → Story
+abbrev pub story_of : FileDisk → TapeView
 story_of disk = disk.tape
 
 -- what a read gives

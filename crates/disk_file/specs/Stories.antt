@@ -4,45 +4,45 @@ use Rattle.diskmodel.specs.declared.call.Call.{Call}
 use Rattle.diskmodel.specs.Outcomes.{State, state, IsOutcome, IsOutcomeSince}
 use Rattle.diskmodel.specs.Disk.{GoesOn}
 use Rattle.diskmodel.specs.Kept.{Keeps}
-use Rattle.disk_file.specs.declared.story.Story.{Story}
+use Rattle.disk_file.specs.declared.story.TapeView.{TapeView}
 
 -- a file that begins with these bytes
-abbrev pub begun : List ℕ → Story
+abbrev pub begun : List ℕ → TapeView
 begun bytes = record { first = bytes; calls = []; faults = 0 }
 
 -- one call more has failed
-abbrev pub failing : Story → Story
+abbrev pub failing : TapeView → TapeView
 failing story = record story { faults = story.faults + 1 }
 
 -- there is this call more
-pub record Adds (call : Call) (old new : Story) : Type 0 where
+pub record Adds (call : Call) (old new : TapeView) : Type 0 where
   pub first : new.first ≡ old.first
   pub calls : new.calls ≡ old.calls ++ call ∷ []
   pub faults : new.faults ≡ old.faults
 
 -- there are the same calls
-pub record SameCalls (old new : Story) : Type 0 where
+pub record SameCalls (old new : TapeView) : Type 0 where
   pub first : new.first ≡ old.first
   pub calls : new.calls ≡ old.calls
 
 -- what the calls come to
-abbrev pub reached : Story → State
+abbrev pub reached : TapeView → State
 reached story = state story.first story.calls
 
 -- what a read gives
-abbrev pub held : Story → List ℕ
+abbrev pub held : TapeView → List ℕ
 held story = (reached story).content
 
 -- what a stop may leave at this moment
-abbrev pub MayLeave : Story → List ℕ → Type 0
+abbrev pub MayLeave : TapeView → List ℕ → Type 0
 MayLeave story found = IsOutcome story.first story.calls found
 
 -- the clock goes on, which counts the calls
-abbrev pub TimePasses : Story → Story → Type 0
+abbrev pub TimePasses : TapeView → TapeView → Type 0
 TimePasses old new = GoesOn (length old.calls) (length new.calls) (IsOutcomeSince old.first old.calls) (IsOutcomeSince new.first new.calls) (MayLeave new)
 
 -- the calls were made within the file, and what a read gives is among what a stop may leave
-abbrev pub IsSound : Story → Type 0
+abbrev pub IsSound : TapeView → Type 0
 IsSound story =
     let s : State = reached story in
     Keeps story.first story.calls s.firm s.smallest s.greatest s.spans s.content

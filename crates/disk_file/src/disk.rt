@@ -143,17 +143,14 @@ impl Disk for FileDisk {
     ghost use Rattle.disk_file.specs.Stories.{held, MayLeave};
     ghost use Rattle.disk_file.specs.Files.{story_of, content_of, CanStopAt, is_down, IsReadable, StaysDown};
 
-    ghost content = { λ disk. held disk.tape };
-
-    ghost outcome = { λ disk. IsOutcome disk.tape.first disk.tape.calls };
-
-    ghost clock = { λ disk. length disk.tape.calls };
-
-    ghost outcome_since = { λ disk. IsOutcomeSince disk.tape.first disk.tape.calls };
-
-    ghost faults = { λ disk. disk.tape.faults };
-
-    ghost calls = { λ disk. disk.tape.calls };
+    ghost device = { record {
+      content = λ disk. held disk.tape;
+      outcome = λ disk. IsOutcome disk.tape.first disk.tape.calls;
+      clock = λ disk. length disk.tape.calls;
+      outcome_since = λ disk. IsOutcomeSince disk.tape.first disk.tape.calls;
+      faults = λ disk. disk.tape.faults;
+      calls = λ disk. disk.tape.calls;
+    } };
 
     ghost content_is_outcome = { λ disk. disk.sound.possible };
 

@@ -4,7 +4,7 @@ ghost use Rattle.std.specs.Prelude.{◌≡◌, ℕ, ◌+◌, List, [], ◌∷◌
 ghost use Rattle.diskmodel.specs.declared.call.Call.TheVariants.{Wrote, Cut, Synced};
 ghost use Rattle.disk_file.specs.Stories.{Adds, begun, failing};
 
-use crate::story::Story;
+use crate::story::TapeView;
 use atomic_table::{Play, Seat, Table, TableRule};
 use std::alloc::{AllocError, Global};
 use std::marker::{Brand, Model, PhantomData};
@@ -14,9 +14,9 @@ const WORD: usize = 0;
 
 /// What the record says from a step on. Each call of `Tape::turn` picks it.
 pub trait Turn {
-    ghost use Rattle.disk_file.specs.declared.story.Story.{Story};
+    ghost use Rattle.disk_file.specs.declared.story.TapeView.{TapeView};
 
-    ghost next: { Story };
+    ghost next: { TapeView };
 }
 
 impl Turn for Brand {
@@ -31,7 +31,7 @@ pub struct Turned<N> {
     next: PhantomData<N>,
 }
 
-impl<N: Turn> Play<(), Story> for Turned<N> {
+impl<N: Turn> Play<(), TapeView> for Turned<N> {
     ghost use Rattle.std.specs.Prelude.{◌≡◌};
 
     ghost then = { λ step before found later. later ≡ (N.next, before.1) };
@@ -40,7 +40,7 @@ impl<N: Turn> Play<(), Story> for Turned<N> {
 /// The rule allows anything, as there is one seat.
 pub struct AnyStory;
 
-impl TableRule<(), Story, ()> for AnyStory {
+impl TableRule<(), TapeView, ()> for AnyStory {
     ghost use Rattle.std.specs.Prelude.{⊤, []};
     ghost use Rattle.disk_file.specs.Stories.{begun};
 
@@ -51,8 +51,8 @@ impl TableRule<(), Story, ()> for AnyStory {
 
 /// The record. Contracts see it as a story.
 pub struct Tape {
-    table: Table<(), Story, (), AnyStory, Global>,
-    seat: Seat<(), Story>,
+    table: Table<(), TapeView, (), AnyStory, Global>,
+    seat: Seat<(), TapeView>,
 }
 
 impl Drop for Tape {
@@ -63,9 +63,9 @@ impl Drop for Tape {
 
 impl Model for Tape {
     ghost use Rattle.std.specs.Prelude.{◌≡◌};
-    ghost use Rattle.disk_file.specs.declared.story.Story.{Story};
+    ghost use Rattle.disk_file.specs.declared.story.TapeView.{TapeView};
 
-    ghost Value = { Story };
+    ghost Value = { TapeView };
 
     ghost view = { λ t. t.seat.me.0 };
 

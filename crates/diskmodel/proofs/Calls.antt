@@ -1,5 +1,6 @@
 -- What one call more makes of the state and of what a stop may leave.
-use Rattle.std.proofs.Common.{◌≡◌, ◌⊎◌, ℕ, ◌+◌, ◌-◌, ◌<◌, ◌≤◌, max, false, List, [], ◌∷◌, ◌++◌, length, take, drop, get_or, refl, sym, ap, ◌∙◌, inl, inr, ⊎_elim, arith, length-append, length-take, length-drop}
+use Rattle.std.proofs.Common.{◌≡◌, ◌⊎◌, ℕ, ◌+◌, ◌-◌, ◌<◌, ◌≤◌, max, false, List, [], ◌∷◌, ◌++◌, length, take, drop, get_or, refl, sym, ap, ◌∙◌, inl}
+use Rattle.std.proofs.Common.{inr, ⊎_elim, arith, length-append, length-take, length-drop}
 use Rattle.std.proofs.lemmas.Bool.{or_parts, or_from, cases_lt}
 use Rattle.std.proofs.lemmas.List.{take_at, get_or-take, get_or-drop, get_or_append_left, get_or-append_right, ext_get_or}
 use Rattle.std.proofs.lemmas.List.Elements.{All-append, All-take, All-drop}
@@ -8,7 +9,9 @@ use Rattle.diskmodel.specs.declared.call.Call.TheVariants.{Wrote, Cut, Stopped}
 use Rattle.diskmodel.specs.Disk.{written, IsTorn, IsCut, ComesBy}
 use Rattle.diskmodel.specs.Outcomes.{State, AreBytes, CanLeave, holds, is_written, after, after_all, firmed}
 use Rattle.diskmodel.proofs.Places.{is_written-push, outside, outside_before, outside_behind, cases_le}
-use Rattle.diskmodel.proofs.Torn.{written_bytes, refirmed_bytes, untorn_bytes, length-written, written_before, written_behind, refirmed, length-refirmed, untorn, length-untorn, untorn_before, untorn_inside, untorn_behind, untorn_IsTorn, IsTorn_refl, IsCut_refl}
+use Rattle.diskmodel.proofs.Torn.{written_bytes, refirmed_bytes, untorn_bytes, length-written, written_before, written_behind, refirmed}
+use Rattle.diskmodel.proofs.Torn.{length-refirmed, untorn, length-untorn, untorn_before, untorn_inside, untorn_behind, untorn_IsTorn, IsTorn_refl}
+use Rattle.diskmodel.proofs.Torn.{IsCut_refl}
 
 -- one call more at the end
 pub after_all-push : (s : State) (calls : List Call) (call : Call) → after_all s (calls ++ call ∷ []) ≡ after (after_all s calls) call
@@ -35,7 +38,8 @@ possible_write s at bytes now are_bytes within = record {
   no_longer = omega arith;
   stays = λ place below none.
       let two = unmarked s at bytes place none in
-      ⊎_elim (λ (before : place < at). written_before s.content at bytes place within before) (λ (behind : at + length bytes ≤ place). written_behind s.content at bytes place within behind) (outside at (length bytes) place two.1)
+      ⊎_elim (λ (before : place < at). written_before s.content at bytes place within before)
+      (λ (behind : at + length bytes ≤ place). written_behind s.content at bytes place within behind) (outside at (length bytes) place two.1)
       ∙ now.stays place (omega arith) two.0;
 }
 

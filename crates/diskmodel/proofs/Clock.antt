@@ -24,7 +24,8 @@ module _ {D : Type 0} (device : Device D) where
   }
 
   -- one call more, after which each outcome has P
-  pub goes_on : (old mid new : D) (P outcome : List ℕ → Type 0) → AtEachMoment device old mid P → GoesOn (device.clock mid) (device.clock new) (device.outcome_since mid) (device.outcome_since new) outcome
+  pub goes_on : (old mid new : D) (P outcome : List ℕ → Type 0) → AtEachMoment device old mid P → GoesOn (device.clock mid) (device.clock new)
+      (device.outcome_since mid) (device.outcome_since new) outcome
       → ((c : List ℕ) → outcome c → P c) → AtEachMoment device old new P
   goes_on old mid new P outcome so_far time here = record {
     later = omega (arith, so_far.later, time.later);

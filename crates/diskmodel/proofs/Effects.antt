@@ -29,9 +29,11 @@ effect call r old told went new same_told adds as_before same_went =
     (subst (λ (h : History). Effect call h went) same_told (effect_between call r told went adds as_before))
 
 pub time_of : (call : Call) (old new : History) → Effect call old new
-    → GoesOn (length old.calls.items) (length new.calls.items) (IsOutcomeSince old.first.items old.calls.items) (IsOutcomeSince new.first.items new.calls.items) (IsOutcome new.first.items new.calls.items)
+    → GoesOn (length old.calls.items) (length new.calls.items) (IsOutcomeSince old.first.items old.calls.items)
+    (IsOutcomeSince new.first.items new.calls.items) (IsOutcome new.first.items new.calls.items)
 time_of call old new done =
-    subst (λ (first : List ℕ). GoesOn (length old.calls.items) (length new.calls.items) (IsOutcomeSince old.first.items old.calls.items) (IsOutcomeSince first new.calls.items) (IsOutcome first new.calls.items))
+    subst (λ (first : List ℕ). GoesOn (length old.calls.items) (length new.calls.items) (IsOutcomeSince old.first.items old.calls.items)
+    (IsOutcomeSince first new.calls.items) (IsOutcome first new.calls.items))
     (sym done.first) (time old.first.items call old.calls.items new.calls.items done.calls)
 
 pub write_of : (at : ℕ) (bytes : List ℕ) (old new : History) → at ≤ length old.content.items → Effect (Wrote at bytes) old new
@@ -67,9 +69,11 @@ stop_others_of found old new done =
     (others_stop old.first.items old.calls.items new.calls.items found done.calls)
 
 pub stop_time_of : (found : List ℕ) (old new : History) → TakesStop found old new
-    → GoesOn (length old.calls.items) (length new.calls.items) (IsOutcomeSince old.first.items old.calls.items) (IsOutcomeSince new.first.items new.calls.items) (IsOutcome new.first.items new.calls.items)
+    → GoesOn (length old.calls.items) (length new.calls.items) (IsOutcomeSince old.first.items old.calls.items)
+    (IsOutcomeSince new.first.items new.calls.items) (IsOutcome new.first.items new.calls.items)
 stop_time_of found old new done =
-    subst (λ (first : List ℕ). GoesOn (length old.calls.items) (length new.calls.items) (IsOutcomeSince old.first.items old.calls.items) (IsOutcomeSince first new.calls.items) (IsOutcome first new.calls.items))
+    subst (λ (first : List ℕ). GoesOn (length old.calls.items) (length new.calls.items) (IsOutcomeSince old.first.items old.calls.items)
+    (IsOutcomeSince first new.calls.items) (IsOutcome first new.calls.items))
     (sym done.first) (time_stop old.first.items old.calls.items new.calls.items found done.calls)
 
 -- the same where the sync has succeeded

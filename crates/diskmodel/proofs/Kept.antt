@@ -54,8 +54,10 @@ kept_write first calls firm smallest greatest spans content at bytes kept are_by
     let inside : at ≤ length (state first calls).content = omega (arith, ap length kept.content_is) in
     record {
       firm_is = ap (λ (s : State). s.firm) push ∙ kept.firm_is;
-      smallest_is = ap (λ (s : State). s.smallest) push ∙ ap (λ (n : ℕ). min n (length (written (state first calls).content at bytes))) kept.smallest_is ∙ ap (λ (c : List ℕ). min smallest (length c)) read;
-      greatest_is = ap (λ (s : State). s.greatest) push ∙ ap (λ (n : ℕ). max n (length (written (state first calls).content at bytes))) kept.greatest_is ∙ ap (λ (c : List ℕ). max greatest (length c)) read;
+      smallest_is = ap (λ (s : State). s.smallest) push ∙ ap (λ (n : ℕ). min n (length (written (state first calls).content at bytes)))
+          kept.smallest_is ∙ ap (λ (c : List ℕ). min smallest (length c)) read;
+      greatest_is = ap (λ (s : State). s.greatest) push ∙ ap (λ (n : ℕ). max n (length (written (state first calls).content at bytes)))
+          kept.greatest_is ∙ ap (λ (c : List ℕ). max greatest (length c)) read;
       spans_are = ap (λ (s : State). s.spans) push ∙ ap (λ (rows : List Span). rows ++ record { place = at; count = length bytes } ∷ []) kept.spans_are;
       content_is = ap (λ (s : State). s.content) push ∙ read;
       in_firm = omega (arith, kept.in_firm);

@@ -94,10 +94,12 @@ outcome_of first call old new found (inl more) left = inl (IsOutcome-pushed firs
 outcome_of first call old new found (inr same) left = inr (subst (λ (calls : List Call). IsOutcome first calls found) same left)
 
 module _ (first : List ℕ) (old : List Call) (firm : List ℕ) (smallest greatest : ℕ) (spans : List Span) (content : List ℕ) (kept : Keeps first old firm smallest greatest spans content) where
-  pub outcomes_write : (at : ℕ) (bytes : List ℕ) (new : List Call) → at ≤ length content → MayAdd (Wrote at bytes) old new → ComesBy (IsTorn at (length bytes)) (IsOutcome first old) (IsOutcome first new)
+  pub outcomes_write : (at : ℕ) (bytes : List ℕ) (new : List Call) → at ≤ length content → MayAdd (Wrote at bytes) old new
+      → ComesBy (IsTorn at (length bytes)) (IsOutcome first old) (IsOutcome first new)
   outcomes_write at bytes new within may found left =
       ⊎_elim
-      (torn_write (state first old) at bytes (state_in_firm first old firm smallest greatest spans content kept) (state_firm_bytes first old firm smallest greatest spans content kept) (state_possible first old firm smallest greatest spans content kept)
+      (torn_write (state first old) at bytes (state_in_firm first old firm smallest greatest spans content kept)
+      (state_firm_bytes first old firm smallest greatest spans content kept) (state_possible first old firm smallest greatest spans content kept)
       (omega (arith, ap length kept.content_is)) found)
       (λ (same : IsOutcome first old found). (found, same, IsTorn_refl at (length bytes) found))
       (outcome_of first (Wrote at bytes) old new found may left)
@@ -105,7 +107,8 @@ module _ (first : List ℕ) (old : List Call) (firm : List ℕ) (smallest greate
   pub outcomes_cut : (len : ℕ) (new : List Call) → len ≤ length content → MayAdd (Cut len) old new → ComesBy (IsCut len) (IsOutcome first old) (IsOutcome first new)
   outcomes_cut len new within may found left =
       ⊎_elim
-      (torn_cut (state first old) len (state_in_firm first old firm smallest greatest spans content kept) (state_firm_bytes first old firm smallest greatest spans content kept) (state_possible first old firm smallest greatest spans content kept)
+      (torn_cut (state first old) len (state_in_firm first old firm smallest greatest spans content kept)
+      (state_firm_bytes first old firm smallest greatest spans content kept) (state_possible first old firm smallest greatest spans content kept)
       (omega (arith, ap length kept.content_is)) found)
       (λ (same : IsOutcome first old found). (found, same, IsCut_refl len found))
       (outcome_of first (Cut len) old new found may left)
@@ -144,5 +147,6 @@ pub time_stop : (first : List ℕ) (old new : List Call) (found : List ℕ) → 
 time_stop first old new found (inl more) = time first (Stopped found) old new (inl more)
 time_stop first old new found (inr replaces) =
     subst (λ (past : List Call). GoesOn (length past) (length new) (IsOutcomeSince first past) (IsOutcomeSince first new) (IsOutcome first new)) (sym replaces.was)
-    (subst (λ (calls : List Call). GoesOn (length (replaces.before ++ Stopped replaces.gone ∷ [])) (length calls) (IsOutcomeSince first (replaces.before ++ Stopped replaces.gone ∷ [])) (IsOutcomeSince first calls) (IsOutcome first calls))
+    (subst (λ (calls : List Call). GoesOn (length (replaces.before ++ Stopped replaces.gone ∷ [])) (length calls)
+    (IsOutcomeSince first (replaces.before ++ Stopped replaces.gone ∷ [])) (IsOutcomeSince first calls) (IsOutcome first calls))
     (sym replaces.is) (goes_on_replaced first replaces.before replaces.gone found))

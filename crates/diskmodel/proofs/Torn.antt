@@ -51,10 +51,12 @@ untorn_bytes at count under found in_under in_found =
 pub untorn_before : (at count : ℕ) (under found : List ℕ) (place : ℕ) → at ≤ length found → place < at → get_or (untorn at count under found) place 0 ≡ get_or found place 0
 untorn_before at count under found place within before = grind (arith, places)
 
-pub untorn_inside : (at count : ℕ) (under found : List ℕ) (place : ℕ) → length under ≡ length found → at ≤ place → place < at + count → place < length found → get_or (untorn at count under found) place 0 ≡ get_or under place 0
+pub untorn_inside : (at count : ℕ) (under found : List ℕ) (place : ℕ) → length under ≡ length found → at ≤ place → place < at + count
+    → place < length found → get_or (untorn at count under found) place 0 ≡ get_or under place 0
 untorn_inside at count under found place same from to within = grind (arith, places)
 
-pub untorn_behind : (at count : ℕ) (under found : List ℕ) (place : ℕ) → length under ≡ length found → at + count ≤ place → place < length found → get_or (untorn at count under found) place 0 ≡ get_or found place 0
+pub untorn_behind : (at count : ℕ) (under found : List ℕ) (place : ℕ) → length under ≡ length found → at + count ≤ place → place < length found
+    → get_or (untorn at count under found) place 0 ≡ get_or found place 0
 untorn_behind at count under found place same behind within = grind (arith, places)
 
 -- a write that went as far as it could

@@ -2,7 +2,6 @@
 use Rattle.std.specs.Prelude.{◌<◌, ◌≡◌, ◌≢◌, ◌⊎◌, ℕ, ◌+◌, ◌≤◌, max, min, List, [], ◌∷◌, ◌++◌, length, take, drop, Result, OnOk, OnErr, IfErr}
 use Rattle.diskmodel.specs.declared.call.Call.{Call}
 use Rattle.diskmodel.specs.declared.disk.DiskFault.{DiskFault}
-use Rattle.diskmodel.specs.Disk.{Device}
 
 -- old with these bytes written at this place, which is within it or at its end
 abbrev pub written : List ℕ → ℕ → List ℕ → List ℕ
@@ -56,6 +55,26 @@ TellsFault device before now result = OnOk result (now ≡ before) × IfErr resu
 pub record Makes {T : Type 0} (call : Call) (result : Result T DiskFault) (old new : List Call) : Type 0 where
   pub made : OnOk result (new ≡ old ++ call ∷ [])
   pub failed : OnErr result ((new ≡ old) ⊎ (new ≡ old ++ call ∷ []))
+
+-- What contracts need of the disks of a type, as one value. Of each disk:
+pub record Device (D : Type 0) : Type 1 where
+  -- what a read gives
+  pub content : D → List ℕ
+  -- what a stop may leave at this moment
+  pub outcome : D → List ℕ → Type 0
+  -- the moment, as a number that doesn't fall
+  pub clock : D → ℕ
+  -- what a stop may have left at some moment from that one on, inside a call or between two
+  pub outcome_since : D → ℕ → List ℕ → Type 0
+  -- how often it has failed
+  pub faults : D → ℕ
+  -- the calls that wrote, cut or synced it, from the first to the last; one that failed may stand there or not
+  pub calls : D → List Call
+
+-- the clock of a disk goes on from one of its states to a later one
+abbrev pub TimePasses : {D : Type 0} → Device D → D → D → Type 0
+TimePasses device old new =
+    GoesOn (device.clock old) (device.clock new) (device.outcome_since old) (device.outcome_since new) (device.outcome new)
 
 -- a stop at any moment since old leaves bytes of which P holds
 pub record AtEachMoment {D : Type 0} (device : Device D) (old new : D) (P : List ℕ → Type 0) : Type 0 where

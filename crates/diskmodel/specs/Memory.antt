@@ -6,7 +6,7 @@ use Rattle.diskmodel.specs.declared.disk.DiskFault.{DiskFault}
 use Rattle.diskmodel.specs.declared.call.Call.{Call}
 use Rattle.diskmodel.specs.declared.call.CallKind.{CallKind}
 use Rattle.diskmodel.specs.declared.memory.MemDisk.{MemDisk}
-use Rattle.diskmodel.specs.declared.switch.Words.{Words}
+use Rattle.diskmodel.specs.declared.switch.SwitchView.{SwitchView}
 use Rattle.diskmodel.specs.Countdowns.{Counts, counts_of, counts_for, counting}
 use Rattle.diskmodel.specs.Outcomes.{State, state, IsOutcome, IsOutcomeSince}
 use Rattle.diskmodel.specs.Kept.{is_stop}
@@ -49,7 +49,7 @@ abbrev pub told_of : MemDisk → Counts
 told_of disk = counts_of disk.countdowns
 
 -- the words of its switch, if it was made with one
-abbrev pub switch_of : MemDisk → Option Words
+abbrev pub switch_of : MemDisk → Option SwitchView
 switch_of disk = disk.switch
 
 -- the same disk, with another choice

@@ -3,19 +3,19 @@ ghost use Rattle.std.specs.Prelude.{◌≡◌, ◌+◌, ◌<◌, ◌≤◌, ◌�
 
 use std::marker::Model;
 
-/// Bytes that are kept. A clause reads them as a list.
+/// Bytes that a record of calls, or of a journal, keeps. A clause reads them as a list.
 #[derive(Debug)]
-pub struct Bytes {
+pub struct KeptBytes {
     items: Vec<u8>,
 }
 
-impl Drop for Bytes {
+impl Drop for KeptBytes {
     fn drop(self) {
-        let Bytes { items: _ } = self;
+        let KeptBytes { items: _ } = self;
     }
 }
 
-impl Model for Bytes {
+impl Model for KeptBytes {
     ghost use Rattle.std.specs.Prelude.{ℕ, List};
 
     ghost Value = { List ℕ };
@@ -23,12 +23,12 @@ impl Model for Bytes {
     ghost view = { λ bytes. bytes.items.items };
 }
 
-impl Bytes {
+impl KeptBytes {
     /// These bytes. It takes no memory.
-    pub fn from_vec(items: Vec<u8>) -> Bytes
+    pub fn from_vec(items: Vec<u8>) -> KeptBytes
         ensures { result ≡ items.items }
     {
-        Bytes { items }
+        KeptBytes { items }
     }
 
     /// The bytes.
@@ -42,7 +42,7 @@ impl Bytes {
     pub fn into_vec(self) -> Vec<u8>
         ensures { result.items ≡ self }
     {
-        let Bytes { items } = self;
+        let KeptBytes { items } = self;
         items
     }
 }
@@ -55,14 +55,14 @@ pub enum Call {
         /// Where the first of them went.
         place: u64,
         /// What was written.
-        bytes: Bytes,
+        bytes: KeptBytes,
     },
     /// The disk was cut to this length.
     Cut(u64),
     /// All that a read gave was made firm.
     Synced,
     /// The machine stopped, and left these bytes.
-    Stopped(Bytes),
+    Stopped(KeptBytes),
 }
 
 /// A kind of call that can be told to fail.

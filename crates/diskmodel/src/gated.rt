@@ -1,6 +1,6 @@
 //! A disk whose syncs pass a gate, so that a test can hold a thread right before one.
 ghost use Rattle.std.specs.Prelude.{◌≡◌, ◌+◌, ◌≤◌, length, take, drop, IfOk, OnOk};
-ghost use Rattle.diskmodel.specs.Disk.{written, IsTorn, IsCut, ComesBy, NoneNew, GoesOn, HasCause, Makes};
+ghost use Rattle.diskmodel.specs.Disk.{written, IsTorn, IsCut, ComesBy, NoneNew, HasCause, Makes, TimePasses};
 ghost use Rattle.diskmodel.specs.declared.call.Call.TheVariants.{Wrote, Cut};
 ghost use Rattle.diskmodel.specs.Gated.{disk_of, gate_of};
 
@@ -50,17 +50,14 @@ impl<D, G> GatedDisk<D, G> {
 }
 
 impl<D: Disk, G: Gate> Disk for GatedDisk<D, G> {
-    ghost content = { λ gated. D.device.content gated.disk };
-
-    ghost outcome = { λ gated. D.device.outcome gated.disk };
-
-    ghost clock = { λ gated. D.device.clock gated.disk };
-
-    ghost outcome_since = { λ gated. D.device.outcome_since gated.disk };
-
-    ghost faults = { λ gated. D.device.faults gated.disk };
-
-    ghost calls = { λ gated. D.device.calls gated.disk };
+    ghost device = { record {
+      content = λ gated. D.device.content gated.disk;
+      outcome = λ gated. D.device.outcome gated.disk;
+      clock = λ gated. D.device.clock gated.disk;
+      outcome_since = λ gated. D.device.outcome_since gated.disk;
+      faults = λ gated. D.device.faults gated.disk;
+      calls = λ gated. D.device.calls gated.disk;
+    } };
 
     ghost content_is_outcome = { λ gated. D.content_is_outcome gated.disk };
 
@@ -72,7 +69,7 @@ impl<D: Disk, G: Gate> Disk for GatedDisk<D, G> {
         ensures value { IfOk result (λ len. len ≡ length (D.device.content self.old.disk)) }
         ensures content { D.device.content self.new.disk ≡ D.device.content self.old.disk }
         ensures outcomes { NoneNew (D.device.outcome self.old.disk) (D.device.outcome self.new.disk) }
-        ensures time { GoesOn (D.device.clock self.old.disk) (D.device.clock self.new.disk) (D.device.outcome_since self.old.disk) (D.device.outcome_since self.new.disk) (D.device.outcome self.new.disk) }
+        ensures time { TimePasses D.device self.old.disk self.new.disk }
         ensures cause { HasCause (D.device.faults self.old.disk) (D.device.faults self.new.disk) result }
         ensures calls { D.device.calls self.new.disk ≡ D.device.calls self.old.disk }
 
@@ -87,7 +84,7 @@ impl<D: Disk, G: Gate> Disk for GatedDisk<D, G> {
         ensures bytes { OnOk result (buffer.new ≡ take (length buffer.old) (drop at (D.device.content self.old.disk))) }
         ensures content { D.device.content self.new.disk ≡ D.device.content self.old.disk }
         ensures outcomes { NoneNew (D.device.outcome self.old.disk) (D.device.outcome self.new.disk) }
-        ensures time { GoesOn (D.device.clock self.old.disk) (D.device.clock self.new.disk) (D.device.outcome_since self.old.disk) (D.device.outcome_since self.new.disk) (D.device.outcome self.new.disk) }
+        ensures time { TimePasses D.device self.old.disk self.new.disk }
         ensures cause { HasCause (D.device.faults self.old.disk) (D.device.faults self.new.disk) result }
         ensures calls { D.device.calls self.new.disk ≡ D.device.calls self.old.disk }
         ensures gate { self.new.gate ≡ self.old.gate }
@@ -99,7 +96,7 @@ impl<D: Disk, G: Gate> Disk for GatedDisk<D, G> {
         requires { at ≤ length (D.device.content self.old.disk) }
         ensures content { OnOk result (D.device.content self.new.disk ≡ written (D.device.content self.old.disk) at bytes.now) }
         ensures outcomes { ComesBy (IsTorn at (length bytes.now)) (D.device.outcome self.old.disk) (D.device.outcome self.new.disk) }
-        ensures time { GoesOn (D.device.clock self.old.disk) (D.device.clock self.new.disk) (D.device.outcome_since self.old.disk) (D.device.outcome_since self.new.disk) (D.device.outcome self.new.disk) }
+        ensures time { TimePasses D.device self.old.disk self.new.disk }
         ensures cause { HasCause (D.device.faults self.old.disk) (D.device.faults self.new.disk) result }
         ensures calls { Makes (Wrote at bytes.now) result (D.device.calls self.old.disk) (D.device.calls self.new.disk) }
         ensures gate { self.new.gate ≡ self.old.gate }
@@ -111,7 +108,7 @@ impl<D: Disk, G: Gate> Disk for GatedDisk<D, G> {
         requires { len ≤ length (D.device.content self.old.disk) }
         ensures content { OnOk result (D.device.content self.new.disk ≡ take len (D.device.content self.old.disk)) }
         ensures outcomes { ComesBy (IsCut len) (D.device.outcome self.old.disk) (D.device.outcome self.new.disk) }
-        ensures time { GoesOn (D.device.clock self.old.disk) (D.device.clock self.new.disk) (D.device.outcome_since self.old.disk) (D.device.outcome_since self.new.disk) (D.device.outcome self.new.disk) }
+        ensures time { TimePasses D.device self.old.disk self.new.disk }
         ensures cause { HasCause (D.device.faults self.old.disk) (D.device.faults self.new.disk) result }
         ensures calls { Makes (Cut len) result (D.device.calls self.old.disk) (D.device.calls self.new.disk) }
         ensures gate { self.new.gate ≡ self.old.gate }
@@ -130,7 +127,7 @@ impl<D: StopDisk, G: Gate> StopDisk for GatedDisk<D, G> {
         ensures content { D.device.outcome self.old.disk (D.device.content self.new.disk) }
         ensures outcomes { NoneNew (D.device.outcome self.old.disk) (D.device.outcome self.new.disk) }
         ensures others { NoneNew (D.device.outcome self.new.disk) (D.device.outcome self.old.disk) }
-        ensures time { GoesOn (D.device.clock self.old.disk) (D.device.clock self.new.disk) (D.device.outcome_since self.old.disk) (D.device.outcome_since self.new.disk) (D.device.outcome self.new.disk) }
+        ensures time { TimePasses D.device self.old.disk self.new.disk }
         ensures faults { D.device.faults self.new.disk ≡ D.device.faults self.old.disk }
         ensures calls { D.device.calls self.new.disk ≡ D.device.calls self.old.disk }
         ensures gate { self.new.gate ≡ self.old.gate }

@@ -5,7 +5,7 @@ ghost use Rattle.diskmodel.specs.Outcomes.{is_written, state, IsOutcome};
 ghost use Rattle.diskmodel.specs.Kept.{Keeps, ends_in_stop};
 ghost use Rattle.diskmodel.specs.Refusals.{IsRefused, room_for};
 
-use crate::call::{Bytes, Call, Span};
+use crate::call::{Call, KeptBytes, Span};
 use crate::refusals::Refusals;
 use std::alloc::{AllocError, Global};
 
@@ -183,7 +183,7 @@ impl History {
         ensures err { OnErr result (IsAsBefore self.old self.new) }
         ensures refused { OnErr result (IsRefused (room_for (length bytes.now)) refusals.old refusals.new) }
     {
-        let copy = Bytes::from_vec(copy(self.alloc, bytes, refusals)?);
+        let copy = KeptBytes::from_vec(copy(self.alloc, bytes, refusals)?);
         refusals.grow(&mut self.calls, CALL_AND_STOP)?;
         refusals.grow(&mut self.spans, 1)?;
         overlay(&mut self.content, at, bytes, refusals)?;
@@ -228,7 +228,7 @@ impl History {
 
     /// Stops the machine, which leaves these bytes. It takes no memory: the content has been as long
     /// before, and a stop right after a stop takes the other's place in the record.
-    pub fn stop(&mut self, found: Bytes)
+    pub fn stop(&mut self, found: KeptBytes)
         requires { IsOutcome self.old.first.items self.old.calls.items found }
         ensures taken { TakesStop found self.old self.new }
         ensures content { self.new.content.items ≡ found }

@@ -11,7 +11,7 @@ mod refusals;
 mod switch;
 mod tally;
 
-pub use call::{Bytes, Call, CallKind};
+pub use call::{Call, CallKind, KeptBytes};
 pub use disk::{Disk, DiskFault, StopDisk};
 pub use gated::{Gate, GatedDisk};
 pub use memory::MemDisk;

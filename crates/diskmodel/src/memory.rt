@@ -4,7 +4,7 @@ ghost use Rattle.std.specs.List.{Contains};
 ghost use Rattle.diskmodel.specs.Disk.{HasCause, NoneNew, GoesOn};
 ghost use Rattle.diskmodel.specs.Outcomes.{is_written};
 
-use crate::call::{Bytes, Call, CallKind};
+use crate::call::{Call, CallKind, KeptBytes};
 use crate::countdowns::Countdowns;
 use crate::disk::{Disk, DiskFault, StopDisk};
 use crate::history::History;
@@ -17,7 +17,7 @@ use std::alloc::{AllocError, Global};
 pub struct MemDisk {
     history: History,
     countdowns: Countdowns,
-    choice: Option<Bytes>,
+    choice: Option<KeptBytes>,
     switch: Option<Switch>,
     faults: Tally,
     refusals: Refusals,
@@ -140,7 +140,7 @@ impl MemDisk {
     pub fn choose(&mut self, outcome: Vec<u8>)
         ensures { self.new ≡ choosing self.old outcome.items }
     {
-        self.choice = Some(Bytes::from_vec(outcome));
+        self.choice = Some(KeptBytes::from_vec(outcome));
     }
 
     /// Counts a failure.
@@ -204,17 +204,14 @@ impl Disk for MemDisk {
     ghost use Rattle.diskmodel.specs.Memory.{content_of, made_of, CanStopAt, told_of, switch_of, TimeGoesOn, IsUndisturbed, Heeds};
     ghost use Rattle.diskmodel.specs.Refusals.{IsRefused, room_for};
 
-    ghost content = { λ disk. disk.history.content.items };
-
-    ghost outcome = { λ disk. IsOutcome disk.history.first.items disk.history.calls.items };
-
-    ghost clock = { λ disk. length disk.history.calls.items };
-
-    ghost outcome_since = { λ disk. IsOutcomeSince disk.history.first.items disk.history.calls.items };
-
-    ghost faults = { λ disk. disk.faults.count };
-
-    ghost calls = { made_of };
+    ghost device = { record {
+      content = λ disk. disk.history.content.items;
+      outcome = λ disk. IsOutcome disk.history.first.items disk.history.calls.items;
+      clock = λ disk. length disk.history.calls.items;
+      outcome_since = λ disk. IsOutcomeSince disk.history.first.items disk.history.calls.items;
+      faults = λ disk. disk.faults.count;
+      calls = made_of;
+    } };
 
     ghost content_is_outcome = { λ disk. disk.history.kept.possible };
 

@@ -26,7 +26,7 @@ pub struct Told {
 /// For each kind of call a row of words. Each is free at 0, or says how many calls from now one fails. A
 /// disk may not wait for a lock, so a word is changed by single steps, and no clause knows what it holds.
 #[derive(Drop)]
-pub struct Words {
+pub struct SwitchView {
     read: Vec<AtomicU64>,
     write: Vec<AtomicU64>,
     cut: Vec<AtomicU64>,
@@ -52,10 +52,10 @@ fn count_down(word: &AtomicU64) -> bool {
     was == Ok(1)
 }
 
-impl Words {
+impl SwitchView {
     /// No call fails.
-    fn none(alloc: Global) -> Result<Words, AllocError> {
-        Ok(Words {
+    fn none(alloc: Global) -> Result<SwitchView, AllocError> {
+        Ok(SwitchView {
             read: row(alloc)?,
             write: row(alloc)?,
             cut: row(alloc)?,
@@ -76,7 +76,7 @@ impl Words {
 
 /// Tells calls to fail, of all disks that are made with it. It and its clones may go to other threads.
 pub struct Switch {
-    words: Arc<Words, Global>,
+    words: Arc<SwitchView, Global>,
 }
 
 impl Drop for Switch {
@@ -87,10 +87,10 @@ impl Drop for Switch {
 
 // Which words it has: those of its clones are the same.
 impl Model for Switch {
-    ghost use Rattle.diskmodel.specs.declared.switch.Words.{Words};
+    ghost use Rattle.diskmodel.specs.declared.switch.SwitchView.{SwitchView};
     ghost use Rattle.std.specs.Arc.{arc_value};
 
-    ghost Value = { Words };
+    ghost Value = { SwitchView };
 
     ghost view = { λ switch. arc_value switch.words };
 }
@@ -101,7 +101,7 @@ impl Switch {
     /// # Errors
     /// Where memory is refused.
     pub fn new(alloc: Global) -> Result<Switch, AllocError> {
-        let words = Arc::new(alloc, Words::none(alloc)?)?;
+        let words = Arc::new(alloc, SwitchView::none(alloc)?)?;
         Ok(Switch { words })
     }
 

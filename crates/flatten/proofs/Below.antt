@@ -29,7 +29,8 @@ true_not : (b : Bool) → (b ≡ true → ⊥) → not b ≡ true
 true_not true never = absurd (never refl)
 true_not false never = refl
 
-pub are_closed : (graph : DagView) → IsGraph graph → (previous : Option Certificate) (from high top : ℕ) (free : ℕ → ℕ → Bool) → high ≤ top → AreUnordered graph previous from top free → AreClosed graph from high free
+pub are_closed : (graph : DagView) → IsGraph graph → (previous : Option Certificate) (from high top : ℕ) (free : ℕ → ℕ → Bool) → high ≤ top
+    → AreUnordered graph previous from top free → AreClosed graph from high free
 are_closed graph is previous from high top free within unordered round author other above below inside has =
     let found = parent_of graph (round + 1) author round other has in
     let place = slot_is round other found.parent.header (is.placed round other found.parent found.held_parent) in
@@ -68,7 +69,8 @@ set_below graph is leader leader_author from free closed round other above lower
 -- ---- one round more
 
 -- the set that is made of a round
-pub next_orders : (graph : DagView) → IsGraph graph → (leader leader_author from : ℕ) (free : ℕ → ℕ → Bool) → AreClosed graph from leader free → (place : ℕ) (above : ℕ → Bool) → 0 < place → from + place ≤ leader
+pub next_orders : (graph : DagView) → IsGraph graph → (leader leader_author from : ℕ) (free : ℕ → ℕ → Bool) → AreClosed graph from leader free
+    → (place : ℕ) (above : ℕ → Bool) → 0 < place → from + place ≤ leader
     → ((other : ℕ) → above other ≡ orders_in graph leader leader_author free (leader - (place - 1)) other) → (other : ℕ)
     → (is_parent_of graph (leader - place + 1) (leader - place) above other && free (leader - place) other) ≡ orders_in graph leader leader_author free (leader - place) other
 next_orders graph is leader leader_author from free closed place above some within same other =
@@ -78,7 +80,8 @@ next_orders graph is leader leader_author from free closed place above some with
     ∙ set_below graph is leader leader_author from free closed (leader - place) other (omega (arith, within)) (omega (arith, some, within))
 
 -- what was read of it
-pub next_reads : (graph : DagView) (orders : ℕ → ℕ → Bool) (leader place old new : ℕ) (above : ℕ → Bool) → 0 < place → place ≤ leader → ((other : ℕ) → above other ≡ orders (leader - (place - 1)) other)
+pub next_reads : (graph : DagView) (orders : ℕ → ℕ → Bool) (leader place old new : ℕ) (above : ℕ → Bool) → 0 < place → place ≤ leader
+    → ((other : ℕ) → above other ≡ orders (leader - (place - 1)) other)
     → old ≡ sum_by (λ r. references_of graph r (orders r)) (range_with_len (leader + 2 - place) (place - 1)) → new ≡ old + references_of graph (leader - place + 1) above
     → new ≡ sum_by (λ r. references_of graph r (orders r)) (range_with_len (leader + 2 - (place + 1)) (place + 1 - 1))
 next_reads graph orders leader place old new above some within same before more =
@@ -99,14 +102,16 @@ next_reads graph orders leader place old new above some within same before more 
 
 -- where nobody is ordered of a round, nobody is of a lower one
 pub none_further : (graph : DagView) → IsGraph graph → (leader leader_author from : ℕ) (free : ℕ → ℕ → Bool) → AreClosed graph from leader free → (round : ℕ) → round ≤ leader
-    → ((other : ℕ) → orders_in graph leader leader_author free round other ≡ false) → (down : ℕ) → from + down ≤ round → (other : ℕ) → orders_in graph leader leader_author free (round - down) other ≡ false
+    → ((other : ℕ) → orders_in graph leader leader_author free round other ≡ false) → (down : ℕ) → from + down ≤ round → (other : ℕ)
+    → orders_in graph leader leader_author free (round - down) other ≡ false
 none_further graph is leader leader_author from free closed round within none zero low other =
     let same : round - 0 ≡ round = omega arith in
     ap (λ r. orders_in graph leader leader_author free r other) same ∙ none other
 none_further graph is leader leader_author from free closed round within none (suc down) low other =
     let above = none_further graph is leader leader_author from free closed round within none down (omega (arith, low)) in
     let next : round - down ≡ round - suc down + 1 = omega (arith, low) in
-    let empty : list_any (λ a. orders_in graph leader leader_author free (round - suc down + 1) a && has_parent_in graph (round - suc down + 1) a (round - suc down) other) (numbers (size_in graph)) ≡ false =
+    let empty : list_any (λ a. orders_in graph leader leader_author free (round - suc down + 1) a && has_parent_in graph (round - suc down + 1) a
+    (round - suc down) other) (numbers (size_in graph)) ≡ false =
     any_none (λ a. orders_in graph leader leader_author free (round - suc down + 1) a && has_parent_in graph (round - suc down + 1) a (round - suc down) other) (numbers (size_in graph))
     (λ a. ap (λ b. b && has_parent_in graph (round - suc down + 1) a (round - suc down) other) (ap (λ r. orders_in graph leader leader_author free r a) (sym next) ∙ above a)) in
     sym (set_below graph is leader leader_author from free closed (round - suc down) other (omega (arith, low)) (omega (arith, low, within)))
@@ -130,7 +135,8 @@ all_read graph orders leader place count reads some within few none so_far =
     (λ r above below. none_read graph r (orders r)
     (λ a. let at : (leader - (place - 1)) - ((leader - (place - 1)) - r) ≡ r = omega (arith, above, below, some, within, few) in
     ap (λ q. orders q a) (sym at) ∙ none ((leader - (place - 1)) - r) a (omega (arith, above, below, some, within, few)))) in
-    let whole : sum_by f (range_with_len (leader + 2 - count) (count - 1)) ≡ sum_by f (range_with_len (leader + 2 - count) (count - place)) + sum_by f (range_with_len (leader + 2 - place) (place - 1)) =
+    let whole : sum_by f (range_with_len (leader + 2 - count) (count - 1)) ≡ sum_by f (range_with_len (leader + 2 - count) (count - place)) + sum_by f
+    (range_with_len (leader + 2 - place) (place - 1)) =
     ap (λ n. sum_by f (range_with_len (leader + 2 - count) n)) parts
     ∙ ap (sum_by f) (range_parts (leader + 2 - count) (count - place) (place - 1))
     ∙ sum_by-append f (range_with_len (leader + 2 - count) (count - place)) (range_with_len ((leader + 2 - count) + (count - place)) (place - 1))

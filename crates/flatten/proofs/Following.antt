@@ -19,7 +19,8 @@ linked_behind graph previous [] back linked = linked
 linked_behind graph previous (first ∷ front) back linked = linked_behind graph (Some first) front back linked.2
 
 -- a later leader reaches all that an earlier one does
-all_behind : (graph : DagView) → IsGraph graph → (previous : Option (ℕ × Author)) (front back : List (ℕ × Author)) → AreLinked graph previous (front ++ back) → (round author : ℕ) (e : Certificate) → slots_in graph round author ≡ Some e
+all_behind : (graph : DagView) → IsGraph graph → (previous : Option (ℕ × Author)) (front back : List (ℕ × Author))
+    → AreLinked graph previous (front ++ back) → (round author : ℕ) (e : Certificate) → slots_in graph round author ≡ Some e
     → is_past (ledger_in graph []) (leader_held graph previous) e ≡ true → is_past (ledger_in graph []) (leader_held graph (last_or previous front)) e ≡ true
 all_behind graph is previous [] back linked round author e held past = past
 all_behind graph is previous (first ∷ front) back linked round author e held past =
@@ -39,7 +40,8 @@ not_under graph is first (next ∷ front) rest leader linked =
     omega (arith, here, later)
 
 -- the marks of the first are those of each
-marks_of : (graph : DagView) → IsGraph graph → (previous : Option (ℕ × Author)) (front rest : List (ℕ × Author)) (leader : ℕ × Author) → AreLinked graph previous (front ++ leader ∷ rest) → IsMarkedFor graph previous (front ++ leader ∷ rest)
+marks_of : (graph : DagView) → IsGraph graph → (previous : Option (ℕ × Author)) (front rest : List (ℕ × Author)) (leader : ℕ × Author)
+    → AreLinked graph previous (front ++ leader ∷ rest) → IsMarkedFor graph previous (front ++ leader ∷ rest)
     → IsMarkedPast graph (leader.0 - graph.charter.depth) (leader_held graph previous)
 marks_of graph is previous [] rest leader linked marks = marks
 marks_of graph is previous (first ∷ front) rest leader linked marks =
@@ -52,6 +54,7 @@ each_follows graph previous front rest leader is linked marks =
     record {
       held = here.0;
       all = λ c held. has_all graph is (last_or previous front) leader c held here.1;
-      marked = past_before graph is (leader.0 - graph.charter.depth) (leader_held graph previous) (leader_held graph (last_or previous front)) (marks_of graph is previous front rest leader linked marks)
+      marked = past_before graph is (leader.0 - graph.charter.depth) (leader_held graph previous) (leader_held graph (last_or previous front))
+          (marks_of graph is previous front rest leader linked marks)
           (all_behind graph is previous front (leader ∷ rest) linked);
     }

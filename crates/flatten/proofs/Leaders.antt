@@ -1,5 +1,6 @@
 -- Leaders one behind the other.
-use Rattle.std.proofs.Common.{◌≡◌, ℕ, zero, suc, ◌+◌, ◌-◌, ◌^◌, ◌<◌, ◌≤◌, Bool, true, List, [], ◌∷◌, ◌++◌, length, drop, slice_get, Option, Some, None, inl, inr, refl, ap, sym, ◌∙◌, subst, arith, append_assoc, add-one}
+use Rattle.std.proofs.Common.{◌≡◌, ℕ, zero, suc, ◌+◌, ◌-◌, ◌^◌, ◌<◌, ◌≤◌, Bool, true, List, [], ◌∷◌, ◌++◌, length, drop, slice_get, Option, Some}
+use Rattle.std.proofs.Common.{None, inl, inr, refl, ap, sym, ◌∙◌, subst, arith, append_assoc, add-one}
 use Rattle.std.specs.Prelude.{All, min, not, is_some, nat_le, ◌&&◌}
 use Rattle.std.specs.Option.{option_map_or}
 use Rattle.std.proofs.lemmas.Bool.{and_parts, and_from, leb-true, le-leb}
@@ -27,7 +28,8 @@ use Rattle.flatten.proofs.Picking.{first_unordered, reads_few}
 
 -- ---- what a leader reaches, who reaches it reaches too
 
-path_over : (n : ℕ) (slots : Slots) → AreInPlace slots → (steps more : ℕ) (start mid end : Certificate) → IsIn slots mid → IsIn slots end → has_path n slots steps start mid ≡ true → has_path n slots more mid end ≡ true
+path_over : (n : ℕ) (slots : Slots) → AreInPlace slots → (steps more : ℕ) (start mid end : Certificate) → IsIn slots mid → IsIn slots end
+    → has_path n slots steps start mid ≡ true → has_path n slots more mid end ≡ true
     → has_path n slots (more + steps) start end ≡ true
 path_over n slots placed steps zero start mid end held held' one other =
     let same : mid ≡ end = same_held slots mid end held held' other in
@@ -42,7 +44,8 @@ path_over n slots placed steps (suc more) start mid end held held' one other =
     subst (λ k. has_path n slots k start end ≡ true) count
     (any_from (λ c. has_path n slots (more + steps) start c && is_parent end c) (round_of n slots (end.header.round + 1)) found.0 found.1 (and_from _ _ longer parts.1))
 
-reach_over : (n : ℕ) (slots : Slots) → AreInPlace slots → (start mid end : Certificate) → IsIn slots mid → IsIn slots end → reaches n slots start mid ≡ true → reaches n slots mid end ≡ true → reaches n slots start end ≡ true
+reach_over : (n : ℕ) (slots : Slots) → AreInPlace slots → (start mid end : Certificate) → IsIn slots mid → IsIn slots end → reaches n slots start mid
+    ≡ true → reaches n slots mid end ≡ true → reaches n slots start end ≡ true
 reach_over n slots placed start mid end held held' one other =
     let first = and_parts (nat_le mid.header.round start.header.round) (has_path n slots (start.header.round - mid.header.round) start mid) one in
     let then = and_parts (nat_le end.header.round mid.header.round) (has_path n slots (mid.header.round - end.header.round) mid end) other in
@@ -70,12 +73,14 @@ link_above graph is before leader link =
     let down = reaches_of graph leader.0 leader.1.0 before.0 before.1.0 link in
     let place = slot_is leader.0 leader.1.0 down.start.header (is.placed leader.0 leader.1.0 down.start down.held_start) in
     let place' = slot_is before.0 before.1.0 down.end.header (is.placed before.0 before.1.0 down.end down.held_end) in
-    let parts = and_parts (nat_le down.end.header.round down.start.header.round) (has_path (size_in graph) (slots_in graph) (down.start.header.round - down.end.header.round) down.start down.end) down.path in
+    let parts = and_parts (nat_le down.end.header.round down.start.header.round)
+    (has_path (size_in graph) (slots_in graph) (down.start.header.round - down.end.header.round) down.start down.end) down.path in
     let within = leb-true down.end.header.round down.start.header.round parts.0 in
     omega (arith, within, place.0, place'.0)
 
 -- none lies above the last
-pub all_within : (graph : DagView) → IsGraph graph → (before : Option (ℕ × Author)) (chain : List (ℕ × Author)) (last : ℕ × Author) → AreLinked graph before chain → slice_get chain (length chain - 1) ≡ Some last
+pub all_within : (graph : DagView) → IsGraph graph → (before : Option (ℕ × Author)) (chain : List (ℕ × Author)) (last : ℕ × Author)
+    → AreLinked graph before chain → slice_get chain (length chain - 1) ≡ Some last
     → All (λ (s : ℕ × Author). s.0 ≤ last.0) chain
 all_within graph is before [] last linked at = All-nil (λ (s : ℕ × Author). s.0 ≤ last.0)
 all_within graph is before (leader ∷ []) last linked at =
@@ -93,22 +98,26 @@ all_within graph is before (leader ∷ next ∷ more) last linked at =
 
 -- so many leaders were taken, the last of them was `before`, and the others are left; from where the last one orders on those are
 -- free that are unordered before these; it reaches what is marked; what they order is still to come, and so is what is read for them
-pub record IsBehind (graph : DagView) (total : List Digest) (most high : ℕ) (before : Option (ℕ × Author)) (left : List (ℕ × Author)) (free : ℕ → ℕ → Bool) (digests : List Digest) (reads : ℕ) : Type 0 where
+pub record IsBehind (graph : DagView) (total : List Digest) (most high : ℕ) (before : Option (ℕ × Author)) (left : List (ℕ × Author))
+    (free : ℕ → ℕ → Bool) (digests : List Digest) (reads : ℕ) : Type 0 where
   pub from : ℕ
   pub next : (leader : ℕ × Author) (more : List (ℕ × Author)) → left ≡ leader ∷ more → from ≤ lowest_in graph leader.0
   pub ends : left ≡ [] → (leader : ℕ × Author) → before ≡ Some leader → (from ≤ lowest_in graph leader.0) × (is_some (slots_in graph leader.0 leader.1.0) ≡ true)
   pub linked : AreLinked graph before left
   pub within : All (λ (s : ℕ × Author). s.0 ≤ high) left
   pub unordered : AreUnordered graph (leader_held graph before) from high free
-  pub marked : (round author : ℕ) (c : Certificate) → from ≤ round → slots_in graph round author ≡ Some c → marked_in graph round author ≡ true → is_past (ledger_in graph []) (leader_held graph before) c ≡ true
+  pub marked : (round author : ℕ) (c : Certificate) → from ≤ round → slots_in graph round author ≡ Some c → marked_in graph round author ≡ true
+      → is_past (ledger_in graph []) (leader_held graph before) c ≡ true
   pub whole : digests ++ digests_of (segments (ledger_in graph []) (leader_held graph before) (leaders_in graph left)) ≡ total
   pub counted : min (reads + read_references_by graph (leader_held graph before) (leaders_in graph left)) (2 ^ 64 - 1) ≡ min most (2 ^ 64 - 1)
 
 -- before any is taken
-pub none_taken : (graph : DagView) → IsGraph graph → (previous : Option (ℕ × Author)) (chain : List (ℕ × Author)) (last : ℕ × Author) (free : ℕ → ℕ → Bool) (digests : List Digest) → 0 < length chain → AreLinked graph previous chain → IsMarkedFor graph previous chain
+pub none_taken : (graph : DagView) → IsGraph graph → (previous : Option (ℕ × Author)) (chain : List (ℕ × Author)) (last : ℕ × Author)
+    (free : ℕ → ℕ → Bool) (digests : List Digest) → 0 < length chain → AreLinked graph previous chain → IsMarkedFor graph previous chain
     → slice_get chain (length chain - 1) ≡ Some last
     → ((round author : ℕ) → free round author ≡ is_unmarked_in graph round author) → digests ≡ []
-    → IsBehind graph (digests_of (segments (ledger_in graph []) (leader_held graph previous) (leaders_in graph chain))) (read_references_by graph (leader_held graph previous) (leaders_in graph chain)) last.0 previous chain free digests 0
+    → IsBehind graph (digests_of (segments (ledger_in graph []) (leader_held graph previous) (leaders_in graph chain)))
+    (read_references_by graph (leader_held graph previous) (leaders_in graph chain)) last.0 previous chain free digests 0
 none_taken graph is previous [] last free digests some linked marks at unmarked none = absurd (omega (arith, some))
 none_taken graph is previous (leader ∷ more) last free digests some linked marks at unmarked none =
     let reads = read_references_by graph (leader_held graph previous) (leaders_in graph (leader ∷ more)) in
@@ -130,11 +139,13 @@ none_taken graph is previous (leader ∷ more) last free digests some linked mar
     head_same : (one other : ℕ × Author) (ones others : List (ℕ × Author)) → one ∷ ones ≡ other ∷ others → one ≡ other
     head_same one other ones others e = same_Some one other (ap (λ l. slice_get l 0) e)
 
-count_on : (reads one reads' rest later all most : ℕ) → reads' ≡ min (reads + one) (2 ^ 64 - 1) → all ≡ one + rest → later ≡ rest → min (reads + all) (2 ^ 64 - 1) ≡ min most (2 ^ 64 - 1) → min (reads' + later) (2 ^ 64 - 1) ≡ min most (2 ^ 64 - 1)
+count_on : (reads one reads' rest later all most : ℕ) → reads' ≡ min (reads + one) (2 ^ 64 - 1) → all ≡ one + rest → later ≡ rest
+    → min (reads + all) (2 ^ 64 - 1) ≡ min most (2 ^ 64 - 1) → min (reads' + later) (2 ^ 64 - 1) ≡ min most (2 ^ 64 - 1)
 count_on reads one reads' rest later all most counted parts same was = omega (arith, counted, parts, same, was)
 
 -- one more is taken
-pub one_taken : (graph : DagView) → IsGraph graph → (total : List Digest) (most high : ℕ) (before : Option (ℕ × Author)) (leader : ℕ × Author) (more : List (ℕ × Author)) (free free' : ℕ → ℕ → Bool) (digests digests' : List Digest) (reads one reads' : ℕ)
+pub one_taken : (graph : DagView) → IsGraph graph → (total : List Digest) (most high : ℕ) (before : Option (ℕ × Author)) (leader : ℕ × Author)
+    (more : List (ℕ × Author)) (free free' : ℕ → ℕ → Bool) (digests digests' : List Digest) (reads one reads' : ℕ)
     → IsBehind graph total most high before (leader ∷ more) free digests reads → reads' ≡ min (reads + one) (2 ^ 64 - 1)
     → ((c : Certificate) → Leads graph (leader_held graph before) leader high free c → digests' ≡ digests ++ digests_of (segment (ledger_in graph []) (leader_held graph before) c))
     → ((c : Certificate) → Leads graph (leader_held graph before) leader high free c → HasAllOf graph (leader_held graph before) c → AreUnordered graph (Some c) (lowest_in graph leader.0) high free')
@@ -178,12 +189,15 @@ one_taken graph is total most high before leader more free free' digests digests
                 ∙ ap (λ l. digests ++ l) (sym (map-append (λ (d : Certificate). certificate_digest d.header) (segment ledger (leader_held graph before) c.0) (segments ledger (Some c.0) rest)))
                 ∙ ap (λ l. digests ++ digests_of (segments ledger (leader_held graph before) l)) (sym expand)
                 ∙ was.whole;
-            counted = count_on reads one reads' (read_references_by graph (Some c.0) rest) (read_references_by graph (leader_held graph (Some leader)) rest) (read_references_by graph (leader_held graph before) (leaders_in graph (leader ∷ more))) most counted parts later was.counted;
+            counted = count_on reads one reads' (read_references_by graph (Some c.0) rest)
+                (read_references_by graph (leader_held graph (Some leader)) rest)
+                (read_references_by graph (leader_held graph before) (leaders_in graph (leader ∷ more))) most counted parts later was.counted;
           }
     ]
 
 -- when all are taken, what they order is written, and the rest is that of the last
-pub all_taken : (graph : DagView) → (total : List Digest) (most : ℕ) (before : Option (ℕ × Author)) (left : List (ℕ × Author)) (last : ℕ × Author) (sets : List MemberSet) (digests : List Digest) (reads : ℕ)
+pub all_taken : (graph : DagView) → (total : List Digest) (most : ℕ) (before : Option (ℕ × Author)) (left : List (ℕ × Author)) (last : ℕ × Author)
+    (sets : List MemberSet) (digests : List Digest) (reads : ℕ)
     → IsBehind graph total most last.0 before left (is_free graph last.0 sets) digests reads → reads < 2 ^ 64
     → left ≡ [] → before ≡ Some last → (digests ≡ total) × FitsTo graph (record { digests = digests; last = last; ordered = sets; reads = reads }) × (reads ≡ min most (2 ^ 64 - 1))
 all_taken graph total most before left last sets digests reads was small none same =
@@ -238,6 +252,7 @@ dropped_all (y ∷ ys) zero past = absurd (omega (arith, past))
 dropped_all (y ∷ ys) (suc place) past = dropped_all ys place (omega (arith, past))
 
 -- no coin is asked
-pub no_coin : (graph : DagView) (coins other : List ℕ) (previous : Option Certificate) (leaders : List Certificate) → segments (ledger_in graph coins) previous leaders ≡ segments (ledger_in graph other) previous leaders
+pub no_coin : (graph : DagView) (coins other : List ℕ) (previous : Option Certificate) (leaders : List Certificate)
+    → segments (ledger_in graph coins) previous leaders ≡ segments (ledger_in graph other) previous leaders
 no_coin graph coins other previous [] = refl
 no_coin graph coins other previous (leader ∷ leaders) = ap (λ l. segment (ledger_in graph coins) previous leader ++ l) (no_coin graph coins other (Some leader) leaders)

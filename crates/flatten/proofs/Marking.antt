@@ -78,7 +78,10 @@ one_round before now next top count sets authors was within more each = record {
     swapped false false true = refl
     swapped false false false = refl
 
-    here : (a : ℕ) → marked_in next (top - count) a ≡ (marked_in before (top - count) a || ((nat_lt top ((top - count) + (count + 1)) && nat_le (top - count) top) && (is_some (slots_in before (top - count) a) && is_in sets (top - (top - count)) a)))
+    here : (a : ℕ) → marked_in next (top - count) a
+        ≡ (marked_in before (top - count) a ||
+        ((nat_lt top ((top - count) + (count + 1)) && nat_le (top - count) top) &&
+        (is_some (slots_in before (top - count) a) && is_in sets (top - (top - count)) a)))
     here a =
         let number = top - count in
         let s = is_some (slots_in before number a) in
@@ -88,7 +91,8 @@ one_round before now next top count sets authors was within more each = record {
         let level : nat_lt top (number + count) ≡ false = grind (arith, within) in
         let next_one : nat_lt top (number + (count + 1)) ≡ true = lt-ltb top (number + (count + 1)) (omega (arith, within)) in
         let under : nat_le number top ≡ true = le-leb number top (omega arith) in
-        let none : ((nat_lt top (number + count) && nat_le number top) && (s && is_in sets (top - number) a)) ≡ false = ap (λ b. (b && nat_le number top) && (s && is_in sets (top - number) a)) level in
+        let none : ((nat_lt top (number + count) && nat_le number top) && (s && is_in sets (top - number) a))
+        ≡ false = ap (λ b. (b && nat_le number top) && (s && is_in sets (top - number) a)) level in
         let now_m : marked_in now number a ≡ m = was.marked number a ∙ ap (λ b. m || b) none ∙ or_false m in
         more.marked number a
         ∙ ap (λ b. b || ((number == number) && (authors a && is_some (slots_in now number a)))) now_m
@@ -102,13 +106,16 @@ one_round before now next top count sets authors was within more each = record {
 -- ---- all rounds
 
 -- a slot that holds nothing isn't reached
-unheld : (graph : DagView) (round author below other : ℕ) (d : Certificate) → slots_in graph round author ≡ Some d → slots_in graph below other ≡ None → reaches_in graph round author below other ≡ false
+unheld : (graph : DagView) (round author below other : ℕ) (d : Certificate) → slots_in graph round author ≡ Some d → slots_in graph below other ≡ None
+    → reaches_in graph round author below other ≡ false
 unheld graph round author below other d held none =
     ap (λ o. option_map_or (λ start. option_map_or (reaches (size_in graph) (slots_in graph) start) (slots_in graph below other) false) o false) held
     ∙ ap (λ o. option_map_or (reaches (size_in graph) (slots_in graph) d) o false) none
 
 -- of the rounds that the last leader orders of, what is in the sets or marked is what it reaches
-left_is_reached : (graph : DagView) → IsGraph graph → (made : LengtheningView) → FitsTo graph made → (d : Certificate) → slots_in graph made.last.0 made.last.1.0 ≡ Some d → (count : ℕ) → count ≡ min ((made.last.0 + 1) - lowest_in graph made.last.0) (length made.ordered)
+left_is_reached : (graph : DagView) → IsGraph graph → (made : LengtheningView) → FitsTo graph made → (d : Certificate)
+    → slots_in graph made.last.0 made.last.1.0 ≡ Some d → (count : ℕ) → count ≡ min ((made.last.0 + 1) - lowest_in graph made.last.0)
+    (length made.ordered)
     → (r a : ℕ) → (marked_in graph r a || ((nat_lt made.last.0 (r + count) && nat_le r made.last.0) && (is_some (slots_in graph r a) && is_in made.ordered (made.last.0 - r) a)))
     ≡ (marked_in graph r a || (nat_le (made.last.0 - graph.charter.depth) r && reaches_in graph made.last.0 made.last.1.0 r a))
 left_is_reached graph is made of d leader count all r a =
@@ -173,7 +180,8 @@ left_is_reached graph is made of d leader count all r a =
     joined false false true same = absurd cc
     joined false false false same = refl
 
-pub exact_marks : (before now : DagView) → IsGraph before → (made : LengtheningView) → FitsTo before made → (count : ℕ) → count ≡ min ((made.last.0 + 1) - lowest_in before made.last.0) (length made.ordered)
+pub exact_marks : (before now : DagView) → IsGraph before → (made : LengtheningView) → FitsTo before made → (count : ℕ) → count
+    ≡ min ((made.last.0 + 1) - lowest_in before made.last.0) (length made.ordered)
     → IsSoFar before now made.last.0 count made.ordered → (r a : ℕ)
     → marked_in now r a ≡ (marked_in before r a || (nat_le (made.last.0 - before.charter.depth) r && reaches_in before made.last.0 made.last.1.0 r a))
 exact_marks before now is made of count all so_far r a =
@@ -197,7 +205,8 @@ marked_past before now is made of charter slots exact r a c above held =
       | inl d ↦
           let floor = is.above r a c held' in
           let deep : nat_le (made.last.0 - before.charter.depth) r ≡ true = le-leb (made.last.0 - before.charter.depth) r (omega (arith, above, depth)) in
-          let was : past before.charter (slots_in before) ≡ reaches (size_in before) (slots_in before) d.0 c = ap (λ o. option_map_or (λ leader. reaches (size_in before) (slots_in before) leader c) o false) d.1 in
+          let was : past before.charter (slots_in before) ≡ reaches (size_in before) (slots_in before) d.0 c =
+          ap (λ o. option_map_or (λ leader. reaches (size_in before) (slots_in before) leader c) o false) d.1 in
           let reached = reaches_by before made.last.0 made.last.1.0 r a d.0 c d.1 held' in
           let marks : marked_in before r a ≡ true → reaches (size_in before) (slots_in before) d.0 c ≡ true =
           λ marked. sym was ∙ of.marked r a c (omega (arith, above, depth, floor)) held' marked in

@@ -37,7 +37,8 @@ first_unordered graph previous leader high free marked unmarked round author c a
     ∙ ap not (marked round author c (omega (arith, above)) held)
 
 -- who is unordered before a leader is closed in the rounds that it orders of
-pub closed_before : (graph : DagView) → IsGraph graph → (previous : Option Certificate) (leader : ℕ × Author) (high : ℕ) (free : ℕ → ℕ → Bool) (c : Certificate) → Leads graph previous leader high free c
+pub closed_before : (graph : DagView) → IsGraph graph → (previous : Option Certificate) (leader : ℕ × Author) (high : ℕ) (free : ℕ → ℕ → Bool)
+    (c : Certificate) → Leads graph previous leader high free c
     → (from : ℕ) → from ≡ lowest_in graph leader.0 → AreClosed graph from leader.0 free
 closed_before graph is previous leader high free c leads from at =
     subst (λ r. AreClosed graph r leader.0 free) (sym at) (are_closed graph is previous (lowest_in graph leader.0) leader.0 high free leads.within leads.unordered)
@@ -64,7 +65,8 @@ picked held passes test (a ∷ authors) same =
     ]
 
 -- nothing passes of a round
-none_picked : (held : ℕ → Option Certificate) (test : Certificate → Bool) (authors : List ℕ) → ((a : ℕ) (c : Certificate) → held a ≡ Some c → test c ≡ false) → digests_of (filter test (filter_map held authors)) ≡ []
+none_picked : (held : ℕ → Option Certificate) (test : Certificate → Bool) (authors : List ℕ)
+    → ((a : ℕ) (c : Certificate) → held a ≡ Some c → test c ≡ false) → digests_of (filter test (filter_map held authors)) ≡ []
 none_picked held test [] fails = refl
 none_picked held test (a ∷ authors) fails =
     let rest = none_picked held test authors fails in
@@ -89,7 +91,8 @@ summed held f g (a ∷ authors) same none =
     ]
 
 -- digests of what passes, round by round
-digests_by_round : (test : Certificate → Bool) (make : ℕ → List Certificate) (rounds : List ℕ) → digests_of (filter test (flat_map make rounds)) ≡ flat_map (λ r. digests_of (filter test (make r))) rounds
+digests_by_round : (test : Certificate → Bool) (make : ℕ → List Certificate) (rounds : List ℕ) → digests_of (filter test (flat_map make rounds))
+    ≡ flat_map (λ r. digests_of (filter test (make r))) rounds
 digests_by_round test make [] = refl
 digests_by_round test make (r ∷ rounds) =
     ap (λ l. digests_of (filter test l)) (flat_map-cons make r rounds)
@@ -102,15 +105,18 @@ digests_by_round test make (r ∷ rounds) =
 
 -- of a round that it orders of, those are ordered whom it reaches and the leader before doesn't
 orders_new : (graph : DagView) → IsGraph graph → (previous : Option Certificate) (leader : ℕ × Author) (high : ℕ) (free : ℕ → ℕ → Bool) (c : Certificate) → Leads graph previous leader high free c
-    → (round author : ℕ) (e : Certificate) → lowest_in graph leader.0 ≤ round → round ≤ leader.0 → slots_in graph round author ≡ Some e → orders_in graph leader.0 leader.1.0 free round author ≡ is_new_to graph previous c e
+    → (round author : ℕ) (e : Certificate) → lowest_in graph leader.0 ≤ round → round ≤ leader.0 → slots_in graph round author ≡ Some e
+    → orders_in graph leader.0 leader.1.0 free round author ≡ is_new_to graph previous c e
 orders_new graph is previous leader high free c leads round author e above below held =
     ap (λ b. b && free round author) (reaches_by graph leader.0 leader.1.0 round author c e leads.held held)
     ∙ ap (λ b. reaches (size_in graph) (slots_in graph) c e && b) (leads.unordered round author e above (omega (arith, below, leads.within)) held)
 
-pub segment_is : (graph : DagView) → IsGraph graph → (previous : Option Certificate) (leader : ℕ × Author) (high : ℕ) (free : ℕ → ℕ → Bool) (ordered : List MemberSet) (c : Certificate) → Leads graph previous leader high free c
+pub segment_is : (graph : DagView) → IsGraph graph → (previous : Option Certificate) (leader : ℕ × Author) (high : ℕ) (free : ℕ → ℕ → Bool)
+    (ordered : List MemberSet) (c : Certificate) → Leads graph previous leader high free c
     → (bottom : ℕ) → bottom ≡ lowest_in graph leader.0 → length ordered ≤ leader.0 + 1 - bottom
     → ((place other : ℕ) → place < leader.0 + 1 - bottom → is_in ordered place other ≡ orders_in graph leader.0 leader.1.0 free (leader.0 - place) other)
-    → (let first = max (leader.0 + 1 - length ordered) 1 in flat_map (λ r. digests_at graph r (is_in ordered (leader.0 - r))) (range_with_len first (leader.0 + 1 - first)) ≡ digests_of (segment (ledger_in graph []) previous c))
+    → (let first = max (leader.0 + 1 - length ordered) 1 in flat_map (λ r. digests_at graph r (is_in ordered (leader.0 - r)))
+    (range_with_len first (leader.0 + 1 - first)) ≡ digests_of (segment (ledger_in graph []) previous c))
 segment_is graph is previous leader high free ordered c leads bottom lowest long sets =
     let n = size_in graph in
     let slots = slots_in graph in
@@ -131,7 +137,8 @@ segment_is graph is previous leader high free ordered c leads bottom lowest long
     lists_same (λ r. digests_at graph r (is_in ordered (leader.0 - r))) make first (leader.0 + 1 - first)
     (λ r above below. picked (slots r) (is_in ordered (leader.0 - r)) test (numbers n)
     (λ a e held. let place = slot_is r a e.header (is.placed r a e held) in
-    let deep : nat_le c.header.round (e.header.round + graph.charter.depth) ≡ true = le-leb c.header.round (e.header.round + graph.charter.depth) (omega (arith, above, least, lowest, at.0, place.0)) in
+    let deep : nat_le c.header.round (e.header.round + graph.charter.depth) ≡ true = le-leb c.header.round (e.header.round + graph.charter.depth)
+    (omega (arith, above, least, lowest, at.0, place.0)) in
     same r a e (omega (arith, above, least)) (omega (arith, below)) held
     ∙ sym (ap (λ b. b && is_new_to graph previous c e) deep))) in
     let below_none : flat_map make (range_with_len 1 (first - 1)) ≡ [] =
@@ -159,10 +166,12 @@ segment_is graph is previous leader high free ordered c leads bottom lowest long
     ∙ sym (digests_by_round test (round_of n slots) (range_with_len 1 c.header.round))
 
 -- what is read is the references of what passes a test, where that is what a leader orders of the rounds above one, and nothing of the others
-pub reads_are : (graph : DagView) → IsGraph graph → (leader : ℕ × Author) (c : Certificate) → slots_in graph leader.0 leader.1.0 ≡ Some c → (bottom : ℕ) (free : ℕ → ℕ → Bool) (test : Certificate → Bool) → bottom ≤ leader.0
+pub reads_are : (graph : DagView) → IsGraph graph → (leader : ℕ × Author) (c : Certificate) → slots_in graph leader.0 leader.1.0 ≡ Some c
+    → (bottom : ℕ) (free : ℕ → ℕ → Bool) (test : Certificate → Bool) → bottom ≤ leader.0
     → ((r a : ℕ) (e : Certificate) → bottom < r → r ≤ leader.0 → slots_in graph r a ≡ Some e → orders_in graph leader.0 leader.1.0 free r a ≡ test e)
     → ((r a : ℕ) (e : Certificate) → r ≤ bottom → slots_in graph r a ≡ Some e → test e ≡ false)
-    → sum_by (λ r. references_of graph r (orders_in graph leader.0 leader.1.0 free r)) (range_with_len (bottom + 1) (leader.0 - bottom)) ≡ sum_by (λ e. cond (test e) (length e.header.parents) 0) (rounds_to (ledger_in graph []) c.header.round)
+    → sum_by (λ r. references_of graph r (orders_in graph leader.0 leader.1.0 free r)) (range_with_len (bottom + 1) (leader.0 - bottom))
+    ≡ sum_by (λ e. cond (test e) (length e.header.parents) 0) (rounds_to (ledger_in graph []) c.header.round)
 reads_are graph is leader c held bottom free test within passes fails =
     let n = size_in graph in
     let slots = slots_in graph in
@@ -220,7 +229,8 @@ reads_ordered graph is previous leader top free c leads bottom lowest =
 -- that is no more than the references of what is new to the leader
 pub reads_few : (graph : DagView) (previous : Option Certificate) (c : Certificate) → read_references_in graph previous c ≤ references_in graph previous c
 reads_few graph previous c =
-    sum_less (λ e. cond (is_read_for graph previous c e) (length e.header.parents) 0) (λ e. cond (is_new_to graph previous c e) (length e.header.parents) 0) (rounds_to (ledger_in graph []) c.header.round)
+    sum_less (λ e. cond (is_read_for graph previous c e) (length e.header.parents) 0)
+    (λ e. cond (is_new_to graph previous c e) (length e.header.parents) 0) (rounds_to (ledger_in graph []) c.header.round)
     (λ e. fewer (nat_le c.header.round (e.header.round + graph.charter.depth)) (is_new_to graph previous c e) (nat_lt (lowest_in graph c.header.round) e.header.round) (length e.header.parents))
   where
     fewer : (deep new high : Bool) (k : ℕ) → cond ((deep && new) && high) k 0 ≤ cond new k 0
@@ -231,7 +241,8 @@ reads_few graph previous c =
     fewer false false high k = omega arith
 
 -- behind a leader those are unordered whom it doesn't reach
-pub unordered_next : (graph : DagView) → IsGraph graph → (previous : Option Certificate) (leader : ℕ × Author) (high : ℕ) (free new : ℕ → ℕ → Bool) (c : Certificate) → Leads graph previous leader high free c
+pub unordered_next : (graph : DagView) → IsGraph graph → (previous : Option Certificate) (leader : ℕ × Author) (high : ℕ) (free new : ℕ → ℕ → Bool)
+    (c : Certificate) → Leads graph previous leader high free c
     → ((round other : ℕ) → lowest_in graph leader.0 ≤ round → round ≤ high → new round other ≡ (free round other && not (reaches_in graph leader.0 leader.1.0 round other)))
     → HasAllOf graph previous c → AreUnordered graph (Some c) (lowest_in graph leader.0) high new
 unordered_next graph is previous leader high free new c leads without all round author e from to held =

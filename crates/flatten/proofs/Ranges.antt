@@ -45,7 +45,8 @@ range_parts from (suc one) more =
     ap (range_with_len from) count ∙ ap (λ l. from ∷ l) (range_parts (from + 1) one more ∙ ap (λ a. range_with_len (from + 1) one ++ range_with_len a more) rest)
 
 -- lists that are made alike of each number
-pub lists_same : {X : Type 0} (f g : ℕ → List X) (from count : ℕ) → ((r : ℕ) → from ≤ r → r < from + count → f r ≡ g r) → flat_map f (range_with_len from count) ≡ flat_map g (range_with_len from count)
+pub lists_same : {X : Type 0} (f g : ℕ → List X) (from count : ℕ) → ((r : ℕ) → from ≤ r → r < from + count → f r ≡ g r)
+    → flat_map f (range_with_len from count) ≡ flat_map g (range_with_len from count)
 lists_same f g from zero same = refl
 lists_same f g from (suc count) same =
     flat_map-cons f from (range_with_len (from + 1) count)

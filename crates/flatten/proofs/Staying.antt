@@ -26,14 +26,16 @@ grows : (before after : DagView) (certificate : Certificate) → Enters before a
 grows before after certificate enters = extends before after certificate enters.graph (is_new before certificate enters.new) enters.with
 
 -- a slot that holds something holds the same
-kept_slot : (before after : DagView) (certificate : Certificate) → Enters before after certificate → (slot : ℕ × Author) → IsHeld before slot → slots_in after slot.0 slot.1.0 ≡ slots_in before slot.0 slot.1.0
+kept_slot : (before after : DagView) (certificate : Certificate) → Enters before after certificate → (slot : ℕ × Author) → IsHeld before slot
+    → slots_in after slot.0 slot.1.0 ≡ slots_in before slot.0 slot.1.0
 kept_slot before after certificate enters slot held =
     elim (given_or_none (slots_in before slot.0 slot.1.0)) [
       | inl c ↦ (grows before after certificate enters).kept slot.0 slot.1.0 c.0 c.1 ∙ sym c.1
       | inr none ↦ let bad = rw none at held in absurd cc
     ]
 
-kept_leader : (before after : DagView) (certificate : Certificate) → Enters before after certificate → (previous : Option (ℕ × Author)) → IfSome previous (IsHeld before) → leader_held after previous ≡ leader_held before previous
+kept_leader : (before after : DagView) (certificate : Certificate) → Enters before after certificate → (previous : Option (ℕ × Author))
+    → IfSome previous (IsHeld before) → leader_held after previous ≡ leader_held before previous
 kept_leader before after certificate enters None held = refl
 kept_leader before after certificate enters (Some slot) held = kept_slot before after certificate enters slot held
 
@@ -75,7 +77,8 @@ was_or_new before after certificate enters round author c held =
     ]
 
 -- what is marked of what is held now was held
-marked_was : (before after : DagView) (certificate : Certificate) → Enters before after certificate → (round author : ℕ) (c : Certificate) → slots_in after round author ≡ Some c → marked_in after round author ≡ true
+marked_was : (before after : DagView) (certificate : Certificate) → Enters before after certificate → (round author : ℕ) (c : Certificate)
+    → slots_in after round author ≡ Some c → marked_in after round author ≡ true
     → (slots_in before round author ≡ Some c) × (marked_in before round author ≡ true)
 marked_was before after certificate enters round author c held marked =
     let was = sym (enters.with.marked round author) ∙ marked in
@@ -85,7 +88,8 @@ marked_was before after certificate enters round author c held marked =
     ]
 
 -- below the new one's round all was held
-was_below : (before after : DagView) (certificate : Certificate) → Enters before after certificate → (round author : ℕ) (c : Certificate) → round < certificate.header.round → slots_in after round author ≡ Some c
+was_below : (before after : DagView) (certificate : Certificate) → Enters before after certificate → (round author : ℕ) (c : Certificate)
+    → round < certificate.header.round → slots_in after round author ≡ Some c
     → slots_in before round author ≡ Some c
 was_below before after certificate enters round author c lower held =
     let apart : (certificate.header.round == round) ≡ false = grind (arith, lower) in
@@ -95,7 +99,8 @@ was_below before after certificate enters round author c lower held =
     let none : slots_in after round author ≡ slots_in before round author = same ∙ ap (option_or (slots_in before round author)) nothing ∙ or_none (slots_in before round author) in
     sym none ∙ held
 
-pub made_still : (before after : DagView) (certificate : Certificate) (made : LengtheningView) → Enters before after certificate → made.last.0 < certificate.header.round → FitsTo before made → FitsTo after made
+pub made_still : (before after : DagView) (certificate : Certificate) (made : LengtheningView) → Enters before after certificate
+    → made.last.0 < certificate.header.round → FitsTo before made → FitsTo after made
 made_still before after certificate made enters above of =
     let past = past_stays before after certificate enters (Some made.last) of.held in
     let leader = kept_slot before after certificate enters made.last of.held in

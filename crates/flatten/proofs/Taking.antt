@@ -56,7 +56,8 @@ not_above graph is round author below other higher =
     ]
 
 -- a leader that would lie too high isn't held, and so it reaches nothing
-pub never_reached : (graph : DagView) (before : ℕ × Author) (high : ℕ) → (is_some (slots_in graph before.0 before.1.0) ≡ true → before.0 ≤ high) → high < before.0 → (round author : ℕ) → reaches_in graph before.0 before.1.0 round author ≡ false
+pub never_reached : (graph : DagView) (before : ℕ × Author) (high : ℕ) → (is_some (slots_in graph before.0 before.1.0) ≡ true → before.0 ≤ high)
+    → high < before.0 → (round author : ℕ) → reaches_in graph before.0 before.1.0 round author ≡ false
 never_reached graph before high within over round author =
     elim (given_or_none (slots_in graph before.0 before.1.0)) [
       | inr none ↦ none_from graph before.0 before.1.0 round author none
@@ -64,7 +65,8 @@ never_reached graph before high within over round author =
     ]
 
 -- nothing is taken where nothing is reached
-pub untaken : (graph : DagView) (before : ℕ × Author) (round author : ℕ) (inside : Bool) → reaches_in graph before.0 before.1.0 round author ≡ false → inside ≡ (inside && not (is_past_in graph (Some before) round author))
+pub untaken : (graph : DagView) (before : ℕ × Author) (round author : ℕ) (inside : Bool) → reaches_in graph before.0 before.1.0 round author ≡ false
+    → inside ≡ (inside && not (is_past_in graph (Some before) round author))
 untaken graph before round author inside never = sym (ap (λ b. inside && not b) never ∙ and_true inside)
 
 -- ---- what is taken
@@ -123,7 +125,8 @@ unmarked_closed graph previous from low high free marks least unmarked round aut
     ]
 
 -- a slot is past exactly where what it holds is in the leader's history
-pub slot_past : (graph : DagView) (previous : Option (ℕ × Author)) (round author : ℕ) (c : Certificate) → slots_in graph round author ≡ Some c → is_past_in graph previous round author ≡ is_past (ledger_in graph []) (leader_held graph previous) c
+pub slot_past : (graph : DagView) (previous : Option (ℕ × Author)) (round author : ℕ) (c : Certificate) → slots_in graph round author ≡ Some c
+    → is_past_in graph previous round author ≡ is_past (ledger_in graph []) (leader_held graph previous) c
 slot_past graph None round author c held = refl
 slot_past graph (Some before) round author c held =
     elim (given_or_none (slots_in graph before.0 before.1.0)) [
@@ -132,7 +135,8 @@ slot_past graph (Some before) round author c held =
     ]
 
 -- without what the leader before reaches those are free that are unordered
-pub unordered_taken : (graph : DagView) → (previous : Option (ℕ × Author)) (leader low : ℕ) (free new : ℕ → ℕ → Bool) → IsMarkedBefore graph (leader - graph.charter.depth) (leader_held graph previous) → low ≡ lowest_in graph leader
+pub unordered_taken : (graph : DagView) → (previous : Option (ℕ × Author)) (leader low : ℕ) (free new : ℕ → ℕ → Bool)
+    → IsMarkedBefore graph (leader - graph.charter.depth) (leader_held graph previous) → low ≡ lowest_in graph leader
     → ((round author : ℕ) → free round author ≡ is_unmarked_in graph round author)
     → ((round author : ℕ) → low ≤ round → round ≤ leader → new round author ≡ (free round author && not (is_past_in graph previous round author)))
     → AreUnordered graph (leader_held graph previous) (lowest_in graph leader) leader new
@@ -150,7 +154,9 @@ unordered_taken graph previous leader low free new marks lowest unmarked without
 -- ---- what is marked
 
 -- what is marked exactly as a leader's history is so before each one that has all of that
-pub past_before : (graph : DagView) → IsGraph graph → (low : ℕ) (one other : Option Certificate) → IsMarkedPast graph low one → ((round author : ℕ) (c : Certificate) → slots_in graph round author ≡ Some c → is_past (ledger_in graph []) one c ≡ true → is_past (ledger_in graph []) other c ≡ true)
+pub past_before : (graph : DagView) → IsGraph graph → (low : ℕ) (one other : Option Certificate) → IsMarkedPast graph low one
+    → ((round author : ℕ) (c : Certificate) → slots_in graph round author ≡ Some c → is_past (ledger_in graph []) one c ≡ true
+    → is_past (ledger_in graph []) other c ≡ true)
     → IsMarkedBefore graph low other
 past_before graph is low one other marks all = record {
   past = λ round author c above held marked. all round author c held (sym (marks round author c above held) ∙ marked);
@@ -165,7 +171,8 @@ past_before graph is low one other marks all = record {
 }
 
 -- a leader that has all that one before has isn't below it
-pub not_below : (graph : DagView) → IsGraph graph → (before leader : ℕ × Author) (c : Certificate) → slots_in graph leader.0 leader.1.0 ≡ Some c → is_some (slots_in graph before.0 before.1.0) ≡ true → HasAllOf graph (leader_held graph (Some before)) c
+pub not_below : (graph : DagView) → IsGraph graph → (before leader : ℕ × Author) (c : Certificate) → slots_in graph leader.0 leader.1.0 ≡ Some c
+    → is_some (slots_in graph before.0 before.1.0) ≡ true → HasAllOf graph (leader_held graph (Some before)) c
     → before.0 ≤ leader.0
 not_below graph is before leader c held some all =
     elim (given_or_none (slots_in graph before.0 before.1.0)) [
@@ -175,7 +182,9 @@ not_below graph is before leader c held some all =
           let reached = all before.0 before.1.0 d.0 d.1 own in
           let place = slot_is leader.0 leader.1.0 c.header (is.placed leader.0 leader.1.0 c held) in
           let place' = slot_is before.0 before.1.0 d.0.header (is.placed before.0 before.1.0 d.0 d.1) in
-          let within = leb-true d.0.header.round c.header.round (and_parts (nat_le d.0.header.round c.header.round) (has_path (size_in graph) (slots_in graph) (c.header.round - d.0.header.round) c d.0) reached).0 in
+          let within = leb-true d.0.header.round c.header.round
+          (and_parts (nat_le d.0.header.round c.header.round)
+          (has_path (size_in graph) (slots_in graph) (c.header.round - d.0.header.round) c d.0) reached).0 in
           omega (arith, within, place.0, place'.0)
     ]
 
@@ -254,7 +263,8 @@ pub record AreFirst (graph : DagView) (leader : ℕ × Author) (c : Certificate)
 
 -- what the leader before takes of them
 abbrev pub IsWithout : DagView → Option (ℕ × Author) → ℕ → ℕ → (ℕ → ℕ → Bool) → (ℕ → ℕ → Bool) → Type 0
-IsWithout graph previous low high free new = IsTakenFrom graph previous low high free → (round author : ℕ) → low ≤ round → round ≤ high → new round author ≡ (free round author && not (is_past_in graph previous round author))
+IsWithout graph previous low high free new = IsTakenFrom graph previous low high free → (round author : ℕ) → low ≤ round → round ≤ high
+    → new round author ≡ (free round author && not (is_past_in graph previous round author))
 
 -- and what is read for it
 abbrev pub AreReadFor : DagView → Option (ℕ × Author) → ℕ → ℕ → (ℕ → ℕ → Bool) → ℕ → Type 0
@@ -265,20 +275,24 @@ AreReadFor graph previous low high free reads = (before : ℕ × Author) → IsT
 abbrev IsNotAbove : DagView → Option (ℕ × Author) → ℕ → Type 0
 IsNotAbove graph previous high = (slot : ℕ × Author) → previous ≡ Some slot → is_some (slots_in graph slot.0 slot.1.0) ≡ true → slot.0 ≤ high
 
-first_from : (graph : DagView) (previous : Option (ℕ × Author)) (leader : ℕ × Author) (c : Certificate) (low : ℕ) (free : ℕ → ℕ → Bool) → AreFirst graph leader c low free → IsNotAbove graph previous leader.0
+first_from : (graph : DagView) (previous : Option (ℕ × Author)) (leader : ℕ × Author) (c : Certificate) (low : ℕ) (free : ℕ → ℕ → Bool)
+    → AreFirst graph leader c low free → IsNotAbove graph previous leader.0
     → IsMarkedBefore graph (leader.0 - graph.charter.depth) (leader_held graph previous) → IsTakenFrom graph previous low leader.0 free
 first_from graph previous leader c low free first within marks = record {
   within = within;
   closed = unmarked_closed graph (leader_held graph previous) (leader.0 - graph.charter.depth) low leader.0 free marks (let lowest = first.lowest in omega (arith, lowest)) first.unmarked;
 }
 
-chained_within : (graph : DagView) (previous : Option (ℕ × Author)) (leader : ℕ × Author) (c : Certificate) → IsGraph graph → slots_in graph leader.0 leader.1.0 ≡ Some c → HasAllOf graph (leader_held graph previous) c → IsNotAbove graph previous leader.0
+chained_within : (graph : DagView) (previous : Option (ℕ × Author)) (leader : ℕ × Author) (c : Certificate) → IsGraph graph
+    → slots_in graph leader.0 leader.1.0 ≡ Some c → HasAllOf graph (leader_held graph previous) c → IsNotAbove graph previous leader.0
 chained_within graph previous leader c is held all slot same some =
     not_below graph is slot leader c held some (λ r a e there past. all r a e there (subst (λ p. is_past (ledger_in graph []) (leader_held graph p) e ≡ true) (sym same) past))
 
 -- where the leader reaches the one before, without what that takes those are free that are unordered
-pub chained_sets : (graph : DagView) (previous : Option (ℕ × Author)) (leader : ℕ × Author) (c : Certificate) (low : ℕ) (free new : ℕ → ℕ → Bool) → AreFirst graph leader c low free → HasAllOf graph (leader_held graph previous) c
-    → IsMarkedBefore graph (leader.0 - graph.charter.depth) (leader_held graph previous) → IsWithout graph previous low leader.0 free new → AreUnordered graph (leader_held graph previous) (lowest_in graph leader.0) leader.0 new
+pub chained_sets : (graph : DagView) (previous : Option (ℕ × Author)) (leader : ℕ × Author) (c : Certificate) (low : ℕ) (free new : ℕ → ℕ → Bool)
+    → AreFirst graph leader c low free → HasAllOf graph (leader_held graph previous) c
+    → IsMarkedBefore graph (leader.0 - graph.charter.depth) (leader_held graph previous) → IsWithout graph previous low leader.0 free new
+    → AreUnordered graph (leader_held graph previous) (lowest_in graph leader.0) leader.0 new
 chained_sets graph previous leader c low free new first all marks without =
     unordered_taken graph previous leader.0 low free new marks first.lowest first.unmarked
     (without (first_from graph previous leader c low free first (chained_within graph previous leader c first.is first.held all) marks))
@@ -287,7 +301,8 @@ held_some : (graph : DagView) (slot : ℕ × Author) (d : Certificate) → slots
 held_some graph slot d there = ap (λ (o : Option Certificate). is_some o) there
 
 -- and what the one before reaches without a mark is read
-pub chained_reads : (graph : DagView) (previous : Option (ℕ × Author)) (leader : ℕ × Author) (c : Certificate) (low reads : ℕ) (free : ℕ → ℕ → Bool) → AreFirst graph leader c low free → HasAllOf graph (leader_held graph previous) c
+pub chained_reads : (graph : DagView) (previous : Option (ℕ × Author)) (leader : ℕ × Author) (c : Certificate) (low reads : ℕ) (free : ℕ → ℕ → Bool)
+    → AreFirst graph leader c low free → HasAllOf graph (leader_held graph previous) c
     → IsMarkedBefore graph (leader.0 - graph.charter.depth) (leader_held graph previous) → AreReadFor graph previous low leader.0 free reads → (leader_held graph previous ≡ None → reads ≡ 0)
     → reads ≡ unmarked_references_in graph (lowest_in graph leader.0) (leader_held graph previous)
 chained_reads graph previous leader c low reads free first all marks most unheld =

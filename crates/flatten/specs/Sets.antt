@@ -52,7 +52,8 @@ pub record Leads (graph : DagView) (previous : Option Certificate) (leader : ℕ
 
 -- what the leader before reaches a leader reaches too
 abbrev pub HasAllOf : DagView → Option Certificate → Certificate → Type 0
-HasAllOf graph previous leader = (round author : ℕ) (c : Certificate) → slots_in graph round author ≡ Some c → is_past (ledger_in graph []) previous c ≡ true → is_past (ledger_in graph []) (Some leader) c ≡ true
+HasAllOf graph previous leader = (round author : ℕ) (c : Certificate) → slots_in graph round author ≡ Some c → is_past (ledger_in graph []) previous c
+    ≡ true → is_past (ledger_in graph []) (Some leader) c ≡ true
 
 -- a leader's slot reaches a slot, if there is a leader
 abbrev pub is_past_in : DagView → Option (ℕ × Author) → ℕ → ℕ → Bool

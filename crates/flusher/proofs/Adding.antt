@@ -16,7 +16,8 @@ use Rattle.node_seats.specs.declared.view.Marked.{Marked}
 use Rattle.spec_world.specs.World.{Holds}
 use Rattle.spec_world.proofs.Recovering.{holds_same, holds_more}
 
-module _ (node : Node) (start : History) (settled taken : List Marked) (content : List ℕ) (held : Holds node content (start ++ events settled)) (begins : Begins settled taken) (each : All (IsTaken node) (events taken)) where
+module _ (node : Node) (start : History) (settled taken : List Marked) (content : List ℕ) (held : Holds node content (start ++ events settled))
+    (begins : Begins settled taken) (each : All (IsTaken node) (events taken)) where
   -- the events of the group
   abbrev pub more : History
   more = drop (length settled) (events taken)

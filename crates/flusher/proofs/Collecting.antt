@@ -1,5 +1,5 @@
 -- What callers collected goes out within what a stop leaves.
-use Rattle.std.proofs.Common.{◌≡◌, ℕ, List, ◌++◌, map, take, drop, sym, ap, ◌∙◌, append_assoc}
+use Rattle.std.proofs.Common.{ℕ, List, ◌++◌, map, take, drop, sym, ap, ◌∙◌, append_assoc}
 use Rattle.std.proofs.lemmas.List.{map-append, take-append-drop}
 use Rattle.node_seats.proofs.Beginnings.{begins_trans}
 use Rattle.node_seats.specs.Views.{events}

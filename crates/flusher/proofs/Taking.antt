@@ -42,7 +42,8 @@ module _ {S : Type 0} (node : NodeView S) (flush : FlushSeat) (of : IsFlushOf no
       subst (All (IsTaken of_node)) (take-map (λ (one : Marked). one.event) flush.taken flush.seat.view.seen) (All-take (IsTaken of_node) flush.taken (events flush.seat.view.seen) seen)
 
   -- what a round takes
-  pub takes_none : (seen : List Marked) → Begins seen flush.seat.view.seen → flush.taken ≡ flush.settled → flush.seat.view.firm ≡ flush.seat.view.seen → TakesLongest seen flush.seat.view.firm (taken_by flush)
+  pub takes_none : (seen : List Marked) → Begins seen flush.seat.view.seen → flush.taken ≡ flush.settled → flush.seat.view.firm ≡ flush.seat.view.seen
+      → TakesLongest seen flush.seat.view.firm (taken_by flush)
   takes_none seen had rests whole = record {
     all = flush.seat.view.seen;
     had_seen = had;
@@ -73,13 +74,15 @@ module _ {S : Type 0} (node : NodeView S) (flush : FlushSeat) (of : IsFlushOf no
   pub some_taken : (group : List (List ℕ)) → TakesNext flush group → length flush.seat.view.firm < length (taken_by flush)
   some_taken group next = omega (arith, next.longest.fits.some, taken_size, next.counts, of.settled)
 
-  pub full_for : (content : List ℕ) (group : List (List ℕ)) → TakesNext flush group → MAX_JOURNAL_BYTES < length content + length (group_bytes group) → HasNoRoom content flush.seat.view.firm (taken_by flush)
+  pub full_for : (content : List ℕ) (group : List (List ℕ)) → TakesNext flush group → MAX_JOURNAL_BYTES < length content + length (group_bytes group)
+      → HasNoRoom content flush.seat.view.firm (taken_by flush)
   full_for content group next long = record {
     some = some_taken group next;
     too_long = subst (λ (g : List (List ℕ)). MAX_JOURNAL_BYTES < length content + length (group_bytes g)) (next.is ∙ group_behind) long;
   }
 
-  pub long_for : (content : List ℕ) (group : List (List ℕ)) → TakesNext flush group → HasNoRoom content flush.seat.view.firm (taken_by flush) → MAX_JOURNAL_BYTES < length content + length (group_bytes group)
+  pub long_for : (content : List ℕ) (group : List (List ℕ)) → TakesNext flush group → HasNoRoom content flush.seat.view.firm (taken_by flush)
+      → MAX_JOURNAL_BYTES < length content + length (group_bytes group)
   long_for content group next full =
       subst (λ (g : List (List ℕ)). MAX_JOURNAL_BYTES < length content + length (group_bytes g)) (sym (next.is ∙ group_behind)) full.too_long
 

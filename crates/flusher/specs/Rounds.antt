@@ -1,23 +1,24 @@
 -- A flusher, and what its rounds do.
-use Rattle.std.specs.Prelude.{◌≡◌, ◌≢◌, ◌⊎◌, ◌↔◌, ℕ, ◌+◌, ◌<◌, false, Bool, List, length, map, drop, ◌++◌, Result, IsErrOf, IsTrue, IfOk, IfErr, OnOk, OnErr}
+use Rattle.std.specs.Prelude.{◌≡◌, ◌⊎◌, ◌↔◌, ℕ, ◌+◌, ◌<◌, false, Bool, List, length, map, drop, ◌++◌, Result, IsErrOf, IsTrue, IfOk, OnOk, OnErr}
+use Rattle.diskmodel.specs.Disk.{Device}
 use Rattle.journal.specs.Format.{group_bytes}
 use Rattle.journal.specs.Journal.{disk_of, IsAlive}
 use Rattle.journal.specs.declared.journal.Journal.{Journal}
 use Rattle.journal.specs.declared.layout.TheConstants.{MAX_JOURNAL_BYTES}
 use Rattle.spec_model.specs.Histories.{History}
 use Rattle.wire.specs.Lists.{Begins}
-use Rattle.spec_model.specs.Nodes.{Node}
 use Rattle.spec_records.specs.Records.{record_of}
 use Rattle.spec_world.specs.World.{Holds}
 use Rattle.book.specs.Pending.{IsLongestBeginning}
-use Rattle.validator.specs.Setting.{ConfigView, node_of}
+use Rattle.validator.specs.Setting.{node_of}
 use Rattle.node_seats.specs.Sights.{SeatView}
 use Rattle.node_seats.specs.Views.{events, IsSame}
 use Rattle.node_seats.specs.declared.view.Marked.{Marked}
 use Rattle.node_shared.specs.Home.{NodeView, IsFlushOf, taken_by}
 use Rattle.node_shared.specs.declared.flush_seat.FlushSeat.{FlushSeat}
 use Rattle.book.specs.declared.own.error.FlushError.{FlushError}
-use Rattle.book.specs.declared.own.error.FlushError.TheVariants.{Memory, Device, Full, Down}
+use Rattle.book.specs.declared.own.error.FlushError.TheVariants as errors
+use Rattle.book.specs.declared.own.error.FlushError.TheVariants.{Memory, Full, Down}
 use Rattle.flusher.specs.declared.flusher.Flusher.{Flusher}
 use Rattle.sigface.specs.Scheme.{Scheme}
 
@@ -92,9 +93,9 @@ pub record HasNoRoom (content : List ℕ) (settled taken : List Marked) : Type 0
 pub record GoesDown {D : Type 0} (before later : Flusher D) (result : Result ℕ FlushError) : Type 0 where
   pub down : IsErrOf result Down ↔ IsTrue (is_down before)
   pub same : IsErrOf result Down → later ≡ before
-  pub device : IsErrOf result Device → IsTrue (is_down later)
+  pub device : IsErrOf result errors.Device → IsTrue (is_down later)
   pub full : IsErrOf result Full → IsTrue (is_down later)
-  pub nothing_else : IsTrue (is_down later) → IsErrOf result Device ⊎ IsErrOf result Full ⊎ IsErrOf result Down
+  pub nothing_else : IsTrue (is_down later) → IsErrOf result errors.Device ⊎ IsErrOf result Full ⊎ IsErrOf result Down
 
 -- Of the seat that it is made with: it is the same one, has seen and knows as settled what it did and perhaps more, and where the round
 -- takes the node down it knows of that.
@@ -103,7 +104,7 @@ pub record IsToldOf (before later : SeatView) (result : Result ℕ FlushError) :
   pub more : Begins before.view.seen later.view.seen
   pub more_firm : Begins before.view.firm later.view.firm
   pub no_change : IsErrOf result Down → later ≡ before
-  pub device : IsErrOf result Device → IsTrue later.view.down
+  pub device : IsErrOf result errors.Device → IsTrue later.view.down
   pub full : IsErrOf result Full → IsTrue later.view.down
 
 -- Of what had seen: it takes a group, and settles all that is taken, which the seat then knows. For want of memory it takes nothing; a

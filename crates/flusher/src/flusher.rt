@@ -13,7 +13,7 @@ ghost use Rattle.node_seats.specs.Plays.{with_down};
 ghost use Rattle.node_shared.specs.Home.{IsOf, IsFlushOf, group_of, seen_by};
 ghost use Rattle.flusher.specs.Rounds.{journal_of, seat_of, is_down, settled_in, taken_in, from_start, IsFlusherOf, HoldsEither, GoesDown, IsToldOf, TakesAndSettles, TellsRoom, StaysAsIs};
 
-use crate::error::FlushError;
+use book::FlushError;
 use diskmodel::Disk;
 use journal::{Group, Journal, JournalError};
 use node_shared::{FlushSeat, Node, Seat};

@@ -1,10 +1,9 @@
 //! Who brings what a node accepted to its disk, beside the threads that use it.
 #![tactic(auto)]
 
-mod error;
 mod flusher;
 mod laws;
 
-pub use error::FlushError;
+pub use book::FlushError;
 pub use flusher::Flusher;
 pub use laws::collected_agrees;

@@ -24,7 +24,8 @@ use Rattle.wire.specs.Digests.{header_digest_of}
 use Rattle.wire.specs.Events.{Event}
 use Rattle.header.specs.declared.error.CheckError.{CheckError}
 use Rattle.header.specs.declared.error.CheckError.TheVariants.{Memory, UnknownAuthor, BadSignature}
-use Rattle.header.specs.Checks.{Test, test, first_failing, Accepts, tests_of, accepts_all, is_member, is_signed, header_signed, vote_signed, body_tests, batch_tests, ack_tests, header_tests, vote_tests, votes_tests, message_tests, fault_of}
+use Rattle.header.specs.Checks.{Test, test, first_failing, Accepts, tests_of, accepts_all, is_member, is_signed, header_signed, vote_signed}
+use Rattle.header.specs.Checks.{body_tests, batch_tests, ack_tests, header_tests, vote_tests, votes_tests, message_tests, fault_of}
 
 -- behind tests that hold the rest decides
 pub first_failing-append : (front rest : List Test) → first_failing front ≡ None → first_failing (front ++ rest) ≡ first_failing rest
@@ -51,12 +52,14 @@ all_signed-accepts_all charter digest [] = refl
 all_signed-accepts_all charter digest (vote ∷ votes) = rw (is_signed-accepts_all charter vote.voter digest vote.signature, all_signed-accepts_all charter digest votes)
 
 -- a header whose author is a member doesn't fail by its signature
-header_signed-by_member : (charter : Charter) (sender : Author) (header : Header) → is_signed charter accepts_all header.body.author (header_signed header.body) header.signature ≡ is_member charter header.body.author
+header_signed-by_member : (charter : Charter) (sender : Author) (header : Header) → is_signed charter accepts_all header.body.author
+    (header_signed header.body) header.signature ≡ is_member charter header.body.author
     → first_failing (header_tests charter accepts_all sender header) ≡ Some BadSignature → ⊥
 header_signed-by_member charter sender header same h = grind (arith, same)
 
 -- nor does a vote whose voter is one
-vote_signed-by_member : (charter : Charter) (sender : Author) (vote : Vote) → is_signed charter accepts_all vote.voter (vote_signed vote.header.0 vote.round vote.author) vote.signature ≡ is_member charter vote.voter
+vote_signed-by_member : (charter : Charter) (sender : Author) (vote : Vote) → is_signed charter accepts_all vote.voter
+    (vote_signed vote.header.0 vote.round vote.author) vote.signature ≡ is_member charter vote.voter
     → first_failing (vote_tests charter accepts_all sender vote) ≡ Some BadSignature → ⊥
 vote_signed-by_member charter sender vote same h = grind (arith, same)
 
@@ -83,7 +86,8 @@ ack_unsigned sender ack h = grind arith
 no_bad_signature : (charter : Charter) (sender : Author) (message : Message) → first_failing (message_tests charter accepts_all sender message) ≡ Some BadSignature → ⊥
 no_bad_signature charter sender (message.Batch batch) h = batch_unsigned charter sender batch h
 no_bad_signature charter sender (message.BatchAck ack) h = ack_unsigned sender ack h
-no_bad_signature charter sender (message.Header header) h = header_signed-by_member charter sender header (is_signed-accepts_all charter header.body.author (header_signed header.body) header.signature) h
+no_bad_signature charter sender (message.Header header) h = header_signed-by_member charter sender header
+    (is_signed-accepts_all charter header.body.author (header_signed header.body) header.signature) h
 no_bad_signature charter sender (message.Vote vote) h =
     vote_signed-by_member charter sender vote (is_signed-accepts_all charter vote.voter (vote_signed vote.header.0 vote.round vote.author) vote.signature) h
 no_bad_signature charter sender (message.Certificate certificate) h =
@@ -159,7 +163,8 @@ all_signed-weaker charter accepts digest (vote ∷ votes) h =
     let parts = and_parts (is_signed charter accepts vote.voter digest vote.signature) (list_all (λ v. is_signed charter accepts v.voter digest v.signature) votes) h in
     and_from _ _ (is_signed-weaker charter accepts vote.voter digest vote.signature parts.0) (all_signed-weaker charter accepts digest votes parts.1)
 
-message-weaker : (charter : Charter) (accepts : Accepts) (sender : Author) (message : Message) → IsWeaker (message_tests charter accepts sender message) (message_tests charter accepts_all sender message)
+message-weaker : (charter : Charter) (accepts : Accepts) (sender : Author) (message : Message)
+    → IsWeaker (message_tests charter accepts sender message) (message_tests charter accepts_all sender message)
 unfolding IsWeaker
 message-weaker charter accepts sender (message.Batch batch) = (λ e. e, (λ e. e, (λ e. e, tt)))
 message-weaker charter accepts sender (message.BatchAck ack) = (λ e. e, tt)

@@ -3,3 +3,4 @@ pub mod Naming
 pub mod Passing
 pub mod RisingFaults
 pub mod Signing
+pub mod Ranges

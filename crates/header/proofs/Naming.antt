@@ -59,7 +59,8 @@ named_stakes charter name staked (x ∷ rest) members =
     omega (arith, here, others, one, other)
 
 -- and where the list rises they weigh as a set what the tests sum one by one
-pub set_weighs : {X : Type 0} (charter : Charter) (name : X → Author) → length charter.stakes ≡ length charter.keys → (xs : List X) → list_all (λ x. is_member charter (name x)) xs ≡ true → rises (λ a b. nat_lt (name a).0 (name b).0) xs ≡ true
+pub set_weighs : {X : Type 0} (charter : Charter) (name : X → Author) → length charter.stakes ≡ length charter.keys → (xs : List X)
+    → list_all (λ x. is_member charter (name x)) xs ≡ true → rises (λ a b. nat_lt (name a).0 (name b).0) xs ≡ true
     → weight charter (λ m. list_any (λ x. (name x).0 == m) xs) ≡ sum_by (λ x. named_weight charter (name x)) xs
 set_weighs charter name staked xs members rise =
     weight-listed charter (λ x. (name x).0) xs (each_member charter name xs members) (named_once name xs rise)

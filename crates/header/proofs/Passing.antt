@@ -39,7 +39,8 @@ body_passes charter body rest is rise none =
     (omega (arith, enough, same), workers.1)
 
 -- the votes of a certificate that passed are by one
-votes_pass : (charter : Charter) (accepts : Accepts) (digest : Digest) (votes : List VoteEntry) → IsCharter charter → votes_rise votes ≡ true → first_failing (votes_tests charter accepts digest votes) ≡ None
+votes_pass : (charter : Charter) (accepts : Accepts) (digest : Digest) (votes : List VoteEntry) → IsCharter charter → votes_rise votes ≡ true
+    → first_failing (votes_tests charter accepts digest votes) ≡ None
     → HasVotes charter votes
 votes_pass charter accepts digest votes is rise none =
     let weighed = passes (nat_le (quorum_of charter) (sum_by (λ (v : VoteEntry). named_weight charter v.voter) votes)) _ _ none in
@@ -49,7 +50,8 @@ votes_pass charter accepts digest votes is rise none =
     omega (arith, enough, same)
 
 -- by the kind of the message
-pub message_passes : (charter : Charter) (accepts : Accepts) (sender : Author) (m : Message) → IsCharter charter → IsMessage m → first_failing (test (is_member charter sender) UnknownAuthor ∷ message_tests charter accepts sender m) ≡ None
+pub message_passes : (charter : Charter) (accepts : Accepts) (sender : Author) (m : Message) → IsCharter charter → IsMessage m
+    → first_failing (test (is_member charter sender) UnknownAuthor ∷ message_tests charter accepts sender m) ≡ None
     → HasQuorums charter m
 message_passes charter accepts sender (message.Header header) is within none =
     let by = passes (is_member charter sender) _ _ none in

@@ -1,6 +1,6 @@
 -- The faults of lists that should rise.
-use Rattle.std.proofs.Common.{◌≡◌, ◌<◌, ℕ, Bool, true, false, List, [], ◌∷◌, ◌++◌, length, Option, Some, refl, ap, sym, ◌∙◌}
-use Rattle.std.specs.Prelude.{◌&&◌, not, nat_lt, if◌then◌else◌}
+use Rattle.std.proofs.Common.{◌≡◌, ℕ, Bool, true, false, List, [], ◌∷◌, ◌++◌, Some, refl}
+use Rattle.std.specs.Prelude.{◌&&◌, not, nat_lt}
 use Rattle.wire.specs.Rising.{rises, follows}
 use Rattle.wire.specs.declared.error.WireError.TheVariants.{NotCanonical, TooMany}
 use Rattle.header.specs.Making.{list_fault}

@@ -1,7 +1,7 @@
 //! What an event is answered.
 
 ghost use Rattle.std.specs.Prelude.{◌≡◌, ◌+◌, ◌*◌, ◌<◌, ◌≤◌, ◌^◌, ◌++◌, ◌∷◌, [], OnOk, OnErr, IfOk, drop, length, take};
-ghost use Rattle.spec_model.specs.Admitting.{is_new, pieces};
+ghost use Rattle.header.specs.Answers.{is_new, pieces};
 ghost use Rattle.wire.specs.declared.limits.TheConstants.{MAX_ORDER_DIGESTS};
 
 use crate::refusal::Refusal;
@@ -70,7 +70,7 @@ impl Outputs {
         }
     }
 
-    /// Adds an output at the end. `AllocError` where a growth was refused.
+    /// Adds an output at the end. `AllocError` where an allocation failed.
     pub fn push(&mut self, output: Output) -> Result<(), AllocError>
         ensures ok { OnOk result (self.new ≡ self.old ++ output ∷ []) }
         ensures err { OnErr result (self.new ≡ self.old) }
@@ -79,7 +79,7 @@ impl Outputs {
         Ok(())
     }
 
-    /// Adds other outputs at the end. `AllocError` where a growth was refused.
+    /// Adds other outputs at the end. `AllocError` where an allocation failed.
     pub fn append(&mut self, mut others: Outputs) -> Result<(), AllocError>
         ensures ok { OnOk result (self.new ≡ self.old ++ others) }
         ensures err { OnErr result (self.new ≡ self.old) }
@@ -88,8 +88,8 @@ impl Outputs {
         Ok(())
     }
 
-    /// Adds what is added to an order behind so many digests, in pieces as large as an output may be. `AllocError` where a
-    /// growth was refused.
+    /// Adds what is added to an order behind so many digests, in pieces as large as an output may be. `AllocError` where an
+    /// allocation failed.
     pub fn push_order(
         &mut self,
         alloc: Global,

@@ -5,7 +5,7 @@ use thiserror::Error;
 /// Why a message from its sender is refused. Printed as its number and its name.
 #[derive(Clone, Copy, Debug, PartialEq, Eq, Error)]
 pub enum CheckError {
-    /// A growth was refused. The tests take no memory, so they never answer this.
+    /// An allocation failed. The tests take no memory, so they never answer this.
     #[error("1 Memory")]
     Memory,
     /// A sender, an author or a voter is no member.

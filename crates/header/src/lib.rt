@@ -1,14 +1,23 @@
-//! The tests that an incoming message has to pass before anything else sees it.
+//! The tests that an incoming message has to pass before anything else sees it, and the types of a node, of an event with
+//! its sender, and of what an event is answered.
 #![tactic(auto)]
 
+mod admission;
 mod checked;
 mod digested;
 mod error;
+mod event;
 mod faults;
 mod laws;
 mod making;
+mod node;
+mod refusal;
 
+pub use admission::{Admission, Outputs};
 pub use checked::{Checked, check, passes, recheck};
 pub use error::CheckError;
+pub use event::Event;
 pub use laws::{ones_are_counted, passed_are_signed, passed_have_quorums};
 pub use making::make;
+pub use node::Node;
+pub use refusal::Refusal;

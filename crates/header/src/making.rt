@@ -53,7 +53,7 @@ fn parents_of(alloc: Global, parents: &[ParentReference]) -> Result<ParentRefere
 /// # Errors
 /// The first fault that reading its bytes would meet: `TooMany` of more than `MAX_BATCHES` batches, `NotCanonical` where
 /// these don't rise strictly by digest, then the same of more than `MAX_PARENTS` parents, which rise by author. `Memory`
-/// where a growth was refused.
+/// where an allocation failed.
 pub fn make<S: Sign>(
     alloc: Global,
     signer: &S,

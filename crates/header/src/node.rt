@@ -1,8 +1,7 @@
 //! Whose history it is.
 
-ghost use Rattle.std.specs.Prelude.{◌≡◌, ◌<◌, ◌≤◌};
-ghost use Rattle.spec_model.specs.Nodes.{node_view, quorum, size_of};
-ghost use Rattle.spec_model.specs.Admitting.{is_own};
+ghost use Rattle.std.specs.Prelude.{◌≡◌, ◌==◌, ◌<◌, ◌≤◌, length};
+ghost use Rattle.committee.specs.Charter.{quorum_of};
 ghost use Rattle.committee.specs.declared.members.TheConstants.{MAX_MEMBERS};
 
 use committee::Committee;
@@ -23,7 +22,7 @@ pub struct Node<S: Sign> {
 impl<S: Sign> Node<S> {
     /// How many members its committee has.
     pub fn size(&self) -> u16
-        ensures value { result ≡ size_of (node_view S.scheme self.now) }
+        ensures value { result ≡ length self.now.committee.keys }
         ensures least { 0 < result }
         ensures greatest { result ≤ MAX_MEMBERS }
     {
@@ -32,14 +31,14 @@ impl<S: Sign> Node<S> {
 
     /// What members who are a quorum weigh at least.
     pub fn quorum(&self) -> u64
-        ensures { result ≡ quorum (node_view S.scheme self.now) }
+        ensures { result ≡ quorum_of self.now.committee }
     {
         self.committee.quorum()
     }
 
     /// An author is the node itself.
     pub fn is_own(&self, author: Author) -> bool
-        ensures { result ≡ is_own (node_view S.scheme self.now) author }
+        ensures { result ≡ (author.0 == self.now.own.0) }
     {
         author == self.own
     }

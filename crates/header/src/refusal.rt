@@ -9,7 +9,7 @@ use thiserror::Error;
 /// Why an event is refused. Printed as its number and its name.
 #[derive(Clone, Copy, Debug, PartialEq, Eq, Error)]
 pub enum Refusal {
-    /// A growth was refused.
+    /// An allocation failed.
     #[error("1 Memory")]
     Memory,
     /// A device call failed before.

@@ -1,5 +1,6 @@
 -- How records and groups are read back from their bytes.
-use Rattle.std.proofs.Common.{◌≡◌, ◌≢◌, ℕ, zero, suc, ◌+◌, ◌<◌, ◌≤◌, ◌^◌, Bool, true, false, cond, List, [], ◌∷◌, ◌++◌, length, take, drop, Option, Some, None, refl, sym, ◌∙◌, ap, arith, length-append, length-drop, ltb}
+use Rattle.std.proofs.Common.{◌≡◌, ◌≢◌, ℕ, zero, suc, ◌+◌, ◌<◌, ◌≤◌, ◌^◌, Bool, true, false, cond, List, [], ◌∷◌, ◌++◌, length, take, drop, Option}
+use Rattle.std.proofs.Common.{Some, None, refl, sym, ◌∙◌, ap, arith, length-append, length-drop, ltb}
 use Rattle.std.specs.Option.{option_map, option_and_then}
 use Rattle.std.proofs.lemmas.List.{drop-drop, take_all, take_at, drop_at, length-take-le}
 use Rattle.std.proofs.lemmas.List.Sums.{sum_by-cons}
@@ -100,7 +101,8 @@ group_read records fits =
     ∙ cond-false (ltb 1024 (length records)) None (Some records) (le-ltb 1024 (length records) fits.not_many)
 
 -- a buffer of the whole length that a read filled
-pub read_whole : (len : ℕ) (buffer behind before found file : List ℕ) → length before ≡ len → len ≡ length file → buffer ≡ take (length before) found → found ≡ file → take len (buffer ++ behind) ≡ file
+pub read_whole : (len : ℕ) (buffer behind before found file : List ℕ) → length before ≡ len → len ≡ length file → buffer ≡ take (length before) found
+    → found ≡ file → take len (buffer ++ behind) ≡ file
 read_whole len buffer behind before found file before_len len_is filled same =
     let whole : buffer ≡ found = filled ∙ take_all (length before) found (omega (arith, ap length same)) in
     take_at buffer behind len (omega (arith, ap length whole, ap length same)) ∙ whole ∙ same

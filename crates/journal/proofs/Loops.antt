@@ -19,11 +19,13 @@ body_shorter rest front behind is =
     let parts = splits rest (front, behind) (sym is) in
     omega (arith, parts.header, ap length parts.is_behind, length-drop (4 + length front) rest)
 
-push_first : (gate : ℕ) (records : List Record) (front : List ℕ) (o : Option (List (List ℕ))) → so_far gate (records ++ kept_at gate front ∷ []) o ≡ so_far gate records (option_map (λ others. front ∷ others) o)
+push_first : (gate : ℕ) (records : List Record) (front : List ℕ) (o : Option (List (List ℕ))) → so_far gate (records ++ kept_at gate front ∷ []) o
+    ≡ so_far gate records (option_map (λ others. front ∷ others) o)
 push_first gate records front None = refl
 push_first gate records front (Some others) = ap Some (append_assoc records (kept_at gate front ∷ []) (kept gate others))
 
-pub body_more : (gate : ℕ) (records more : List Record) (rest front behind : List ℕ) (whole : Option (List Record)) → so_far gate records (records_of rest) ≡ whole → Some (front, behind) ≡ split_record rest
+pub body_more : (gate : ℕ) (records more : List Record) (rest front behind : List ℕ) (whole : Option (List Record))
+    → so_far gate records (records_of rest) ≡ whole → Some (front, behind) ≡ split_record rest
     → more ≡ records ++ kept_at gate front ∷ [] → so_far gate more (records_of behind) ≡ whole
 body_more gate records more rest front behind whole is split pushed =
     ap (λ (l : List Record). so_far gate l (records_of behind)) pushed
@@ -35,7 +37,8 @@ pub body_all : (gate : ℕ) (records : List Record) (rest : List ℕ) (whole : O
 body_all gate records rest whole is none =
     ap Some (sym (append-nil records)) ∙ sym (ap (so_far gate records) (ap records_of none ∙ records_nil)) ∙ is
 
-module _ (bytes : List ℕ) (gate : ℕ) (inside : gate < length bytes) (records : List Record) (whole : Result (List Record × ℕ) ℕ) (found : with_front records (walk gate 0 (drop gate bytes)) ≡ whole) where
+module _ (bytes : List ℕ) (gate : ℕ) (inside : gate < length bytes) (records : List Record) (whole : Result (List Record × ℕ) ℕ)
+    (found : with_front records (walk gate 0 (drop gate bytes)) ≡ whole) where
   at_gate : walk gate 0 (drop gate bytes) ≡ walk gate 0 (get_or bytes gate 0 ∷ drop (gate + 1) bytes)
   at_gate = ap (λ (l : List ℕ). walk gate 0 l) (drop_more bytes gate 0 inside)
 

@@ -20,7 +20,8 @@ pub length-group : (records : List (List ℕ)) → length (group_bytes records) 
 length-group records = omega (arith, length-append (body_bytes records) (0 ∷ []), length-body records)
 
 -- the limits that were tested
-pub fits_from : (records front : List (Vec ℕ Global)) (count len : ℕ) → front ≡ records → count ≡ length records → 1 ≤ count → count ≤ 1024 → (body_len (contents front) ≤ 4194304) × (len ≡ body_len (contents front)) → FitsGroup (contents records)
+pub fits_from : (records front : List (Vec ℕ Global)) (count len : ℕ) → front ≡ records → count ≡ length records → 1 ≤ count → count ≤ 1024
+    → (body_len (contents front) ≤ 4194304) × (len ≡ body_len (contents front)) → FitsGroup (contents records)
 fits_from records front count len same counts some not_many short =
     let many : length (contents records) ≡ length records = length-map records (λ (v : Vec ℕ Global). v.items) in
     record {

@@ -1,5 +1,7 @@
 -- Which bytes are read as groups, and which as damaged.
-use Rattle.std.proofs.Common.{◌≡◌, ◌≢◌, ◌↔◌, inl, inr, cond, ℕ, zero, suc, ◌+◌, ◌<◌, ◌≤◌, List, [], ◌∷◌, ◌++◌, length, take, drop, get_or, Option, Some, None, Result, Ok, Err, refl, sym, ◌∙◌, ap, subst, arith, append_assoc, length-append, length-drop, take-append-drop, ltb}
+use Rattle.std.proofs.Common.{◌≡◌, ◌≢◌, ◌↔◌, inl, inr, cond, ℕ, zero, suc, ◌+◌, ◌<◌, ◌≤◌, List, [], ◌∷◌, ◌++◌, length, take, drop, get_or, Option}
+use Rattle.std.proofs.Common.{Some, None, Result, Ok, Err, refl, sym, ◌∙◌, ap, subst, arith, append_assoc, length-append, length-drop}
+use Rattle.std.proofs.Common.{take-append-drop, ltb}
 use Rattle.std.specs.Int.{w32, to_be_bytes}
 use Rattle.std.specs.List.{All}
 use Rattle.std.specs.Option.{option_map, option_and_then}
@@ -10,7 +12,9 @@ use Rattle.std.proofs.lemmas.Bool.{cases_eq, cases_lt, ltb-false, le-ltb, cond-f
 use Rattle.std.proofs.lemmas.Option.{same_Some, none-some}
 use Rattle.diskmodel.specs.Outcomes.{AreBytes}
 use Rattle.journal.specs.declared.record.Record.{Record}
-use Rattle.journal.specs.Format.{FitsGroup, body_len, record_bytes, body_bytes, sized_body, Gated, IsOpen, with_gate, in_turn, length_field, split_record, records_of, group_of, body_at, kept, all_kept, with_front, walk, scan, only_records, stands, AreGroups, HasGroup, IsDamagedAt}
+use Rattle.journal.specs.Format.{FitsGroup, body_len, record_bytes, body_bytes, sized_body, Gated, IsOpen, with_gate, in_turn, length_field}
+use Rattle.journal.specs.Format.{split_record, records_of, group_of, body_at, kept, all_kept, with_front, walk, scan, only_records, stands}
+use Rattle.journal.specs.Format.{AreGroups, HasGroup, IsDamagedAt}
 use Rattle.journal.proofs.Bytes.{Splits, splits, passed_test, length-body, group_read, records_nil, records_none, records_some}
 use Rattle.journal.proofs.Walks.{Found, walk_closed, walk_no_body, walk_no_group, walk_group, body_stands, stands_short}
 use Rattle.journal.proofs.Written.{their_records, body_here, walk_in_turn, length-sized}
@@ -36,7 +40,8 @@ record_back bytes front behind are_bytes parts =
     ∙ ap (λ (l : List ℕ). take 4 bytes ++ l) (sym (take-append-drop n rest))
     ∙ (λ i. field i ++ (sym parts.is_front i ++ end_is i))
 
-first_of_map : (front : List ℕ) (o : Option (List (List ℕ))) (records : List (List ℕ)) → option_map (λ others. front ∷ others) o ≡ Some records → (others : List (List ℕ)) × (o ≡ Some others) × (records ≡ front ∷ others)
+first_of_map : (front : List ℕ) (o : Option (List (List ℕ))) (records : List (List ℕ)) → option_map (λ others. front ∷ others) o ≡ Some records
+    → (others : List (List ℕ)) × (o ≡ Some others) × (records ≡ front ∷ others)
 first_of_map front None records is = absurd (cc)
 first_of_map front (Some others) records is = (others, refl, sym (same_Some _ _ is))
 
@@ -61,7 +66,8 @@ body_back n [] records short are_bytes is = ap body_bytes (same_Some _ _ (sym re
 body_back zero (b ∷ rest) records short are_bytes is = absurd (omega arith)
 body_back (suc n) (b ∷ rest) records short are_bytes is = body_next n (body_back n) (b ∷ rest) records short are_bytes (λ none. omega (arith, ap length none)) is (split_record (b ∷ rest)) refl
 
-within : (o : Option (List (List ℕ))) (records : List (List ℕ)) → option_and_then (λ found. cond (ltb 1024 (length found)) None (Some found)) o ≡ Some records → (o ≡ Some records) × (length records ≤ 1024)
+within : (o : Option (List (List ℕ))) (records : List (List ℕ)) → option_and_then (λ found. cond (ltb 1024 (length found)) None (Some found)) o
+    ≡ Some records → (o ≡ Some records) × (length records ≤ 1024)
 within None records is = absurd (none-some records is)
 within (Some found) records is =
     let test = passed_test _ _ _ is in
@@ -211,7 +217,8 @@ walked : (n : ℕ) → Walks n
 walked n place [] short some are_bytes = absurd (omega arith)
 walked zero place (gate ∷ rest) short some are_bytes = absurd (omega arith)
 walked (suc n) place (gate ∷ rest) short some are_bytes = elim (cases_eq gate 0) [
-  | inl shut ↦ subst (Walked place (gate ∷ rest)) (sym (walk_closed place gate rest shut)) (record { groups = []; behind = rest; all_open = All-nil IsOpen; written = ap (λ (g : ℕ). g ∷ rest) shut; found_is = refl })
+  | inl shut ↦ subst (Walked place (gate ∷ rest)) (sym (walk_closed place gate rest shut))
+      (record { groups = []; behind = rest; all_open = All-nil IsOpen; written = ap (λ (g : ℕ). g ∷ rest) shut; found_is = refl })
   | inr is_open ↦ walked_open n (walked n) place gate rest is_open (omega arith) (All-tail (λ number. number < 256) gate rest are_bytes) (body_at rest) refl
 ]
 

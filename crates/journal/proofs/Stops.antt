@@ -1,5 +1,6 @@
 -- What a stop leaves of a journal's file in each step of an append and of an opening.
-use Rattle.std.proofs.Common.{◌≡◌, ◌≢◌, inl, inr, ℕ, ◌+◌, ◌-◌, ◌<◌, ◌≤◌, List, [], ◌∷◌, ◌++◌, length, get_or, take, drop, Result, Ok, Err, refl, sym, ◌∙◌, ap, subst, arith, append_assoc, length-append, take-append-drop}
+use Rattle.std.proofs.Common.{◌≡◌, ◌≢◌, inl, inr, ℕ, ◌+◌, ◌-◌, ◌<◌, ◌≤◌, List, [], ◌∷◌, ◌++◌, length, get_or, take, drop, Result, Ok, Err, refl, sym}
+use Rattle.std.proofs.Common.{◌∙◌, ap, subst, arith, append_assoc, length-append, take-append-drop}
 use Rattle.std.proofs.lemmas.List.{take_at, drop_at, drop_more, take_all, drop_all, append-nil, nil_from_length}
 use Rattle.std.proofs.lemmas.Bool.{cases_eq, cases_lt, lt-ltb, le-ltb, cond-true, cond-false}
 use Rattle.diskmodel.specs.Disk.{written, IsTorn, IsCut}
@@ -113,7 +114,8 @@ module _ (file : List ℕ) (ends : EndsClosed file) where
         let whole : c ≡ parts.front ++ gate ∷ group_bytes group =
         sym (take-append-drop e c) ∙ ap (λ (l : List ℕ). l ++ drop e c) (torn.before ∙ front_staged) ∙ ap (λ (l : List ℕ). parts.front ++ l) rest in
         elim (cases_eq gate 0) [
-          | inl shut ↦ inl (ap stands (whole ∙ ap (λ (g : ℕ). parts.front ++ g ∷ group_bytes group) shut) ∙ stands_behind parts.front (group_bytes group) [] parts.records parts.found ∙ sym parts.stands_for)
+          | inl shut ↦ inl (ap stands (whole ∙ ap (λ (g : ℕ). parts.front ++ g ∷ group_bytes group) shut)
+              ∙ stands_behind parts.front (group_bytes group) [] parts.records parts.found ∙ sym parts.stands_for)
           | inr is_open ↦ inr (ap stands whole ∙ stands_open gate is_open)
         ]
 

@@ -1,5 +1,6 @@
 -- How a walk over the groups of a file goes.
-use Rattle.std.proofs.Common.{◌≡◌, ◌≢◌, inl, inr, ℕ, zero, suc, ◌+◌, ◌-◌, ◌<◌, ◌≤◌, List, [], ◌∷◌, ◌++◌, length, take, drop, Option, Some, None, Result, Ok, Err, refl, sym, ◌∙◌, ap, arith, append_assoc, length-append, length-drop, eqb, ltb, leb}
+use Rattle.std.proofs.Common.{◌≡◌, ◌≢◌, inl, inr, ℕ, zero, suc, ◌+◌, ◌-◌, ◌<◌, ◌≤◌, List, [], ◌∷◌, ◌++◌, length, take, drop, Option, Some, None}
+use Rattle.std.proofs.Common.{Result, Ok, Err, refl, sym, ◌∙◌, ap, arith, append_assoc, length-append, length-drop, eqb, ltb, leb}
 use Rattle.std.specs.Int.{w32, from_be_bytes}
 use Rattle.std.specs.Option.{option_map_or}
 use Rattle.std.proofs.lemmas.List.{drop-drop, take_at, drop_at, append-nil, length-take-le, take-append-le, drop-append-le}
@@ -52,19 +53,25 @@ walk_open place gate rest is = cond-false (eqb gate 0) (Ok ([], place)) (opened 
 pub walk_no_body : (place gate : ℕ) (rest : List ℕ) → gate ≢ 0 → body_at rest ≡ None → walk place 0 (gate ∷ rest) ≡ Err place
 walk_no_body place gate rest is none =
     walk_open place gate rest is
-    ∙ ap (λ (o : Option (List ℕ)). option_map_or (λ body. option_map_or (λ records. with_front (kept place records) (walk (place + 1) (4 + length body) rest)) (group_of body) (Err place)) o (Err place)) none
+    ∙ ap (λ (o : Option (List ℕ)). option_map_or
+    (λ body. option_map_or (λ records. with_front (kept place records) (walk (place + 1) (4 + length body) rest)) (group_of body) (Err place)) o
+    (Err place)) none
 
 pub walk_no_group : (place gate : ℕ) (rest body : List ℕ) → gate ≢ 0 → body_at rest ≡ Some body → group_of body ≡ None → walk place 0 (gate ∷ rest) ≡ Err place
 walk_no_group place gate rest body is at_body none =
     walk_open place gate rest is
-    ∙ ap (λ (o : Option (List ℕ)). option_map_or (λ body. option_map_or (λ records. with_front (kept place records) (walk (place + 1) (4 + length body) rest)) (group_of body) (Err place)) o (Err place)) at_body
+    ∙ ap (λ (o : Option (List ℕ)). option_map_or
+    (λ body. option_map_or (λ records. with_front (kept place records) (walk (place + 1) (4 + length body) rest)) (group_of body) (Err place)) o
+    (Err place)) at_body
     ∙ ap (λ (o : Option (List (List ℕ))). option_map_or (λ records. with_front (kept place records) (walk (place + 1) (4 + length body) rest)) o (Err place)) none
 
 walk_on : (place gate : ℕ) (rest body : List ℕ) (records : List (List ℕ)) → gate ≢ 0 → body_at rest ≡ Some body → group_of body ≡ Some records
     → walk place 0 (gate ∷ rest) ≡ with_front (kept place records) (walk (place + 1) (4 + length body) rest)
 walk_on place gate rest body records is at_body is_group =
     walk_open place gate rest is
-    ∙ ap (λ (o : Option (List ℕ)). option_map_or (λ body. option_map_or (λ records. with_front (kept place records) (walk (place + 1) (4 + length body) rest)) (group_of body) (Err place)) o (Err place)) at_body
+    ∙ ap (λ (o : Option (List ℕ)). option_map_or
+    (λ body. option_map_or (λ records. with_front (kept place records) (walk (place + 1) (4 + length body) rest)) (group_of body) (Err place)) o
+    (Err place)) at_body
     ∙ ap (λ (o : Option (List (List ℕ))). option_map_or (λ records. with_front (kept place records) (walk (place + 1) (4 + length body) rest)) o (Err place)) is_group
 
 -- where a body stands
@@ -117,7 +124,8 @@ body_same front old new body is within some =
     before.is_body ∙ (λ i. take (sym before.long i) (drop_old i)) ∙ take-append-le n (drop 4 front) old room in
     let body_new : take n (drop 4 (front ++ new)) ≡ take n (drop 4 front) =
     ap (λ (l : List ℕ). take n l) drop_new ∙ take-append-le n (drop 4 front) new room in
-    body_from (front ++ new) n field (omega (arith, before.some, before.long)) (omega (arith, before.not_long, before.long)) (omega (arith, length-append front new)) ∙ ap Some (body_new ∙ sym body_old)
+    body_from (front ++ new) n field (omega (arith, before.some, before.long)) (omega (arith, before.not_long, before.long))
+    (omega (arith, length-append front new)) ∙ ap Some (body_new ∙ sym body_old)
 
 -- a walk goes on behind a whole group
 pub walk_group : (place gate : ℕ) (rest body : List ℕ) (records : List (List ℕ)) → gate ≢ 0 → body_at rest ≡ Some body → group_of body ≡ Some records
@@ -140,7 +148,8 @@ record Goes (place : ℕ) (rest : List ℕ) (found : Found) : Type 0 where
 
 goes : (place gate : ℕ) (rest : List ℕ) (found : Found) → gate ≢ 0 → walk place 0 (gate ∷ rest) ≡ Ok found → Goes place rest found
 goes place gate rest found is walked =
-    let first = map_or_ok (λ body. option_map_or (λ records. with_front (kept place records) (walk (place + 1) (4 + length body) rest)) (group_of body) (Err place)) (body_at rest) place found (sym (walk_open place gate rest is) ∙ walked) in
+    let first = map_or_ok (λ body. option_map_or (λ records. with_front (kept place records) (walk (place + 1) (4 + length body) rest))
+    (group_of body) (Err place)) (body_at rest) place found (sym (walk_open place gate rest is) ∙ walked) in
     let second = map_or_ok (λ records. with_front (kept place records) (walk (place + 1) (4 + length first.0) rest)) (group_of first.0) place found first.2 in
     let third = with_front_ok (kept place second.0) (walk (place + 1) (4 + length first.0) rest) found second.2 in
     record { body = first.0; records = second.0; more = third.0; at_body = first.1; is_group = second.1; on = third.1; is = third.2 }
@@ -209,7 +218,8 @@ walk_swap (b ∷ front) place zero old new found walked ends some more = elim (c
   | inr is_open ↦
       let on = goes place b (front ++ old) found is_open walked in
       let inside = (body_stands (front ++ old) on.body on.at_body).inside in
-      let later = walk_later (drop (4 + length on.body) (front ++ old)) (place + 1 + (4 + length on.body)) 0 on.more (sym (walk-skip (place + 1) (4 + length on.body) (front ++ old) (omega arith)) ∙ on.on) in
+      let later = walk_later (drop (4 + length on.body) (front ++ old)) (place + 1 + (4 + length on.body)) 0 on.more
+      (sym (walk-skip (place + 1) (4 + length on.body) (front ++ old) (omega arith)) ∙ on.on) in
       let end_is : found.1 ≡ on.more.1 = ap (λ (f : Found). f.1) on.is in
       let at_body = body_same front old new on.body on.at_body (omega arith) more in
       let same : place + 1 + length front ≡ place + length (b ∷ front) = omega arith in

@@ -6,7 +6,8 @@ use Rattle.std.proofs.lemmas.Grind.{flat_map-append}
 use Rattle.std.proofs.lemmas.List.Elements.{All-nil, All-cons, All-head, All-tail}
 use Rattle.std.proofs.lemmas.Nat.{from_be_bytes-to_be_bytes_4}
 use Rattle.journal.specs.declared.record.Record.{Record}
-use Rattle.journal.specs.Format.{FitsGroup, body_len, body_bytes, sized_body, Gated, IsOpen, with_gate, in_turn, as_written, file_with, file_bytes, length_field, body_at, kept, all_kept, with_front, walk, stands}
+use Rattle.journal.specs.Format.{FitsGroup, body_len, body_bytes, sized_body, Gated, IsOpen, with_gate, in_turn, as_written, file_with, file_bytes}
+use Rattle.journal.specs.Format.{length_field, body_at, kept, all_kept, with_front, walk, stands}
 use Rattle.journal.proofs.Bytes.{length-body, not_empty, group_read}
 use Rattle.journal.proofs.Walks.{with_front-append, with_front-nil, walk_closed, walk_group, body_from, stands_walk}
 

@@ -13,11 +13,17 @@ use Rattle.journal.specs.Format.{group_bytes, kept, walk, stands, ScansTo}
 abbrev pub disk_of : {D : Type 0} → Journal D → D
 disk_of journal = journal.disk
 
+-- the disk after a call that takes one: it is in what the call gives, or is handed back with the error
+abbrev pub disk_after : {T D E : Type 0} → (T → D) → Result T (Failed E D) → D
+disk_after disk_in (Ok given) = disk_in given
+disk_after disk_in (Err failed) = failed.disk
+
 -- A call that takes a disk, and gives it back with its answer, answers this error exactly where the disk has failed since.
-abbrev pub TellsFaultBack : {T D E : Type 0} → (D → ℕ) → (T → D) → E → D → Result T (Failed E D) → Type 0
-TellsFaultBack faults disk_in device disk result =
-    IfOk result (λ given. faults (disk_in given) ≡ faults disk)
-    × IfErr result (λ failed. (failed.error ≡ device → faults disk < faults failed.disk) × (failed.error ≢ device → faults failed.disk ≡ faults disk))
+abbrev pub TellsFaultBack : {T D E : Type 0} → Device D → (T → D) → E → D → Result T (Failed E D) → Type 0
+TellsFaultBack device disk_in error disk result =
+    IfOk result (λ given. device.faults (disk_in given) ≡ device.faults disk)
+    × IfErr result (λ failed. (failed.error ≡ error → device.faults disk < device.faults failed.disk)
+    × (failed.error ≢ error → device.faults failed.disk ≡ device.faults disk))
 
 -- The file stands for records, and the closed gate that ends its groups is its last byte.
 pub record EndsClosed (file : List ℕ) : Type 0 where

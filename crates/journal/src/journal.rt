@@ -3,7 +3,7 @@
 ghost use Rattle.std.specs.Prelude.{◌≡◌, ◌≢◌, ◌⊎◌, ◌↔◌, ◌+◌, ◌-◌, ◌*◌, ◌^◌, ◌<◌, ◌≤◌, List, ℕ, ◌++◌, length, Ok, Err, IfOk, IfErr, OnOk, OnErr, IsErrOf};
 ghost use Rattle.diskmodel.specs.Disk.{LeavesOnly, AtEachMoment, NoneNew, TellsFault};
 ghost use Rattle.journal.specs.Format.{group_bytes, stands, file_with, ScansTo};
-ghost use Rattle.journal.specs.Journal.{disk_of, TellsFaultBack, append_calls, EndsClosed, IsAlive, MadeSome, stands_with, IsClosedUp, IsBeforeOrAfter, StandsAsOneOf};
+ghost use Rattle.journal.specs.Journal.{disk_of, disk_after, TellsFaultBack, append_calls, EndsClosed, IsAlive, MadeSome, stands_with, IsClosedUp, IsBeforeOrAfter, StandsAsOneOf};
 
 use crate::error::{Failed, JournalError};
 use crate::group::Group;
@@ -71,8 +71,7 @@ impl<D: Disk> Journal<D> {
 
         // A stop at any moment of the call leaves bytes that one before it might have left, or the records of such bytes.
         // So firm bytes that are damaged stay as they are.
-        ensures any_moment { IfOk result (λ opened. AtEachMoment D.device disk (disk_of opened.0) (StandsAsOneOf (D.device.outcome disk))) }
-        ensures any_moment_err { IfErr result (λ failed. AtEachMoment D.device disk failed.disk (StandsAsOneOf (D.device.outcome disk))) }
+        ensures any_moment { AtEachMoment D.device disk (disk_after (λ opened. disk_of opened.0) result) (StandsAsOneOf (D.device.outcome disk)) }
 
         ensures damaged { IfErr result (λ failed. (gate : ℕ) → failed.error ≡ JournalError.Damaged gate → stands (D.device.content disk) ≡ Err gate) }
         ensures never_full { IfErr result (λ failed. failed.error ≢ JournalError.Full) }

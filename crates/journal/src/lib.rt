@@ -8,6 +8,7 @@ mod laws;
 mod layout;
 mod reading;
 mod record;
+mod version;
 
 pub use error::{Failed, JournalError};
 pub use group::Group;
@@ -18,3 +19,4 @@ pub use layout::{
 };
 pub use reading::stands;
 pub use record::Record;
+pub use version::Version;

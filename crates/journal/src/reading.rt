@@ -7,7 +7,7 @@ ghost use Rattle.journal.specs.Format.{stands, scan, walk, records_of, group_of,
 use crate::error::JournalError;
 use crate::layout::{CLOSED, LENGTH_BYTES, MAX_GROUP_BYTES, MAX_GROUP_RECORDS};
 use crate::record::Record;
-use diskmodel::Bytes;
+use diskmodel::KeptBytes;
 use std::alloc::{AllocError, Global};
 
 /// What the bytes of a journal stand for: the records of the groups whose gates are open, from the
@@ -112,12 +112,12 @@ fn records_of(alloc: Global, body: &[u8], gate: u64) -> Result<Option<Vec<Record
 }
 
 // The same bytes once more.
-fn copy_of(alloc: Global, bytes: &[u8]) -> Result<Bytes, AllocError>
+fn copy_of(alloc: Global, bytes: &[u8]) -> Result<KeptBytes, AllocError>
     ensures { IfOk result (λ copy. copy ≡ bytes.now) }
 {
     let mut copy = Vec::with_capacity(alloc, bytes.len())?;
     copy.extend_from_slice(bytes)?;
-    Ok(Bytes::from_vec(copy))
+    Ok(KeptBytes::from_vec(copy))
 }
 
 // The record at the front of the bytes, and the bytes behind it, if it is whole.

@@ -1,12 +1,12 @@
 //! Records as a journal keeps them.
 
-use diskmodel::Bytes;
+use diskmodel::KeptBytes;
 
 /// A record of a group that counts.
 #[derive(Debug, Drop)]
 pub struct Record {
     /// What it says.
-    pub bytes: Bytes,
+    pub bytes: KeptBytes,
     /// The place of its group's gate, in bytes from the front of the journal.
     pub gate: u64,
 }

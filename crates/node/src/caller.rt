@@ -159,6 +159,15 @@ impl<'n, 'a, S: Sign> Caller<'n, 'a, S> {
         self.node.accepted(&mut self.seat)
     }
 
+    /// Whether the node is down, which the caller then knows. It waits for nobody.
+    pub fn is_down(&mut self) -> bool
+        ensures stays { StaysWith self.old self.new }
+        ensures learned { Learned S.scheme self.old.node self.old.seat self.new.seat }
+        ensures down { result ≡ self.new.seat.view.down }
+    {
+        self.node.is_down(&mut self.seat)
+    }
+
     /// How many of these are settled, which the caller then knows. It waits for nobody.
     pub fn synced(&mut self) -> u64
         ensures stays { StaysWith self.old self.new }

@@ -6,14 +6,14 @@ mod rounds;
 
 ghost use Rattle.std.specs.Prelude.{◌≡◌, ◌≢◌, ◌⊎◌, ◌<◌, [], false, Ok, IfOk, IfErr};
 ghost use Rattle.diskmodel.specs.Disk.{AtEachMoment};
-ghost use Rattle.journal.specs.Journal.{disk_of, TellsFaultBack, IsAlive, IsClosedUp};
+ghost use Rattle.journal.specs.Journal.{disk_of, IsAlive, IsClosedUp};
 ghost use Rattle.spec_model.specs.Admitting.{IsLegal};
 ghost use Rattle.spec_model.specs.Giving.{kept};
 ghost use Rattle.spec_world.specs.World.{Holds};
 ghost use Rattle.validator.specs.Setting.{node_of};
 ghost use Rattle.validator.specs.Standing.{AreAtSound};
-ghost use Rattle.opening.specs.Laws.{IsLeft, IsNoRefusal};
-ghost use Rattle.opening.specs.Told.{told, Tells, IsToldAsOneOf, KeepsRecords};
+ghost use Rattle.opening.specs.Laws.{IsOpening};
+ghost use Rattle.opening.specs.Told.{told};
 ghost use Rattle.node_shared.specs.Calls.{HasNothing};
 ghost use Rattle.node_shared.specs.Home.{IsOf};
 ghost use Rattle.flusher.specs.Rounds.{journal_of, is_down, settled_in, taken_in, IsFlusherOf};
@@ -35,7 +35,7 @@ use validator::{Config, Validator};
 /// the seat has seen nothing since.
 ///
 /// # Errors
-/// Those of `reopen`, and `Memory` where a growth was refused to the node. The disk is handed back.
+/// Those of `reopen`, and `Memory` where an allocation failed to the node. The disk is handed back.
 pub fn start<'a, S: Sign, D: Disk>(
     alloc: Global,
     config: &'a Config<S>,
@@ -49,27 +49,11 @@ pub fn start<'a, S: Sign, D: Disk>(
     ensures up { IfOk result (λ started. is_down started.2 ≡ false) }
     ensures nothing_settled { IfOk result (λ started. (settled_in started.2 ≡ []) × (taken_in started.2 ≡ [])) }
 
-    // Each refusal but those of memory and of the disk is what the bytes are told as.
-    ensures err { IfErr result (λ failed. failed.error ≢ JournalError.Device → Tells failed.error (told (node_of S.scheme config.now) (D.device.content disk))) }
-    ensures never_full { IfErr result (λ failed. failed.error ≢ JournalError.Full) }
+    // Its errors, and what a stop at any moment of it leaves.
+    ensures opening { IsOpening (node_of S.scheme config.now) D.device (λ started. disk_of (journal_of started.2)) disk result }
 
-    // It answers Device exactly where the disk has failed.
-    ensures cause { TellsFaultBack D.device (λ started. disk_of (journal_of started.2)) JournalError.Device disk result }
-
-    // Only a failure of the disk or of the memory leaves other bytes than there were, but for those behind the closed gate.
+    // Only a failure of the disk or of the memory leaves other bytes than there were, but for those after the closed gate.
     ensures unchanged { IfErr result (λ failed. failed.error ≢ JournalError.Device → failed.error ≢ JournalError.Memory → (D.device.content failed.disk ≡ D.device.content disk) ⊎ IsClosedUp (D.device.content disk) (D.device.content failed.disk)) }
-
-    // A stop at any moment of the call leaves what is told as one outcome from before it is.
-    ensures any_moment { IfOk result (λ started. AtEachMoment D.device disk (disk_of (journal_of started.2)) (IsToldAsOneOf (node_of S.scheme config.now) (D.device.outcome disk))) }
-    ensures any_moment_err { IfErr result (λ failed. AtEachMoment D.device disk failed.disk (IsToldAsOneOf (node_of S.scheme config.now) (D.device.outcome disk))) }
-
-    // It leaves the records, whoever's they are and whatever it answers, or where there are none the configuration alone.
-    // What it leaves that stands for no records is an outcome from before it, byte for byte.
-    ensures keeps { IfOk result (λ started. AtEachMoment D.device disk (disk_of (journal_of started.2)) (KeepsRecords (node_of S.scheme config.now) (D.device.outcome disk))) }
-    ensures keeps_err { IfErr result (λ failed. AtEachMoment D.device disk failed.disk (KeepsRecords (node_of S.scheme config.now) (D.device.outcome disk))) }
-
-    // What a stop leaves in a world of this node is never refused.
-    ensures never_refused { IfErr result (λ failed. IsLeft (node_of S.scheme config.now) (D.device.content disk) → IsNoRefusal failed.error) }
 {
     let (validator, journal) = reopen(alloc, config, disk)?;
     begin::<Brand, S, D>(alloc, validator, journal)

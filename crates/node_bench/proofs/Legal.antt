@@ -2,8 +2,6 @@
 use Rattle.std.proofs.Common.{◌≡◌, sym, subst}
 use Rattle.std.specs.Prelude.{Result}
 use Rattle.spec_model.specs.Histories.{History}
-use Rattle.spec_model.specs.Words.{Digest, Signature}
-use Rattle.wire.specs.declared.keys.Key.{Key}
 use Rattle.validator.specs.Setting.{ConfigView, node_of}
 use Rattle.validator.specs.Standing.{ValidatorView}
 use Rattle.book.specs.OnTheWay.{StandsAtLegal}

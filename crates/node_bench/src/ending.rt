@@ -4,7 +4,6 @@ use book::FlushError;
 use committee::CommitteeError;
 use header::CheckError;
 use journal::{Failed, JournalError};
-use node::FlushError as RoundError;
 use std::alloc::{AllocError, AllocFailed};
 use std::io;
 use validator::Refusal;
@@ -112,15 +111,6 @@ impl From<FlushError> for Ending {
     fn from(error: FlushError) -> Ending {
         match error {
             FlushError::Memory => Ending::Memory,
-            _ => Ending::Refused,
-        }
-    }
-}
-
-impl From<RoundError> for Ending {
-    fn from(error: RoundError) -> Ending {
-        match error {
-            RoundError::Memory => Ending::Memory,
             _ => Ending::Refused,
         }
     }

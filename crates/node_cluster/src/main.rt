@@ -3,12 +3,12 @@
 
 mod ending;
 mod play;
-mod settings;
 mod telling;
 
 use ending::Ending;
 use play::Play;
-use settings::Settings;
+use sim_members::Settings;
+use sim_script::{BATCHES, DEPTH};
 use std::process::ExitCode;
 use telling::{tell_coin, tell_end, tell_growth, tell_round, tell_stop};
 
@@ -31,7 +31,7 @@ fn main(rt: HostRuntime) -> ExitCode {
 
 /// Plays all waves, and says whether all is well behind them.
 fn run<R: AllocGlobal + Print>(rt: &R) -> Result<bool, Ending> {
-    let settings = Settings::new(rt.alloc())?;
+    let settings = Settings::new(rt.alloc(), DEPTH, BATCHES)?;
     let mut play = Play::new(rt.alloc(), &settings)?;
     println!(rt; "four members of one committee, each over a disk in memory, for {WAVES} waves")?;
     play_all(rt, &mut play)?;

@@ -3,10 +3,10 @@
 ghost use Rattle.std.specs.Prelude.{◌≡◌, [], All, IfOk};
 
 use crate::ending::Ending;
-use crate::settings::{MEMBERS, Settings};
 use cluster::{Applied, Cluster, ClusterError, Move};
 use diskmodel::{Disk, MemDisk};
 use sigface::{HashSign, HashVerify};
+use sim_members::{MEMBERS, Settings};
 use std::alloc::{AllocError, Global};
 use wire::{Author, Coin, Digest, HeaderBody, Message, Wave};
 

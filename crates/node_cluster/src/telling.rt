@@ -2,7 +2,7 @@
 
 use crate::ending::Ending;
 use crate::play::{LAST, Named, Play};
-use crate::settings::MEMBERS;
+use sim_members::MEMBERS;
 use wire::{Author, Digest};
 
 /// Shows the certificates of a round, each behind its author.

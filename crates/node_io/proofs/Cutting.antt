@@ -11,7 +11,9 @@ takes_more held mid later taken byte all more every joined one two = record {
   splits = λ stream before splits.
       let both = two.splits (stream ++ taken) (before ++ bodies_bytes all) (one.splits stream before splits) in
       let bodies : (before ++ bodies_bytes all) ++ bodies_bytes more ≡ before ++ bodies_bytes every =
-      append_assoc before (bodies_bytes all) (bodies_bytes more) ∙ ap (λ l. before ++ l) (sym (map-append (λ (body : Vec ℕ Global). body.items) all more)) ∙ ap (λ l. before ++ bodies_bytes l) (sym joined) in
+      append_assoc before (bodies_bytes all) (bodies_bytes more)
+      ∙ ap (λ l. before ++ l) (sym (map-append (λ (body : Vec ℕ Global). body.items) all more)) ∙ ap (λ l. before ++ bodies_bytes l) (sym joined)
+      in
       subst (λ s. Splits s (before ++ bodies_bytes every) later) (append_assoc stream taken (byte ∷ []))
       (subst (λ b. Splits ((stream ++ taken) ++ byte ∷ []) b later) bodies both);
 }

@@ -60,7 +60,7 @@ impl<I: Read + Drop> Model for Input<I> {
 }
 
 impl<I: Read + Drop> Input<I> {
-    /// A stream of which nothing was read. `AllocError` where a growth was refused.
+    /// A stream of which nothing was read. `AllocError` where an allocation failed.
     pub fn new(alloc: Global, reader: I) -> Result<Input<I>, AllocError>
         ensures { IfOk result (λ input. input ≡ record { reader = reader; held = []; end = None }) }
     {

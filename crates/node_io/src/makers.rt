@@ -33,7 +33,7 @@ impl Model for Makers {
 }
 
 impl Makers {
-    /// The makers of a member, with no transaction. `AllocError` where a growth was refused.
+    /// The makers of a member, with no transaction. `AllocError` where an allocation failed.
     pub fn new(alloc: Global, committee: &Committee, own: Author) -> Result<Makers, AllocError>
         ensures { IfOk result (λ makers. makers ≡ fresh_makers own committee.now.workers) }
     {
@@ -68,7 +68,7 @@ impl Makers {
     }
 
     /// The open batch of a worker, who is known, or none where it has no transaction; afterwards none of it is open. `AllocError`
-    /// where a growth was refused.
+    /// where an allocation failed.
     pub fn seal(&mut self, worker: u16) -> Result<Option<Batch>, AllocError>
         requires { worker < length self.old }
         ensures ok { IfOk result (λ sealed. IsSealed worker sealed self.old self.new) }

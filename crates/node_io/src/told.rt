@@ -6,8 +6,7 @@ ghost use Rattle.node_io.specs.declared.told.Told.TheVariants.{Unread, Unchecked
 ghost use Rattle.wire.specs.declared.error.WireError.TheVariants.{Memory};
 
 use batchmaker::MakeError;
-use header::CheckError;
-use header::Refusal;
+use header::{CheckError, Refusal};
 use std::alloc::AllocError;
 use thiserror::Error;
 use wire::WireError;

@@ -58,7 +58,7 @@ impl<T, K, F: Fits<T, K>> Model for Lock<T, K, F> {
 }
 
 impl<T: Drop, K, F: Fits<T, K>> Lock<T, K, F> {
-    /// A lock round a value. `AllocError` where a growth was refused: the value is given up with it.
+    /// A lock round a value. `AllocError` where an allocation failed: the value is given up with it.
     pub fn new(alloc: Global, value: T, about: &K) -> Result<Lock<T, K, F>, AllocError>
         requires { F.fits about.now value }
         ensures { IfOk result (λ lock. lock.key ≡ about.now) }

@@ -206,7 +206,8 @@ module _ (node : Node) (batch : BatchView) (other : (batch.author.0 == node.own.
   names_alike = fun_ext (λ one. ap (naming one) (own_batch_stays (batch_digest one)))
 
   names_none : to_name node before batch ≡ None
-  names_none = ap (λ b. cond (b && (is_available node before (batch_digest batch) && not (named (batch_digest batch)))) (Some (record { digest = batch_digest batch; worker = batch.worker })) None) other
+  names_none = ap (λ b. cond (b && (is_available node before (batch_digest batch) && not (named (batch_digest batch))))
+      (Some (record { digest = batch_digest batch; worker = batch.worker })) None) other
 
   nameable_stays : nameable node later ≡ nameable node before
   nameable_stays =

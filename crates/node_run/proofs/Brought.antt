@@ -24,7 +24,8 @@ never_waits : (certificate : Event) (answer : Result Receipt Refusal) → told_a
 never_waits certificate (Ok receipt) is = either_way certificate receipt.new is
 never_waits certificate (Err why) is = absurd cc
 
-module _ {S : Type 0} (node : Node) (fault : Option CheckError) (event : Event) (before later : CallerView S) (old new : List Event) (told : Result Taken Told) (handles : Handles node fault event before later told) where
+module _ {S : Type 0} (node : Node) (fault : Option CheckError) (event : Event) (before later : CallerView S) (old new : List Event)
+    (told : Result Taken Told) (handles : Handles node fault event before later told) where
   pub brings_new : told ≡ Ok New → new ≡ old → Brings node fault event before later old new (Ok true)
   brings_new is same = record {
     told = told;
@@ -61,7 +62,9 @@ module _ {S : Type 0} (node : Node) (fault : Option CheckError) (event : Event) 
         (ap Err one, same, refl);
   }
 
-  pub brings_waiting : (now : CallerView S) (certificate : Event) (result : Result Bool Told) → OnlyLooks later.seat now.seat → told ≡ Ok (Waits certificate) → result ≢ Ok true → OnOk result (Enters certificate old new) → OnErr result (new ≡ old) → IfErr result (CantWait certificate old)
+  pub brings_waiting : (now : CallerView S) (certificate : Event) (result : Result Bool Told) → OnlyLooks later.seat now.seat → told
+      ≡ Ok (Waits certificate) → result ≢ Ok true → OnOk result (Enters certificate old new) → OnErr result (new ≡ old)
+      → IfErr result (CantWait certificate old)
       → Brings node fault event before now old new result
   brings_waiting now certificate (Ok found) looks is never enters same why = record {
     told = told;

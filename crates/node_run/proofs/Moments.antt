@@ -13,8 +13,7 @@ use Rattle.node_seats.proofs.Beginnings.{begins_same, begins_trans}
 use Rattle.node_seats.specs.declared.view.Marked.{Marked}
 use Rattle.node_shared.specs.Home.{NodeView}
 use Rattle.wire.specs.Lists.{Begins}
-use Rattle.spec_model.specs.Nodes.{Node}
-use Rattle.validator.specs.Setting.{ConfigView, node_of}
+use Rattle.validator.specs.Setting.{node_of}
 use Rattle.node_run.specs.Runs.{HoldsMore}
 use Rattle.sigface.specs.Scheme.{Scheme}
 

@@ -32,7 +32,8 @@ own_fault node charter own header fault same_charter same_own is =
     subst (λ (it : Author). fault_of node.charter accepts_all (record { sender = it; message = message.Header header }) ≡ fault) same_own
     (subst (λ (it : Charter). fault_of it accepts_all (record { sender = own; message = message.Header header }) ≡ fault) same_charter is)
 
-module _ {S : Type 0} (node : Node) (before mid : CallerView S) (mine : mid.seat.view.mine ≡ before.seat.view.mine) (start : mid.seat.view.start ≡ before.seat.view.start) (more : Begins before.seat.view.seen mid.seat.view.seen) where
+module _ {S : Type 0} (node : Node) (before mid : CallerView S) (mine : mid.seat.view.mine ≡ before.seat.view.mine)
+    (start : mid.seat.view.start ≡ before.seat.view.start) (more : Begins before.seat.view.seen mid.seat.view.seen) where
   there : (found : Option Header) → found ≡ propose node (seen_by mid.seat) → propose node (before.seat.view.start ++ events mid.seat.view.seen) ≡ found
   there found is = sym (is ∙ ap (λ (first : History). propose node (first ++ events mid.seat.view.seen)) start)
 
@@ -62,7 +63,8 @@ module _ {S : Type 0} (node : Node) (before mid : CallerView S) (mine : mid.seat
   }
 
   pub was_proposed : (later : CallerView S) (found : Option Header) (header : Header) (event : Event) (told : Result Taken Told) (newness : Result Bool AllocError)
-      → found ≡ propose node (seen_by mid.seat) → found ≡ Some header → event ≡ own_event node header → fault_of node.charter accepts_all event ≡ None → Begins mid.seat.view.seen later.seat.view.seen → IsSubmitted node event before later told
+      → found ≡ propose node (seen_by mid.seat) → found ≡ Some header → event ≡ own_event node header → fault_of node.charter accepts_all event ≡ None
+      → Begins mid.seat.view.seen later.seat.view.seen → IsSubmitted node event before later told
       → IfOk newness (λ new. new ≡ is_told_new told) → IfOk newness (λ new. IsProposed node before later new)
   was_proposed later found header event told newness is some own passed less done = on_ok newness
     where

@@ -132,7 +132,8 @@ module _ {S D : Type 0} (scheme : Scheme S) (device : Device D) where
       ends_so = ap ending_of is
 
   -- it ran
-  has_run : (shared : NodeView S) (node : Node) (disk now later : D) (told_of : Faults) → node_of scheme shared.setting ≡ node → told node (device.content disk) ≡ Ok shared.start → device.faults now ≡ device.faults disk
+  has_run : (shared : NodeView S) (node : Node) (disk now later : D) (told_of : Faults) → node_of scheme shared.setting ≡ node
+      → told node (device.content disk) ≡ Ok shared.start → device.faults now ≡ device.faults disk
       → TellsRounds (device.faults now) (device.faults later) told_of.journal → AtEachMoment device disk now (IsToldAsOneOf node (device.outcome disk))
       → AtEachMoment device now later (HoldsMore scheme shared []) → RunsOver node device disk (ending_of told_of) (Some later)
   has_run shared node disk now later told_of of_node begins same tells opening leaves = record {
@@ -156,8 +157,10 @@ module _ {S D : Type 0} (scheme : Scheme S) (device : Device D) where
       })
 
   -- its threads have ended
-  pub ended : (shared : NodeView S) (node : Node) (disk now : D) (told_of : Faults) (left : Option D) → node_of scheme shared.setting ≡ node → told node (device.content disk) ≡ Ok shared.start → device.faults now ≡ device.faults disk
-      → IfSome left (λ later. TellsRounds (device.faults now) (device.faults later) told_of.journal) → (left ≡ None → told_of ≡ no_memory) → AtEachMoment device disk now (IsToldAsOneOf node (device.outcome disk))
+  pub ended : (shared : NodeView S) (node : Node) (disk now : D) (told_of : Faults) (left : Option D) → node_of scheme shared.setting ≡ node
+      → told node (device.content disk) ≡ Ok shared.start → device.faults now ≡ device.faults disk
+      → IfSome left (λ later. TellsRounds (device.faults now) (device.faults later) told_of.journal) → (left ≡ None → told_of ≡ no_memory)
+      → AtEachMoment device disk now (IsToldAsOneOf node (device.outcome disk))
       → IfSome left (λ later. AtEachMoment device now later (HoldsMore scheme shared [])) → RunsOver node device disk (ending_of told_of) left
   ended shared node disk now told_of None of_node begins same tells lost opening leaves = run_lost node disk told_of (lost refl)
   ended shared node disk now told_of (Some later) of_node begins same tells lost opening leaves = has_run shared node disk now later told_of of_node begins same tells opening leaves

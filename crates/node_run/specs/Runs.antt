@@ -1,11 +1,12 @@
 -- How a node's run over a disk ends, and what a stop at any moment of it leaves.
 use Rattle.std.specs.Prelude.{◌≡◌, ◌≢◌, ◌⊎◌, ◌<◌, ℕ, false, List, ◌++◌, Option, None, Ok, IfSome}
-use Rattle.diskmodel.specs.Disk.{AtEachMoment}
+use Rattle.diskmodel.specs.Disk.{Device, AtEachMoment}
 use Rattle.flusher.specs.Rounds.{journal_of, is_down, settled_in, from_start}
 use Rattle.flusher.specs.declared.flusher.Flusher.{Flusher}
 use Rattle.journal.specs.Journal.{disk_of}
 use Rattle.journal.specs.declared.error.JournalError.{JournalError}
-use Rattle.journal.specs.declared.error.JournalError.TheVariants.{Device, Full}
+use Rattle.journal.specs.declared.error.JournalError.TheVariants as errors
+use Rattle.journal.specs.declared.error.JournalError.TheVariants.{Full}
 use Rattle.node_io.specs.declared.ending.Ending.{Ending}
 use Rattle.node_io.specs.declared.faults.Faults.{Faults}
 use Rattle.node_io.specs.declared.ending.Ending.TheVariants.{Journal, Memory}
@@ -47,14 +48,13 @@ pub record GoesOn (node : Node) (before left : List ℕ) : Type 0 where
 -- where it counted one. Of the journal's other faults a full one is told behind the opening, and what the opening refused. That is what
 -- the disk was told as, and nothing that a stop leaves in a world of the node. The disk is lost only with a thread that couldn't be made.
 -- A stop at any moment leaves what is told as an outcome from before it is, or what the disk was told as with more behind it.
-pub record RunsOver {D : Type 0} (node : Node) (device : Device D)
-    (device : Device D) (disk : D) (ending : Ending) (left : Option D) : Type 0 where
-  pub device : ending ≡ Journal Device → IfSome left (λ later. device.faults disk < device.faults later)
-  pub no_fault : ending ≢ Journal Device → IfSome left (λ later. device.faults later ≡ device.faults disk)
-  pub told_as : (error : JournalError) → ending ≡ Journal error → (error ≡ Device) ⊎ (error ≡ Full) ⊎ Tells error (told node (device.content disk))
-  pub never_refused : IsLeft node (device.content disk) → (error : JournalError) → ending ≡ Journal error → (error ≡ Device) ⊎ (error ≡ Full)
+pub record RunsOver {D : Type 0} (node : Node) (disks : Device D) (disk : D) (ending : Ending) (left : Option D) : Type 0 where
+  pub device : ending ≡ Journal errors.Device → IfSome left (λ later. disks.faults disk < disks.faults later)
+  pub no_fault : ending ≢ Journal errors.Device → IfSome left (λ later. disks.faults later ≡ disks.faults disk)
+  pub told_as : (error : JournalError) → ending ≡ Journal error → (error ≡ errors.Device) ⊎ (error ≡ Full) ⊎ Tells error (told node (disks.content disk))
+  pub never_refused : IsLeft node (disks.content disk) → (error : JournalError) → ending ≡ Journal error → (error ≡ errors.Device) ⊎ (error ≡ Full)
   pub lost : left ≡ None → ending ≡ Memory
-  pub any_moment : IfSome left (λ later. AtEachMoment device disk later (λ bytes. IsToldAsOneOf node (device.outcome disk) bytes ⊎ GoesOn node (device.content disk) bytes))
+  pub any_moment : IfSome left (λ later. AtEachMoment disks disk later (λ bytes. IsToldAsOneOf node (disks.outcome disk) bytes ⊎ GoesOn node (disks.content disk) bytes))
 
 -- the member whom a number names in the committee of some text ran over some disk until this ending
 pub record RunsAs {D : Type 0} (scheme : Scheme Key) (device : Device D)

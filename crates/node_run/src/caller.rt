@@ -1,6 +1,6 @@
 //! What a thread calls a node with.
 
-ghost use Rattle.std.specs.Prelude.{◌≡◌, None, Err, true, false, IsSome, IfOk, IfSome, OnErr};
+ghost use Rattle.std.specs.Prelude.{◌≡◌, None, Err, true, false, IsSome, IsTrue, IsErr, ◌↔◌, IfOk, IfSome, OnErr};
 ghost use Rattle.header.specs.Digested.{certificate_digest_in};
 ghost use Rattle.header.specs.Checks.{fault_of, accepts_all};
 ghost use Rattle.wire.specs.Lists.{Begins};
@@ -144,16 +144,16 @@ impl<'n, 'a, S: Sign> Caller<'n, 'a, S> {
     }
 
     /// `Down` where the node is down.
-    pub(crate) fn test_up<R: Wait>(&mut self, rt: &R) -> Result<(), Told>
+    pub(crate) fn test_up(&mut self) -> Result<(), Told>
         ensures stays { StaysWith self.old self.new }
         ensures looks { OnlyLooks self.old.seat self.new.seat }
         ensures down { OnErr result (result ≡ Err (Refused Refusal.Down)) }
+        ensures knows { IsErr result ↔ IsTrue self.new.seat.view.down }
     {
-        // There is no such place in the order, so nothing is copied.
-        match self.node.order(rt, u64::MAX) {
-            Err(Refusal::Down) => Err(Told::Refused(Refusal::Down)),
-            _ => Ok(()),
+        if self.node.is_down() {
+            return Err(Told::Refused(Refusal::Down));
         }
+        Ok(())
     }
 
     /// The next output that may go out.

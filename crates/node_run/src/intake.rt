@@ -18,8 +18,7 @@ use crate::caller::{Caller, Taken};
 use crate::due::{Due, due_behind};
 use header::Checked;
 use node_io::{Makers, Request, Told, request_of};
-use sigface::TableSeed;
-use sigface::Sign;
+use sigface::{Sign, TableSeed};
 use std::alloc::{AllocError, Global};
 use std::io::Write;
 use std::sync::Wait;
@@ -41,7 +40,7 @@ pub(crate) struct Intake<'n, 'a, S: Sign> {
 }
 
 impl<'n, 'a, S: Sign> Intake<'n, 'a, S> {
-    /// The bell is rung where there is something to flush or to give out. `AllocError` where a growth was refused.
+    /// The bell is rung where there is something to flush or to give out. `AllocError` where an allocation failed.
     pub(crate) fn new(
         alloc: Global,
         caller: Caller<'n, 'a, S>,
@@ -130,13 +129,13 @@ impl<'n, 'a, S: Sign> Intake<'n, 'a, S> {
             Request::Message { sender, message } => self.submit(rt, sender, message),
             Request::Transaction { worker, bytes } => {
                 self.makers.test(worker)?;
-                self.caller.test_up(rt)?;
+                self.caller.test_up()?;
                 let batch = self.makers.push(worker, bytes)?;
                 self.submit_batch(rt, batch)
             }
             Request::Seal { worker } => {
                 self.makers.test(worker)?;
-                self.caller.test_up(rt)?;
+                self.caller.test_up()?;
                 let batch = self.makers.seal(worker)?;
                 self.submit_batch(rt, batch)
             }
@@ -180,13 +179,13 @@ impl<'n, 'a, S: Sign> Intake<'n, 'a, S> {
                 self.pending.ring(rt);
                 Ok(false)
             }
-            Ok(Taken::Waits(event)) => self.offer(rt, event),
+            Ok(Taken::Waits(event)) => self.offer(event),
             Err(told) => Err(told),
         }
     }
 
     // Lets a certificate wait. That is no new record.
-    fn offer<R: Wait>(&mut self, rt: &R, event: Checked) -> Result<bool, Told>
+    fn offer(&mut self, event: Checked) -> Result<bool, Told>
         requires { certificate_digest_in event.message ≢ None }
         ensures makers { self.new.makers ≡ self.old.makers }
         ensures mark { self.new.was_refused_memory ≡ self.old.was_refused_memory }
@@ -198,7 +197,7 @@ impl<'n, 'a, S: Sign> Intake<'n, 'a, S> {
         ensures err { OnErr result (self.new.waiter ≡ self.old.waiter) }
         ensures why { IfErr result (CantWait event self.old.waiter) }
     {
-        if let Err(told) = self.caller.test_up(rt) {
+        if let Err(told) = self.caller.test_up() {
             return Err(told);
         }
         match self.waiter.offer(event) {

@@ -123,7 +123,7 @@ pub(crate) struct Desks<'n, 'a, 'e, S: Sign, I: Read + Drop, W: Write + Drop, E:
 }
 
 impl<'n, 'a, 'e, S: Sign, I: Read + Drop, W: Write + Drop, E: Write> Desks<'n, 'a, 'e, S, I, W, E> {
-    /// `AllocError` where a growth was refused.
+    /// `AllocError` where an allocation failed.
     pub(crate) fn new<D: Disk>(
         alloc: Global,
         config: &'a Config<S>,

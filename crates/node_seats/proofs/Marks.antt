@@ -45,7 +45,8 @@ by_begins number one all begins = record {
 }
 
 -- between two lists with the same of its own there is none more
-pub by_between : (number : ℕ) (one between all : List Marked) (mine : History) → Begins one between → Begins between all → events_by number one ≡ mine → events_by number all ≡ mine → events_by number between ≡ mine
+pub by_between : (number : ℕ) (one between all : List Marked) (mine : History) → Begins one between → Begins between all → events_by number one ≡ mine
+    → events_by number all ≡ mine → events_by number between ≡ mine
 by_between number one between all mine first second own whole =
     let low : Begins (events_by number one) (events_by number between) = by_begins number one between first in
     let high = by_begins number between all second in

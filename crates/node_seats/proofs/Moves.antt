@@ -1,5 +1,6 @@
 -- Each kind of step keeps the rule, and tells what its play says.
-use Rattle.std.proofs.Common.{◌≡◌, ◌≢◌, ◌⊎◌, inl, inr, ⊎_elim, Bool, ℕ, zero, suc, ◌≤◌, ◌+◌, true, false, List, [], ◌∷◌, ◌++◌, length, take, min, set, refl, ap, sym, ◌∙◌, subst, arith, length-append, length-take}
+use Rattle.std.proofs.Common.{◌≡◌, ◌≢◌, ◌⊎◌, inl, inr, ⊎_elim, Bool, ℕ, zero, suc, ◌≤◌, ◌+◌, true, false, List, [], ◌∷◌, ◌++◌, length, take, min}
+use Rattle.std.proofs.Common.{set, refl, ap, sym, ◌∙◌, subst, arith, length-append, length-take}
 use Rattle.std.specs.Prelude.{slice_index, slice_set, ◌==◌, ◌||◌}
 use Rattle.std.proofs.lemmas.List.{append-nil, take_at, take-append-le, take_all}
 use native.Mathlib.Decide.{dec_le}
@@ -71,7 +72,8 @@ module _ {S : Type 0} (Legal : History → Type 0) where
       -- a step that changes no list
       pub stays : IsKept Legal state.words (set state.views id later)
       stays = subst (λ (ws : List ℕ). IsKept Legal ws (set state.views id later)) (sym kept.words_are)
-          (step_keeps Legal state.words state.views kept id before later at begun kept.accepted kept.settled kept.down (begins_same kept.accepted) (begins_same kept.settled) kept.begins (λ is. is) kept.legal (λ number apart. refl) mine)
+          (step_keeps Legal state.words state.views kept id before later at begun kept.accepted kept.settled kept.down (begins_same kept.accepted)
+          (begins_same kept.settled) kept.begins (λ is. is) kept.legal (λ number apart. refl) mine)
 
   first_count : (state : State S View) (kept : IsKept Legal state.words state.views) → length kept.accepted ≡ slice_index state.words 0
   first_count state kept = sym (ap (λ (ws : List ℕ). slice_index ws 0) kept.words_are)
@@ -202,7 +204,8 @@ module _ {S : Type 0} (Legal : History → Type 0) where
         let kept = kept_at Legal state.words state.views id me.0 holds at live in
         let fits = kept.fits id me.0 at live in
         let w : View = with_down me.0 in
-        let after = step_keeps Legal state.words state.views kept id me.0 w at (kept.begun id me.0 at) kept.accepted kept.settled true (begins_same kept.accepted) (begins_same kept.settled) kept.begins (λ _. refl) kept.legal (λ number apart. refl)
+        let after = step_keeps Legal state.words state.views kept id me.0 w at (kept.begun id me.0 at) kept.accepted kept.settled true
+        (begins_same kept.accepted) (begins_same kept.settled) kept.begins (λ _. refl) kept.legal (λ number apart. refl)
         (λ _. record {
           start_is = fits.start_is;
           number_is = fits.number_is;
@@ -338,7 +341,8 @@ module _ {S : Type 0} (Legal : History → Type 0) where
                   ∙ ap (λ (h : History). kept.start ++ h) (sym (events_push me.0.number event me.0.seen) ∙ ap events (seen ∙ sym whole)) in
                   subst Legal is (legal size)
             ] in
-            let after = step_keeps Legal state.words state.views kept id me.0 w at (kept.begun id me.0 at) more kept.settled kept.down grown (begins_same kept.settled) (begins_more kept.settled kept.accepted (mark me.0.number event ∷ []) kept.begins) (λ is. is) through
+            let after = step_keeps Legal state.words state.views kept id me.0 w at (kept.begun id me.0 at) more kept.settled kept.down grown
+            (begins_same kept.settled) (begins_more kept.settled kept.accepted (mark me.0.number event ∷ []) kept.begins) (λ is. is) through
             (λ number apart. by_other number me.0.number event kept.accepted (λ is. apart (is ∙ mine)))
             (λ _. record {
               start_is = fits.start_is;
@@ -348,12 +352,14 @@ module _ {S : Type 0} (Legal : History → Type 0) where
               firm_seen = begins_more me.0.firm me.0.seen (mark me.0.number event ∷ []) fits.firm_seen;
               told = begins_more me.0.told kept.accepted (mark me.0.number event ∷ []) fits.told;
               told_firm = fits.told_firm;
-              mine = subst (λ (n : ℕ). events_by id (kept.accepted ++ mark n event ∷ []) ≡ me.0.mine ++ event ∷ []) (sym mine) (by_same id event kept.accepted ∙ ap (λ (h : History). h ++ event ∷ []) fits.mine);
+              mine = subst (λ (n : ℕ). events_by id (kept.accepted ++ mark n event ∷ []) ≡ me.0.mine ++ event ∷ []) (sym mine)
+                  (by_same id event kept.accepted ∙ ap (λ (h : History). h ++ event ∷ []) fits.mine);
               own = subst (λ (n : ℕ). events_by id (me.0.seen ++ mark n event ∷ []) ≡ me.0.mine ++ event ∷ []) (sym mine) (by_same id event me.0.seen ∙ ap (λ (h : History). h ++ event ∷ []) fits.own);
               down_is = fits.down_is;
             }) in
             let words : slice_set state.words 0 (old + 1) ≡ length more ∷ length kept.settled ∷ flag kept.down ∷ [] =
-            ap (λ (ws : List ℕ). slice_set ws 0 (old + 1)) kept.words_are ∙ ap (λ (n : ℕ). n ∷ length kept.settled ∷ flag kept.down ∷ []) (omega (arith, count, length-append kept.accepted (mark me.0.number event ∷ []))) in
+            ap (λ (ws : List ℕ). slice_set ws 0 (old + 1)) kept.words_are ∙ ap (λ (n : ℕ). n ∷ length kept.settled ∷ flag kept.down ∷ [])
+            (omega (arith, count, length-append kept.accepted (mark me.0.number event ∷ []))) in
             (w, keeps, tt, inr (subst (λ (ws : List ℕ). IsKept Legal ws (set state.views id w)) (sym words) after), (record { won = λ _. (size, refl); lost = λ apart. absurd (apart same) }, refl))
 
     -- events are settled that the seat has seen
@@ -391,7 +397,8 @@ module _ {S : Type 0} (Legal : History → Type 0) where
             let long : length firm ≡ new = let is : length firm ≡ min new (length me.0.seen) = length-take new me.0.seen in omega (arith, is, most) in
             let grown : Begins kept.settled firm = subst (λ (l : List Marked). Begins l firm) all (begins_take me.0.firm me.0.seen new fits.firm_seen (omega (arith, size, more))) in
             let within : Begins firm kept.accepted = begins_trans firm me.0.seen kept.accepted (take_begins new me.0.seen) fits.seen in
-            let after = step_keeps Legal state.words state.views kept id me.0 w at (kept.begun id me.0 at) kept.accepted firm kept.down (begins_same kept.accepted) grown within (λ is. is) kept.legal (λ number apart. refl)
+            let after = step_keeps Legal state.words state.views kept id me.0 w at (kept.begun id me.0 at) kept.accepted firm kept.down
+            (begins_same kept.accepted) grown within (λ is. is) kept.legal (λ number apart. refl)
             (λ _. record {
               start_is = fits.start_is;
               number_is = fits.number_is;
@@ -448,7 +455,8 @@ module _ {S : Type 0} (Legal : History → Type 0) where
             (at_end state.views (newcomer view) other number here);
         fits = λ number other here alive.
             ⊎_elim (λ was. kept.fits number other was alive)
-            (λ (t : (number ≡ length state.views) × (newcomer view ≡ other)). subst (λ (v : View). Fits kept.start kept.accepted kept.settled kept.down number v) t.1 (new_fits number (omega (arith, t.0))))
+            (λ (t : (number ≡ length state.views) × (newcomer view ≡ other)).
+            subst (λ (v : View). Fits kept.start kept.accepted kept.settled kept.down number v) t.1 (new_fits number (omega (arith, t.0))))
             (at_end state.views (newcomer view) other number here);
       }
 

@@ -21,7 +21,8 @@ same_then one two three first second = record {
 }
 
 -- a seat that has seen more, and knows more as settled, is the same
-pub same_seat : (before later : SeatView) → (later.table ≡ before.table) × (later.id ≡ before.id) → later.view ≡ record before.view { seen = later.view.seen; firm = later.view.firm } → IsSame before later
+pub same_seat : (before later : SeatView) → (later.table ≡ before.table) × (later.id ≡ before.id) → later.view
+    ≡ record before.view { seen = later.view.seen; firm = later.view.firm } → IsSame before later
 same_seat before later of rest = record {
   table = of.0;
   id = of.1;

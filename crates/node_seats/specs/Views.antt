@@ -38,7 +38,20 @@ first_view start = record { live = true; fresh = false; numbered = true; number 
 
 -- a seat that knows what this one does and has brought nothing; it doesn't know its number yet
 abbrev pub newcomer : View → View
-newcomer view = record { live = view.live; fresh = view.fresh; numbered = false; number = 0; start = view.start; seen = view.seen; firm = view.firm; mine = []; down = view.down; told = []; told_firm = [] }
+newcomer view = record {
+  live = view.live;
+  fresh = view.fresh;
+  numbered = false;
+  number = 0;
+  start = view.start;
+  seen = view.seen;
+  firm =
+      view.firm;
+  mine = [];
+  down = view.down;
+  told = [];
+  told_firm = [];
+}
 
 -- a seat that was told what another one knows
 abbrev pub informed : View → View → View

@@ -47,7 +47,7 @@ impl<K, L: Law<K>> Model for Words<K, L> {
 }
 
 impl<K, L: Law<K>> Words<K, L> {
-    /// The words at 0, and the first seat at them. `AllocError` where a growth was refused.
+    /// The words at 0, and the first seat at them. `AllocError` where an allocation failed.
     pub fn new<H: Start>(alloc: Global, about: &K) -> Result<(Words<K, L>, Seat), AllocError>
         requires legal { L.legal about.now H.history }
         ensures key { IfOk result (λ made. made.0.key ≡ about.now) }

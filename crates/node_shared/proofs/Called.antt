@@ -7,7 +7,7 @@ use Rattle.spec_model.specs.Histories.{History}
 use Rattle.wire.specs.Lists.{Begins}
 use Rattle.spec_model.specs.Nodes.{Node}
 use Rattle.spec_model.specs.Words.{Event, Output}
-use Rattle.validator.specs.Setting.{ConfigView, node_of}
+use Rattle.validator.specs.Setting.{node_of}
 use Rattle.node_seats.specs.Sights.{SeatView}
 use Rattle.node_seats.specs.Views.{events, events_by, mark, HasOwn, informed}
 use Rattle.node_seats.specs.declared.view.View.{View}

@@ -3,7 +3,6 @@ use Rattle.std.proofs.Common.{◌≡◌, ℕ, ◌+◌, ◌-◌, ◌≤◌, List,
 use Rattle.std.proofs.lemmas.List.{take_at, take-append-le, take-map, take_all, length-map, length-drop}
 use Rattle.spec_model.specs.Histories.{History}
 use Rattle.wire.specs.Lists.{Begins}
-use Rattle.spec_model.specs.Nodes.{Node}
 use Rattle.spec_records.specs.Records.{record_of}
 use Rattle.validator.specs.Setting.{ConfigView, node_of}
 use Rattle.node_seats.specs.Sights.{SeatView}
@@ -30,7 +29,8 @@ pub same_front : {X : Type 0} (one other : List X) (count : ℕ) → Begins one 
 same_front one other count begins within =
     ap (take count) begins.parts ∙ take-append-le count one begins.rest within
 
-module _ {S : Type 0} (shared : NodeView S) (scheme : Scheme S) (seat : SeatView) (book : BookView S) (flush : FlushSeat) (home : IsAtHome scheme shared seat book) (tied : IsTied shared seat book flush) where
+module _ {S : Type 0} (shared : NodeView S) (scheme : Scheme S) (seat : SeatView) (book : BookView S) (flush : FlushSeat)
+    (home : IsAtHome scheme shared seat book) (tied : IsTied shared seat book flush) where
   -- the run at which the book stands
   abbrev pub run : Run
   run = run_of seat.view home.taken
@@ -66,7 +66,8 @@ module _ {S : Type 0} (shared : NodeView S) (scheme : Scheme S) (seat : SeatView
     counted = ap (λ (b : BookView S). b.taken) is ∙ ap (λ (n : ℕ). n + length group) (tied.taken ∙ rests)
 
     pub home_taken : IsAtHome scheme shared seat later
-    home_taken = at_home shared scheme seat later (with_taken run (length group)) (ap (λ (b : BookView S). b.validator.setting) is ∙ home.setting) home.of_node behind refl refl refl (λ down. home.down (sym (ap (λ (b : BookView S). b.down) is) ∙ down))
+    home_taken = at_home shared scheme seat later (with_taken run (length group)) (ap (λ (b : BookView S). b.validator.setting) is ∙ home.setting)
+        home.of_node behind refl refl refl (λ down. home.down (sym (ap (λ (b : BookView S). b.down) is) ∙ down))
 
     within : later.taken ≤ length flush.seat.view.seen
     within =
@@ -88,7 +89,8 @@ module _ {S : Type 0} (shared : NodeView S) (scheme : Scheme S) (seat : SeatView
       longest = subst (λ (l : List (List ℕ)). IsLongestBeginning l group later.pending) (home.stands.pending ∙ λ i. map record_of (drop ((taken_size ∙ rests) i) (sym seen_events i))) longest;
       counts = counted;
       is =
-          subst (λ (s : ConfigView S). (r : Run) → Stands (node_of scheme s) r book → group ≡ map record_of (drop (length r.taken) (with_taken r (length group)).taken)) home.setting records run home.stands
+          subst (λ (s : ConfigView S). (r : Run) → Stands (node_of scheme s) r book → group
+          ≡ map record_of (drop (length r.taken) (with_taken r (length group)).taken)) home.setting records run home.stands
           ∙ (λ i. map record_of (drop ((taken_size ∙ rests) i) (take (length home.taken + length group) (sym seen_events i))))
           ∙ ap (λ (n : ℕ). map record_of (drop flush.settled (take n (events flush.seat.view.seen)))) (ap (λ (n : ℕ). n + length group) (taken_size ∙ rests) ∙ sym counted)
           ∙ ap (λ (l : History). map record_of (drop flush.settled l)) (take-map (λ (one : Marked). one.event) later.taken flush.seat.view.seen);
@@ -120,10 +122,12 @@ module _ {S : Type 0} (shared : NodeView S) (scheme : Scheme S) (seat : SeatView
 
     -- and the book is at home again once its seat knows it
     pub home_settled : (later : BookView S) (behind : SeatView) → later.validator.setting ≡ book.validator.setting → later.down ≡ book.down
-        → ((run : Run) → Stands (node_of scheme book.validator.setting) run book → Begins synced (map record_of (drop (length run.settled) run.taken)) → Stands (node_of scheme book.validator.setting) (with_settled run (length synced)) later)
+        → ((run : Run) → Stands (node_of scheme book.validator.setting) run book → Begins synced (map record_of (drop (length run.settled) run.taken))
+        → Stands (node_of scheme book.validator.setting) (with_settled run (length synced)) later)
         → IsSame seat behind → behind.view.seen ≡ seat.view.seen → behind.view.firm ≡ taken_by flush → IsAtHome scheme shared behind later
     home_settled later behind setting down stands same seen firm =
-        let there = subst (λ (s : ConfigView S). (r : Run) → Stands (node_of scheme s) r book → Begins synced (map record_of (drop (length r.settled) r.taken)) → Stands (node_of scheme s) (with_settled r (length synced)) later)
+        let there = subst (λ (s : ConfigView S). (r : Run) → Stands (node_of scheme s) r book
+        → Begins synced (map record_of (drop (length r.settled) r.taken)) → Stands (node_of scheme s) (with_settled r (length synced)) later)
         home.setting stands run home.stands begins in
         at_home shared scheme behind later (with_settled run (length synced)) (setting ∙ home.setting) (of_same shared seat behind home.of_node same) there (sym same.start)
         (ap events (sym seen)) (all_of_it ∙ ap events (sym firm)) (λ is. same.down (home.down (sym down ∙ is)))

@@ -27,13 +27,17 @@ module _ {S : Type 0} (shared : NodeView S) (scheme : Scheme S) (seat mine : Sea
   start_is : seat.view.start ≡ mine.view.start
   start_is = home.of_node.start ∙ sym began
 
-  pub seen_of : (P : Node → History → Type 0) → mine.view.seen ≡ seat.view.seen → ((run : Run) → Stands (node_of scheme book.validator.setting) run book → P (node_of scheme book.validator.setting) (history_in run)) → P (node_of scheme shared.setting) (seen_by mine)
+  pub seen_of : (P : Node → History → Type 0) → mine.view.seen ≡ seat.view.seen
+      → ((run : Run) → Stands (node_of scheme book.validator.setting) run book → P (node_of scheme book.validator.setting) (history_in run))
+      → P (node_of scheme shared.setting) (seen_by mine)
   seen_of P same told =
       let there = subst (λ (s : ConfigView S). (run : Run) → Stands (node_of scheme s) run book → P (node_of scheme s) (history_in run)) home.setting told in
       let is : history_in (run_of seat.view home.taken) ≡ seen_by mine = λ i. start_is i ++ events (sym same i) in
       subst (P (node_of scheme shared.setting)) is (there (run_of seat.view home.taken) home.stands)
 
-  pub firm_of : (P : Node → History → Type 0) → mine.view.firm ≡ seat.view.firm → ((run : Run) → Stands (node_of scheme book.validator.setting) run book → P (node_of scheme book.validator.setting) (settled_in run)) → P (node_of scheme shared.setting) (firm_by mine)
+  pub firm_of : (P : Node → History → Type 0) → mine.view.firm ≡ seat.view.firm
+      → ((run : Run) → Stands (node_of scheme book.validator.setting) run book → P (node_of scheme book.validator.setting) (settled_in run))
+      → P (node_of scheme shared.setting) (firm_by mine)
   firm_of P same told =
       let there = subst (λ (s : ConfigView S). (run : Run) → Stands (node_of scheme s) run book → P (node_of scheme s) (settled_in run)) home.setting told in
       let is : settled_in (run_of seat.view home.taken) ≡ firm_by mine = λ i. start_is i ++ events (sym same i) in
@@ -78,18 +82,21 @@ module _ {S : Type 0} (shared : NodeView S) (scheme : Scheme S) (seat mine : Sea
 
   -- and the header that is proposed is that of what it has seen
   pub proposed : mine.view.seen ≡ seat.view.seen → {E : Type 0} → (result : Result (Option Header) E) (validator : ValidatorView S) → validator ≡ book.validator
-      → IfOk result (λ found. (history : History) → IsLegal (node_of scheme validator.setting) history → AreAtSound (node_of scheme validator.setting) validator.tables (kept (node_of scheme validator.setting) history)
+      → IfOk result (λ found. (history : History) → IsLegal (node_of scheme validator.setting) history
+      → AreAtSound (node_of scheme validator.setting) validator.tables (kept (node_of scheme validator.setting) history)
       → found ≡ propose (node_of scheme validator.setting) history)
       → IfOk result (λ found. found ≡ propose (node_of scheme shared.setting) (seen_by mine))
   proposed same (Err error) validator is told = told
   proposed same (Ok found) validator is told =
       let there = subst
-      (λ (v : ValidatorView S). (history : History) → IsLegal (node_of scheme v.setting) history → AreAtSound (node_of scheme v.setting) v.tables (kept (node_of scheme v.setting) history) → found ≡ propose (node_of scheme v.setting) history)
+      (λ (v : ValidatorView S). (history : History) → IsLegal (node_of scheme v.setting) history → AreAtSound (node_of scheme v.setting) v.tables
+      (kept (node_of scheme v.setting) history) → found ≡ propose (node_of scheme v.setting) history)
       is told in
       seen_of (λ node history. found ≡ propose node history) same (λ run stands. there (history_in run) stands.legal stands.at)
 
 -- what a book gives that is down just where this is so
-pub gives_next : {S : Type 0} (first book later : BookView S) (down : Bool) (given : Option Output) → book ≡ first → later ≡ record book { down = down } → given ≡ releasable later → given ≡ releasable (record first { down = down })
+pub gives_next : {S : Type 0} (first book later : BookView S) (down : Bool) (given : Option Output) → book ≡ first → later
+    ≡ record book { down = down } → given ≡ releasable later → given ≡ releasable (record first { down = down })
 gives_next {S} first book later down given same is gives =
     let there : later ≡ record first { down = down } = is ∙ ap {A = BookView S} (λ (b : BookView S). record b { down = down }) same in
     subst (λ (b : BookView S). given ≡ releasable b) there gives

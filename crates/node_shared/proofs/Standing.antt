@@ -1,7 +1,6 @@
 -- Seats of a node, and books that are at home there.
 use Rattle.std.proofs.Common.{◌≡◌, Bool, true, false, List, refl, sym, ap, ◌∙◌, subst, if◌then◌else◌}
 use Rattle.spec_world.specs.World.{Waiting}
-use Rattle.spec_model.specs.Nodes.{Node}
 use Rattle.validator.specs.Setting.{ConfigView, node_of}
 use Rattle.node_seats.specs.Sights.{SeatView}
 use Rattle.node_seats.specs.Views.{events, IsSame}
@@ -36,7 +35,8 @@ module _ {S : Type 0} (shared : NodeView S) where
     pub stays_home : (seat later : SeatView) (book : BookView S) → IsAtHome scheme shared seat book → IsSame seat later → later.view.seen ≡ seat.view.seen → later.view.firm ≡ seat.view.firm
         → IsAtHome scheme shared later book
     stays_home seat later book home same seen firm =
-        at_home later book (run_of seat.view home.taken) home.setting (of_same seat later home.of_node same) home.stands (sym same.start) (ap events (sym seen)) (ap events (sym firm)) (λ is. same.down (home.down is))
+        at_home later book (run_of seat.view home.taken) home.setting (of_same seat later home.of_node same) home.stands (sym same.start)
+        (ap events (sym seen)) (ap events (sym firm)) (λ is. same.down (home.down is))
 
     -- and where it stands wherever it stood
     pub home_where : (seat : SeatView) (book later : BookView S) → IsAtHome scheme shared seat book → later.validator.setting ≡ book.validator.setting → (later.down ≡ true → book.down ≡ true)
@@ -55,7 +55,8 @@ module _ {S : Type 0} (shared : NodeView S) where
         (there (run_of seat.view home.taken) home.stands) (sym stays.same.start) (ap events (sym stays.seen)) (ap events (sym stays.firm)) (λ _. down)
 
 -- a book without the first of its outputs, or as it was, is set up as it was
-pub queue_setting : {S : Type 0} (book later : BookView S) (queue : List Waiting) (given : Bool) → later ≡ (if given then record book { queue = queue } else book) → later.validator.setting ≡ book.validator.setting
+pub queue_setting : {S : Type 0} (book later : BookView S) (queue : List Waiting) (given : Bool) → later
+    ≡ (if given then record book { queue = queue } else book) → later.validator.setting ≡ book.validator.setting
 queue_setting book later queue true is = ap (λ b. b.validator.setting) is
 queue_setting book later queue false is = ap (λ b. b.validator.setting) is
 
@@ -63,7 +64,8 @@ pub queue_down : {S : Type 0} (book later : BookView S) (queue : List Waiting) (
 queue_down book later queue true is = ap (λ b. b.down) is
 queue_down book later queue false is = ap (λ b. b.down) is
 
-pub queue_left : {S : Type 0} (book later : BookView S) (queue : List Waiting) (given : Bool) → later ≡ (if given then record book { queue = queue } else book) → later.queue ≡ (if given then queue else book.queue)
+pub queue_left : {S : Type 0} (book later : BookView S) (queue : List Waiting) (given : Bool) → later
+    ≡ (if given then record book { queue = queue } else book) → later.queue ≡ (if given then queue else book.queue)
 queue_left book later queue true is = ap (λ b. b.queue) is
 queue_left book later queue false is = ap (λ b. b.queue) is
 

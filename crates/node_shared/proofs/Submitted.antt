@@ -5,10 +5,11 @@ use Rattle.std.specs.Prelude.{◌↔◌, Result, IsErrOf, IsTrue}
 use Rattle.spec_model.specs.Admitting.{admit, IsLegal}
 use Rattle.spec_model.specs.Histories.{History}
 use Rattle.wire.specs.Lists.{Begins}
-use Rattle.spec_model.specs.Nodes.{Node}
 use Rattle.spec_model.specs.Words.{Event}
 use Rattle.header.specs.declared.refusal.Refusal.{Refusal}
-use Rattle.header.specs.declared.refusal.Refusal.TheVariants.{Memory, Down, TooOld, MissingParents, MissingBatch, Equivocation, CertConflict, DigestClash, AlreadyProposed, NotOurs, CoinOutOfTurn, CoinEarly, CoinConflict, StoreFull}
+use Rattle.header.specs.declared.refusal.Refusal.TheVariants.{Memory, Down, TooOld, MissingParents, MissingBatch, Equivocation, CertConflict}
+use Rattle.header.specs.declared.refusal.Refusal.TheVariants.{DigestClash, AlreadyProposed, NotOurs, CoinOutOfTurn, CoinEarly, CoinConflict}
+use Rattle.header.specs.declared.refusal.Refusal.TheVariants.{StoreFull}
 use Rattle.validator.specs.Setting.{ConfigView, node_of}
 use Rattle.node_seats.specs.Sights.{SeatView}
 use Rattle.node_seats.specs.Views.{events, mark, IsSame}
@@ -39,14 +40,16 @@ module _ {S : Type 0} (shared : NodeView S) (scheme : Scheme S) (seat : SeatView
         (subst (λ (l : List Marked). IsLegal (node_of scheme shared.setting) (seat.view.start ++ (events l ++ event ∷ []))) (sym same) (here.stands run home.stands).legal)
 
     -- and the book is at home again once its seat has seen it
-    pub home_with : (behind : SeatView) (by : ℕ) → later.validator.setting ≡ book.validator.setting → IsSame seat behind → behind.view.seen ≡ seat.view.seen ++ mark by event ∷ [] → behind.view.firm ≡ seat.view.firm → (later.down ≡ true → ⊥)
+    pub home_with : (behind : SeatView) (by : ℕ) → later.validator.setting ≡ book.validator.setting → IsSame seat behind → behind.view.seen
+        ≡ seat.view.seen ++ mark by event ∷ [] → behind.view.firm ≡ seat.view.firm → (later.down ≡ true → ⊥)
         → IsAtHome scheme shared behind later
     home_with behind by setting same seen firm up =
         at_home shared scheme behind later (with_accepted run event) (setting ∙ home.setting) (of_same shared seat behind home.of_node same) (here.stands run home.stands) (sym same.start)
         (sym (events_push by event seat.view.seen) ∙ ap events (sym seen)) (ap events (sym firm)) (λ down. absurd (up down))
 
     -- the answer
-    pub submits_new : (before behind : View) (receipt : Receipt) → before.start ≡ seat.view.start → Begins before.seen seat.view.seen → receipt.new ≡ true → receipt.ticket ≡ later.accepted → receipt.ticket ≤ MAX_ACCEPTED
+    pub submits_new : (before behind : View) (receipt : Receipt) → before.start ≡ seat.view.start → Begins before.seen seat.view.seen → receipt.new
+        ≡ true → receipt.ticket ≡ later.accepted → receipt.ticket ≤ MAX_ACCEPTED
         → behind.seen ≡ seat.view.seen ++ mark before.number event ∷ [] → behind.mine ≡ before.mine ++ event ∷ []
         → Submits (node_of scheme shared.setting) event before behind (Ok receipt)
     submits_new before behind receipt began more is_new ticket limit seen mine = record {
@@ -110,7 +113,8 @@ module _ {S : Type 0} (shared : NodeView S) (scheme : Scheme S) (seat : SeatView
     }
 
   -- a refusal
-  may_refuse : (refusal : Refusal) → MayRefuse (node_of scheme shared.setting) run book event refusal → MayRefuseAt (node_of scheme shared.setting) (seat.view.start ++ events seat.view.seen) (length seat.view.seen) event refusal
+  may_refuse : (refusal : Refusal) → MayRefuse (node_of scheme shared.setting) run book event refusal → MayRefuseAt (node_of scheme shared.setting)
+      (seat.view.start ++ events seat.view.seen) (length seat.view.seen) event refusal
   may_refuse Memory may = tt
   may_refuse Down may = tt
   may_refuse StoreFull may =
@@ -130,7 +134,9 @@ module _ {S : Type 0} (shared : NodeView S) (scheme : Scheme S) (seat : SeatView
   may_refuse CoinEarly may = may
   may_refuse CoinConflict may = may
 
-  pub submits_refused : (before behind : View) (refusal : Refusal) → ((run : Run) → Stands (node_of scheme book.validator.setting) run book → MayRefuse (node_of scheme book.validator.setting) run book event refusal)
+  pub submits_refused : (before behind : View) (refusal : Refusal)
+      → ((run : Run) → Stands (node_of scheme book.validator.setting) run book → MayRefuse (node_of scheme book.validator.setting) run book event
+      refusal)
       → before.start ≡ seat.view.start → Begins before.seen seat.view.seen → behind.seen ≡ seat.view.seen → behind.mine ≡ before.mine
       → Submits (node_of scheme shared.setting) event before behind (Err refusal)
   submits_refused before behind refusal refused began more seen mine =
@@ -140,12 +146,14 @@ module _ {S : Type 0} (shared : NodeView S) (scheme : Scheme S) (seat : SeatView
         more = more;
         new = tt;
         known = tt;
-        refused = subst (λ (h : History). MayRefuseAt (node_of scheme shared.setting) (h ++ events seat.view.seen) (length seat.view.seen) event refusal) (sym began) (may_refuse refusal (there run home.stands));
+        refused = subst (λ (h : History). MayRefuseAt (node_of scheme shared.setting) (h ++ events seat.view.seen) (length seat.view.seen) event
+            refusal) (sym began) (may_refuse refusal (there run home.stands));
         same = (seen, mine);
       }
 
 -- a book that answers anything but Down isn't down
-pub is_up : {S R : Type 0} (result : Result R Refusal) (receipt : R) → result ≡ Ok receipt → (book later : BookView S) → later.down ≡ book.down → IsErrOf result Down ↔ IsTrue book.down → later.down ≡ true → ⊥
+pub is_up : {S R : Type 0} (result : Result R Refusal) (receipt : R) → result ≡ Ok receipt → (book later : BookView S) → later.down ≡ book.down
+    → IsErrOf result Down ↔ IsTrue book.down → later.down ≡ true → ⊥
 is_up result receipt is book later same exactly down =
     let none = subst (λ r. IsErrOf r Down ↔ IsTrue book.down) is exactly in
     let bad : Ok receipt ≡ Err Down = none.1 (sym same ∙ down) in absurd cc

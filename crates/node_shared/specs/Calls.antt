@@ -2,8 +2,7 @@
 use Rattle.std.specs.Prelude.{◌≡◌, true, List, [], ℕ, Option, IsNone, Result, IfOk, IfSome, OnErr}
 use Rattle.wire.specs.Lists.{Begins}
 use Rattle.spec_model.specs.Admitting.{IsLegal}
-use Rattle.spec_model.specs.Nodes.{Node}
-use Rattle.validator.specs.Setting.{ConfigView, node_of}
+use Rattle.validator.specs.Setting.{node_of}
 use Rattle.node_seats.specs.Sights.{SeatView}
 use Rattle.node_seats.specs.Views.{HasOwn, IsSame}
 use Rattle.node_shared.specs.Home.{NodeView, IsOf, IsFlushOf, TakesNext, taken_by, seen_by, firm_by}

@@ -3,7 +3,6 @@ use Rattle.std.specs.Prelude.{◌≡◌, ◌≤◌, ℕ, ◌+◌, ◌++◌, List
 use Rattle.atomic_table.specs.Seated.{TableId}
 use Rattle.spec_model.specs.Histories.{History}
 use Rattle.wire.specs.Lists.{Begins}
-use Rattle.spec_model.specs.Nodes.{Node}
 use Rattle.spec_records.specs.Records.{record_of}
 use Rattle.validator.specs.Setting.{ConfigView, node_of}
 use Rattle.node_seats.specs.Sights.{SeatView}

@@ -21,7 +21,7 @@ use std::sync::Wait;
 
 impl<'a, S: Sign> Node<'a, S> {
     /// Takes the longest beginning that fits a group of what isn't settled: of all that was accepted, with what the seat had seen.
-    /// None where all of that is settled. `AllocError` where a growth was refused: nothing was taken then.
+    /// None where all of that is settled. `AllocError` where an allocation failed: nothing was taken then.
     pub fn take<R: Wait>(
         &self,
         rt: &R,

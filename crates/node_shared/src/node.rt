@@ -43,7 +43,7 @@ impl<'a, S: Sign> Model for Node<'a, S> {
 
 impl<'a, S: Sign> Node<'a, S> {
     /// A node over a validator, with a seat and the seat of who flushes. It begins at the history that the caller names, for
-    /// contracts alone, at which the validator stands. `AllocError` where a growth was refused.
+    /// contracts alone, at which the validator stands. `AllocError` where an allocation failed.
     pub fn new<H: Start>(
         alloc: Global,
         validator: Validator<'a, S>,

@@ -45,6 +45,16 @@ impl<'a, S: Sign> Node<'a, S> {
         self.words.read::<Brand>(seat)
     }
 
+    /// Whether the node is down, which the seat then knows, beside all that is settled. It waits for nobody and takes no memory.
+    pub fn is_down(&self, seat: &mut Seat) -> bool
+        requires of { IsOf self.now seat.old }
+        ensures learned { Learned S.scheme self.now seat.old seat.new }
+        ensures down { result ≡ seat.new.view.down }
+    {
+        let _ = self.synced(seat);
+        self.words.read_down(seat)
+    }
+
     /// Two looks, behind which the second seat has seen all that the first has, and knows that the node is down if the first does.
     /// The answer is how many events the second has seen. It waits for nobody and takes no memory.
     pub fn meet(&self, first: &mut Seat, second: &mut Seat) -> u64
@@ -137,7 +147,7 @@ impl<'a, S: Sign> Node<'a, S> {
     /// are ordered. It is empty past its end.
     ///
     /// # Errors
-    /// `Down` where the node is down, which the seat then knows, `Memory` where a growth was refused.
+    /// `Down` where the node is down, which the seat then knows, `Memory` where an allocation failed.
     pub fn order<R: Wait>(&self, rt: &R, seat: &mut Seat, from: u64) -> Result<Vec<Digest>, Refusal>
         requires of { IsOf self.now seat.old }
         ensures learned { Learned S.scheme self.now seat.old seat.new }
@@ -206,7 +216,7 @@ impl<'a, S: Sign> Node<'a, S> {
     }
 
     /// The header that the validator proposes behind all that was accepted, which the seat has then seen, or None where it
-    /// proposes none. `AllocError` where a growth was refused.
+    /// proposes none. `AllocError` where an allocation failed.
     pub fn propose<R: Wait>(&self, rt: &R, seat: &mut Seat) -> Result<Option<Header>, AllocError>
         requires of { IsOf self.now seat.old }
         ensures looked { Looked S.scheme self.now seat.old seat.new }

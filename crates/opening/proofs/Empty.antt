@@ -1,5 +1,6 @@
 -- That a journal without records ends at its first byte, so that the configuration's group fits behind it.
-use Rattle.std.proofs.Common.{◌≡◌, ◌≢◌, ℕ, ◌+◌, ◌-◌, ◌<◌, ◌≤◌, inl, inr, Bool, true, false, cond, eqb, ltb, List, [], ◌∷◌, ◌++◌, length, Option, Some, None, Result, Ok, Err, refl, sym, ap, ◌∙◌, arith, length-append}
+use Rattle.std.proofs.Common.{◌≡◌, ◌≢◌, ℕ, ◌+◌, ◌-◌, ◌<◌, ◌≤◌, inl, inr, Bool, true, false, cond, eqb, ltb, List, [], ◌∷◌, ◌++◌, length, Option}
+use Rattle.std.proofs.Common.{Some, None, Result, Ok, Err, refl, sym, ap, ◌∙◌, arith, length-append}
 use Rattle.std.specs.Option.{option_map, option_and_then, option_map_or}
 use Rattle.std.proofs.lemmas.Bool.{cases_eq, ne_eqb, cond-false}
 use Rattle.journal.specs.Format.{group_bytes, split_record, records_behind, records_of, group_of, body_at, kept_at, kept, with_front, walk, stands}
@@ -101,12 +102,14 @@ group_length : (bytes : List ℕ) → length (group_bytes (bytes ∷ [])) ≡ 9 
 group_length bytes = omega (arith, length-append (bytes ++ []) (0 ∷ []), length-append bytes [])
 
 -- so that a short record's group fits behind it
-pub never_full : (file : List ℕ) (record_bytes : List ℕ) → EndsClosed file → stands file ≡ Ok [] → length record_bytes ≤ 1130 → MAX_JOURNAL_BYTES < length file + length (group_bytes (record_bytes ∷ [])) → ⊥
+pub never_full : (file : List ℕ) (record_bytes : List ℕ) → EndsClosed file → stands file ≡ Ok [] → length record_bytes ≤ 1130
+    → MAX_JOURNAL_BYTES < length file + length (group_bytes (record_bytes ∷ [])) → ⊥
 never_full file record_bytes ends none short full =
     omega (arith, full, empty_length file ends none, group_length record_bytes, short)
 
 -- what a stop leaves while a first record is added to it
-pub begins_with : (version : Version) (node : Node) (file left : List ℕ) → EndsClosed file → stands file ≡ Ok [] → IsBeforeOrAfter file (configuration_of version node.charter node.own ∷ []) left → KeepsOrBegins version node file left
+pub begins_with : (version : Version) (node : Node) (file left : List ℕ) → EndsClosed file → stands file ≡ Ok []
+    → IsBeforeOrAfter file (configuration_of version node.charter node.own ∷ []) left → KeepsOrBegins version node file left
 begins_with version node file left ends none (inl same) = inl ([], none, same ∙ none)
 begins_with version node file left ends none (inr with_it) =
     let configuration = configuration_of version node.charter node.own in

@@ -99,7 +99,8 @@ held node bytes history first events stands_for is are = record {
 abbrev Found : Node → List ℕ → History → Type 0
 Found node bytes history = StandsFor node bytes history × IsLegal node history
 
-pub found_records : (node : Node) (bytes : List ℕ) (history : History) (records : List Record) → IsNode node → All IsText (drop 1 records) → stands bytes ≡ Ok records → read_journal node records ≡ Ok history
+pub found_records : (node : Node) (bytes : List ℕ) (history : History) (records : List Record) → IsNode node → All IsText (drop 1 records)
+    → stands bytes ≡ Ok records → read_journal node records ≡ Ok history
     → Found node bytes history
 found_records node bytes history [] sound texts stands_for is =
     let empty : [] ≡ history = ok_is [] history (sym (journal_nil node) ∙ is) in

@@ -1,5 +1,6 @@
 -- What bytes are told as with a group of new events more.
-use Rattle.std.proofs.Common.{◌≡◌, ◌≢◌, ℕ, ◌-◌, ◌<◌, ◌≤◌, ◌^◌, Bool, true, false, cond, inl, inr, List, [], ◌∷◌, ◌++◌, length, map, Option, Some, None, Result, Ok, Err, refl, sym, ap, ◌∙◌, subst, arith, append_assoc, append-nil}
+use Rattle.std.proofs.Common.{◌≡◌, ◌≢◌, ℕ, ◌-◌, ◌<◌, ◌≤◌, ◌^◌, Bool, true, false, cond, inl, inr, List, [], ◌∷◌, ◌++◌, length, map, Option, Some}
+use Rattle.std.proofs.Common.{None, Result, Ok, Err, refl, sym, ap, ◌∙◌, subst, arith, append_assoc, append-nil}
 use Rattle.std.specs.Prelude.{nat_lt}
 use Rattle.std.specs.Int.{w16, to_be_bytes, from_be_bytes}
 use Rattle.std.proofs.lemmas.Bool.{cases_Bool, cases_lt, and_from, lt-ltb, ltb-true}
@@ -62,8 +63,10 @@ ok_history a b same = cc
 failed_read : (place : ℕ) (history : History) → ◌≡◌ {A = Result History ℕ} (Err place) (Ok history) → ⊥
 failed_read place history same = cc
 
-read_first : (node : Node) (history later : History) (first : Record) (one other : List Record) → read_events node history (first ∷ one) ≡ Ok later → (r : Result History ℕ) → read_event node history first ≡ r
-    → ((next : History) → read_events node next one ≡ Ok later → read_events node next (one ++ other) ≡ read_events node later other) → read_events node history (first ∷ one ++ other) ≡ read_events node later other
+read_first : (node : Node) (history later : History) (first : Record) (one other : List Record) → read_events node history (first ∷ one) ≡ Ok later
+    → (r : Result History ℕ) → read_event node history first ≡ r
+    → ((next : History) → read_events node next one ≡ Ok later → read_events node next (one ++ other) ≡ read_events node later other)
+    → read_events node history (first ∷ one ++ other) ≡ read_events node later other
 read_first node history later first one other is (Ok next) e goes = read_ok node history next first (one ++ other) e ∙ goes next (sym (read_ok node history next first one e) ∙ is)
 read_first node history later first one other is (Err place) e goes = absurd (failed_read place later (sym (read_err node history first one place e) ∙ is))
 

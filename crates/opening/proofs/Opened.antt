@@ -3,7 +3,10 @@ use Rattle.std.proofs.Common.{◌≡◌, ◌≢◌, inl, inr, List, [], ◌∷�
 use Rattle.std.specs.Prelude.{All}
 use Rattle.std.proofs.lemmas.List.Elements.{All-nil}
 use Rattle.journal.specs.Format.{stands, kept_at}
-use Rattle.journal.specs.Journal.{with_group, stands_with}
+use Rattle.diskmodel.specs.Disk.{AtEachMoment, Device as Disks}
+use Rattle.diskmodel.proofs.Clock.{weaker, joins}
+use Rattle.journal.specs.Journal.{with_group, stands_with, StandsAsOneOf}
+use Rattle.journal.specs.declared.version.Version.TheVariants.{Second}
 use Rattle.journal.specs.declared.error.JournalError.{JournalError}
 use Rattle.journal.specs.declared.error.JournalError.TheVariants.{Memory, Device, Damaged, ConfigMismatch, Full}
 use Rattle.journal.specs.declared.record.Record.{Record}
@@ -11,9 +14,9 @@ use Rattle.spec_model.specs.Histories.{History}
 use Rattle.spec_model.specs.Nodes.{Node}
 use Rattle.spec_world.specs.World.{StandsFor, as_journal, as_new}
 use Rattle.opening.specs.Laws.{StandsForAt, HoldsAt, IsNoRefusal}
-use Rattle.opening.specs.Told.{IsText, HasTexts, told, Tells, StandsAt}
+use Rattle.opening.specs.Told.{IsText, HasTexts, told, Tells, StandsAt, IsToldAsOneOf, KeepsOrBegins, KeepsRecords}
 use Rattle.opening.proofs.Laws.{found_records}
-use Rattle.opening.proofs.Telling.{told_records, told_damaged}
+use Rattle.opening.proofs.Telling.{told_records, told_damaged, told_same, as_one_of, keeps_one, keeps_same}
 use Rattle.admission.specs.declared.tables.Tables.{Tables}
 
 -- the tables stand where the bytes stand, if the records behind the first are bytes
@@ -60,3 +63,26 @@ module _ (node : Node) (later : List ℕ) (tables : Tables) (at : StandsAt node 
 
   pub holds_at : HoldsAt node later tables
   holds_at = by_reading (stands later) refl
+
+-- ---- what a stop leaves
+
+-- at any moment of opening the journal
+module _ {D : Type 0} (node : Node) (device : Disks D) (old middle : D) (opened : AtEachMoment device old middle (StandsAsOneOf (device.outcome old))) where
+  pub first_told : AtEachMoment device old middle (IsToldAsOneOf node (device.outcome old))
+  first_told = weaker device old middle (IsToldAsOneOf node (device.outcome old)) (StandsAsOneOf (device.outcome old)) opened
+      (λ left is. as_one_of node (device.outcome old) left is)
+
+  pub first_kept : AtEachMoment device old middle (KeepsRecords node (device.outcome old))
+  first_kept = weaker device old middle (KeepsRecords node (device.outcome old)) (StandsAsOneOf (device.outcome old)) opened
+      (λ left is. keeps_one node (device.outcome old) left is)
+
+  -- and then of writing a configuration, where there is none
+  module _ (new : D) (same : stands (device.content middle) ≡ stands (device.content old)) (now : device.outcome old (device.content old)) where
+    pub told_on : AtEachMoment device middle new (λ left. told node left ≡ told node (device.content middle))
+        → AtEachMoment device old new (IsToldAsOneOf node (device.outcome old))
+    told_on going = joins device old middle new (IsToldAsOneOf node (device.outcome old)) (λ left. told node left ≡ told node (device.content middle)) first_told going
+        (λ left as_is. (device.content old, now, as_is ∙ told_same node (device.content middle) (device.content old) same))
+
+    pub kept_on : AtEachMoment device middle new (KeepsOrBegins Second node (device.content middle)) → AtEachMoment device old new (KeepsRecords node (device.outcome old))
+    kept_on going = joins device old middle new (KeepsRecords node (device.outcome old)) (KeepsOrBegins Second node (device.content middle)) first_kept going
+        (λ left kept. inr (device.content old, now, keeps_same Second node (device.content old) (device.content middle) left same kept))

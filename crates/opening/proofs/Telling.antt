@@ -1,5 +1,6 @@
 -- What readings of records, and of a journal, come to.
-use Rattle.std.proofs.Common.{drop-cons, ◌≡◌, ◌≢◌, ℕ, suc, ◌-◌, ◌+◌, ◌<◌, inl, inr, Bool, true, false, cond, eqb, ltb, ◌≤◌, List, [], ◌∷◌, ◌++◌, length, drop, Option, Some, None, Result, Ok, Err, refl, sym, ap, ◌∙◌, subst, arith}
+use Rattle.std.proofs.Common.{drop-cons, ◌≡◌, ◌≢◌, ℕ, suc, ◌-◌, ◌+◌, ◌<◌, inl, inr, Bool, true, false, cond, eqb, ltb, ◌≤◌, List, [], ◌∷◌, ◌++◌}
+use Rattle.std.proofs.Common.{length, drop, Option, Some, None, Result, Ok, Err, refl, sym, ap, ◌∙◌, subst, arith}
 use Rattle.std.specs.Prelude.{get_or, not, slice_index, IfOk, IfErr}
 use Rattle.std.specs.Option.{option_map_or}
 use Rattle.std.specs.Str.{bytes_eq}
@@ -30,7 +31,9 @@ use Rattle.validator.specs.Standing.{AreAtSound}
 use Rattle.wire.specs.Reading.{Faults, message_of}
 use Rattle.wire.specs.declared.error.WireError.{WireError}
 use Rattle.wire.specs.declared.error.WireError.TheVariants as wire
-use Rattle.opening.specs.Told.{checked_in, sender_in, event_in, with_new, read_event, go_on, read_events, or_damaged, unless, can_tell, shaped_version, first_version, is_own, mismatch, first_fault, read_journal, told_by, told, Tells, StandsAt, IsOld, IsToldAsOneOf, KeepsOrBegins, KeepsRecords}
+use Rattle.opening.specs.Told.{checked_in, sender_in, event_in, with_new, read_event, go_on, read_events, or_damaged, unless, can_tell}
+use Rattle.opening.specs.Told.{shaped_version, first_version, is_own, mismatch, first_fault, read_journal, told_by, told, Tells, StandsAt, IsOld}
+use Rattle.opening.specs.Told.{IsToldAsOneOf, KeepsOrBegins, KeepsRecords}
 use Rattle.opening.proofs.Configured.{told_of}
 
 -- an error of which more is known
@@ -169,7 +172,8 @@ reached_next node records count one tables later is stands reached =
       rest = reached.rest ∙ ap (read_events node reached.history) is ∙ read_ok node reached.history next.history one (drop (count + 1) records) next.is_read;
     }
 
-pub reached_end : (node : Node) (records : List Record) (count : ℕ) (tables : Tables) → drop count records ≡ [] → IsReached node records count tables → StandsAt node (read_events node [] records) tables
+pub reached_end : (node : Node) (records : List Record) (count : ℕ) (tables : Tables) → drop count records ≡ [] → IsReached node records count tables
+    → StandsAt node (read_events node [] records) tables
 reached_end node records count tables none reached = record {
   history = reached.history;
   is_read = reached.rest ∙ ap (read_events node reached.history) none ∙ read_nil node reached.history;
@@ -178,7 +182,8 @@ reached_end node records count tables none reached = record {
 }
 
 -- an error of a record is that of them all
-pub fails_on : (node : Node) (history : History) (one : Record) (rest : List Record) (error : JournalError) → FailsAs error (read_event node history one) → FailsAs error (read_events node history (one ∷ rest))
+pub fails_on : (node : Node) (history : History) (one : Record) (rest : List Record) (error : JournalError)
+    → FailsAs error (read_event node history one) → FailsAs error (read_events node history (one ∷ rest))
 fails_on node history one rest Memory fails = tt
 fails_on node history one rest (Damaged gate) fails = read_err node history one rest gate fails
 fails_on node history one rest Device fails = absurd fails
@@ -201,10 +206,12 @@ by_version own version place = option_map_or (λ v. mismatch (own v)) version (S
 pub fault_shape : (node : Node) (first : Record) (events : List Record) → first_version first events ≡ None → first_fault node first events ≡ Some (Damaged first.gate)
 fault_shape node first events none = ap (λ (version : Option Version). by_version (is_own node first.bytes) version first.gate) none
 
-fault_own : (node : Node) (first : Record) (events : List Record) (version : Version) → first_version first events ≡ Some version → first_fault node first events ≡ mismatch (is_own node first.bytes version)
+fault_own : (node : Node) (first : Record) (events : List Record) (version : Version) → first_version first events ≡ Some version
+    → first_fault node first events ≡ mismatch (is_own node first.bytes version)
 fault_own node first events version is = ap (λ (version : Option Version). by_version (is_own node first.bytes) version first.gate) is
 
-pub fault_other : (node : Node) (first : Record) (events : List Record) (version : Version) (own : Bool) → first_version first events ≡ Some version → own ≡ is_own node first.bytes version → own ≡ false
+pub fault_other : (node : Node) (first : Record) (events : List Record) (version : Version) (own : Bool) → first_version first events ≡ Some version
+    → own ≡ is_own node first.bytes version → own ≡ false
     → first_fault node first events ≡ Some ConfigMismatch
 fault_other node first events version own is own_is off = fault_own node first events version is ∙ ap mismatch (sym own_is ∙ off)
 
@@ -260,7 +267,8 @@ unfolding read_journal
 behind_fault node first events error is = ap (λ (f : Option JournalError). unless f (read_events node [] events)) is
 
 -- where the first record has no fault tables stand at what the others have
-stands_unless : (node : Node) (fault : Option JournalError) (read : Result History ℕ) (told_is : Result History JournalError) (tables : Tables) → told_is ≡ unless fault read → fault ≡ None → StandsAt node read tables → StandsAt node told_is tables
+stands_unless : (node : Node) (fault : Option JournalError) (read : Result History ℕ) (told_is : Result History JournalError) (tables : Tables)
+    → told_is ≡ unless fault read → fault ≡ None → StandsAt node read tables → StandsAt node told_is tables
 stands_unless node fault read told_is tables is none stands = record {
   history = stands.history;
   is_read = is ∙ ok_told fault read stands.history none stands.is_read;
@@ -270,7 +278,8 @@ stands_unless node fault read told_is tables is none stands = record {
 
 pub stands_behind : (node : Node) (first : Record) (events : List Record) (tables : Tables) → first_fault node first events ≡ None → StandsAt node (read_events node [] events) tables
     → StandsAt node (read_journal node (first ∷ events)) tables
-stands_behind node first events tables none stands = stands_unless node (first_fault node first events) (read_events node [] events) (read_journal node (first ∷ events)) tables (journal_cons node first events) none stands
+stands_behind node first events tables none stands = stands_unless node (first_fault node first events) (read_events node [] events)
+    (read_journal node (first ∷ events)) tables (journal_cons node first events) none stands
 
 -- without records the others are none
 fresh_is : (node : Node) → read_journal node [] ≡ unless None (read_events node [] [])

@@ -1,13 +1,16 @@
 -- That what bytes are told as is what they stand for, both ways, and so in the world of all runs.
-use Rattle.std.specs.Prelude.{◌≡◌, ◌⊎◌, ℕ, List, Ok}
+use Rattle.std.specs.Prelude.{◌≡◌, ◌≢◌, ◌⊎◌, ℕ, List, Result, Ok, IfErr}
+use Rattle.diskmodel.specs.Disk.{AtEachMoment, Device as Disks}
 use Rattle.diskmodel.specs.Outcomes.{AreBytes}
+use Rattle.journal.specs.Journal.{disk_after, TellsFaultBack}
+use Rattle.journal.specs.declared.error.Failed.{Failed}
 use Rattle.journal.specs.declared.error.JournalError.{JournalError}
-use Rattle.journal.specs.declared.error.JournalError.TheVariants.{Memory, Device}
+use Rattle.journal.specs.declared.error.JournalError.TheVariants.{Memory, Device, Full}
 use Rattle.spec_model.specs.Admitting.{IsLegal}
 use Rattle.spec_model.specs.Giving.{kept}
 use Rattle.spec_model.specs.Histories.{History}
 use Rattle.spec_model.specs.Nodes.{Node, IsNode}
-use Rattle.opening.specs.Told.{told}
+use Rattle.opening.specs.Told.{told, Tells, IsToldAsOneOf, KeepsRecords}
 use Rattle.admission.specs.declared.tables.Tables.{Tables}
 use Rattle.validator.specs.Standing.{AreAtSound}
 use Rattle.spec_world.specs.Promise.{IsRecovered}
@@ -70,3 +73,18 @@ AreLeftTold node = (bytes : List ℕ) → IsLeft node bytes → (history : Histo
 -- only the disk or the memory failed
 abbrev pub IsNoRefusal : JournalError → Type 0
 IsNoRefusal error = (error ≡ Device) ⊎ (error ≡ Memory)
+
+-- What an opening of a disk answers and leaves, whatever it gives. The disk is in what it gives, or handed back with the error.
+pub record IsOpening {T D : Type 0} (node : Node) (device : Disks D) (disk_in : T → D) (disk : D) (result : Result T (Failed JournalError D)) : Type 0 where
+  -- each error but those of memory and of the disk is what the bytes are read as
+  pub tells : IfErr result (λ failed. failed.error ≢ Device → Tells failed.error (told node (device.content disk)))
+  pub never_full : IfErr result (λ failed. failed.error ≢ Full)
+  -- it answers Device exactly where the disk has failed
+  pub cause : TellsFaultBack device disk_in Device disk result
+  -- a stop at any moment leaves what is read as one outcome from before it is
+  pub any_moment : AtEachMoment device disk (disk_after disk_in result) (IsToldAsOneOf node (device.outcome disk))
+  -- It leaves the records, whoever's they are, or where there are none the configuration alone. What it leaves that stands for no records
+  -- is an outcome from before it, byte for byte.
+  pub keeps : AtEachMoment device disk (disk_after disk_in result) (KeepsRecords node (device.outcome disk))
+  -- what a stop leaves in a world of the node is never refused
+  pub never_refused : IfErr result (λ failed. IsLeft node (device.content disk) → IsNoRefusal failed.error)

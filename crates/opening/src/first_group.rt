@@ -10,8 +10,7 @@ ghost use Rattle.opening.specs.declared.configuration.TheConstants.{SETTINGS_BYT
 
 use crate::configuration::{CONFIGURATION, KEY_BYTES, STAKE_BYTES, number_of};
 use committee::Committee;
-use journal::Group;
-use journal::Version;
+use journal::{Group, Version};
 use std::alloc::{AllocError, Global};
 use wire::Author;
 use wire::numbers::two_bytes;

@@ -4,20 +4,19 @@ ghost use Rattle.std.specs.Prelude.{◌≡◌, ◌≢◌, ◌⊎◌, ◌<◌, []
 ghost use Rattle.std.specs.Str.{bytes_eq};
 ghost use Rattle.diskmodel.specs.Disk.{AtEachMoment, TellsFault};
 ghost use Rattle.journal.specs.Format.{stands};
-ghost use Rattle.journal.specs.Journal.{disk_of, TellsFaultBack, IsAlive, IsClosedUp};
+ghost use Rattle.journal.specs.Journal.{disk_of, IsAlive, IsClosedUp};
 ghost use Rattle.spec_records.specs.Records.{configuration_of, CanTell};
 ghost use Rattle.validator.specs.Setting.{node_of};
-ghost use Rattle.opening.specs.Laws.{StandsForAt, HoldsAt, IsLeft, AreLeftTold, IsNoRefusal};
-ghost use Rattle.opening.specs.Told.{IsText, HasTexts, first_version as told_version, is_alone as told_alone, is_own as told_own, read_journal, told, Tells, StandsAt, IsToldAsOneOf, KeepsOrBegins, KeepsRecords};
+ghost use Rattle.opening.specs.Laws.{StandsForAt, HoldsAt, AreLeftTold, IsOpening};
+ghost use Rattle.opening.specs.Told.{IsText, HasTexts, first_version as told_version, is_alone as told_alone, is_own as told_own, read_journal, told, Tells, StandsAt, KeepsOrBegins};
 
 use crate::configuration::{can_tell, shaped_version};
 use crate::events::replay;
 use crate::first_group::{configuration, configuration_group};
 use crate::standing::worlds_are_told;
 use diskmodel::Disk;
-use journal::{Failed, Journal, JournalError, Record};
+use journal::{Failed, Journal, JournalError, Record, Version};
 use sigface::Sign;
-use journal::Version;
 use std::alloc::{AllocError, Global};
 use validator::{Config, Validator};
 
@@ -46,24 +45,10 @@ pub fn reopen<'a, S: Sign, D: Disk>(
     // The disk has the node's journal of it then.
     ensures holds { IfOk result (λ opened. HoldsAt (node_of S.scheme config.now) (D.device.content (disk_of opened.1)) opened.0.tables) }
 
-    // Each refusal but those of memory and of the disk is what the bytes are told as.
-    ensures err { IfErr result (λ failed. failed.error ≢ JournalError.Device → Tells failed.error (told (node_of S.scheme config.now) (D.device.content disk))) }
-    ensures never_full { IfErr result (λ failed. failed.error ≢ JournalError.Full) }
-    // It answers Device exactly where the disk has failed.
-    ensures cause { TellsFaultBack D.device (λ opened. disk_of opened.1) JournalError.Device disk result }
-    // Only a failure of the disk leaves other bytes than there were, but for those behind the closed gate.
+    // Its errors, and what a stop at any moment of it leaves.
+    ensures opening { IsOpening (node_of S.scheme config.now) D.device (λ opened. disk_of opened.1) disk result }
+    // Only a failure of the disk leaves other bytes than there were, but for those after the closed gate.
     ensures unchanged { IfErr result (λ failed. failed.error ≢ JournalError.Device → (D.device.content failed.disk ≡ D.device.content disk) ⊎ IsClosedUp (D.device.content disk) (D.device.content failed.disk)) }
-
-    // A stop at any moment of the call leaves what is told as one outcome from before it is.
-    ensures any_moment { IfOk result (λ opened. AtEachMoment D.device disk (disk_of opened.1) (IsToldAsOneOf (node_of S.scheme config.now) (D.device.outcome disk))) }
-    ensures any_moment_err { IfErr result (λ failed. AtEachMoment D.device disk failed.disk (IsToldAsOneOf (node_of S.scheme config.now) (D.device.outcome disk))) }
-    // It leaves the records, whoever's they are and whatever it answers, or where there are none the configuration alone.
-    // What it leaves that stands for no records is an outcome from before it, byte for byte.
-    ensures keeps { IfOk result (λ opened. AtEachMoment D.device disk (disk_of opened.1) (KeepsRecords (node_of S.scheme config.now) (D.device.outcome disk))) }
-    ensures keeps_err { IfErr result (λ failed. AtEachMoment D.device disk failed.disk (KeepsRecords (node_of S.scheme config.now) (D.device.outcome disk))) }
-
-    // What a stop leaves in a world of this node is never refused.
-    ensures never_refused { IfErr result (λ failed. IsLeft (node_of S.scheme config.now) (D.device.content disk) → IsNoRefusal failed.error) }
 {
     outcomes_are_told(config);
     let (mut journal, records) = Journal::open(alloc, disk)?;

@@ -1,5 +1,6 @@
 -- A script, command by command.
-use Rattle.std.proofs.Common.{◌≡◌, ℕ, zero, suc, ◌+◌, ◌<◌, append_assoc, append-nil, drop-cons, List, [], ◌∷◌, ◌++◌, length, take, drop, get_or, Option, Ok, refl, sym, ap, ◌∙◌, subst, arith, length-append}
+use Rattle.std.proofs.Common.{◌≡◌, ℕ, zero, suc, ◌+◌, ◌<◌, append_assoc, append-nil, drop-cons, List, [], ◌∷◌, ◌++◌, length, take, drop, get_or}
+use Rattle.std.proofs.Common.{Option, Ok, refl, sym, ap, ◌∙◌, subst, arith, length-append}
 use Rattle.std.proofs.KnownBytes.{Appends-nil, Appends-trans}
 use Rattle.std.specs.Prelude.{All}
 use Rattle.std.specs.Io.KnownBytes.{Appends}
@@ -21,7 +22,8 @@ use Rattle.recovery.proofs.Scripts.{text_push, desk_push, text_nil, desk_nil}
 use Rattle.diskmodel.specs.Disk.{Device}
 
 -- the first of the commands were carried out
-pub record IsCarriedOut {S D : Type 0} (node : Node) (device : Device D) (before : List ℕ) (done : List script.Command) (book : BookView S) (journal : Journal D) (old new : Option (List ℕ)) : Type 0 where
+pub record IsCarriedOut {S D : Type 0} (node : Node) (device : Device D) (before : List ℕ) (done : List script.Command) (book : BookView S)
+    (journal : Journal D) (old new : Option (List ℕ)) : Type 0 where
   pub history : History
   pub told_first : told node before ≡ Ok history
   pub is_of : IsOf node device (script.desk_behind node (script.desk_on history) done) book journal
@@ -37,7 +39,8 @@ module _ {S D : Type 0} (node : Node) (device : Device D) (before : List ℕ) wh
     writes = subst (Appends old old) (sym (text_nil node (script.desk_on opened.history))) (Appends-nil old);
   }
 
-  module _ (done : List script.Command) (next : script.Command) (book : BookView S) (journal : Journal D) (old mid : Option (List ℕ)) (so_far : IsCarriedOut node device before done book journal old mid) where
+  module _ (done : List script.Command) (next : script.Command) (book : BookView S) (journal : Journal D) (old mid : Option (List ℕ))
+      (so_far : IsCarriedOut node device before done book journal old mid) where
     abbrev desk : script.Desk
     desk = script.desk_behind node (script.desk_on so_far.history) done
 
@@ -80,7 +83,8 @@ module _ {S D : Type 0} (node : Node) (device : Device D) (before : List ℕ) wh
         }
 
   -- all of them
-  pub all_carried : (commands done : List script.Command) (book : BookView S) (journal : Journal D) (old new : Option (List ℕ)) → commands ≡ done → IsCarriedOut node device before done book journal old new
+  pub all_carried : (commands done : List script.Command) (book : BookView S) (journal : Journal D) (old new : Option (List ℕ)) → commands ≡ done
+      → IsCarriedOut node device before done book journal old new
       → HasRun node commands before (device.content (disk_of journal)) (device.outcome (disk_of journal)) old new
   all_carried commands done book journal old new same so_far = record {
     history = so_far.history;
@@ -107,7 +111,8 @@ script_parts commands done next front within is =
     ∙ (λ i. script_of (sym front i) ++ script_of (here i))
 
 -- each command passes
-pub passes_at : (charter : Charter) (commands : List Command) (count : ℕ) (next : Command) → All (Passes charter) commands → count < length commands → next ≡ get_or commands count next → Passes charter next
+pub passes_at : (charter : Charter) (commands : List Command) (count : ℕ) (next : Command) → All (Passes charter) commands → count < length commands
+    → next ≡ get_or commands count next → Passes charter next
 passes_at charter [] count next all within is = absurd (omega (arith, within))
 passes_at charter (command ∷ commands) zero next all within is = subst (Passes charter) (sym is) (All-head (Passes charter) command commands all)
 passes_at charter (command ∷ commands) (suc count) next all within is =

@@ -1,5 +1,6 @@
 -- A book and a journal behind an opening.
 use Rattle.std.proofs.Common.{◌≡◌, ℕ, inl, inr, List, Result, Ok, refl, sym, ap, ◌∙◌, subst}
+use Rattle.diskmodel.specs.Disk.{Device}
 use Rattle.journal.specs.declared.error.JournalError.{JournalError}
 use Rattle.journal.specs.declared.error.JournalError.TheVariants as errors
 use Rattle.journal.specs.declared.journal.Journal.{Journal}
@@ -12,7 +13,8 @@ use Rattle.opening.specs.Laws.{IsNoRefusal}
 use Rattle.recovery.specs.Script.{IsOf, IsOpenedOf, IsNotOpened, MayEnd, Breaks}
 use Rattle.opening.specs.Told.{told}
 use Rattle.recovery.specs.declared.driving.DriveError.{DriveError}
-use Rattle.recovery.specs.declared.driving.DriveError.TheVariants.{Device, Full}
+use Rattle.recovery.specs.declared.driving.DriveError.TheVariants as ends
+use Rattle.recovery.specs.declared.driving.DriveError.TheVariants.{Full}
 use Rattle.desk.specs.Desk as desks
 use Rattle.opening.proofs.Opened.{no_refusal}
 
@@ -28,7 +30,7 @@ only_full errors.ConfigMismatch same = absurd (cc)
 only_full errors.Full same = refl
 
 -- and so it is with the disk's error
-pub only_device : (cause : JournalError) → ended_by cause ≡ Device → cause ≡ errors.Device
+pub only_device : (cause : JournalError) → ended_by cause ≡ ends.Device → cause ≡ errors.Device
 only_device errors.Memory same = absurd (cc)
 only_device errors.Device same = refl
 only_device (errors.Damaged place) same = absurd (cc)

@@ -1,5 +1,6 @@
 -- A book and a journal behind each command.
-use Rattle.std.proofs.Common.{◌≡◌, ◌≢◌, ℕ, suc, ◌+◌, ◌<◌, ◌≤◌, true, false, ◌⊎◌, inl, inr, List, [], ◌∷◌, ◌++◌, length, take, drop, map, Result, Ok, Err, refl, sym, ap, ◌∙◌, subst, arith, append_assoc, append-nil}
+use Rattle.std.proofs.Common.{◌≡◌, ◌≢◌, ℕ, suc, ◌+◌, ◌<◌, ◌≤◌, true, false, ◌⊎◌, inl, inr, List, [], ◌∷◌, ◌++◌, length, take, drop, map, Result, Ok}
+use Rattle.std.proofs.Common.{Err, refl, sym, ap, ◌∙◌, subst, arith, append_assoc, append-nil}
 use Rattle.std.specs.Prelude.{IsErrOf, IfOk, IfErr, OnErr}
 use Rattle.std.proofs.lemmas.Bool.{cases_Bool, true≢false}
 use Rattle.std.proofs.Math.Nat.{lt_of_not-le}
@@ -173,7 +174,8 @@ module _ {S D : Type 0} (node : Node) (device : Device D) (desk : Desk) (before 
       inr (told_flushed (record before { pending = with_it.1 }) with_it.0 with_it.2 bytes with_it.3 ∙ ap (λ (d : Desk). Ok (settled_in d)) (sym (after_flush node desk)))
 
   -- behind a round that settled a group
-  pub flushes_is : (later : BookView S) (new : Journal D) (old_bytes new_bytes : List ℕ) (count : ℕ) → device.content (disk_of old) ≡ old_bytes → device.content (disk_of new) ≡ new_bytes → Flushes node before later old_bytes new_bytes count
+  pub flushes_is : (later : BookView S) (new : Journal D) (old_bytes new_bytes : List ℕ) (count : ℕ) → device.content (disk_of old) ≡ old_bytes
+      → device.content (disk_of new) ≡ new_bytes → Flushes node before later old_bytes new_bytes count
       → IsAlive device new → IsOf node device (after node desk flush) later new
   flushes_is later new old_bytes new_bytes count old_is new_is round alive =
       flushed_is later round.group round.takes later new (round.stands (run_of desk) is.stands_at)
@@ -184,7 +186,14 @@ module _ {S D : Type 0} (node : Node) (device : Device D) (desk : Desk) (before 
   pub nothing_flushed : before.pending ≡ [] → IsOf node device (after node desk flush) before old
   nothing_flushed none =
       let empty : events ≡ [] = group_none pending (sym is.stands_at.pending ∙ none) in
-      let same : flushed desk ≡ desk = (λ i. record { began = desk.began; accepted = desk.accepted; settled = (ap (λ (l : History). desk.settled ++ l) empty ∙ append-nil desk.settled) i; waiting = desk.waiting }) in
+      let same : flushed desk
+      ≡ desk = (λ i. record {
+        began = desk.began;
+        accepted = desk.accepted;
+        settled =
+            (ap (λ (l : History). desk.settled ++ l) empty ∙ append-nil desk.settled) i;
+        waiting = desk.waiting;
+      }) in
       subst (λ (d : Desk). IsOf node device d before old) (sym (after_flush node desk ∙ same)) is
 
   -- a firm disk is told as what is settled
@@ -244,7 +253,8 @@ module _ {S D : Type 0} (node : Node) (device : Device D) (desk : Desk) (book : 
   }
 
   -- behind a disk that failed
-  pub device_breaks : (pending : List (List ℕ)) → pending ≡ book.pending → (new : Journal D) → ((bytes : List ℕ) → device.outcome (disk_of new) bytes → IsWithOrWithout pending (device.content (disk_of old)) bytes)
+  pub device_breaks : (pending : List (List ℕ)) → pending ≡ book.pending → (new : Journal D)
+      → ((bytes : List ℕ) → device.outcome (disk_of new) bytes → IsWithOrWithout pending (device.content (disk_of old)) bytes)
       → Breaks node desk flush ends.Device (device.content (disk_of new)) (device.outcome (disk_of new))
   device_breaks pending same new left = record {
     left = λ bytes may. left_by_flush node device desk book old is bytes (subst (λ (l : List (List ℕ)). IsWithOrWithout l (device.content (disk_of old)) bytes) same (left bytes may));
@@ -253,7 +263,8 @@ module _ {S D : Type 0} (node : Node) (device : Device D) (desk : Desk) (book : 
   }
 
   -- behind a group for which the journal has no room
-  pub full_breaks : (later : BookView S) (new : Journal D) → new ≡ old → FindsNoRoom node book later (device.content (disk_of old)) → Breaks node desk flush ends.Full (device.content (disk_of new)) (device.outcome (disk_of new))
+  pub full_breaks : (later : BookView S) (new : Journal D) → new ≡ old → FindsNoRoom node book later (device.content (disk_of old))
+      → Breaks node desk flush ends.Full (device.content (disk_of new)) (device.outcome (disk_of new))
   full_breaks later new same no_room = subst (λ (j : Journal D). Breaks node desk flush ends.Full (device.content (disk_of j)) (device.outcome (disk_of j))) (sym same) (record {
     left = λ bytes left. inl (left_firm node device desk book old is bytes left);
     errors = refl;

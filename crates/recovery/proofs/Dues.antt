@@ -90,7 +90,8 @@ first_of_queue settled (first ∷ rest) output head = by_test (nat_le first.tick
     }
     by_test false off = absurd (none (sym (ap (λ (b : Bool). cond b (Some first.output) None) off) ∙ head))
 
-frames_first : (settled : ℕ) (queue : List Waiting) (output : Output) → settled_head settled queue ≡ Some output → frames (ready settled queue) ≡ frame_of output ++ frames (ready settled (drop 1 queue))
+frames_first : (settled : ℕ) (queue : List Waiting) (output : Output) → settled_head settled queue ≡ Some output → frames (ready settled queue)
+    ≡ frame_of output ++ frames (ready settled (drop 1 queue))
 frames_first settled queue output head =
     let is = first_of_queue settled queue output head in
     ap (λ (q : List Waiting). frames (ready settled q)) is.parts ∙ ap frames (ready_first settled is.first is.rest is.so)
@@ -187,7 +188,8 @@ module _ {S : Type 0} (node : Node) (before now : BookView S) (old mid : Option 
 
 -- ---- one call
 
-module _ {S : Type 0} (before later : BookView S) (out : Option Output) (is : out ≡ releasable before) (queue : later ≡ (if is_some out then record before { queue = drop 1 before.queue } else before)) where
+module _ {S : Type 0} (before later : BookView S) (out : Option Output) (is : out ≡ releasable before)
+    (queue : later ≡ (if is_some out then record before { queue = drop 1 before.queue } else before)) where
   released : (o : Option Output) → out ≡ o → later ≡ (if is_some o then record before { queue = drop 1 before.queue } else before)
   released o same = queue ∙ ap (λ (x : Option Output). if is_some x then record before { queue = drop 1 before.queue } else before) same
 

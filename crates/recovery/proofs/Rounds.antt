@@ -43,20 +43,21 @@ module _ {S D : Type 0} (node : Node) (device : Device D) (script : Desk) (befor
       → (IsErrOf answer errors.Full → FindsNoRoom node before.book later.book (device.content (disk_of before.journal))) → (IsErrOf answer errors.Full → later.journal ≡ before.journal)
       → ((bytes : List ℕ) → device.outcome (disk_of later.journal) bytes → IsWithOrWithout before.book.pending (device.content (disk_of before.journal)) bytes)
       → Breaks node script flush error (device.content (disk_of later.journal)) (device.outcome (disk_of later.journal))
-  round_breaks answer error (inl so) memory device full unchanged no_room same left =
+  round_breaks answer error (inl so) memory failed full unchanged no_room same left =
       let answered = memory so in
       let kept = subst (λ (r : Result ℕ FlushError). IfErr r (λ e. (e ≡ errors.Down) ⊎ (e ≡ errors.Memory) → later ≡ before)) answered unchanged (inr refl) in
       subst (λ (d : desks.DeskView S D). Breaks node script flush error (device.content (disk_of d.journal)) (device.outcome (disk_of d.journal))) (sym kept)
       (same_breaks node device script before.book before.journal is flush error so)
-  round_breaks answer error (inr (inl so)) memory device full unchanged no_room same left =
+  round_breaks answer error (inr (inl so)) memory failed full unchanged no_room same left =
       subst (λ (e : DriveError). Breaks node script flush e (device.content (disk_of later.journal)) (device.outcome (disk_of later.journal))) (sym so)
       (device_breaks node device script before.book before.journal is before.book.pending refl later.journal left)
-  round_breaks answer error (inr (inr so)) memory device full unchanged no_room same left =
+  round_breaks answer error (inr (inr so)) memory failed full unchanged no_room same left =
       subst (λ (e : DriveError). Breaks node script flush e (device.content (disk_of later.journal)) (device.outcome (disk_of later.journal))) (sym so)
       (full_breaks node device script before.book before.journal is later.book later.journal (same (full so)) (no_room (full so)))
 
 -- the faults of a disk that it left as it was
-pub faults_same : {S D : Type 0} (device : Device D) (before later : desks.DeskView S D) (answer : Result ℕ FlushError) (error : DriveError) → (error ≡ ends.Memory) ⊎ ((error ≡ ends.Device) ⊎ (error ≡ ends.Full))
+pub faults_same : {S D : Type 0} (device : Device D) (before later : desks.DeskView S D) (answer : Result ℕ FlushError) (error : DriveError)
+    → (error ≡ ends.Memory) ⊎ ((error ≡ ends.Device) ⊎ (error ≡ ends.Full))
     → (error ≡ ends.Memory → IsErrOf answer errors.Memory) → (error ≡ ends.Full → IsErrOf answer errors.Full)
     → IfErr answer (λ e. (e ≡ errors.Down) ⊎ (e ≡ errors.Memory) → later ≡ before) → (IsErrOf answer errors.Full → later.journal ≡ before.journal)
     → error ≢ ends.Device → device.faults (disk_of later.journal) ≡ device.faults (disk_of before.journal)

@@ -40,9 +40,10 @@ module _ (node : Node) (sound : IsNode node) where
       (subst (λ (w : World). IsAtDesk w (script.desk_on history)) (sym begun.is) (scripts_begin world.bytes_at_start history world.given)) taken
 
   -- and gives out what was written
-  pub run_given : (commands : List script.Command) (before later : List ℕ) (device.outcome : List ℕ → Type 0) (old new : Option (List ℕ)) → All (IsTakenIn node) commands → HasRun node commands before later device old new
+  pub run_given : (commands : List script.Command) (before later : List ℕ) (outcome : List ℕ → Type 0) (old new : Option (List ℕ))
+      → All (IsTakenIn node) commands → HasRun node commands before later outcome old new
       → EachRunOn node before (GivesOut node commands old new)
-  run_given commands before later device old new taken run = λ history moves world is begun.
+  run_given commands before later outcome old new taken run = λ history moves world is begun.
       let goes = goes_on history moves world commands taken begun in
       let same : run.history ≡ history = ok_is run.history history (sym run.told_first ∙ is) in
       record {

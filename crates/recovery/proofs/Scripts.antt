@@ -11,7 +11,8 @@ unfolding text desk_behind
 text_push node desk [] next = append-nil (frames (due (after node desk next)))
 text_push node desk (command ∷ done) next =
     ap (λ (l : List ℕ). frames (due (after node desk command)) ++ l) (text_push node (carried_out node desk command) done next)
-    ∙ sym (append_assoc (frames (due (after node desk command))) (text node (carried_out node desk command) done) (frames (due (after node (desk_behind node (carried_out node desk command) done) next))))
+    ∙ sym (append_assoc (frames (due (after node desk command))) (text node (carried_out node desk command) done)
+    (frames (due (after node (desk_behind node (carried_out node desk command) done) next))))
 
 pub desk_push : (node : Node) (desk : Desk) (done : List Command) (next : Command) → desk_behind node desk (done ++ next ∷ []) ≡ carried_out node (desk_behind node desk done) next
 unfolding desk_behind

@@ -2,8 +2,9 @@
 use Rattle.std.specs.Prelude.{◌≡◌, ◌≢◌, ◌⊎◌, ⊤, ℕ, ◌+◌, ◌<◌, false, List, [], ◌∷◌, ◌++◌, length, map, drop, Option, None, Ok}
 use Rattle.std.specs.Io.KnownBytes.{Keeps, Appends}
 use Rattle.book.specs.Book.{BookView, Run, Stands}
+use Rattle.desk.specs.Desk.{DeskView}
 use Rattle.committee.specs.Charter.{Charter}
-use Rattle.diskmodel.specs.Disk.{LeavesOnly}
+use Rattle.diskmodel.specs.Disk.{Device, LeavesOnly}
 use Rattle.header.specs.Checks.{fault_of, accepts_all}
 use Rattle.journal.specs.Format.{group_bytes, stands}
 use Rattle.journal.specs.Journal.{disk_of, IsAlive}
@@ -22,7 +23,8 @@ use Rattle.recovery.specs.Writing.{EndsAtDisk}
 use Rattle.recovery.specs.declared.driving.Command.{Command}
 use Rattle.recovery.specs.declared.driving.Command.TheVariants.{Event, Flush, Stop}
 use Rattle.recovery.specs.declared.driving.DriveError.{DriveError}
-use Rattle.recovery.specs.declared.driving.DriveError.TheVariants.{Memory, Device, Damaged, ConfigMismatch, Full, Output}
+use Rattle.recovery.specs.declared.driving.DriveError.TheVariants as ends
+use Rattle.recovery.specs.declared.driving.DriveError.TheVariants.{Memory, Damaged, ConfigMismatch, Full, Output}
 
 -- ---- commands
 
@@ -55,6 +57,11 @@ pub record IsOf {S D : Type 0} (node : Node) (device : Device D) (desk : script.
   pub alive : IsAlive device journal
   pub configured : stands (device.content (disk_of journal)) ≢ Ok []
   pub told_as : told node (device.content (disk_of journal)) ≡ Ok (script.settled_in desk)
+
+-- whichever script's desk the first one is of, the second is of what this makes of it
+abbrev pub Follows : {S D : Type 0} → Node → Device D → (script.Desk → script.Desk) → DeskView S D → DeskView S D → Type 0
+Follows node device next before later =
+    (desk : script.Desk) → IsOf node device desk before.book before.journal → IsOf node device (next desk) later.book later.journal
 
 -- they are those of a run that began with what the disk was told as
 pub record IsOpenedOf {S D : Type 0} (node : Node) (device : Device D) (before : List ℕ) (book : BookView S) (journal : Journal D) : Type 0 where
@@ -102,7 +109,7 @@ CallsDisk other = ⊤
 abbrev pub MayEnd : script.Command → DriveError → Type 0
 MayEnd command Memory = ⊤
 MayEnd command Output = ⊤
-MayEnd command Device = CallsDisk command
+MayEnd command ends.Device = CallsDisk command
 MayEnd command Full = command ≡ script.flush
 MayEnd command (Damaged place) = ⊥
 MayEnd command ConfigMismatch = ⊥
@@ -113,6 +120,11 @@ pub record Breaks (node : Node) (desk : script.Desk) (command : script.Command) 
       → (told node bytes ≡ Ok (script.settled_in desk)) ⊎ (told node bytes ≡ Ok (script.settled_in (script.after node desk command)))
   pub errors : MayEnd command error
   pub full : error ≡ Full → HasNoRoom desk command content
+
+-- whichever script's desk this one was of, the command failed there with an error and left a disk
+abbrev pub BreaksOff : {S D : Type 0} → Node → Device D → script.Command → DeskView S D → DriveError → D → Type 0
+BreaksOff node device command before error disk =
+    (desk : script.Desk) → IsOf node device desk before.book before.journal → Breaks node desk command error (device.content disk) (device.outcome disk)
 
 -- Some of the commands were carried out, and the next one failed: what is written is the text of these, and a beginning of what the next
 -- one writes, not the whole of it where the writer failed, and nothing of it where that ended at the disk.

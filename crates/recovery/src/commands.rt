@@ -5,12 +5,12 @@ ghost use Rattle.diskmodel.specs.Disk.{TellsFault};
 ghost use Rattle.std.specs.Io.KnownBytes.{Appends};
 ghost use Rattle.header.specs.Checks.{fault_of, accepts_all};
 ghost use Rattle.journal.specs.Journal.{disk_of, TellsFaultBack};
-ghost use Rattle.book.specs.Book.{Run, Stands};
+ghost use Rattle.book.specs.Book.{StandsAsBefore};
 ghost use Rattle.book.specs.declared.book.TheConstants.{MAX_ACCEPTED};
 ghost use Rattle.validator.specs.Setting.{node_of};
 ghost use Rattle.spec_world.specs.Text.{take_in, flush as flush_it, stop as stop_it, frames, due, without_due, after, carried_out, Desk as ScriptDesk};
 ghost use Rattle.recovery.specs.Faults.{ended_by};
-ghost use Rattle.recovery.specs.Script.{said, Passes, IsOf, IsOpenedOf, IsNotOpened, Breaks};
+ghost use Rattle.recovery.specs.Script.{said, Passes, IsOf, IsOpenedOf, IsNotOpened, Follows, BreaksOff};
 ghost use Rattle.recovery.specs.Writing.{AppendsPart, WritesFirst, WritesNone, WritesPartOfFirst};
 ghost use Rattle.wire_write.specs.Frames.{AppendsLess};
 
@@ -58,13 +58,11 @@ pub(crate) fn carry_out<'a, S: Sign, D: StopDisk, W: Write>(
     requires room { desk.book.accepted < MAX_ACCEPTED }
 
     ensures setting { IfOk result (λ next. next.book.validator.setting ≡ config.now) }
-    ensures ok { let node = node_of S.scheme config.now in IfOk result (λ next. (script : ScriptDesk) → IsOf node D.device script desk.entry.book desk.entry.journal
-        → IsOf node D.device (carried_out node script (said command)) next.book next.journal) }
+    ensures ok { let node = node_of S.scheme config.now in IfOk result (λ next. Follows node D.device (λ script. carried_out node script (said command)) desk.entry next) }
     ensures writes { let node = node_of S.scheme config.now in OnOk result ((script : ScriptDesk) → IsOf node D.device script desk.entry.book desk.entry.journal
         → Appends (W.contents writer.old) (W.contents writer.new) (frames (due (after node script (said command))))) }
     ensures count { IfOk result (λ next. next.book.accepted ≤ desk.entry.book.accepted + 1) }
-    ensures err { let node = node_of S.scheme config.now in IfErr result (λ failed. (script : ScriptDesk) → IsOf node D.device script desk.entry.book desk.entry.journal
-        → Breaks node script (said command) failed.error (D.device.content failed.disk) (D.device.outcome failed.disk)) }
+    ensures err { let node = node_of S.scheme config.now in IfErr result (λ failed. BreaksOff node D.device (said command) desk.entry failed.error failed.disk) }
     ensures writes_part { let node = node_of S.scheme config.now in IfErr result (λ failed. (script : ScriptDesk) → IsOf node D.device script desk.entry.book desk.entry.journal
         → AppendsPart failed.error (W.contents writer.old) (W.contents writer.new) (frames (due (after node script (said command))))) }
     ensures cause { TellsFaultBack D.device (λ next. disk_of next.journal) DriveError.Device (disk_of desk.entry.journal) result }
@@ -89,11 +87,9 @@ fn apply<'a, S: Sign, D: StopDisk>(
     requires room { desk.book.accepted < MAX_ACCEPTED }
 
     ensures setting { IfOk result (λ next. next.book.validator.setting ≡ config.now) }
-    ensures ok { let node = node_of S.scheme config.now in IfOk result (λ next. (script : ScriptDesk) → IsOf node D.device script desk.entry.book desk.entry.journal
-        → IsOf node D.device (after node script (said command)) next.book next.journal) }
+    ensures ok { let node = node_of S.scheme config.now in IfOk result (λ next. Follows node D.device (λ script. after node script (said command)) desk.entry next) }
     ensures count { IfOk result (λ next. next.book.accepted ≤ desk.entry.book.accepted + 1) }
-    ensures err { let node = node_of S.scheme config.now in IfErr result (λ failed. (script : ScriptDesk) → IsOf node D.device script desk.entry.book desk.entry.journal
-        → Breaks node script (said command) failed.error (D.device.content failed.disk) (D.device.outcome failed.disk)) }
+    ensures err { let node = node_of S.scheme config.now in IfErr result (λ failed. BreaksOff node D.device (said command) desk.entry failed.error failed.disk) }
     ensures cause { TellsFaultBack D.device (λ next. disk_of next.journal) DriveError.Device (disk_of desk.entry.journal) result }
     ensures never_output { IfErr result (λ failed. failed.error ≢ DriveError.Output) }
 {
@@ -114,13 +110,11 @@ fn with_event<'a, S: Sign, D: StopDisk>(
     requires room { desk.book.accepted < MAX_ACCEPTED }
 
     ensures setting { IfOk result (λ next. next.book.validator.setting ≡ desk.entry.book.validator.setting) }
-    ensures ok { let node = node_of S.scheme desk.entry.book.validator.setting in IfOk result (λ next. (script : ScriptDesk) → IsOf node D.device script desk.entry.book desk.entry.journal
-        → IsOf node D.device (after node script (take_in event)) next.book next.journal) }
+    ensures ok { let node = node_of S.scheme desk.entry.book.validator.setting in IfOk result (λ next. Follows node D.device (λ script. after node script (take_in event)) desk.entry next) }
     ensures count { IfOk result (λ next. next.book.accepted ≤ desk.entry.book.accepted + 1) }
     ensures same { IfOk result (λ next. next.journal ≡ desk.entry.journal) }
     ensures same_err { IfErr result (λ failed. failed.disk ≡ disk_of desk.entry.journal) }
-    ensures err { let node = node_of S.scheme desk.entry.book.validator.setting in IfErr result (λ failed. (script : ScriptDesk) → IsOf node D.device script desk.entry.book desk.entry.journal
-        → Breaks node script (take_in event) failed.error (D.device.content failed.disk) (D.device.outcome failed.disk)) }
+    ensures err { let node = node_of S.scheme desk.entry.book.validator.setting in IfErr result (λ failed. BreaksOff node D.device (take_in event) desk.entry failed.error failed.disk) }
     ensures memory { IfErr result (λ failed. failed.error ≡ DriveError.Memory) }
 {
     match accept(&mut desk, event) {
@@ -136,11 +130,9 @@ fn flushed<'a, S: Sign, D: StopDisk>(
     requires stands { (script : ScriptDesk) × IsOf (node_of S.scheme desk.book.validator.setting) D.device script desk.book desk.journal }
 
     ensures setting { IfOk result (λ next. next.book.validator.setting ≡ desk.entry.book.validator.setting) }
-    ensures ok { let node = node_of S.scheme desk.entry.book.validator.setting in IfOk result (λ next. (script : ScriptDesk) → IsOf node D.device script desk.entry.book desk.entry.journal
-        → IsOf node D.device (after node script flush_it) next.book next.journal) }
+    ensures ok { let node = node_of S.scheme desk.entry.book.validator.setting in IfOk result (λ next. Follows node D.device (λ script. after node script flush_it) desk.entry next) }
     ensures count { IfOk result (λ next. next.book.accepted ≡ desk.entry.book.accepted) }
-    ensures err { let node = node_of S.scheme desk.entry.book.validator.setting in IfErr result (λ failed. (script : ScriptDesk) → IsOf node D.device script desk.entry.book desk.entry.journal
-        → Breaks node script flush_it failed.error (D.device.content failed.disk) (D.device.outcome failed.disk)) }
+    ensures err { let node = node_of S.scheme desk.entry.book.validator.setting in IfErr result (λ failed. BreaksOff node D.device flush_it desk.entry failed.error failed.disk) }
     ensures cause { TellsFaultBack D.device (λ next. disk_of next.journal) DriveError.Device (disk_of desk.entry.journal) result }
     ensures never_output { IfErr result (λ failed. failed.error ≢ DriveError.Output) }
 {
@@ -157,11 +149,9 @@ fn stopped<'a, S: Sign, D: StopDisk>(
     config: &'a Config<S>,
 ) -> Result<Desk<'a, S, D>, Failed<DriveError, D>>
     ensures setting { IfOk result (λ next. next.book.validator.setting ≡ config.now) }
-    ensures ok { let node = node_of S.scheme config.now in IfOk result (λ next. (script : ScriptDesk) → IsOf node D.device script desk.entry.book desk.entry.journal
-        → IsOf node D.device (after node script stop_it) next.book next.journal) }
+    ensures ok { let node = node_of S.scheme config.now in IfOk result (λ next. Follows node D.device (λ script. after node script stop_it) desk.entry next) }
     ensures count { IfOk result (λ next. next.book.accepted ≡ 0) }
-    ensures err { let node = node_of S.scheme config.now in IfErr result (λ failed. (script : ScriptDesk) → IsOf node D.device script desk.entry.book desk.entry.journal
-        → Breaks node script stop_it failed.error (D.device.content failed.disk) (D.device.outcome failed.disk)) }
+    ensures err { let node = node_of S.scheme config.now in IfErr result (λ failed. BreaksOff node D.device stop_it desk.entry failed.error failed.disk) }
     ensures cause { TellsFaultBack D.device (λ next. disk_of next.journal) DriveError.Device (disk_of desk.entry.journal) result }
     ensures never_output { IfErr result (λ failed. failed.error ≢ DriveError.Output) }
 {
@@ -178,8 +168,7 @@ fn accept<S: Sign, D: StopDisk>(desk: &mut Desk<'_, S, D>, event: Checked) -> Re
     requires room { desk.old.book.accepted < MAX_ACCEPTED }
 
     ensures setting { desk.new.book.validator.setting ≡ desk.old.book.validator.setting }
-    ensures ok { let node = node_of S.scheme desk.old.book.validator.setting in OnOk result ((script : ScriptDesk) → IsOf node D.device script desk.old.book desk.old.journal
-        → IsOf node D.device (after node script (take_in event)) desk.new.book desk.new.journal) }
+    ensures ok { let node = node_of S.scheme desk.old.book.validator.setting in OnOk result (Follows node D.device (λ script. after node script (take_in event)) desk.old desk.new) }
     ensures count { desk.new.book.accepted ≤ desk.old.book.accepted + 1 }
     ensures same { desk.new.journal ≡ desk.old.journal }
     ensures memory { IfErr result (λ error. error ≡ DriveError.Memory) }
@@ -192,11 +181,9 @@ fn flush<S: Sign, D: StopDisk>(desk: &mut Desk<'_, S, D>) -> Result<(), DriveErr
     requires stands { (script : ScriptDesk) × IsOf (node_of S.scheme desk.old.book.validator.setting) D.device script desk.old.book desk.old.journal }
 
     ensures setting { desk.new.book.validator.setting ≡ desk.old.book.validator.setting }
-    ensures ok { let node = node_of S.scheme desk.old.book.validator.setting in OnOk result ((script : ScriptDesk) → IsOf node D.device script desk.old.book desk.old.journal
-        → IsOf node D.device (after node script flush_it) desk.new.book desk.new.journal) }
+    ensures ok { let node = node_of S.scheme desk.old.book.validator.setting in OnOk result (Follows node D.device (λ script. after node script flush_it) desk.old desk.new) }
     ensures count { desk.new.book.accepted ≡ desk.old.book.accepted }
-    ensures err { let node = node_of S.scheme desk.old.book.validator.setting in IfErr result (λ error. (script : ScriptDesk) → IsOf node D.device script desk.old.book desk.old.journal
-        → Breaks node script flush_it error (D.device.content (disk_of desk.new.journal)) (D.device.outcome (disk_of desk.new.journal))) }
+    ensures err { let node = node_of S.scheme desk.old.book.validator.setting in IfErr result (λ error. BreaksOff node D.device flush_it desk.old error (disk_of desk.new.journal)) }
     ensures cause { TellsFault DriveError.Device (D.device.faults (disk_of desk.old.journal)) (D.device.faults (disk_of desk.new.journal)) result }
     ensures never_output { IfErr result (λ error. error ≢ DriveError.Output) }
 {
@@ -212,8 +199,7 @@ fn write_due<S: Sign, D: StopDisk, W: Write>(
     requires up { desk.old.book.down ≡ false }
 
     ensures setting { desk.new.book.validator.setting ≡ desk.old.book.validator.setting }
-    ensures ok { let node = node_of S.scheme desk.old.book.validator.setting in OnOk result ((script : ScriptDesk) → IsOf node D.device script desk.old.book desk.old.journal
-        → IsOf node D.device (without_due script) desk.new.book desk.new.journal) }
+    ensures ok { let node = node_of S.scheme desk.old.book.validator.setting in OnOk result (Follows node D.device (λ script. without_due script) desk.old desk.new) }
     ensures writes { OnOk result ((script : ScriptDesk) → IsOf (node_of S.scheme desk.old.book.validator.setting) D.device script desk.old.book desk.old.journal
         → Appends (W.contents writer.old) (W.contents writer.new) (frames (due script))) }
     ensures count { desk.new.book.accepted ≡ desk.old.book.accepted }
@@ -233,8 +219,7 @@ fn write_next<S: Sign, D: StopDisk, W: Write>(
     writer: &mut W,
 ) -> Result<bool, DriveError>
     ensures setting { desk.new.book.validator.setting ≡ desk.old.book.validator.setting }
-    ensures stands { let node = node_of S.scheme desk.old.book.validator.setting in (run : Run) → Stands node run desk.old.book
-        → Stands node run desk.new.book }
+    ensures stands { let node = node_of S.scheme desk.old.book.validator.setting in StandsAsBefore node desk.old.book desk.new.book }
     ensures next { IfOk result (λ more. more ≡ true → WritesFirst desk.old.book desk.new.book (W.contents writer.old) (W.contents writer.new)) }
     ensures none { IfOk result (λ more. more ≡ false → WritesNone desk.old.book desk.new.book (W.contents writer.old) (W.contents writer.new)) }
     ensures count { desk.new.book.accepted ≡ desk.old.book.accepted }

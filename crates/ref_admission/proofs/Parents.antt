@@ -16,7 +16,8 @@ parent_follows_more (p ∷ []) author h = lt-ltb p.author.0 (author + 1) (omega 
 parent_follows_more (p ∷ q ∷ rest) author h = parent_follows_more (q ∷ rest) author h
 
 -- the next author follows a parent
-pub parent_follows_next : (parents : List ParentReference) (parent : ParentReference) (author : ℕ) → parent.author.0 ≡ author → IsTrue (parent_follows (parents ++ parent ∷ []) (record { 0 = author + 1 }))
+pub parent_follows_next : (parents : List ParentReference) (parent : ParentReference) (author : ℕ) → parent.author.0 ≡ author
+    → IsTrue (parent_follows (parents ++ parent ∷ []) (record { 0 = author + 1 }))
 parent_follows_next [] parent author h = lt-ltb parent.author.0 (author + 1) (omega (arith, h))
 parent_follows_next (p ∷ []) parent author h = parent_follows_next [] parent author h
 parent_follows_next (p ∷ q ∷ rest) parent author h = parent_follows_next (q ∷ rest) parent author h

@@ -8,11 +8,11 @@ ghost use Rattle.spec_model.specs.Nodes.{node_view};
 ghost use Rattle.wire.specs.Batches.{batch_body};
 
 use crate::outputs::{batch_outputs, header_outputs, push_order};
+use header::{Admission, Event, Node, Outputs, Refusal};
 use ref_order::held::{Held, completed_at, floor_in, has_own_batch, is_available, is_full_in};
 use ref_order::holdings::{all_held, is_low};
 use ref_order::slots::{digest_of, slot};
 use sigface::Sign;
-use header::{Admission, Event, Node, Outputs, Refusal};
 use std::alloc::{AllocError, Global};
 use wire::{
     Author, Batch, BatchAck, BatchReference, Certificate, Coin, Digest, Header, HeaderBody,

@@ -9,11 +9,11 @@ ghost use Rattle.spec_model.specs.Nodes.{node_view};
 ghost use Rattle.wire.specs.declared.output.Output.TheVariants as output;
 
 use crate::outputs::{batch_outputs, header_outputs};
+use header::{Event, Node, Outputs};
 use ref_order::certificates::certificates;
 use ref_order::histories::{batches, headers};
 use ref_order::holdings::voted_digest;
 use sigface::Sign;
-use header::{Event, Node, Outputs};
 use std::alloc::{AllocError, Global};
 use wire::{Certificate, Output, header_digest};
 

@@ -5,11 +5,11 @@ ghost use Rattle.spec_model.specs.Giving.{kept};
 ghost use Rattle.spec_model.specs.Holdings as holdings;
 ghost use Rattle.spec_model.specs.Nodes.{node_view};
 
+use header::{Event, Node};
 use ref_order::certificates::{certificates, floor, highest_of};
 use ref_order::holdings::{counted_at, is_low, voted_digest, voted_header};
 use ref_order::slots::slot;
 use sigface::Sign;
-use header::{Event, Node};
 use std::alloc::{AllocError, Global};
 use wire::{Certificate, Digest, Header, Vote};
 

@@ -4,10 +4,10 @@ ghost use Rattle.std.specs.Prelude.{◌≡◌, ◌+◌, ◌<◌, ◌≤◌, ◌^
 ghost use Rattle.spec_model.specs.Admitting as admitting;
 ghost use Rattle.spec_model.specs.Nodes.{node_view};
 
+use header::{Node, Outputs};
 use ref_order::held::Held;
 use ref_order::holdings::own_vote;
 use sigface::Sign;
-use header::{Node, Outputs};
 use std::alloc::{AllocError, Global};
 use wire::{Batch, BatchAck, Digest, Header, Output, batch_digest};
 

@@ -12,12 +12,12 @@ ghost use Rattle.wire.specs.References as references;
 ghost use Rattle.wire.specs.References.{digest_before, batches_rise};
 
 use crate::parts::first_of;
+use header::{Event, Node};
 use ref_order::certificates::round;
 use ref_order::held::{Held, is_available};
 use ref_order::past::Past;
 use ref_order::slots::{digest_of, slot};
 use sigface::Sign;
-use header::{Event, Node};
 use std::alloc::{AllocError, Global};
 use wire::{
     Batch, BatchReference, BatchReferences, Certificate, Digest, Header, HeaderBody, MAX_BATCHES,

@@ -7,9 +7,9 @@ ghost use Rattle.wire.specs.Events as incoming;
 
 use crate::admitting::answer;
 use crate::arrival::Arrival;
+use header::{Admission, Event, Node};
 use ref_order::past::Past;
 use sigface::Sign;
-use header::{Admission, Event, Node};
 use std::alloc::{AllocError, Global};
 
 /// What an event is answered at the history behind which it comes.

@@ -26,17 +26,20 @@ unless_kept test number floor round xs each =
     find_kept test (λ x. not (is_low floor (number x))) (not (is_low floor round)) xs (λ x fits. ap (λ n. not (is_low floor n)) (each x fits))
     ∙ turned (is_low floor round) (find test xs)
 
-pub votes_kept : (floor : ℕ) (votes : List SlotVote) (round author : ℕ) → votes_in (filter (λ (v : SlotVote). not (is_low floor v.round)) votes) round author ≡ unless_low floor round (votes_in votes round author)
+pub votes_kept : (floor : ℕ) (votes : List SlotVote) (round author : ℕ) → votes_in (filter (λ (v : SlotVote). not (is_low floor v.round)) votes) round
+    author ≡ unless_low floor round (votes_in votes round author)
 votes_kept floor votes round author =
     ap (option_map (λ (v : SlotVote). v.digest))
     (unless_kept (votes_for round author) (λ (v : SlotVote). v.round) floor round votes (λ v fits. eqb-true _ _ (and_parts (v.round == round) (v.author.0 == author) fits).0))
     ∙ mapped (λ (v : SlotVote). v.digest) (is_low floor round) (find (votes_for round author) votes)
 
-pub headers_kept : (floor : ℕ) (headers : List Header) (round : ℕ) → headers_in (filter (λ (h : Header). not (is_low floor h.body.round)) headers) round ≡ unless_low floor round (headers_in headers round)
+pub headers_kept : (floor : ℕ) (headers : List Header) (round : ℕ) → headers_in (filter (λ (h : Header). not (is_low floor h.body.round)) headers)
+    round ≡ unless_low floor round (headers_in headers round)
 headers_kept floor headers round =
     unless_kept (of_round round) (λ (h : Header). h.body.round) floor round headers (λ h fits. eqb-true h.body.round round fits)
 
-pub counted_kept : (floor : ℕ) (votes : List Vote) (round voter : ℕ) → counted_in (filter (λ (v : Vote). not (is_low floor v.round)) votes) round voter ≡ unless_low floor round (counted_in votes round voter)
+pub counted_kept : (floor : ℕ) (votes : List Vote) (round voter : ℕ) → counted_in (filter (λ (v : Vote). not (is_low floor v.round)) votes) round
+    voter ≡ unless_low floor round (counted_in votes round voter)
 counted_kept floor votes round voter =
     unless_kept (counts_for round voter) (λ (v : Vote). v.round) floor round votes (λ v fits. eqb-true _ _ (and_parts (v.round == round) (v.voter.0 == voter) fits).0)
 

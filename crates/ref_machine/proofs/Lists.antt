@@ -28,7 +28,8 @@ or_none (Some x) = refl
 or_none None = refl
 
 -- what is found with one more at the end, or with none
-pub found_more : {X : Type 0} (test : X → Bool) (xs : List X) (x : X) (o found : Option X) → o ≡ Some x → find test (option_to_list o) ≡ found → find test (xs ++ x ∷ []) ≡ option_or (find test xs) found
+pub found_more : {X : Type 0} (test : X → Bool) (xs : List X) (x : X) (o found : Option X) → o ≡ Some x → find test (option_to_list o) ≡ found
+    → find test (xs ++ x ∷ []) ≡ option_or (find test xs) found
 found_more test xs x o found is more =
     find-append test xs (x ∷ []) ∙ ap (λ p. option_or (find test xs) (find test (option_to_list p))) (sym is) ∙ ap (option_or (find test xs)) more
 

@@ -8,10 +8,10 @@ ghost use Rattle.spec_model.specs.Slots.{slots_of};
 ghost use Rattle.ref_machine.specs.Tables.{counted_in, headers_in, state_of, votes_in};
 
 use crate::tables::{SlotVote, Tables};
+use header::Node;
 use ref_order::held::floor_in;
 use ref_order::holdings::is_low;
 use sigface::Sign;
-use header::Node;
 use std::alloc::{AllocError, Global};
 use wire::{Certificate, Header, Vote};
 

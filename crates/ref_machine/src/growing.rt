@@ -13,10 +13,10 @@ ghost use Rattle.ref_machine.specs.Tables.{acked_in, counted_in, headers_in, nam
 
 use crate::newly::{certificate_of, ordered_with};
 use crate::tables::{SlotVote, Tables};
+use header::Node;
 use ref_order::held::Held;
 use ref_order::holdings::own_vote;
 use sigface::Sign;
-use header::Node;
 use std::alloc::{AllocError, Global};
 use wire::{Batch, BatchAck, BatchReference, Certificate, Digest, Header, Message, Round, Vote};
 

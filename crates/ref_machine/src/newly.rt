@@ -13,6 +13,7 @@ ghost use Rattle.ref_machine.specs.Tables.{completed_by, counted_and, state_of, 
 use crate::copying::digests_again;
 use crate::lookups::is_counted;
 use crate::tables::Tables;
+use header::Node;
 use ref_order::held::Held;
 use ref_order::ledger::Ledger;
 use ref_order::newer::{last_wave, newer};
@@ -20,7 +21,6 @@ use ref_order::ordering::{leader, segment, top};
 use ref_order::slots::digest_of;
 use ref_order::votes::{Counted, certificate_by};
 use sigface::Sign;
-use header::Node;
 use std::alloc::{AllocError, Global};
 use wire::{Certificate, Digest, Message, Vote};
 

@@ -7,9 +7,9 @@ ghost use Rattle.spec_model.specs.Slots.{slots_of};
 ghost use Rattle.ref_machine.specs.Tables.{state_of};
 
 use crate::tables::Tables;
+use header::Node;
 use ref_order::holdings::is_full;
 use sigface::Sign;
-use header::Node;
 use wire::Certificate;
 
 /// The greatest round up to a given one of which a quorum of authors has certificates, or 0.

@@ -9,11 +9,11 @@ use crate::collecting::collected;
 use crate::growing::grown;
 use crate::rounds::round_in;
 use crate::tables::Tables;
+use header::{Admission, Event, Node, Refusal};
 use ref_admission::admitting::answer;
 use ref_admission::proposing::propose_of;
 use ref_order::certificates::certificates;
 use sigface::Sign;
-use header::{Admission, Event, Node, Refusal};
 use std::alloc::{AllocError, Global};
 use wire::{Header, Round};
 

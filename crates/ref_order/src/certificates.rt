@@ -12,8 +12,8 @@ use crate::holdings::{counted_vote, is_full};
 use crate::ledger::Ledger;
 use crate::ordering::{floor_by, order_by};
 use crate::votes::{Counted, certificate_by, votes_by};
-use sigface::Sign;
 use header::{Event, Node};
+use sigface::Sign;
 use std::alloc::{AllocError, Global};
 use wire::{Author, Certificate, Digest, Header, HeaderBody, Vote, VoteEntries};
 

@@ -15,8 +15,8 @@ use crate::ledger::Ledger;
 use crate::ordering::floor_by;
 use crate::votes::{Counted, certificate_by};
 use committee::MemberSet;
-use sigface::Sign;
 use header::Node;
+use sigface::Sign;
 use std::alloc::{AllocError, Global};
 use wire::{Author, Batch, Certificate, Digest, Header, Vote};
 

@@ -11,8 +11,8 @@ ghost use Rattle.spec_model.specs.Slots.{same_digest, slots_of};
 
 use crate::slots::{digest_of, is_of_slot, slot};
 use committee::{Committee, MemberSet};
-use sigface::Sign;
 use header::{Event, Node};
+use sigface::Sign;
 use wire::{
     Author, Batch, BatchReference, Certificate, Digest, Header, HeaderBody, Message,
     ParentReference, Vote, batch_digest, header_digest,

@@ -7,8 +7,8 @@ use crate::certificates::{certificates, highest_of, order};
 use crate::held::Held;
 use crate::histories::{batches, coins};
 use crate::holdings::{batch_at, counted_at, has_acked, voted_digest, voted_header, was_named};
-use sigface::Sign;
 use header::{Event, Node};
+use sigface::Sign;
 use std::alloc::{AllocError, Global};
 use wire::{Batch, Certificate, Digest, Header, Vote};
 

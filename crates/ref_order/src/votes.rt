@@ -9,8 +9,8 @@ ghost use Rattle.spec_model.specs.Words.{Vote};
 ghost use Rattle.wire.specs.declared.limits.TheConstants.{MAX_VOTES};
 
 use committee::MemberSet;
-use sigface::Sign;
 use header::Node;
+use sigface::Sign;
 use std::alloc::{AllocError, Global};
 use wire::{Author, Certificate, Header, Vote, VoteEntries, VoteEntry};
 

@@ -3,6 +3,7 @@
 ghost use Rattle.std.specs.Prelude.{◌≡◌, ◌++◌, OnOk, nat_le};
 ghost use Rattle.ref_script.specs.Desks.{desk_of};
 ghost use Rattle.spec_world.specs.Text as script;
+ghost use Rattle.wire.specs.Outputs.{frame_of};
 
 use crate::desk::{Desk, Waiting};
 use std::alloc::{AllocError, Global};
@@ -10,7 +11,7 @@ use wire::{Output, encode_output};
 
 /// Puts an output as a frame: the length of its bytes in four, the highest first, and its bytes.
 fn put_frame(alloc: Global, bytes: &mut Vec<u8>, output: &Output) -> Result<(), AllocError>
-    ensures { OnOk result (bytes.new.items ≡ bytes.old.items ++ script.frame_of output.now) }
+    ensures { OnOk result (bytes.new.items ≡ bytes.old.items ++ frame_of output.now) }
 {
     let body = encode_output(alloc, output)?;
     bytes.extend_from_slice(&(body.len() as u32).to_be_bytes())?;

@@ -7,8 +7,8 @@ ghost use Rattle.spec_records.specs.Records.{record_of};
 ghost use Rattle.wire.specs.declared.limits.TheConstants.{MAX_BATCH_BYTES};
 ghost use Rattle.spec_world.specs.Text as script;
 
-use journal::{LENGTH_BYTES, MAX_GROUP_BYTES, MAX_GROUP_RECORDS};
 use header::Event;
+use journal::{LENGTH_BYTES, MAX_GROUP_BYTES, MAX_GROUP_RECORDS};
 use wire::encoded_len;
 
 /// The bytes of an event's record before the message: its kind, and the sender's number.

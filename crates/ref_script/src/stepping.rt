@@ -10,9 +10,9 @@ ghost use Rattle.spec_world.specs.Text as script;
 use crate::command::Command;
 use crate::desk::{Desk, Waiting};
 use crate::groups::group_of;
+use header::{Admission, Event, Node, Outputs};
 use ref_admission::runs::admit_last;
 use sigface::Sign;
-use header::{Admission, Event, Node, Outputs};
 use std::alloc::{AllocError, Global};
 
 /// A run that has just begun, with a history.

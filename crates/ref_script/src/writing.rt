@@ -8,8 +8,8 @@ ghost use Rattle.spec_world.specs.Text as script;
 use crate::command::Command;
 use crate::frames::{put_due, without_due};
 use crate::stepping::{after, desk_on};
-use sigface::Sign;
 use header::{Event, Node};
+use sigface::Sign;
 use std::alloc::{AllocError, Global};
 
 /// What a node whose run begins with a history writes for commands: behind each of them the outputs that are due, in their

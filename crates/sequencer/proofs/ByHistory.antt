@@ -20,7 +20,8 @@ use Rattle.sequencer.specs.ByHistory.{HoldsHistory, ChainsByHistory}
 pub ledger_is : (node : Node) (graph : DagView) (values : List ℕ) → graph.charter ≡ node.charter → ledger_in graph values ≡ ledger_of node (slots_in graph) values
 ledger_is node graph values charter = ap (λ (x : Charter). let l : Ledger = record { charter = x; slots = slots_in graph; coins = values } in l) charter
 
-pub enough_of : (node : Node) (before more : History) (low : ℕ) (graph : DagView) (last : Option ℕ) → HoldsHistory node before more low graph last → IsEnough node before (before ++ more) low (slots_in graph)
+pub enough_of : (node : Node) (before more : History) (low : ℕ) (graph : DagView) (last : Option ℕ) → HoldsHistory node before more low graph last
+    → IsEnough node before (before ++ more) low (slots_in graph)
 enough_of node before more low graph last holds = held_is_enough node before more low (slots_in graph) holds.legal holds.low_enough holds.held
 
 -- the floor of a history by its last committed wave

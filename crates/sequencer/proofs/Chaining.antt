@@ -41,7 +41,8 @@ abbrev pub ReachFrom : Ledger → Option Certificate → ℕ → Type 0
 ReachFrom ledger previous base = (c : Certificate) → IsIn ledger.slots c → 2 * base + 1 ≤ c.header.round → option_map_or (λ before. reaches_in ledger c before) previous true ≡ true
 
 -- what a certificate that was held reaches was held
-was_held : (before : Ledger) (after : Slots) → Extends before.slots after → (start c : Certificate) → IsIn before.slots start → IsIn after c → reaches (size_in before) after start c ≡ true → IsIn before.slots c
+was_held : (before : Ledger) (after : Slots) → Extends before.slots after → (start c : Certificate) → IsIn before.slots start → IsIn after c
+    → reaches (size_in before) after start c ≡ true → IsIn before.slots c
 was_held before after ext start c held there reached =
     elim (given_or_none (before.slots c.header.round c.header.author.0)) [
       | inl old ↦ old.1 ∙ ap (λ d. Some d) (same_Some old.0 c (sym (ext.kept c.header.round c.header.author.0 old.0 old.1) ∙ there))
@@ -76,7 +77,8 @@ chained_to before after ext some more previous base reaching (suc wave) last hel
     ]
 
 -- a leader with support was held
-supported_held : (before : Ledger) (after : Slots) → Extends before.slots after → IsCharter before.charter → (more : List ℕ) (c : Certificate) → IsIn after c → has_support (grown before after more) c ≡ true → IsIn before.slots c
+supported_held : (before : Ledger) (after : Slots) → Extends before.slots after → IsCharter before.charter → (more : List ℕ) (c : Certificate)
+    → IsIn after c → has_support (grown before after more) c ≡ true → IsIn before.slots c
 supported_held before after ext sound more c there supported =
     elim (given_or_none (before.slots c.header.round c.header.author.0)) [
       | inl old ↦ old.1 ∙ ap (λ d. Some d) (same_Some old.0 c (sym (ext.kept c.header.round c.header.author.0 old.0 old.1) ∙ there))
@@ -152,7 +154,8 @@ steps before after ext more =
     ]
 
 -- the newer leaders are chained, over what was held before
-pub newer_chained : (before : Ledger) (after : Slots) → Extends before.slots after → IsCharter before.charter → (more : List ℕ) (previous : Option Certificate) → ReachFrom before previous (last_wave before)
+pub newer_chained : (before : Ledger) (after : Slots) → Extends before.slots after → IsCharter before.charter
+    → (more : List ℕ) (previous : Option Certificate) → ReachFrom before previous (last_wave before)
     → AreChained before previous (newer (grown before after more) (last_wave before))
 newer_chained before after ext sound more previous reaching =
     let now = grown before after more in

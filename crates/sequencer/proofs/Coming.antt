@@ -35,7 +35,8 @@ certificate_free : (node : Node) (now later : State) (certificate : Certificate)
     → now.slots certificate.header.round certificate.header.author.0 ≡ None
 certificate_free node now later certificate h = grind (arith, h, common_steps)
 
-certificate_high : (node : Node) (now later : State) (certificate : Certificate) → is_new (certificate_answer node now later certificate) ≡ true → is_low (floor_in node now) certificate.header.round ≡ false
+certificate_high : (node : Node) (now later : State) (certificate : Certificate) → is_new (certificate_answer node now later certificate) ≡ true
+    → is_low (floor_in node now) certificate.header.round ≡ false
 certificate_high node now later certificate h = grind (arith, h, common_steps)
 
 certificate_held : (node : Node) (now later : State) (certificate : Certificate) → is_new (certificate_answer node now later certificate) ≡ true
@@ -70,7 +71,8 @@ completed_free node state vote certificate sound new is =
           let by = sym (ap (option_and_then (certificate_by node (counted_with node state (message.Vote vote) vote.round))) found.1) ∙ is in
           let body = made_of node (counted_with node state (message.Vote vote) vote.round) header certificate by in
           let all : IsFree node state (record certificate { header = header.body }) = record {
-            free = ap (λ (r : ℕ). state.slots r header.body.author.0) place.0 ∙ ap (state.slots vote.round) place.1 ∙ vote_free node state (grown node state (message.Vote vote)) vote header found.1 new;
+            free = ap (λ (r : ℕ). state.slots r header.body.author.0) place.0 ∙ ap (state.slots vote.round) place.1
+                ∙ vote_free node state (grown node state (message.Vote vote)) vote header found.1 new;
             high = ap (is_low (floor_in node state)) place.0 ∙ vote_high node state (grown node state (message.Vote vote)) vote new;
             held = own.held;
           } in
@@ -96,7 +98,8 @@ free_by node state sender (message.BatchAck ack) certificate sound is_new_event 
 free_by node state sender (message.Header header) certificate sound is_new_event is = absurd (none-some certificate is)
 free_by node state sender (message.Coin coin) certificate sound is_new_event is = absurd (none-some certificate is)
 
-pub new_in : (node : Node) (state : State) (event : Event) (sequence : SequencerView) (certificate : Certificate) → ComesTo node state event sequence → certificate_of node state event.message ≡ Some certificate
+pub new_in : (node : Node) (state : State) (event : Event) (sequence : SequencerView) (certificate : Certificate) → ComesTo node state event sequence
+    → certificate_of node state event.message ≡ Some certificate
     → answer sequence.graph certificate ≡ Ok New
 new_in node state event sequence certificate comes is =
     let at = comes.at in
@@ -104,7 +107,8 @@ new_in node state event sequence certificate comes is =
     let header = certificate.header in
     let high : is_low sequence.graph.floor header.round ≡ false = ap (λ f. is_low f header.round) at.floor ∙ free.high in
     let none : slots_in sequence.graph header.round header.author.0 ≡ None = ap (λ (s : Slots). s header.round header.author.0) at.slots ∙ free.free in
-    let held : all_held (slots_in sequence.graph) sequence.graph.floor header ≡ true = ap (λ (s : Slots). all_held s sequence.graph.floor header) at.slots ∙ ap (λ f. all_held state.slots f header) at.floor ∙ free.held in
+    let held : all_held (slots_in sequence.graph) sequence.graph.floor header ≡ true = ap (λ (s : Slots). all_held s sequence.graph.floor header)
+    at.slots ∙ ap (λ f. all_held state.slots f header) at.floor ∙ free.held in
     rw (high, none, held) refl
 
 -- an event adds no certificate with a coin

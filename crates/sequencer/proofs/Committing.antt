@@ -61,10 +61,12 @@ past_same : (node : Node) (state : State) (event : Event) → Extends state.slot
 past_same node state event ext None c held = refl
 past_same node state event ext (Some last) c held = reaches_same (length node.charter.keys) state.slots (grown node state event.message).slots ext last c (held last refl)
 
-past_new : (node : Node) (state : State) (event : Event) → Extends state.slots (grown node state event.message).slots → (last : Option Certificate) (round author : ℕ) (c : Certificate) → WasHeld state.slots last
+past_new : (node : Node) (state : State) (event : Event) → Extends state.slots (grown node state event.message).slots
+    → (last : Option Certificate) (round author : ℕ) (c : Certificate) → WasHeld state.slots last
     → state.slots round author ≡ None → (grown node state event.message).slots round author ≡ Some c → is_past (ledger_in node (grown node state event.message)) last c ≡ false
 past_new node state event ext None round author c held none new = refl
-past_new node state event ext (Some last) round author c held none new = reaches_new (length node.charter.keys) state.slots (grown node state event.message).slots ext last round author c (held last refl) none new
+past_new node state event ext (Some last) round author c held none new = reaches_new (length node.charter.keys) state.slots
+    (grown node state event.message).slots ext last round author c (held last refl) none new
 
 grown_same : (node : Node) (state : State) (event : Event) (sequence : SequencerView) (later : DagView) → ComesTo node state event sequence → Extends state.slots (grown node state event.message).slots
     → IsStepped node state event sequence.graph later → last_leader (ledger_in node (grown node state event.message)) ≡ last_leader (ledger_in node state) → IsGrownTo node state event later
@@ -183,7 +185,8 @@ floor_is node state slot wave last is =
     let odd : 2 * suc wave - 1 ≡ slot.0 = omega (arith, level) in
     ap (floor_of node) is.is_top ∙ ap (λ (r : ℕ). r - node.charter.depth) odd
 
-grown_committed : (node : Node) (state : State) (event : Event) (sequence : SequencerView) (later new : DagView) (made : LengtheningView) → ComesTo node state event sequence → Extends state.slots (grown node state event.message).slots
+grown_committed : (node : Node) (state : State) (event : Event) (sequence : SequencerView) (later new : DagView) (made : LengtheningView)
+    → ComesTo node state event sequence → Extends state.slots (grown node state event.message).slots
     → IsStepped node state event sequence.graph later → FitsTo later made → option_map slot_of (last_leader (ledger_in node (grown node state event.message))) ≡ Some made.last
     → option_map_or (λ (s : ℕ × Author). s.0) sequence.last 0 < made.last.0 → (is : IsCommitted later new made)
     → IsGrownTo node state event is.marked × (floor_in node (grown node state event.message) ≡ made.last.0 - later.charter.depth)
@@ -227,7 +230,8 @@ goes_on known node state event sequence later prepared new comes ext ready stepp
     let ordered : new.order ≡ behind.order = order ∙ ap (λ l. l ++ prepared_digests prepared) comes.at.order ∙ ap (λ l. state.order ++ l) ready.digests in
     elim (given_or_none prepared.committed) [
       | inr none ↦
-          let last : option_map slot_of (last_leader (ledger_in node behind)) ≡ sequence.last = ready.last ∙ ap (λ o. option_map_or (λ (made : LengtheningView). Some made.last) o sequence.last) none in
+          let last : option_map slot_of (last_leader (ledger_in node behind)) ≡ sequence.last = ready.last
+          ∙ ap (λ o. option_map_or (λ (made : LengtheningView). Some made.last) o sequence.last) none in
           let commits' : (new.graph ≡ later) × (new.last ≡ sequence.last) = subst (λ o. CommitsTo later sequence.last o new.graph new.last) none commits in
           let same = nothing_newer node state event sequence comes ext last in
           let leaders = same_last (ledger_in node state) behind.slots ext (option_to_list (as_coin event.message)) same in
@@ -246,9 +250,11 @@ goes_on known node state event sequence later prepared new comes ext ready stepp
     ]
 
 -- with a certificate
-pub held_on : AreKnown → MadeStays → (node : Node) (state : State) (event : Event) (sequence : SequencerView) (certificate : Certificate) (later : DagView) (prepared : Prepared) (new : SequencerView) → ComesTo node state event sequence
+pub held_on : AreKnown → MadeStays → (node : Node) (state : State) (event : Event) (sequence : SequencerView) (certificate : Certificate)
+    (later : DagView) (prepared : Prepared) (new : SequencerView) → ComesTo node state event sequence
     → certificate_of node state event.message ≡ Some certificate → IsPrepared node state event sequence prepared → IsGraph sequence.graph → certificate.header.author.0 < size_in sequence.graph
-    → IsGraph later → IsWith sequence.graph later certificate → CommitsTo later sequence.last prepared.committed new.graph new.last → new.coins ≡ sequence.coins → new.order ≡ sequence.order ++ prepared_digests prepared
+    → IsGraph later → IsWith sequence.graph later certificate → CommitsTo later sequence.last prepared.committed new.graph new.last → new.coins
+    ≡ sequence.coins → new.order ≡ sequence.order ++ prepared_digests prepared
     → IsAt node (after node state event) new
 held_on known stays node state event sequence certificate later prepared new comes adds ready graph member sound more commits coins order =
     let ext = certificate_extends node state event sequence certificate later comes adds graph more in
@@ -281,7 +287,8 @@ held_on known stays node state event sequence certificate later prepared new com
         ]
 
 -- with a coin
-pub pushed_on : AreKnown → (node : Node) (state : State) (event : Event) (sequence : SequencerView) (value : ℕ) (prepared : Prepared) (new : SequencerView) → ComesTo node state event sequence → as_coin event.message ≡ Some value
+pub pushed_on : AreKnown → (node : Node) (state : State) (event : Event) (sequence : SequencerView) (value : ℕ) (prepared : Prepared)
+    (new : SequencerView) → ComesTo node state event sequence → as_coin event.message ≡ Some value
     → IsPrepared node state event sequence prepared → IsGraph sequence.graph → CommitsTo sequence.graph sequence.last prepared.committed new.graph new.last → new.coins ≡ sequence.coins ++ value ∷ []
     → new.order ≡ sequence.order ++ prepared_digests prepared → IsAt node (after node state event) new
 pushed_on known node state event sequence value prepared new comes adds ready graph commits coins order =

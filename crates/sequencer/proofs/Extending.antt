@@ -32,7 +32,8 @@ past_range from zero i past = refl
 past_range from (suc count) zero past = absurd (omega (arith, past))
 past_range from (suc count) (suc i) past = past_range (from + 1) count i (omega (arith, past))
 
-in_table : (given : ℕ → ℕ → Option Placed) (floor count size round author : ℕ) → floor ≤ round → round < floor + count → author < size → row_at floor (table given floor count size) round author ≡ given round author
+in_table : (given : ℕ → ℕ → Option Placed) (floor count size round author : ℕ) → floor ≤ round → round < floor + count → author < size
+    → row_at floor (table given floor count size) round author ≡ given round author
 in_table given floor count size round author above within member =
     let above' = le-leb floor round above in
     let is : floor + (round - floor) ≡ round = omega (arith, above) in
@@ -51,7 +52,8 @@ past_table given floor count size round author past =
     ∙ ap (option_map (λ r. map (given r) (range_with_len 0 size))) (past_range floor count (round - floor) (omega (arith, past))) in
     rw (above', row) refl
 
-beside_table : (given : ℕ → ℕ → Option Placed) (floor count size round author : ℕ) → floor ≤ round → round < floor + count → size ≤ author → row_at floor (table given floor count size) round author ≡ None
+beside_table : (given : ℕ → ℕ → Option Placed) (floor count size round author : ℕ) → floor ≤ round → round < floor + count → size ≤ author
+    → row_at floor (table given floor count size) round author ≡ None
 beside_table given floor count size round author above within other =
     let above' = le-leb floor round above in
     let is : floor + (round - floor) ≡ round = omega (arith, above) in
@@ -141,7 +143,8 @@ placed_with graph certificate sound high member round author =
         ]
 
 -- a certificate with a parent that is held or low is of the next round at most
-near_by : (graph : DagView) (round : ℕ) (parents : List ParentReference) → 0 < length parents → list_all (is_held (slots_in graph) graph.floor round) parents ≡ true → round ≤ max (end_in graph) (graph.floor + 1)
+near_by : (graph : DagView) (round : ℕ) (parents : List ParentReference) → 0 < length parents → list_all (is_held (slots_in graph) graph.floor round)
+    parents ≡ true → round ≤ max (end_in graph) (graph.floor + 1)
 near_by graph round [] some all = absurd (omega (arith, some))
 near_by graph round (p ∷ parents) some all =
     let held : is_held (slots_in graph) graph.floor round p ≡ true = (and_parts (is_held (slots_in graph) graph.floor round p) (list_all (is_held (slots_in graph) graph.floor round) parents) all).0 in
@@ -159,7 +162,8 @@ near_by graph round (p ∷ parents) some all =
 high_above : (floor round : ℕ) → is_low floor round ≡ false → floor ≤ round
 high_above floor round high = grind (arith, high, common_steps)
 
-pub there_is : (graph : DagView) (certificate : Certificate) → IsGraph graph → certificate.header.author.0 < size_in graph → 0 < length certificate.header.parents → answer graph certificate ≡ Ok New → IsWith graph (with_one graph certificate) certificate
+pub there_is : (graph : DagView) (certificate : Certificate) → IsGraph graph → certificate.header.author.0 < size_in graph
+    → 0 < length certificate.header.parents → answer graph certificate ≡ Ok New → IsWith graph (with_one graph certificate) certificate
 there_is graph certificate sound member named new =
     let fresh = is_new graph certificate new in
     let high = high_above graph.floor certificate.header.round fresh.high in
@@ -181,7 +185,9 @@ there_is graph certificate sound member named new =
     cases None true = refl
     cases None false = refl
 
-    marks : (o : Option Placed) (b : Bool) → option_map_or (λ p. p.marked) (option_or o (if b then Some (record { certificate = certificate; marked = false }) else None)) false ≡ option_map_or (λ p. p.marked) o false
+    marks : (o : Option Placed) (b : Bool)
+        → option_map_or (λ p. p.marked) (option_or o (if b then Some (record { certificate = certificate; marked = false }) else None)) false
+        ≡ option_map_or (λ p. p.marked) o false
     marks (Some p) b = refl
     marks None true = refl
     marks None false = refl

@@ -30,7 +30,8 @@ use Rattle.sequencer.proofs.Staying.{slots_same}
 -- ---- a certificate
 
 -- the DAG with the certificate has the slots of the state with it
-pub later_slots : (node : Node) (state : State) (event : Event) (sequence : SequencerView) (certificate : Certificate) (later : DagView) → IsAt node state sequence → certificate_of node state event.message ≡ Some certificate
+pub later_slots : (node : Node) (state : State) (event : Event) (sequence : SequencerView) (certificate : Certificate) (later : DagView)
+    → IsAt node state sequence → certificate_of node state event.message ≡ Some certificate
     → IsWith sequence.graph later certificate → slots_in later ≡ (grown node state event.message).slots
 later_slots node state event sequence certificate later at is more =
     fun_ext (λ round. fun_ext (λ author.
@@ -38,15 +39,18 @@ later_slots node state event sequence certificate later at is more =
     ∙ ap (λ (s : Slots). option_or (s round author) (slots_of (certificate ∷ []) round author)) at.slots
     ∙ sym (ap (λ o. option_or (state.slots round author) (slots_of (option_to_list o) round author)) is)))
 
-pub later_ledger : (node : Node) (state : State) (event : Event) (sequence : SequencerView) (certificate : Certificate) (later : DagView) → IsAt node state sequence → certificate_of node state event.message ≡ Some certificate
+pub later_ledger : (node : Node) (state : State) (event : Event) (sequence : SequencerView) (certificate : Certificate) (later : DagView)
+    → IsAt node state sequence → certificate_of node state event.message ≡ Some certificate
     → IsWith sequence.graph later certificate → ledger_in later sequence.coins ≡ states.ledger_in node (grown node state event.message)
 later_ledger node state event sequence certificate later at is more =
-    let coins : sequence.coins ≡ (grown node state event.message).coins = at.coins ∙ sym (append-nil state.coins) ∙ sym (ap (λ l. state.coins ++ l) (no_coin node state event.message certificate is)) in
+    let coins : sequence.coins ≡ (grown node state event.message).coins = at.coins ∙ sym (append-nil state.coins)
+    ∙ sym (ap (λ l. state.coins ++ l) (no_coin node state event.message certificate is)) in
     ap (λ x. let l : Ledger = record { charter = x; slots = slots_in later; coins = sequence.coins } in l) (more.charter ∙ at.charter)
     ∙ ap (λ (s : Slots). ledger_of node s sequence.coins) (later_slots node state event sequence certificate later at is more)
     ∙ ap (ledger_of node (grown node state event.message).slots) coins
 
-pub certificate_extends : (node : Node) (state : State) (event : Event) (sequence : SequencerView) (certificate : Certificate) (later : DagView) → ComesTo node state event sequence → certificate_of node state event.message ≡ Some certificate
+pub certificate_extends : (node : Node) (state : State) (event : Event) (sequence : SequencerView) (certificate : Certificate) (later : DagView)
+    → ComesTo node state event sequence → certificate_of node state event.message ≡ Some certificate
     → IsGraph sequence.graph → IsWith sequence.graph later certificate → Extends state.slots (grown node state event.message).slots
 certificate_extends node state event sequence certificate later comes is graph more =
     let new = is_new sequence.graph certificate (new_in node state event sequence certificate comes is) in
@@ -58,7 +62,8 @@ unequal : (one other : ℕ) → (one == other) ≡ false → one ≢ other
 unequal one other apart = grind (arith, apart)
 
 -- the certificate is of the round above the last leader's, where one is newer
-pub above_last : (node : Node) (state : State) (event : Event) (sequence : SequencerView) (certificate : Certificate) (later : DagView) → ComesTo node state event sequence → certificate_of node state event.message ≡ Some certificate
+pub above_last : (node : Node) (state : State) (event : Event) (sequence : SequencerView) (certificate : Certificate) (later : DagView)
+    → ComesTo node state event sequence → certificate_of node state event.message ≡ Some certificate
     → IsGraph sequence.graph → IsWith sequence.graph later certificate → (wave : ℕ) (last : Certificate)
     → IsHigher (states.ledger_in node state) (states.ledger_in node (grown node state event.message)) wave last → certificate.header.round ≡ 2 * suc wave
 above_last node state event sequence certificate later comes is graph more wave last higher =
@@ -67,7 +72,8 @@ above_last node state event sequence certificate later comes is graph more wave 
     let new = is_new before certificate (new_in node state event sequence certificate comes is) in
     let at = at_wave node state sequence comes.comes.node_is comes.comes.sound comes.at in
     let now = with_certificate before later coins in
-    let same : now ≡ states.ledger_in node (grown node state event.message) = same_ledger before later certificate coins more ∙ later_ledger node state event sequence certificate later comes.at is more in
+    let same : now ≡ states.ledger_in node (grown node state event.message) = same_ledger before later certificate coins more
+    ∙ later_ledger node state event sequence certificate later comes.at is more in
     let committed : is_directly_committed now (suc wave) ≡ true =
     ap (λ l. is_directly_committed l (suc wave)) same ∙ ap (λ o. option_map_or (has_support (states.ledger_in node (grown node state event.message))) o false) higher.leads ∙ higher.supported in
     let within = (committed_within now (suc wave) committed).1 in

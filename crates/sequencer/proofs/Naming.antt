@@ -77,7 +77,8 @@ member_by node state sender (message.Coin coin) certificate node_is sound taken 
 
 -- ---- its parents
 
-completed_names : (node : Node) (state : State) (vote : Vote) (certificate : Certificate) → IsSound node state → certificate_of node state (message.Vote vote) ≡ Some certificate → 0 < length certificate.header.parents
+completed_names : (node : Node) (state : State) (vote : Vote) (certificate : Certificate) → IsSound node state
+    → certificate_of node state (message.Vote vote) ≡ Some certificate → 0 < length certificate.header.parents
 completed_names node state vote certificate sound is =
     let counted = counted_with node state (message.Vote vote) vote.round in
     elim (given_or_none (state.own_headers vote.round)) [
@@ -99,13 +100,15 @@ names_by node state sender (message.BatchAck ack) certificate sound taken is = a
 names_by node state sender (message.Header header) certificate sound taken is = absurd (none-some certificate is)
 names_by node state sender (message.Coin coin) certificate sound taken is = absurd (none-some certificate is)
 
-pub names_some : (node : Node) (state : State) (event : Event) (sequence : SequencerView) (certificate : Certificate) → ComesTo node state event sequence → certificate_of node state event.message ≡ Some certificate
+pub names_some : (node : Node) (state : State) (event : Event) (sequence : SequencerView) (certificate : Certificate)
+    → ComesTo node state event sequence → certificate_of node state event.message ≡ Some certificate
     → 0 < length certificate.header.parents
 names_some node state event sequence certificate comes is = names_by node state event.sender event.message certificate comes.comes.sound comes.comes.taken is
 
 pub certificates_are_new : CertificatesAreNew
 certificates_are_new node state event sequence certificate comes is = record {
   new = new_in node state event sequence certificate comes is;
-  member = subst (λ (x : Charter). certificate.header.author.0 < length x.keys) (sym comes.at.charter) (member_by node state event.sender event.message certificate comes.comes.node_is comes.comes.sound comes.comes.taken is);
+  member = subst (λ (x : Charter). certificate.header.author.0 < length x.keys) (sym comes.at.charter)
+      (member_by node state event.sender event.message certificate comes.comes.node_is comes.comes.sound comes.comes.taken is);
   named = names_some node state event sequence certificate comes is;
 }

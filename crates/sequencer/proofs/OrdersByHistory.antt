@@ -82,7 +82,8 @@ chained_behind ledger previous (c ∷ front) back chained = chained_behind ledge
 as_high : (low : ℕ) (slots : Slots) → AreInPlace slots → (round author : ℕ) (c : Certificate) → low ≤ round → slots round author ≡ Some c → low ≤ c.header.round
 as_high low slots placed round author c above held = let place = slot_is round author c.header (placed round author c held) in omega (arith, above, place.0)
 
-paths_from : (n low : ℕ) (one other : Slots) → AgreeFrom low one other → (steps : ℕ) (start end : Certificate) → low ≤ end.header.round → has_path n one steps start end ≡ has_path n other steps start end
+paths_from : (n low : ℕ) (one other : Slots) → AgreeFrom low one other → (steps : ℕ) (start end : Certificate) → low ≤ end.header.round
+    → has_path n one steps start end ≡ has_path n other steps start end
 paths_from n low one other agree zero start end above = refl
 paths_from n low one other agree (suc steps) start end above =
     let round = end.header.round + 1 in
@@ -95,7 +96,9 @@ reaches_from : (n low : ℕ) (one other : Slots) → AgreeFrom low one other →
 reaches_from n low one other agree start end above =
     ap (λ b. nat_le end.header.round start.header.round && b) (paths_from n low one other agree (start.header.round - end.header.round) start end above)
 
-chained_from : (node : Node) (values : List ℕ) (low : ℕ) (one other : Slots) → AgreeFrom low one other → (previous : Option Certificate) (chain : List Certificate) → IfSome previous (λ p. low ≤ p.header.round) → ((c : Certificate) → Contains chain c → low ≤ c.header.round)
+chained_from : (node : Node) (values : List ℕ) (low : ℕ) (one other : Slots) → AgreeFrom low one other
+    → (previous : Option Certificate) (chain : List Certificate) → IfSome previous (λ p. low ≤ p.header.round)
+    → ((c : Certificate) → Contains chain c → low ≤ c.header.round)
     → AreChained (ledger_of node other values) previous chain → AreChained (ledger_of node one values) previous chain
 chained_from node values low one other agree previous [] high all chained = tt
 chained_from node values low one other agree previous (c ∷ chain) high all chained =
@@ -118,7 +121,8 @@ record IsLast (node : Node) (before : History) (graph : DagView) (p : Certificat
   low_wave : p.header.round ≤ 2 * last_wave (ledger_at node before)
   held : IsIn (slots_in graph) p
 
-last_placed : (node : Node) (before more : History) (low : ℕ) (graph : DagView) (last : Option ℕ) → HoldsHistory node before more low graph last → (p : Certificate) → last_leader_at node before ≡ Some p → IsLast node before graph p
+last_placed : (node : Node) (before more : History) (low : ℕ) (graph : DagView) (last : Option ℕ) → HoldsHistory node before more low graph last
+    → (p : Certificate) → last_leader_at node before ≡ Some p → IsLast node before graph p
 last_placed node before more low graph last holds p is =
     let ledger = ledger_at node before in
     let now = ledger_of node (slots_in graph) (coins (before ++ more)) in
@@ -146,13 +150,15 @@ abbrev newer_of : Node → History → History → List Certificate
 newer_of node before more = newer (ledger_at node (before ++ more)) (last_wave (ledger_at node before))
 
 -- they lie above the last wave from before
-newer_above : (node : Node) (before more : History) (low : ℕ) (graph : DagView) (last : Option ℕ) → HoldsHistory node before more low graph last → (c : Certificate) → Contains (newer_of node before more) c
+newer_above : (node : Node) (before more : History) (low : ℕ) (graph : DagView) (last : Option ℕ) → HoldsHistory node before more low graph last
+    → (c : Certificate) → Contains (newer_of node before more) c
     → 2 * last_wave (ledger_at node before) + 1 ≤ c.header.round
 newer_above node before more low graph last holds c inside =
     newer_high (ledger_at node (before ++ more)) (members_some node holds.legal.sound) (in_place node (before ++ more)) (last_wave (ledger_at node before)) c inside
 
 -- so does the round at the depth below a newer leader
-deep_enough : (node : Node) (before more : History) (low : ℕ) (graph : DagView) (last : Option ℕ) → HoldsHistory node before more low graph last → (c : Certificate) → Contains (newer_of node before more) c
+deep_enough : (node : Node) (before more : History) (low : ℕ) (graph : DagView) (last : Option ℕ) → HoldsHistory node before more low graph last
+    → (c : Certificate) → Contains (newer_of node before more) c
     → floor node before ≤ c.header.round - graph.charter.depth
 deep_enough node before more low graph last holds c inside =
     let above = newer_above node before more low graph last holds c inside in
@@ -205,7 +211,8 @@ chained node before more low graph last holds =
 -- ---- by their slots
 
 -- each of them was held
-was_behind : (ledger : Ledger) (previous : Option Certificate) (front back : List Certificate) → WasHeld ledger.slots previous → AreChained ledger previous (front ++ back) → WasHeld ledger.slots (last_or previous front)
+was_behind : (ledger : Ledger) (previous : Option Certificate) (front back : List Certificate) → WasHeld ledger.slots previous
+    → AreChained ledger previous (front ++ back) → WasHeld ledger.slots (last_or previous front)
 was_behind ledger previous [] back was links = was
 was_behind ledger previous (c ∷ front) back was links = was_behind ledger (Some c) front back (λ d is. subst (IsIn ledger.slots) (same_Some c d is) links.0) links.2
 
@@ -223,11 +230,13 @@ last_was : (node : Node) (before more : History) (low : ℕ) (graph : DagView) (
 last_was node before more low graph last holds p is = (last_placed node before more low graph last holds p is).held
 
 -- the slots of the newer leaders
-slots_linked : (node : Node) (before more : History) (low : ℕ) (graph : DagView) (last : Option ℕ) → HoldsHistory node before more low graph last → AreLinked graph (option_map slot_of (last_leader_at node before)) (map slot_of (newer_of node before more))
+slots_linked : (node : Node) (before more : History) (low : ℕ) (graph : DagView) (last : Option ℕ) → HoldsHistory node before more low graph last
+    → AreLinked graph (option_map slot_of (last_leader_at node before)) (map slot_of (newer_of node before more))
 slots_linked node before more low graph last holds =
     linked graph (coins (before ++ more)) (last_leader_at node before) (newer_of node before more) (chained node before more low graph last holds) (last_was node before more low graph last holds)
 
-marked_for : (node : Node) (before more : History) (low : ℕ) (graph : DagView) (last : Option ℕ) → HoldsHistory node before more low graph last → IsMarkedPast graph (floor node before) (last_leader_at node before)
+marked_for : (node : Node) (before more : History) (low : ℕ) (graph : DagView) (last : Option ℕ) → HoldsHistory node before more low graph last
+    → IsMarkedPast graph (floor node before) (last_leader_at node before)
     → (chain : List Certificate) → newer_of node before more ≡ chain → IsMarkedFor graph (option_map slot_of (last_leader_at node before)) (map slot_of chain)
 marked_for node before more low graph last holds marks [] is = tt
 marked_for node before more low graph last holds marks (c ∷ chain) is =
@@ -235,7 +244,8 @@ marked_for node before more low graph last holds marks (c ∷ chain) is =
     let deep = deep_enough node before more low graph last holds c (subst (λ l. Contains l c) (sym is) (Contains-first chain c)) in
     λ r a e from held. marks r a e (omega (arith, from, deep)) held ∙ ap (λ p. is_past (ledger_in graph []) p e) (sym (held_last graph first (last_was node before more low graph last holds)))
 
-one_orders : (node : Node) (before more : History) (low : ℕ) (graph : DagView) (last : Option ℕ) → EachFollows → HoldsHistory node before more low graph last → IsMarkedPast graph (floor node before) (last_leader_at node before)
+one_orders : (node : Node) (before more : History) (low : ℕ) (graph : DagView) (last : Option ℕ) → EachFollows
+    → HoldsHistory node before more low graph last → IsMarkedPast graph (floor node before) (last_leader_at node before)
     → (front rest : List Certificate) (c : Certificate) → newer_of node before more ≡ front ++ c ∷ rest → OrdersAs node (before ++ more) graph (last_or (last_leader_at node before) front) c
 one_orders node before more low graph last each holds marks front rest c parts =
     let values = coins (before ++ more) in

@@ -43,7 +43,8 @@ pub record IsLast (ledger : Ledger) (wave : ℕ) (last : Certificate) : Type 0 w
   pub level : last.header.round ≡ 2 * wave + 1
   pub held : IsIn ledger.slots last
 
-pub last_at : (node : Node) (state : State) → IsNode node → IsSound node state → (greatest : ℕ) → top (states.ledger_in node state) ≡ Some greatest → (wave : ℕ) × (last : Certificate) × IsLast (states.ledger_in node state) wave last
+pub last_at : (node : Node) (state : State) → IsNode node → IsSound node state → (greatest : ℕ) → top (states.ledger_in node state) ≡ Some greatest
+    → (wave : ℕ) × (last : Certificate) × IsLast (states.ledger_in node state) wave last
 last_at node state node_is sound greatest found =
     let ledger = states.ledger_in node state in
     let lead = top_leader ledger greatest found in
@@ -94,7 +95,8 @@ at_wave node state sequence node_is sound at =
           }
     ]
 
-pub wave_is : (node : Node) (state : State) (sequence : SequencerView) → IsNode node → IsSound node state → IsAt node state sequence → chain.wave_of (wave_in sequence.last) ≡ last_wave (states.ledger_in node state)
+pub wave_is : (node : Node) (state : State) (sequence : SequencerView) → IsNode node → IsSound node state → IsAt node state sequence
+    → chain.wave_of (wave_in sequence.last) ≡ last_wave (states.ledger_in node state)
 wave_is node state sequence node_is sound at =
     let is = at_wave node state sequence node_is sound at in
     ap chain.wave_of (sym is.top ∙ ap top (same_ledger node state sequence at))
@@ -130,7 +132,8 @@ leaders_are graph (c ∷ certificates) held =
     let rest = leaders_are graph certificates (λ d inside. held d (Contains-later c certificates d inside)) in
     rw here (ap (λ l. c ∷ l) rest)
 
-pub linked : (graph : DagView) (coins : List ℕ) (previous : Option Certificate) (certificates : List Certificate) → AreChained (ledger_in graph coins) previous certificates → WasHeld (slots_in graph) previous
+pub linked : (graph : DagView) (coins : List ℕ) (previous : Option Certificate) (certificates : List Certificate)
+    → AreChained (ledger_in graph coins) previous certificates → WasHeld (slots_in graph) previous
     → AreLinked graph (option_map slot_of previous) (map slot_of certificates)
 linked graph coins previous [] chained was = tt
 linked graph coins previous (c ∷ certificates) chained was = (
@@ -164,7 +167,8 @@ pub record IsChainOf (node : Node) (state : State) (event : Event) (sequence : S
   pub some : (slot : ℕ × Author) → slice_get slots (length slots - 1) ≡ Some slot
       → (option_map slot_of (last_leader (states.ledger_in node (grown node state event.message))) ≡ Some slot) × (option_map_or (λ (s : ℕ × Author). s.0) sequence.last 0 < slot.0)
 
-pub marked_past : (node : Node) (state : State) (sequence : SequencerView) → IsNode node → IsSound node state → IsAt node state sequence → (low : ℕ) → IsMarkedPast sequence.graph low (leader_held sequence.graph sequence.last)
+pub marked_past : (node : Node) (state : State) (sequence : SequencerView) → IsNode node → IsSound node state → IsAt node state sequence → (low : ℕ)
+    → IsMarkedPast sequence.graph low (leader_held sequence.graph sequence.last)
 marked_past node state sequence node_is sound at low round author c above held =
     let before = states.ledger_in node state in
     let previous = last_leader before in
@@ -174,8 +178,11 @@ marked_past node state sequence node_is sound at low round author c above held =
     ∙ sym (ap (λ (l : Ledger). is_past l previous c) (same_ledger node state sequence at))
     ∙ sym (ap (λ o. is_past (ledger_in sequence.graph []) o c) last)
 
-pub chain_of : (node : Node) (state : State) (event : Event) (sequence : SequencerView) → IsNode node → IsSound node state → IsAt node state sequence → Extends state.slots (grown node state event.message).slots
-    → (slots : List (ℕ × Author)) → slots ≡ map slot_of (newer (states.ledger_in node (grown node state event.message)) (last_wave (states.ledger_in node state))) → IsChainOf node state event sequence slots
+pub chain_of : (node : Node) (state : State) (event : Event) (sequence : SequencerView) → IsNode node → IsSound node state → IsAt node state sequence
+    → Extends state.slots (grown node state event.message).slots
+    → (slots : List (ℕ × Author)) → slots
+    ≡ map slot_of (newer (states.ledger_in node (grown node state event.message)) (last_wave (states.ledger_in node state)))
+    → IsChainOf node state event sequence slots
 chain_of node state event sequence node_is sound at ext slots all =
     let before = states.ledger_in node state in
     let later = (grown node state event.message).slots in

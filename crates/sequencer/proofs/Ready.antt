@@ -28,18 +28,23 @@ use Rattle.sequencer.proofs.Growing.{later_ledger, certificate_extends, coin_led
 use Rattle.sequencer.proofs.Naming.{names_some}
 use Rattle.sequencer.proofs.Preparing.{IsChainOf, chain_of, marked_past, at_wave, wave_is}
 
-marked_for : (node : Node) (state : State) (sequence : SequencerView) (slots : List (ℕ × Author)) → IsNode node → IsSound node state → IsAt node state sequence → IsMarkedFor sequence.graph sequence.last slots
+marked_for : (node : Node) (state : State) (sequence : SequencerView) (slots : List (ℕ × Author)) → IsNode node → IsSound node state
+    → IsAt node state sequence → IsMarkedFor sequence.graph sequence.last slots
 marked_for node state sequence [] node_is sound at = tt
 marked_for node state sequence (first ∷ slots) node_is sound at = marked_past node state sequence node_is sound at (first.0 - sequence.graph.charter.depth)
 
-pub ready : (node : Node) (state : State) (event : Event) (sequence : SequencerView) (slots : List (ℕ × Author)) (prepared : Prepared) → ComesTo node state event sequence → IsChainOf node state event sequence slots
+pub ready : (node : Node) (state : State) (event : Event) (sequence : SequencerView) (slots : List (ℕ × Author)) (prepared : Prepared)
+    → ComesTo node state event sequence → IsChainOf node state event sequence slots
     → IsMadeOf sequence.graph sequence.last slots prepared.committed → IsPrepared node state event sequence prepared
 ready node state event sequence slots prepared comes chained made =
     elim (given_or_none prepared.committed) [
       | inr none ↦
           let empty : slots ≡ [] = subst (IsMadeOf sequence.graph sequence.last slots) none made in
           record {
-            digests = ap (λ o. option_map_or (λ (m : LengtheningView). m.digests) o []) none ∙ sym (ap (λ l. digests_of (segments (ledger_in sequence.graph sequence.coins) (leader_held sequence.graph sequence.last) (leaders_in sequence.graph l))) empty) ∙ chained.digests;
+            digests = ap (λ o. option_map_or (λ (m : LengtheningView). m.digests) o []) none
+                ∙ sym (ap (λ l. digests_of
+                (segments (ledger_in sequence.graph sequence.coins) (leader_held sequence.graph sequence.last) (leaders_in sequence.graph l))) empty)
+                ∙ chained.digests;
             last = chained.none empty ∙ sym (ap (λ o. option_map_or (λ (m : LengtheningView). Some m.last) o sequence.last) none);
             made = λ m is. absurd (none-some m (sym none ∙ is));
             newer = λ m is. absurd (none-some m (sym none ∙ is));
@@ -56,15 +61,18 @@ ready node state event sequence slots prepared comes chained made =
           }
     ]
 
-pub certificate_chain : (node : Node) (state : State) (event : Event) (sequence : SequencerView) (certificate : Certificate) (later : DagView) (slots : List (ℕ × Author)) → ComesTo node state event sequence
-    → certificate_of node state event.message ≡ Some certificate → IsGraph sequence.graph → IsWith sequence.graph later certificate → IsChain (ledger_in later sequence.coins) (wave_in sequence.last) slots
+pub certificate_chain : (node : Node) (state : State) (event : Event) (sequence : SequencerView) (certificate : Certificate) (later : DagView)
+    (slots : List (ℕ × Author)) → ComesTo node state event sequence
+    → certificate_of node state event.message ≡ Some certificate → IsGraph sequence.graph → IsWith sequence.graph later certificate
+    → IsChain (ledger_in later sequence.coins) (wave_in sequence.last) slots
     → IsChainOf node state event sequence slots
 certificate_chain node state event sequence certificate later slots comes adds graph more is =
     chain_of node state event sequence comes.comes.node_is comes.comes.sound comes.at (certificate_extends node state event sequence certificate later comes adds graph more) slots
     (is.newer ∙ ap (λ (l : Ledger). map slot_of (newer l (wave_of (wave_in sequence.last)))) (later_ledger node state event sequence certificate later comes.at adds more)
     ∙ ap (λ w. map slot_of (newer (states.ledger_in node (grown node state event.message)) w)) (wave_is node state sequence comes.comes.node_is comes.comes.sound comes.at))
 
-pub coin_chain : (node : Node) (state : State) (event : Event) (sequence : SequencerView) (value : ℕ) (slots : List (ℕ × Author)) → ComesTo node state event sequence → as_coin event.message ≡ Some value
+pub coin_chain : (node : Node) (state : State) (event : Event) (sequence : SequencerView) (value : ℕ) (slots : List (ℕ × Author))
+    → ComesTo node state event sequence → as_coin event.message ≡ Some value
     → IsChain (ledger_in sequence.graph (sequence.coins ++ value ∷ [])) (wave_in sequence.last) slots → IsChainOf node state event sequence slots
 coin_chain node state event sequence value slots comes adds is =
     chain_of node state event sequence comes.comes.node_is comes.comes.sound comes.at (coin_extends node state event value adds comes.comes.sound) slots
@@ -72,7 +80,8 @@ coin_chain node state event sequence value slots comes adds is =
     ∙ ap (λ w. map slot_of (newer (states.ledger_in node (grown node state event.message)) w)) (wave_is node state sequence comes.comes.node_is comes.comes.sound comes.at))
 
 -- what was made of the leaders that a certificate commits is prepared for it
-pub ready_for : (node : Node) (state : State) (event : Event) (sequence : SequencerView) (certificate : Certificate) (last : Option ℕ) (slots : List (ℕ × Author)) (prepared : Prepared) → ComesTo node state event sequence
+pub ready_for : (node : Node) (state : State) (event : Event) (sequence : SequencerView) (certificate : Certificate) (last : Option ℕ)
+    (slots : List (ℕ × Author)) (prepared : Prepared) → ComesTo node state event sequence
     → certificate_of node state event.message ≡ Some certificate → IsGraph sequence.graph → certificate.header.author.0 < size_in sequence.graph → last ≡ wave_in sequence.last
     → (chain.IsAt sequence.graph sequence.coins last → answer sequence.graph certificate ≡ Ok New
     → (later : DagView) → IsWith sequence.graph later certificate → IsChain (ledger_in later sequence.coins) last slots)
@@ -87,7 +96,8 @@ ready_for node state event sequence certificate last slots prepared comes adds g
     (certificate_chain node state event sequence certificate later slots comes adds graph more (subst (λ (o : Option ℕ). IsChain (ledger_in later sequence.coins) o slots) wave is)) made
 
 -- so it is with a coin
-pub ready_with : (node : Node) (state : State) (event : Event) (sequence : SequencerView) (value : ℕ) (last : Option ℕ) (slots : List (ℕ × Author)) (prepared : Prepared) → ComesTo node state event sequence
+pub ready_with : (node : Node) (state : State) (event : Event) (sequence : SequencerView) (value : ℕ) (last : Option ℕ) (slots : List (ℕ × Author))
+    (prepared : Prepared) → ComesTo node state event sequence
     → as_coin event.message ≡ Some value → last ≡ wave_in sequence.last
     → (chain.IsAt sequence.graph sequence.coins last → IsChain (ledger_in sequence.graph (sequence.coins ++ value ∷ [])) last slots)
     → IsMadeOf sequence.graph sequence.last slots prepared.committed → IsPrepared node state event sequence prepared

@@ -18,7 +18,8 @@ use Rattle.sequencer.specs.Sequence.{SequencerView, IsAt}
 use Rattle.sequencer.proofs.Extending.{placed_within}
 
 -- of the rounds up to one the greatest full one
-full_is : (node : Node) (slots : Slots) (full most : ℕ) → full ≤ most → (full ≡ 0) ⊎ (is_full node slots full ≡ true) → ((round : ℕ) → full < round → round ≤ most → is_full node slots round ≡ false) → full_to node slots most ≡ full
+full_is : (node : Node) (slots : Slots) (full most : ℕ) → full ≤ most → (full ≡ 0) ⊎ (is_full node slots full ≡ true)
+    → ((round : ℕ) → full < round → round ≤ most → is_full node slots round ≡ false) → full_to node slots most ≡ full
 full_is node slots full zero within is above = omega (arith, within)
 full_is node slots full (suc most) within is above =
     elim (cases_lt full (suc most)) [
@@ -44,7 +45,8 @@ one_of node slots round full =
     ]
 
 -- a round is full by what a DAG holds
-stake_is : (node : Node) (state : State) (sequence : SequencerView) → IsAt node state sequence → (round : ℕ) → stake_in sequence.graph round ≡ weight node.charter (λ author. is_some (state.slots round author))
+stake_is : (node : Node) (state : State) (sequence : SequencerView) → IsAt node state sequence → (round : ℕ) → stake_in sequence.graph round
+    ≡ weight node.charter (λ author. is_some (state.slots round author))
 stake_is node state sequence at round =
     ap (λ (x : Charter). weight x (λ author. is_some (slots_in sequence.graph round author))) at.charter
     ∙ ap (λ (s : Slots). weight node.charter (λ author. is_some (s round author))) at.slots
@@ -55,14 +57,16 @@ not_enough one other less = grind (arith, less)
 enough : (one other : ℕ) → one ≤ other → nat_le one other ≡ true
 enough one other less = grind (arith, less)
 
-pub full_by : (node : Node) (state : State) (sequence : SequencerView) → IsAt node state sequence → (round : ℕ) → quorum_of sequence.graph.charter ≤ stake_in sequence.graph round → is_full node state.slots round ≡ true
+pub full_by : (node : Node) (state : State) (sequence : SequencerView) → IsAt node state sequence → (round : ℕ)
+    → quorum_of sequence.graph.charter ≤ stake_in sequence.graph round → is_full node state.slots round ≡ true
 full_by node state sequence at round more =
     let charter : quorum_of sequence.graph.charter ≡ quorum_of node.charter = ap quorum_of at.charter in
     let stake = stake_is node state sequence at round in
     enough (quorum_of node.charter) (weight node.charter (λ author. is_some (state.slots round author))) (omega (arith, charter, stake, more))
 
 -- the round is that behind the greatest full one from the floor on
-pub round_is : (node : Node) (state : State) (sequence : SequencerView) → IsSound node state → IsAt node state sequence → (full : ℕ) → (full ≡ 0) ⊎ (quorum_of sequence.graph.charter ≤ stake_in sequence.graph full)
+pub round_is : (node : Node) (state : State) (sequence : SequencerView) → IsSound node state → IsAt node state sequence → (full : ℕ) → (full ≡ 0)
+    ⊎ (quorum_of sequence.graph.charter ≤ stake_in sequence.graph full)
     → ((round : ℕ) → full < round → round < end_in sequence.graph → sequence.graph.floor ≤ round → stake_in sequence.graph round < quorum_of sequence.graph.charter) → full + 1 ≡ round_in node state
 round_is node state sequence sound at full is above =
     let found = full_is node state.slots full state.highest within here others in

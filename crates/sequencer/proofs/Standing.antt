@@ -35,7 +35,8 @@ pub record IsBehind (node : Node) (state : State) (event : Event) : Type 0 where
   pub floors : floor_in node (grown node state event.message) ≡ floor_in node (after node state event)
   pub lasts : last_leader (ledger_in node (grown node state event.message)) ≡ last_leader (ledger_in node (after node state event))
 
-pub is_behind : AreKnown → (node : Node) (state : State) (event : Event) (sequence : SequencerView) → ComesTo node state event sequence → Extends state.slots (grown node state event.message).slots → IsBehind node state event
+pub is_behind : AreKnown → (node : Node) (state : State) (event : Event) (sequence : SequencerView) → ComesTo node state event sequence
+    → Extends state.slots (grown node state event.message).slots → IsBehind node state event
 is_behind known node state event sequence comes ext =
     let later = grown node state event.message in
     let behind = after node state event in
@@ -72,7 +73,8 @@ pub record IsGrownTo (node : Node) (state : State) (event : Event) (graph : DagV
       → marked_in graph round author ≡ is_past (ledger_in node (grown node state event.message)) (last_leader (ledger_in node (grown node state event.message))) c
 
 -- what is held behind a drop was held, and lies no lower
-pub kept_above : (before later : DagView) (low round author : ℕ) (c : Certificate) → IsDropped before later low → slots_in later round author ≡ Some c → (low ≤ round) × (slots_in before round author ≡ Some c)
+pub kept_above : (before later : DagView) (low round author : ℕ) (c : Certificate) → IsDropped before later low → slots_in later round author ≡ Some c
+    → (low ≤ round) × (slots_in before round author ≡ Some c)
 kept_above before later low round author c dropped held =
     elim (cases_Bool (nat_lt round low)) [
       | inl below ↦
@@ -93,14 +95,16 @@ reach_is graph round author last c held there =
     ∙ ap (λ o. option_map_or (reaches (size_in graph) (slots_in graph) last) o false) there
 
 -- so is the past of a leader in a DAG that is a node's
-past_is : (node : Node) (graph : DagView) (state : State) (round author : ℕ) (last c : Certificate) → graph.charter ≡ node.charter → slots_in graph ≡ state.slots → IsIn state.slots last → slots_in graph round author ≡ Some c
+past_is : (node : Node) (graph : DagView) (state : State) (round author : ℕ) (last c : Certificate) → graph.charter ≡ node.charter → slots_in graph
+    ≡ state.slots → IsIn state.slots last → slots_in graph round author ≡ Some c
     → dag.reaches_in graph last.header.round last.header.author.0 round author ≡ is_past (ledger_in node state) (Some last) c
 past_is node graph state round author last c charter slots held there =
     reach_is graph round author last c (subst (λ (s : Slots). IsIn s last) (sym slots) held) there
     ∙ ap (λ (x : Charter). reaches (length x.keys) (slots_in graph) last c) charter
     ∙ ap (λ (s : Slots). reaches (length node.charter.keys) s last c) slots
 
-past_stays : (node : Node) (state : State) (event : Event) (graph later : DagView) → IsBehind node state event → IsNode node → IsGraph graph → IsGrownTo node state event graph → IsDropped graph later (floor_in node (grown node state event.message))
+past_stays : (node : Node) (state : State) (event : Event) (graph later : DagView) → IsBehind node state event → IsNode node → IsGraph graph
+    → IsGrownTo node state event graph → IsDropped graph later (floor_in node (grown node state event.message))
     → slots_in later ≡ (after node state event).slots → (round author : ℕ) (c : Certificate) → slots_in later round author ≡ Some c → (last : Option Certificate)
     → WasHeld (after node state event).slots last → is_past (ledger_in node (grown node state event.message)) last c ≡ is_past (ledger_in node (after node state event)) last c
 past_stays node state event graph later back node_is sound is dropped slots round author c held None was = refl
@@ -121,8 +125,10 @@ not_below : (one other : ℕ) → one ≤ other → nat_lt other one ≡ false
 not_below one other above = grind (arith, above)
 
 -- without what lies below the new floor it is the DAG of the state behind the event
-pub stands : (node : Node) (state : State) (event : Event) (before sequence : SequencerView) (graph : DagView) → ComesTo node state event before → IsBehind node state event → IsGraph graph → IsGrownTo node state event graph
-    → IsDropped graph sequence.graph (floor_in node (grown node state event.message)) → sequence.coins ≡ (grown node state event.message).coins → sequence.order ≡ (grown node state event.message).order
+pub stands : (node : Node) (state : State) (event : Event) (before sequence : SequencerView) (graph : DagView) → ComesTo node state event before
+    → IsBehind node state event → IsGraph graph → IsGrownTo node state event graph
+    → IsDropped graph sequence.graph (floor_in node (grown node state event.message)) → sequence.coins ≡ (grown node state event.message).coins
+    → sequence.order ≡ (grown node state event.message).order
     → sequence.last ≡ option_map slot_of (last_leader (ledger_in node (grown node state event.message))) → IsAt node (after node state event) sequence
 stands node state event before sequence graph comes back sound is dropped coins order last =
     let later = grown node state event.message in
@@ -146,5 +152,6 @@ stands node state event before sequence graph comes back sound is dropped coins 
           dropped.marked round author ∙ ap (λ b. if b then false else marked_in graph round author) not
           ∙ is.marked round author c kept.0 kept.1
           ∙ ap (λ o. is_past (ledger_in node later) o c) back.lasts
-          ∙ past_stays node state event graph sequence.graph back comes.comes.node_is sound is dropped slots round author c held (last_leader (ledger_in node behind)) (last_held node behind comes.comes.node_is back.sound);
+          ∙ past_stays node state event graph sequence.graph back comes.comes.node_is sound is dropped slots round author c held
+          (last_leader (ledger_in node behind)) (last_held node behind comes.comes.node_is back.sound);
     }

@@ -24,7 +24,8 @@ slots_same node state event none =
     ap (slots_with state.slots) none ∙ fun_ext (λ round. fun_ext (λ author. or_none (state.slots round author)))
 
 -- below the floor nothing is held
-nothing_below : (node : Node) (state : State) (floor round author : ℕ) → ((r a : ℕ) (c : Certificate) → state.slots r a ≡ Some c → floor ≤ r) → (if nat_lt round floor then None else state.slots round author) ≡ state.slots round author
+nothing_below : (node : Node) (state : State) (floor round author : ℕ) → ((r a : ℕ) (c : Certificate) → state.slots r a ≡ Some c → floor ≤ r)
+    → (if nat_lt round floor then None else state.slots round author) ≡ state.slots round author
 nothing_below node state floor round author above =
     elim (cases_Bool (nat_lt round floor)) [
       | inr high ↦ rw high refl

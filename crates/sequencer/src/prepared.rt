@@ -23,7 +23,7 @@ impl Drop for Prepared {
 
 impl Prepared {
     // What leaders of these slots, the oldest first, add to the order behind the one that was committed last. `AllocError`
-    // where a growth was refused.
+    // where an allocation failed.
     pub(crate) fn new(
         alloc: Global,
         dag: &Dag,

@@ -90,7 +90,7 @@ fn add_all(digests: &mut Vec<Digest>, more: &[Digest])
 }
 
 impl<'a> Sequencer<'a> {
-    /// That of a validator that has taken nothing: it holds the genesis. `AllocError` where a growth was refused.
+    /// That of a validator that has taken nothing: it holds the genesis. `AllocError` where an allocation failed.
     pub fn new(alloc: Global, committee: &'a Committee) -> Result<Sequencer<'a>, AllocError>
         ensures { IfOk result (λ made. (node : Node) → node.charter ≡ committee.now → IsAt node (fresh node) made) }
     {
@@ -141,7 +141,7 @@ impl<'a> Sequencer<'a> {
         1
     }
 
-    /// What a new certificate will add to the order, before it is held. `AllocError` where a growth was refused.
+    /// What a new certificate will add to the order, before it is held. `AllocError` where an allocation failed.
     pub fn prepare(&self, alloc: Global, certificate: &Certificate) -> Result<Prepared, AllocError>
         requires member { certificate.now.header.author.0 < length self.now.graph.charter.keys }
         ensures { IfOk result (λ prepared. (node : Node) (state : State) (event : Event) → ComesTo node state event self.now
@@ -155,7 +155,7 @@ impl<'a> Sequencer<'a> {
         Prepared::new(alloc, &self.dag, &chain)
     }
 
-    /// What the coin of the next wave will add to the order. `AllocError` where a growth was refused.
+    /// What the coin of the next wave will add to the order. `AllocError` where an allocation failed.
     pub fn prepare_coin(&self, alloc: Global, value: u64) -> Result<Prepared, AllocError>
         ensures { IfOk result (λ prepared. (node : Node) (state : State) (event : Event) → ComesTo node state event self.now
             → as_coin event.message ≡ Some value → IsPrepared node state event self.now prepared) }
@@ -166,7 +166,7 @@ impl<'a> Sequencer<'a> {
         Prepared::new(alloc, &self.dag, &chain)
     }
 
-    /// Holds a new certificate of this digest, and orders what was prepared for it. `AllocError` where a growth was refused:
+    /// Holds a new certificate of this digest, and orders what was prepared for it. `AllocError` where an allocation failed:
     /// nothing has changed then.
     pub fn hold(
         &mut self,
@@ -197,7 +197,7 @@ impl<'a> Sequencer<'a> {
         Ok(())
     }
 
-    /// Takes the coin of the next wave, and orders what was prepared for it. `AllocError` where a growth was refused: nothing
+    /// Takes the coin of the next wave, and orders what was prepared for it. `AllocError` where an allocation failed: nothing
     /// has changed then.
     pub fn push(&mut self, value: u64, prepared: &Prepared) -> Result<(), AllocError>
         ensures order { OnOk result (self.new.order ≡ self.old.order ++ prepared_digests prepared.now) }

@@ -68,9 +68,7 @@ fn signature_by(key: &Key, digest: &Digest) -> Signature
 }
 
 impl Sign for HashSign {
-    ghost own_key = { λ s. s };
-
-    ghost signature_of = { λ s d. pair_signature s d };
+    ghost scheme = { record { own_key = λ s. s; signature_of = λ s d. pair_signature s d } };
 
     ghost good = { is_pair_signature };
 

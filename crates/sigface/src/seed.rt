@@ -1,11 +1,10 @@
 //! Where the tables of a node begin their hashes: at bytes that its signer alone can make.
-#![tactic(auto)]
 
 ghost use Rattle.std.specs.Prelude.{◌≡◌};
 ghost use Rattle.sigface.specs.Seeds.{seed_of};
 
+use crate::signature::Sign;
 use sha2::{Digest as Hashing, Sha256};
-use sigface::Sign;
 use std::hash::{BuildHasher, DefaultHasher, Hasher};
 use wire::Digest;
 

@@ -1,6 +1,7 @@
 //! What signers and verifiers promise.
 
 ghost use Rattle.std.specs.Prelude.{◌≡◌, Bool, IsTrue};
+ghost use Rattle.sigface.specs.Scheme.{Scheme};
 ghost use Rattle.wire.specs.Fields.{IsSignature};
 ghost use Rattle.wire.specs.declared.keys.Digest.{Digest};
 ghost use Rattle.wire.specs.declared.keys.Key.{Key};
@@ -21,26 +22,23 @@ pub trait Verify {
 
 /// Signs digests with one key. The signature follows from the signer and the digest alone.
 pub trait Sign {
-    /// The key for which this signer's signatures are good.
-    ghost own_key: { Self → Key };
-
-    /// The signature that this signer gives to a digest.
-    ghost signature_of: { Self → Digest → Signature };
+    /// The key for which a signer's signatures are good, and the signature that it gives to a digest.
+    ghost scheme: { Scheme Self };
 
     /// Which signatures of a digest are good for a key.
     ghost good: { Key → Digest → Signature → Bool };
 
     /// The key for which the signatures are good.
     fn key(&self) -> Key
-        ensures { result ≡ own_key self.now };
+        ensures { result ≡ scheme.own_key self.now };
 
     /// Signs the digest.
     fn sign(&self, digest: &Digest) -> Signature
-        ensures { result ≡ signature_of self.now digest.now };
+        ensures { result ≡ scheme.signature_of self.now digest.now };
 
     /// Each signature is good for the signer's key.
-    ghost good_for_key: { (signer : Self) (digest : Digest) → IsTrue (good (own_key signer) digest (signature_of signer digest)) };
+    ghost good_for_key: { (signer : Self) (digest : Digest) → IsTrue (good (scheme.own_key signer) digest (scheme.signature_of signer digest)) };
 
     /// Each signature has 64 bytes.
-    ghost has_bytes: { (signer : Self) (digest : Digest) → IsSignature (signature_of signer digest) };
+    ghost has_bytes: { (signer : Self) (digest : Digest) → IsSignature (scheme.signature_of signer digest) };
 }

@@ -18,7 +18,8 @@ torn_possible disk byte found small_byte by now = record {
       ∙ ap (λ (b : Bool). if b then byte else slice_index (content_of disk) place) none
       ∙ now.stays place below none;
   are_bytes = All-from_get_or (λ number. number < 256) found 0
-      (λ place inside. small (is_written (state_of disk).spans place) byte (slice_index (content_of disk) place) (slice_index found place) small_byte (now.are_bytes place 0 (omega (arith, by.len, inside))) (by.torn place inside));
+      (λ place inside. small (is_written (state_of disk).spans place) byte (slice_index (content_of disk) place) (slice_index found place) small_byte
+      (now.are_bytes place 0 (omega (arith, by.len, inside))) (by.torn place inside));
   no_shorter = omega (arith, by.len, now.no_shorter);
   no_longer = omega (arith, by.len, now.no_longer);
 }

@@ -1,8 +1,7 @@
 -- What the parts of a running node are to each other.
-use Rattle.std.specs.Prelude.{◌≡◌, ℕ, List}
+use Rattle.std.specs.Prelude.{◌≡◌}
 use Rattle.flusher.specs.Rounds.{IsFlusherOf}
 use Rattle.flusher.specs.declared.flusher.Flusher.{Flusher}
-use Rattle.spec_model.specs.Nodes.{Node}
 use Rattle.node_seats.specs.Sights.{SeatView}
 use Rattle.node_shared.specs.Home.{NodeView, IsOf}
 use Rattle.validator.specs.Setting.{ConfigView}

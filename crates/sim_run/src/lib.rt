@@ -10,5 +10,7 @@ mod running;
 mod script_lines;
 mod settings;
 mod shown;
+mod stops;
 
 pub use playing::{disk_after, run, vote_after};
+pub use stops::losing;

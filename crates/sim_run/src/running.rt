@@ -5,13 +5,13 @@ ghost use Rattle.header.specs.Checks.{fault_of, accepts_all};
 
 use crate::answer::Answer;
 use crate::ending::Ending;
+use crate::stops::{losing, tearing};
 use committee::Committee;
 use diskmodel::{CallKind, Disk, MemDisk, StopDisk, Switch};
 use header::Checked;
 use journal::{Journal, JournalError};
 use node::{FlushError, Flusher, Node, Refusal, Seat, start};
 use sigface::{HashSign, Sign};
-use crate::stops::{losing, tearing};
 use sim_script::Stopping;
 use std::alloc::Global;
 use std::marker::Model;

@@ -4,11 +4,10 @@
 use crate::ending::Ending;
 use committee::{Committee, CommitteeError};
 use diskmodel::MemDisk;
-use journal::Journal;
+use journal::{Journal, Version};
 use opening::{can_tell, write_configuration};
 use sigface::HashSign;
 use sim_script::{BATCHES, DEPTH, OWN, Setting, committee_file, signer};
-use journal::Version;
 use std::alloc::{AllocError, Global};
 use validator::Config;
 

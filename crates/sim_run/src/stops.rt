@@ -1,5 +1,4 @@
 //! What a stop is to leave of a disk in memory.
-#![tactic(auto)]
 
 ghost use Rattle.std.specs.Prelude.{ℕ, List, IfOk};
 ghost use Rattle.diskmodel.specs.Memory.{state_of};
@@ -8,7 +7,7 @@ ghost use Rattle.sim_run.specs.Stops.{WillLeave, IsTornBy};
 use diskmodel::MemDisk;
 use std::alloc::{AllocError, Global};
 
-/// The disk, of which the next stop leaves the bytes of the last sync. `AllocError` where a growth was refused.
+/// The disk, of which the next stop leaves the bytes of the last sync. `AllocError` where an allocation failed.
 pub fn losing(alloc: Global, mut disk: MemDisk) -> Result<MemDisk, AllocError>
     ensures { IfOk result (λ left. WillLeave disk left (state_of disk).firm) }
 {
@@ -17,8 +16,8 @@ pub fn losing(alloc: Global, mut disk: MemDisk) -> Result<MemDisk, AllocError>
     Ok(disk)
 }
 
-/// The disk, of which the next stop leaves this byte wherever one was written since the last sync. `AllocError` where a growth
-/// was refused.
+/// The disk, of which the next stop leaves this byte wherever one was written since the last sync. `AllocError` where an allocation
+/// failed.
 pub fn tearing(alloc: Global, mut disk: MemDisk, byte: u8) -> Result<MemDisk, AllocError>
     ensures { IfOk result (λ left. (found : List ℕ) × IsTornBy byte disk found × WillLeave disk left found) }
 {

@@ -49,7 +49,8 @@ only_one : {X : Type 0} (x y : X) → Contains (x ∷ []) y → x ≡ y
 only_one x y inside = elim (Contains-cases x [] y inside) [ inl same ↦ same | inr none ↦ absurd (Contains-nothing y none) ]
 
 -- of one of two outputs
-either_own : (node : Node) (history : History) (test : Bool) (one other out : Output) → IsOwn node history one → IsOwn node history other → Contains (cond test one other ∷ []) out → IsOwn node history out
+either_own : (node : Node) (history : History) (test : Bool) (one other out : Output) → IsOwn node history one → IsOwn node history other
+    → Contains (cond test one other ∷ []) out → IsOwn node history out
 either_own node history true one other out first second inside = subst (IsOwn node history) (only_one one out inside) first
 either_own node history false one other out first second inside = subst (IsOwn node history) (only_one other out inside) second
 
@@ -133,7 +134,8 @@ made_of node history header certificate is =
 
 -- ---- in a cluster
 
-module _ (cluster : Cluster) (value : ℕ → ℕ) (turns : List Turn) (worlds : Worlds) (members : AreMembers cluster) (reached : IsReached cluster (Fair cluster value) turns worlds) (member : ℕ) (honest : cluster.honest member ≡ true) where
+module _ (cluster : Cluster) (value : ℕ → ℕ) (turns : List Turn) (worlds : Worlds) (members : AreMembers cluster)
+    (reached : IsReached cluster (Fair cluster value) turns worlds) (member : ℕ) (honest : cluster.honest member ≡ true) where
   taken_back : NeverTakesBack (cluster.node member) (worlds member)
   taken_back =
       nothing_taken_back (cluster.node member) (moves_of member turns) (worlds member) (members member honest).is (each_runs cluster (Fair cluster value) member turns worlds reached honest)
@@ -163,8 +165,10 @@ module _ (cluster : Cluster) (value : ℕ → ℕ) (turns : List Turn) (worlds :
     -- the member signed the digest of what it gave out
     signed_here : (number : ℕ) (digest : Digest) → number ≡ member → signed_by_giver one.outgoing ≡ Some digest → has_signed (worlds number) digest ≡ true
     signed_here number digest same is =
-        let passes : option_map_or (same_digest digest) (signed_by_giver one.outgoing) false ≡ true = ap (λ (o : Option Digest). option_map_or (same_digest digest) o false) is ∙ (bytes_eq-Decides digest.0 digest.0).1 refl in
-        subst (λ (m : ℕ). has_signed (worlds m) digest ≡ true) (sym same) (any_from (λ given. option_map_or (same_digest digest) (signed_by_giver given.outgoing) false) (worlds member).given one there passes)
+        let passes : option_map_or (same_digest digest) (signed_by_giver one.outgoing) false
+        ≡ true = ap (λ (o : Option Digest). option_map_or (same_digest digest) o false) is ∙ (bytes_eq-Decides digest.0 digest.0).1 refl in
+        subst (λ (m : ℕ). has_signed (worlds m) digest ≡ true) (sym same)
+        (any_from (λ given. option_map_or (same_digest digest) (signed_by_giver given.outgoing) false) (worlds member).given one there passes)
 
     -- a vote that it gave out
     pub vote_unforged : (vote : Vote) → one.outgoing ≡ put_out (output.Vote vote) → NoForgery cluster worlds (message.Vote vote)

@@ -77,7 +77,12 @@ pub added_by : (node : Node) (history : History) (sender : Author) (m : Message)
 added_by node history sender (message.Certificate new) closed adds certificate is =
     let event : Event = record { sender = sender; message = message.Certificate new } in
     let same : new ≡ certificate = same_Some new certificate is in
-    subst (IsAddedWell node history) same (record { held = new_certificate-held node history (whole node (history ++ event ∷ [])) new adds.new; high = new_certificate-high node history (whole node (history ++ event ∷ [])) new adds.new })
+    subst (IsAddedWell node history) same
+    (record {
+      held = new_certificate-held node history (whole node (history ++ event ∷ [])) new adds.new;
+      high = new_certificate-high node history
+          (whole node (history ++ event ∷ [])) new adds.new;
+    })
 added_by node history sender (message.Vote vote) closed adds certificate is =
     let event : Event = record { sender = sender; message = message.Vote vote } in
     let new = new_vote node history (whole node (history ++ event ∷ [])) vote adds.new in
@@ -95,7 +100,8 @@ added_by node history sender (message.Header header) closed adds certificate is 
 added_by node history sender (message.Coin coin) closed adds certificate is = absurd (none-some certificate is)
 
 -- what a slot holds that held nothing is what the event adds
-pub newly : (node : Node) (history : History) (event : Event) → Adds node history event → (round author : ℕ) (c : Certificate) → slots node history round author ≡ None → slots node (history ++ event ∷ []) round author ≡ Some c
+pub newly : (node : Node) (history : History) (event : Event) → Adds node history event → (round author : ℕ) (c : Certificate)
+    → slots node history round author ≡ None → slots node (history ++ event ∷ []) round author ≡ Some c
     → added node history event ≡ Some c
 newly node history event adds round author c none new =
     let found : slots_of (option_to_list (added node history event)) round author ≡ Some c =
@@ -110,12 +116,14 @@ newly node history event adds round author c none new =
       | inr nothing ↦ let found' = rw nothing at found in absurd cc
     ]
 
-pub kept_slot : (node : Node) (history : History) (event : Event) → Adds node history event → (round author : ℕ) (c : Certificate) → slots node history round author ≡ Some c → slots node (history ++ event ∷ []) round author ≡ Some c
+pub kept_slot : (node : Node) (history : History) (event : Event) → Adds node history event → (round author : ℕ) (c : Certificate)
+    → slots node history round author ≡ Some c → slots node (history ++ event ∷ []) round author ≡ Some c
 kept_slot node history event adds round author c held =
     slots_grow node history event adds.longer round author ∙ ap (λ o. option_or o (slots_of (option_to_list (added node history event)) round author)) held
 
 -- a parent that is named and not held lies too low
-pub low_parent : (slots : Slots) (floor : ℕ) (c child : Certificate) → all_held slots floor child.header ≡ true → slots c.header.round c.header.author.0 ≡ None → is_parent c child ≡ true → is_low floor c.header.round ≡ true
+pub low_parent : (slots : Slots) (floor : ℕ) (c child : Certificate) → all_held slots floor child.header ≡ true
+    → slots c.header.round c.header.author.0 ≡ None → is_parent c child ≡ true → is_low floor c.header.round ≡ true
 low_parent slots floor c child held none names =
     let parts = and_parts (c.header.round + 1 == child.header.round) (list_any (is_named c) child.header.parents) names in
     let round = eqb-true _ _ parts.0 in
@@ -187,7 +195,9 @@ floor_grows node history event ext =
     ]
 
 -- a parent that is held stays so
-pub held_stays : (before after : Slots) (low high round : ℕ) (p : ParentReference) → ((r a : ℕ) (c : Certificate) → before r a ≡ Some c → after r a ≡ Some c) → low ≤ high → is_held before low round p ≡ true → is_held after high round p ≡ true
+pub held_stays : (before after : Slots) (low high round : ℕ) (p : ParentReference)
+    → ((r a : ℕ) (c : Certificate) → before r a ≡ Some c → after r a ≡ Some c) → low ≤ high → is_held before low round p ≡ true
+    → is_held after high round p ≡ true
 held_stays before after low high round p kept higher held =
     let under : nat_lt 0 low && nat_le (round - 1) low ≡ true → nat_lt 0 high && nat_le (round - 1) high ≡ true =
     λ is.
@@ -213,7 +223,8 @@ all_stay test other [] stays all = refl
 all_stay test other (x ∷ xs) stays all = let parts = and_parts (test x) (list_all test xs) all in and_from _ _ (stays x parts.0) (all_stay test other xs stays parts.1)
 
 -- a closed history with one more event is closed
-header_held : (node : Node) (history : History) (sender : Author) (m : Message) → Adds node history (record { sender = sender; message = m }) → (header : Header) → Contains (option_to_list (as_header m)) header
+header_held : (node : Node) (history : History) (sender : Author) (m : Message) → Adds node history (record { sender = sender; message = m })
+    → (header : Header) → Contains (option_to_list (as_header m)) header
     → all_held (slots node history) (floor node history) header.body ≡ true
 header_held node history sender (message.Header new) adds header inside =
     elim (Contains-push_cases [] new header inside) [

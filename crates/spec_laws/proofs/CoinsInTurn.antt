@@ -70,13 +70,16 @@ in_turn_more node history sender (message.Coin coin) fresh before place value is
 in_turn_more node history sender (message.Batch batch) fresh before place value is =
     tells_later history (record { sender = sender; message = message.Batch batch }) (place + 1) value (before place value (subst (λ l. slice_get l place ≡ Some value) (append-nil (coins history)) is))
 in_turn_more node history sender (message.BatchAck ack) fresh before place value is =
-    tells_later history (record { sender = sender; message = message.BatchAck ack }) (place + 1) value (before place value (subst (λ l. slice_get l place ≡ Some value) (append-nil (coins history)) is))
+    tells_later history (record { sender = sender; message = message.BatchAck ack }) (place + 1) value
+    (before place value (subst (λ l. slice_get l place ≡ Some value) (append-nil (coins history)) is))
 in_turn_more node history sender (message.Header header) fresh before place value is =
-    tells_later history (record { sender = sender; message = message.Header header }) (place + 1) value (before place value (subst (λ l. slice_get l place ≡ Some value) (append-nil (coins history)) is))
+    tells_later history (record { sender = sender; message = message.Header header }) (place + 1) value
+    (before place value (subst (λ l. slice_get l place ≡ Some value) (append-nil (coins history)) is))
 in_turn_more node history sender (message.Vote vote) fresh before place value is =
     tells_later history (record { sender = sender; message = message.Vote vote }) (place + 1) value (before place value (subst (λ l. slice_get l place ≡ Some value) (append-nil (coins history)) is))
 in_turn_more node history sender (message.Certificate certificate) fresh before place value is =
-    tells_later history (record { sender = sender; message = message.Certificate certificate }) (place + 1) value (before place value (subst (λ l. slice_get l place ≡ Some value) (append-nil (coins history)) is))
+    tells_later history (record { sender = sender; message = message.Certificate certificate }) (place + 1) value
+    (before place value (subst (λ l. slice_get l place ≡ Some value) (append-nil (coins history)) is))
 
 in_turn_push : (node : Node) (history : History) (event : Event) → Adds node history event → AreInTurn history → AreInTurn (history ++ event ∷ [])
 in_turn_push node history event adds before place value is =

@@ -26,11 +26,13 @@ use Rattle.spec_laws.proofs.OrderLonger.{IsTop, is_top_of, top_above, top_leader
 agrees : (low : ℕ) (held all : Slots) → AreInPlace all → HoldsFrom low held all → AgreeFrom low held all
 agrees low held all placed from = record { placed = from.placed; placed_other = placed; same = from.same }
 
-leader_alike : (node : Node) (low : ℕ) (coins : List ℕ) (held all : Slots) → AgreeFrom low held all → (wave : ℕ) → low ≤ 2 * wave - 1 → leader (ledger_of node held coins) wave ≡ leader (ledger_of node all coins) wave
+leader_alike : (node : Node) (low : ℕ) (coins : List ℕ) (held all : Slots) → AgreeFrom low held all → (wave : ℕ) → low ≤ 2 * wave - 1
+    → leader (ledger_of node held coins) wave ≡ leader (ledger_of node all coins) wave
 leader_alike node low coins held all agree zero above = refl
 leader_alike node low coins held all agree (suc wave) above = leader_from low (ledger_of node held coins) all agree wave (omega (arith, above))
 
-support_alike : (node : Node) (low : ℕ) (coins : List ℕ) (held all : Slots) → AgreeFrom low held all → (c : Certificate) → low ≤ c.header.round + 1 → has_support (ledger_of node held coins) c ≡ has_support (ledger_of node all coins) c
+support_alike : (node : Node) (low : ℕ) (coins : List ℕ) (held all : Slots) → AgreeFrom low held all → (c : Certificate) → low ≤ c.header.round + 1
+    → has_support (ledger_of node held coins) c ≡ has_support (ledger_of node all coins) c
 support_alike node low coins held all agree c above =
     ap (λ (f : ℕ → Option Certificate). nat_le (support_of node.charter) (weight node.charter (λ m. option_map_or (is_parent c) (f m) false)))
     (fun_ext (λ m. agree.same (c.header.round + 1) m above))
@@ -73,7 +75,8 @@ all_held_is : (low : ℕ) (held all : Slots) → AgreeFrom low held all → low 
 all_held_is low held all agree least = fun_ext (λ round. fun_ext (λ author. agree.same round author (omega (arith, least))))
 
 -- the wave is committed by what is held too
-still_held : (node : Node) (low wave : ℕ) (coins : List ℕ) (held all : Slots) → 0 < size_of node → AgreeFrom low held all → low ≤ 2 * wave + 1 → IsTop (ledger_of node all coins) (length coins) (suc wave)
+still_held : (node : Node) (low wave : ℕ) (coins : List ℕ) (held all : Slots) → 0 < size_of node → AgreeFrom low held all → low ≤ 2 * wave + 1
+    → IsTop (ledger_of node all coins) (length coins) (suc wave)
     → is_directly_committed (ledger_of node held coins) (suc wave) ≡ true
 still_held node low wave coins held all some agree above is = committed_from low (ledger_of node held coins) all some agree wave above ∙ is.is
 
@@ -104,7 +107,8 @@ segment_alike node low (Some (suc wave)) coins held all some agree within is pre
     let far : IsFar low node.charter.depth last = λ round below. omega (arith, within, high, below) in
     rounds_picked_from low (ledger_of node held coins) all agree previous last far (range_with_len 1 last.header.round)
 
-segments_alike : (one other : Ledger) (previous : Option Certificate) (leaders : List Certificate) → ((before : Option Certificate) (last : Certificate) → Contains leaders last → segment one before last ≡ segment other before last)
+segments_alike : (one other : Ledger) (previous : Option Certificate) (leaders : List Certificate)
+    → ((before : Option Certificate) (last : Certificate) → Contains leaders last → segment one before last ≡ segment other before last)
     → segments one previous leaders ≡ segments other previous leaders
 segments_alike one other previous [] each = refl
 segments_alike one other previous (last ∷ leaders) each =
@@ -154,7 +158,8 @@ last_alike node low before coins held all agree within stays =
           ∙ sym (last_is before ∙ ap (option_and_then (leader before)) lead.1 ∙ lead.2)
     ]
 
-pub say_the_same : (node : Node) (low : ℕ) (before : Ledger) (coins : List ℕ) (held all : Slots) → 0 < size_of node → AreInPlace all → low ≤ floor_by before → HoldsFrom low held all → Stays node before coins all
+pub say_the_same : (node : Node) (low : ℕ) (before : Ledger) (coins : List ℕ) (held all : Slots) → 0 < size_of node → AreInPlace all
+    → low ≤ floor_by before → HoldsFrom low held all → Stays node before coins all
     → SayTheSame node low before coins held all
 say_the_same node low before coins held all some placed within from stays =
     let greatest = top before in

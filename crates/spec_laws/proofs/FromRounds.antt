@@ -39,7 +39,8 @@ round_from n low one other agree round above =
 as_high : (low : ℕ) (slots : Slots) → AreInPlace slots → (round author : ℕ) (c : Certificate) → low ≤ round → slots round author ≡ Some c → low ≤ c.header.round
 as_high low slots placed round author c above held = let place = slot_is round author c.header (placed round author c held) in omega (arith, above, place.0)
 
-paths_from : (n low : ℕ) (one other : Slots) → AgreeFrom low one other → (steps : ℕ) (start end : Certificate) → low ≤ end.header.round → has_path n one steps start end ≡ has_path n other steps start end
+paths_from : (n low : ℕ) (one other : Slots) → AgreeFrom low one other → (steps : ℕ) (start end : Certificate) → low ≤ end.header.round
+    → has_path n one steps start end ≡ has_path n other steps start end
 paths_from n low one other agree zero start end above = refl
 paths_from n low one other agree (suc steps) start end above =
     let round = end.header.round + 1 in
@@ -67,7 +68,8 @@ support_from low one other agree c above =
     ap (λ (f : ℕ → Option Certificate). nat_le (support_of one.charter) (weight one.charter (λ m. option_map_or (is_parent c) (f m) false)))
     (fun_ext (λ m. agree.same (c.header.round + 1) m (omega (arith, above))))
 
-pub committed_from : (low : ℕ) (one : Ledger) (other : Slots) → 0 < size_in one → AgreeFrom low one.slots other → (wave : ℕ) → low ≤ 2 * wave + 1 → is_directly_committed one (suc wave) ≡ is_directly_committed (with_slots one other) (suc wave)
+pub committed_from : (low : ℕ) (one : Ledger) (other : Slots) → 0 < size_in one → AgreeFrom low one.slots other → (wave : ℕ) → low ≤ 2 * wave + 1
+    → is_directly_committed one (suc wave) ≡ is_directly_committed (with_slots one other) (suc wave)
 committed_from low one other some agree wave above =
     let same = leader_from low one other agree wave above in
     elim (given_or_none (leader one (suc wave))) [
@@ -121,7 +123,8 @@ newer_to_from low one other some agree base above (suc wave) last =
           ]
     ]
 
-pub newer_from : (low : ℕ) (one : Ledger) (other : Slots) → 0 < size_in one → AgreeFrom low one.slots other → (wave : ℕ) → low ≤ 2 * wave + 1 → is_directly_committed one (suc wave) ≡ true → suc wave ≤ length one.coins
+pub newer_from : (low : ℕ) (one : Ledger) (other : Slots) → 0 < size_in one → AgreeFrom low one.slots other → (wave : ℕ) → low ≤ 2 * wave + 1
+    → is_directly_committed one (suc wave) ≡ true → suc wave ≤ length one.coins
     → newer one (suc wave) ≡ newer (with_slots one other) (suc wave)
 newer_from low one other some agree wave above is within =
     let same = top_from low one other some agree wave above is (length one.coins) within in
@@ -149,7 +152,8 @@ newer_from low one other some agree wave above is within =
     ]
 
 -- they lie above it
-newer_to_high : (ledger : Ledger) → 0 < size_in ledger → AreInPlace ledger.slots → (base wave : ℕ) (last c : Certificate) → 2 * base + 1 ≤ last.header.round → Contains (newer_to ledger base wave last) c
+newer_to_high : (ledger : Ledger) → 0 < size_in ledger → AreInPlace ledger.slots → (base wave : ℕ) (last c : Certificate)
+    → 2 * base + 1 ≤ last.header.round → Contains (newer_to ledger base wave last) c
     → 2 * base + 1 ≤ c.header.round
 newer_to_high ledger some placed base zero last c high inside = subst (λ (d : Certificate). 2 * base + 1 ≤ d.header.round) (only_one last c inside) high
 newer_to_high ledger some placed base (suc wave) last c high inside =
@@ -196,7 +200,8 @@ newer_high ledger some placed base c inside =
 
 -- ---- what a leader orders
 
-past_from : (low : ℕ) (one : Ledger) (other : Slots) → AgreeFrom low one.slots other → (previous : Option Certificate) (c : Certificate) → low ≤ c.header.round → is_past one previous c ≡ is_past (with_slots one other) previous c
+past_from : (low : ℕ) (one : Ledger) (other : Slots) → AgreeFrom low one.slots other → (previous : Option Certificate) (c : Certificate)
+    → low ≤ c.header.round → is_past one previous c ≡ is_past (with_slots one other) previous c
 past_from low one other agree None c above = refl
 past_from low one other agree (Some last) c above = reaches_from (size_in one) low one.slots other agree last c above
 
@@ -248,8 +253,10 @@ round_picked_from low one other agree previous last far round =
           ∙ ap (filter (is_ordered_by (with_slots one other) previous last)) (round_from (size_in one) low one.slots other agree round above)
     ]
 
-pub rounds_picked_from : (low : ℕ) (one : Ledger) (other : Slots) → AgreeFrom low one.slots other → (previous : Option Certificate) (last : Certificate) → IsFar low one.charter.depth last → (rounds : List ℕ)
-    → filter (is_ordered_by one previous last) (flat_map (round_of (size_in one) one.slots) rounds) ≡ filter (is_ordered_by (with_slots one other) previous last) (flat_map (round_of (size_in one) other) rounds)
+pub rounds_picked_from : (low : ℕ) (one : Ledger) (other : Slots) → AgreeFrom low one.slots other
+    → (previous : Option Certificate) (last : Certificate) → IsFar low one.charter.depth last → (rounds : List ℕ)
+    → filter (is_ordered_by one previous last) (flat_map (round_of (size_in one) one.slots) rounds)
+    ≡ filter (is_ordered_by (with_slots one other) previous last) (flat_map (round_of (size_in one) other) rounds)
 rounds_picked_from low one other agree previous last far [] = refl
 rounds_picked_from low one other agree previous last far (round ∷ rounds) =
     filter-append (is_ordered_by one previous last) (round_of (size_in one) one.slots round) (flat_map (round_of (size_in one) one.slots) rounds)
@@ -257,7 +264,8 @@ rounds_picked_from low one other agree previous last far (round ∷ rounds) =
     ∙ ap (λ l. filter (is_ordered_by (with_slots one other) previous last) (round_of (size_in one) other round) ++ l) (rounds_picked_from low one other agree previous last far rounds)
     ∙ sym (filter-append (is_ordered_by (with_slots one other) previous last) (round_of (size_in one) other round) (flat_map (round_of (size_in one) other) rounds))
 
-segments_from : (low : ℕ) (one : Ledger) (other : Slots) → AgreeFrom low one.slots other → (previous : Option Certificate) (chain : List Certificate) → ((c : Certificate) → Contains chain c → IsFar low one.charter.depth c)
+segments_from : (low : ℕ) (one : Ledger) (other : Slots) → AgreeFrom low one.slots other → (previous : Option Certificate) (chain : List Certificate)
+    → ((c : Certificate) → Contains chain c → IsFar low one.charter.depth c)
     → segments one previous chain ≡ segments (with_slots one other) previous chain
 segments_from low one other agree previous [] far = refl
 segments_from low one other agree previous (last ∷ chain) far =
@@ -265,7 +273,8 @@ segments_from low one other agree previous (last ∷ chain) far =
     ∙ ap (λ l. segment (with_slots one other) previous last ++ l) (segments_from low one other agree (Some last) chain (λ c inside. far c (Contains-later last chain c inside)))
 
 -- what the leaders above a directly committed wave order is the same, if they lie far enough
-pub since_from : (low : ℕ) (one : Ledger) (other : Slots) → 0 < size_in one → AgreeFrom low one.slots other → (wave : ℕ) → low ≤ 2 * wave + 1 → is_directly_committed one (suc wave) ≡ true → suc wave ≤ length one.coins
+pub since_from : (low : ℕ) (one : Ledger) (other : Slots) → 0 < size_in one → AgreeFrom low one.slots other → (wave : ℕ) → low ≤ 2 * wave + 1
+    → is_directly_committed one (suc wave) ≡ true → suc wave ≤ length one.coins
     → ((round : ℕ) → round < low → round + one.charter.depth < 2 * suc wave + 1) → (previous : Option Certificate) → since one (suc wave) previous ≡ since (with_slots one other) (suc wave) previous
 since_from low one other some agree wave above is within far previous =
     let digests : List Certificate → List Digest = map (λ c. certificate_digest c.header) in

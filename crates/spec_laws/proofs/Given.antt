@@ -99,7 +99,9 @@ is_given-stays node history event certificate given =
           let later = header_stays history event certificate.header.round node.own.0 found.0 found.1 in
           rw later now
       | inr none ↦
-          let parts = and_parts (is_own node certificate.header.author) (option_map_or (same_digest (header_digest certificate.header)) (voted_digest history certificate.header.round node.own.0) false) given in
+          let parts = and_parts (is_own node certificate.header.author)
+          (option_map_or (same_digest (header_digest certificate.header)) (voted_digest history certificate.header.round node.own.0) false) given
+          in
           let now = rw none at parts.1 in
           absurd cc
     ]

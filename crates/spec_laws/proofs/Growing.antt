@@ -76,7 +76,8 @@ picked_same before after test other (a ∷ authors) old new =
     ]
 
 -- what passed among what is held passes where all that is kept
-pub passes_also : {X : Type 0} (before after : Option X) (test : X → Bool) → ((x : X) → before ≡ Some x → after ≡ Some x) → option_map_or test before false ≡ true → option_map_or test after false ≡ true
+pub passes_also : {X : Type 0} (before after : Option X) (test : X → Bool) → ((x : X) → before ≡ Some x → after ≡ Some x)
+    → option_map_or test before false ≡ true → option_map_or test after false ≡ true
 passes_also (Some x) after test kept passes = ap (λ o. option_map_or test o false) (kept x refl) ∙ passes
 passes_also None after test kept passes = absurd cc
 
@@ -124,7 +125,8 @@ pub reaches_same : (n : ℕ) (before after : Slots) → Extends before after →
 reaches_same n before after ext start end held =
     ap (λ b. nat_le end.header.round start.header.round && b) (paths_same n before after ext (start.header.round - end.header.round) start end held)
 
-pub reaches_new : (n : ℕ) (before after : Slots) → Extends before after → (start : Certificate) (round author : ℕ) (c : Certificate) → IsIn before start → before round author ≡ None → after round author ≡ Some c
+pub reaches_new : (n : ℕ) (before after : Slots) → Extends before after → (start : Certificate) (round author : ℕ) (c : Certificate)
+    → IsIn before start → before round author ≡ None → after round author ≡ Some c
     → reaches n after start c ≡ false
 reaches_new n before after ext start round author c held none new =
     ap (λ b. nat_le c.header.round start.header.round && b) (path_to_new n before after ext (start.header.round - c.header.round) start round author c held none new)
@@ -140,37 +142,47 @@ grown ledger slots more = record { charter = ledger.charter; slots = slots; coin
 abbrev pub WasHeld : Slots → Option Certificate → Type 0
 WasHeld slots previous = (c : Certificate) → previous ≡ Some c → IsIn slots c
 
-past_same : (before : Ledger) (after : Slots) → Extends before.slots after → (more : List ℕ) (previous : Option Certificate) (c : Certificate) → WasHeld before.slots previous → is_past (grown before after more) previous c ≡ is_past before previous c
+past_same : (before : Ledger) (after : Slots) → Extends before.slots after → (more : List ℕ) (previous : Option Certificate) (c : Certificate)
+    → WasHeld before.slots previous → is_past (grown before after more) previous c ≡ is_past before previous c
 past_same before after ext more None c held = refl
 past_same before after ext more (Some last) c held = reaches_same (size_in before) before.slots after ext last c (held last refl)
 
-round_picked : (before : Ledger) (after : Slots) → Extends before.slots after → (more : List ℕ) (previous : Option Certificate) (last : Certificate) → WasHeld before.slots previous → IsIn before.slots last → (round : ℕ)
-    → filter (is_ordered_by (grown before after more) previous last) (round_of (size_in before) after round) ≡ filter (is_ordered_by before previous last) (round_of (size_in before) before.slots round)
+round_picked : (before : Ledger) (after : Slots) → Extends before.slots after → (more : List ℕ) (previous : Option Certificate) (last : Certificate)
+    → WasHeld before.slots previous → IsIn before.slots last → (round : ℕ)
+    → filter (is_ordered_by (grown before after more) previous last) (round_of (size_in before) after round)
+    ≡ filter (is_ordered_by before previous last) (round_of (size_in before) before.slots round)
 round_picked before after ext more previous last past held round =
     picked_same (before.slots round) (after round) (is_ordered_by before previous last) (is_ordered_by (grown before after more) previous last) (numbers (size_in before))
     (λ a c is. (
       ext.kept round a c is,
-      ap (λ b. nat_le last.header.round (c.header.round + before.charter.depth) && (b && not (is_past (grown before after more) previous c))) (reaches_same (size_in before) before.slots after ext last c held)
+      ap (λ b. nat_le last.header.round (c.header.round + before.charter.depth) && (b && not (is_past (grown before after more) previous c)))
+          (reaches_same (size_in before) before.slots after ext last c held)
           ∙ ap (λ b. nat_le last.header.round (c.header.round + before.charter.depth) && (reaches (size_in before) before.slots last c && not b)) (past_same before after ext more previous c past),
     ))
     (λ a c none new.
-    ap (λ b. nat_le last.header.round (c.header.round + before.charter.depth) && (b && not (is_past (grown before after more) previous c))) (reaches_new (size_in before) before.slots after ext last round a c held none new)
+    ap (λ b. nat_le last.header.round (c.header.round + before.charter.depth) && (b && not (is_past (grown before after more) previous c)))
+    (reaches_new (size_in before) before.slots after ext last round a c held none new)
     ∙ and_false (nat_le last.header.round (c.header.round + before.charter.depth)))
 
-rounds_picked : (before : Ledger) (after : Slots) → Extends before.slots after → (more : List ℕ) (previous : Option Certificate) (last : Certificate) → WasHeld before.slots previous → IsIn before.slots last → (rounds : List ℕ)
-    → filter (is_ordered_by (grown before after more) previous last) (flat_map (round_of (size_in before) after) rounds) ≡ filter (is_ordered_by before previous last) (flat_map (round_of (size_in before) before.slots) rounds)
+rounds_picked : (before : Ledger) (after : Slots) → Extends before.slots after → (more : List ℕ) (previous : Option Certificate) (last : Certificate)
+    → WasHeld before.slots previous → IsIn before.slots last → (rounds : List ℕ)
+    → filter (is_ordered_by (grown before after more) previous last) (flat_map (round_of (size_in before) after) rounds)
+    ≡ filter (is_ordered_by before previous last) (flat_map (round_of (size_in before) before.slots) rounds)
 rounds_picked before after ext more previous last past held [] = refl
 rounds_picked before after ext more previous last past held (round ∷ rounds) =
     filter-append (is_ordered_by (grown before after more) previous last) (round_of (size_in before) after round) (flat_map (round_of (size_in before) after) rounds)
-    ∙ ap (λ l. l ++ filter (is_ordered_by (grown before after more) previous last) (flat_map (round_of (size_in before) after) rounds)) (round_picked before after ext more previous last past held round)
+    ∙ ap (λ l. l ++ filter (is_ordered_by (grown before after more) previous last) (flat_map (round_of (size_in before) after) rounds))
+    (round_picked before after ext more previous last past held round)
     ∙ ap (λ l. filter (is_ordered_by before previous last) (round_of (size_in before) before.slots round) ++ l) (rounds_picked before after ext more previous last past held rounds)
     ∙ sym (filter-append (is_ordered_by before previous last) (round_of (size_in before) before.slots round) (flat_map (round_of (size_in before) before.slots) rounds))
 
-segment_same : (before : Ledger) (after : Slots) → Extends before.slots after → (more : List ℕ) (previous : Option Certificate) (last : Certificate) → WasHeld before.slots previous → IsIn before.slots last
+segment_same : (before : Ledger) (after : Slots) → Extends before.slots after → (more : List ℕ) (previous : Option Certificate) (last : Certificate)
+    → WasHeld before.slots previous → IsIn before.slots last
     → segment (grown before after more) previous last ≡ segment before previous last
 segment_same before after ext more previous last past held = rounds_picked before after ext more previous last past held (range_with_len 1 last.header.round)
 
-pub segments_same : (before : Ledger) (after : Slots) → Extends before.slots after → (more : List ℕ) (previous : Option Certificate) (chain : List Certificate) → WasHeld before.slots previous → ((c : Certificate) → Contains chain c → IsIn before.slots c)
+pub segments_same : (before : Ledger) (after : Slots) → Extends before.slots after → (more : List ℕ) (previous : Option Certificate)
+    (chain : List Certificate) → WasHeld before.slots previous → ((c : Certificate) → Contains chain c → IsIn before.slots c)
     → segments (grown before after more) previous chain ≡ segments before previous chain
 segments_same before after ext more previous [] past held = refl
 segments_same before after ext more previous (last ∷ chain) past held =
@@ -196,7 +208,8 @@ slice_get-longer [] more i less = absurd (omega (arith, less))
 slice_get-longer (x ∷ xs) more zero less = refl
 slice_get-longer (x ∷ xs) more (suc i) less = slice_get-longer xs more i (omega (arith, less))
 
-pub leader_kept : (before : Ledger) (after : Slots) → Extends before.slots after → (more : List ℕ) (wave : ℕ) (c : Certificate) → leader before wave ≡ Some c → leader (grown before after more) wave ≡ Some c
+pub leader_kept : (before : Ledger) (after : Slots) → Extends before.slots after → (more : List ℕ) (wave : ℕ) (c : Certificate) → leader before wave
+    ≡ Some c → leader (grown before after more) wave ≡ Some c
 leader_kept before after ext more zero c is = absurd cc
 leader_kept before after ext more (suc wave) c is =
     elim (given_or_none (slice_get before.coins wave)) [
@@ -209,7 +222,8 @@ leader_kept before after ext more (suc wave) c is =
     ]
 
 -- a leader that wasn't there before is new
-pub leader_new : (before : Ledger) (after : Slots) (more : List ℕ) (wave : ℕ) (c : Certificate) → wave ≤ length before.coins → leader before wave ≡ None → leader (grown before after more) wave ≡ Some c
+pub leader_new : (before : Ledger) (after : Slots) (more : List ℕ) (wave : ℕ) (c : Certificate) → wave ≤ length before.coins → leader before wave
+    ≡ None → leader (grown before after more) wave ≡ Some c
     → (round : ℕ) × (author : ℕ) × (before.slots round author ≡ None) × (after round author ≡ Some c)
 leader_new before after more zero c within none new = absurd cc
 leader_new before after more (suc wave) c within none new =
@@ -234,7 +248,8 @@ leader_in ledger (suc wave) c placed is =
     ]
 
 -- a wave that was directly committed is
-pub directly_committed_kept : (before : Ledger) (after : Slots) → Extends before.slots after → (more : List ℕ) (wave : ℕ) → is_directly_committed before wave ≡ true → is_directly_committed (grown before after more) wave ≡ true
+pub directly_committed_kept : (before : Ledger) (after : Slots) → Extends before.slots after → (more : List ℕ) (wave : ℕ)
+    → is_directly_committed before wave ≡ true → is_directly_committed (grown before after more) wave ≡ true
 directly_committed_kept before after ext more wave is =
     elim (given_or_none (leader before wave)) [
       | inl found ↦

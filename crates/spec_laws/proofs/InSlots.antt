@@ -108,7 +108,8 @@ received_more node history sender (message.Certificate new) adds certificate ins
           let event : Event = record { sender = sender; message = message.Certificate new } in
           record {
             is = ap (λ c. Some c) same;
-            free = ap (λ (c : Certificate). slots node history c.header.round c.header.author.0) (sym same) ∙ new_certificate-free node (whole node history) (whole node (history ++ event ∷ [])) new adds.new;
+            free = ap (λ (c : Certificate). slots node history c.header.round c.header.author.0) (sym same)
+                ∙ new_certificate-free node (whole node history) (whole node (history ++ event ∷ [])) new adds.new;
           }
     ]
 received_more node history sender (message.Batch batch) adds certificate inside = absurd (Contains-nothing certificate inside)

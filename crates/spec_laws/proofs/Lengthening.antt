@@ -231,7 +231,8 @@ found node history later held sound is from =
           let size = facts.within in
           let within : suc wave ≤ length (coins later) = omega (arith, fewer, size) in
           record {
-            leaders = ap (newer (ledger_of node all (coins later))) is_wave ∙ newer_from low (ledger_of node all (coins later)) held some agree wave above committed within ∙ ap (newer (ledger_of node held (coins later))) (sym is_wave);
+            leaders = ap (newer (ledger_of node all (coins later))) is_wave ∙ newer_from low (ledger_of node all (coins later)) held some agree wave
+                above committed within ∙ ap (newer (ledger_of node held (coins later))) (sym is_wave);
             digests = ap (λ w. digests (segments (ledger_of node all (coins later)) first (newer (ledger_of node all (coins later)) w))) is_wave
                 ∙ since_from low (ledger_of node all (coins later)) held some agree wave above committed within (λ round below. omega (arith, below, at)) first
                 ∙ ap (λ w. digests (segments (ledger_of node held (coins later)) first (newer (ledger_of node held (coins later)) w))) (sym is_wave);

@@ -20,7 +20,8 @@ filter_map-push make xs x =
     ∙ ap (λ l. filter_map make xs ++ l) (elim (make x) as (λ o. cons_option o [] ≡ option_to_list o) [ Some y ↦ refl | None ↦ refl ])
 
 -- what is found in what is made of a list with one more at its end
-pub found-push : {X Y : Type 0} (make : X → Option Y) (test : Y → Bool) (xs : List X) (x : X) → find test (filter_map make (xs ++ x ∷ [])) ≡ option_or (find test (filter_map make xs)) (find test (option_to_list (make x)))
+pub found-push : {X Y : Type 0} (make : X → Option Y) (test : Y → Bool) (xs : List X) (x : X) → find test (filter_map make (xs ++ x ∷ []))
+    ≡ option_or (find test (filter_map make xs)) (find test (option_to_list (make x)))
 found-push make test xs x = ap (find test) (filter_map-push make xs x) ∙ find-append test (filter_map make xs) (option_to_list (make x))
 
 -- an element of a list is its first one or one of the others

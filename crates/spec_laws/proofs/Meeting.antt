@@ -159,8 +159,10 @@ names_some charter slots round author c rooted =
 abbrev pub AreRooted : Charter → Slots → ℕ → Type 0
 AreRooted charter slots base = (round author : ℕ) (c : Certificate) → slots round author ≡ Some c → base < round → IsRooted charter slots round author c
 
-path_to_leader : (charter : Charter) → IsCharter charter → (slots : Slots) → AreInPlace slots → (leader : Certificate) → IsIn slots leader → leader.header.author.0 < length charter.keys → is_supported charter slots leader ≡ true
-    → AreRooted charter slots (leader.header.round + 1) → (above : ℕ) (c : Certificate) → IsIn slots c → c.header.round ≡ leader.header.round + (2 + above) → has_path (length charter.keys) slots (2 + above) c leader ≡ true
+path_to_leader : (charter : Charter) → IsCharter charter → (slots : Slots) → AreInPlace slots → (leader : Certificate) → IsIn slots leader
+    → leader.header.author.0 < length charter.keys → is_supported charter slots leader ≡ true
+    → AreRooted charter slots (leader.header.round + 1) → (above : ℕ) (c : Certificate) → IsIn slots c → c.header.round
+    ≡ leader.header.round + (2 + above) → has_path (length charter.keys) slots (2 + above) c leader ≡ true
 path_to_leader charter sound slots placed leader held member supported rooted zero c in_slot round =
     let n = length charter.keys in
     let root = rooted c.header.round c.header.author.0 c in_slot (omega (arith, round)) in
@@ -186,7 +188,8 @@ path_to_leader charter sound slots placed leader held_leader member supported ro
     subst (λ k. has_path n slots k c leader ≡ true) same longer
 
 -- so it does
-pub reaches_leader : (charter : Charter) → IsCharter charter → (slots : Slots) → AreInPlace slots → (leader : Certificate) → IsIn slots leader → leader.header.author.0 < length charter.keys → is_supported charter slots leader ≡ true
+pub reaches_leader : (charter : Charter) → IsCharter charter → (slots : Slots) → AreInPlace slots → (leader : Certificate) → IsIn slots leader
+    → leader.header.author.0 < length charter.keys → is_supported charter slots leader ≡ true
     → AreRooted charter slots (leader.header.round + 1) → (c : Certificate) → IsIn slots c → leader.header.round + 2 ≤ c.header.round → reaches (length charter.keys) slots c leader ≡ true
 reaches_leader charter sound slots placed leader held member supported rooted c in_slot above =
     let steps : c.header.round - leader.header.round ≡ 2 + (c.header.round - (leader.header.round + 2)) = omega (arith, above) in

@@ -31,7 +31,8 @@ pub new_header-unvoted : (node : Node) (history : History) (header : Header) →
 new_header-unvoted node history header h =
     elim (cases_Bool (is_own node header.body.author)) [
       | inl own ↦ ap (voted_header history header.body.round) (eqb-true header.body.author.0 node.own.0 own) ∙ new_own_header node (whole node history) header own h
-      | inr foreign ↦ unmapped (λ (held : Header). header_digest held.body) (voted_header history header.body.round header.body.author.0) (new_foreign_header node (whole node history) header foreign h)
+      | inr foreign ↦ unmapped (λ (held : Header). header_digest held.body) (voted_header history header.body.round header.body.author.0)
+          (new_foreign_header node (whole node history) header foreign h)
     ]
 
 -- a certificate where its slot is free

@@ -45,7 +45,8 @@ pub record IsSound (node : Node) (body : HeaderBody) : Type 0 where
   pub members : list_all (λ p. is_member node.charter p.author) body.parents ≡ true
   pub rise : parents_rise body.parents ≡ true
 
-sound_by : (node : Node) (body : HeaderBody) (rest : List Test) → is_member node.charter body.author ≡ true → first_failing (body_tests node.charter body ++ rest) ≡ None → parents_rise body.parents ≡ true → IsSound node body
+sound_by : (node : Node) (body : HeaderBody) (rest : List Test) → is_member node.charter body.author ≡ true
+    → first_failing (body_tests node.charter body ++ rest) ≡ None → parents_rise body.parents ≡ true → IsSound node body
 sound_by node body rest member none rise =
     elim (cases_Bool (nat_le (quorum_of node.charter) (sum_by (λ p. named_weight node.charter p.author) body.parents))) [
       | inr few ↦ let bad = rw few at none in absurd cc
@@ -69,12 +70,15 @@ sound_header node sender header taken =
           | inr other ↦ let bad = rw (by, member, other) at none in absurd cc
           | inl same ↦
               let none' = rw (by, member, same) at none in
-              sound_by node header.body (test (is_signed node.charter accepts_all header.body.author (header_signed header.body) header.signature) BadSignature ∷ []) member none' taken.message.body.parents.rise
+              sound_by node header.body
+              (test (is_signed node.charter accepts_all header.body.author (header_signed header.body) header.signature) BadSignature ∷ []) member
+              none' taken.message.body.parents.rise
         ]
       ]
     ]
 
-pub sound_certificate : (node : Node) (sender : Author) (certificate : Certificate) → IsTaken node (record { sender = sender; message = message.Certificate certificate }) → IsSound node certificate.header
+pub sound_certificate : (node : Node) (sender : Author) (certificate : Certificate)
+    → IsTaken node (record { sender = sender; message = message.Certificate certificate }) → IsSound node certificate.header
 sound_certificate node sender certificate taken =
     let none = taken.passed in
     elim (cases_Bool (is_member node.charter sender)) [
@@ -97,8 +101,10 @@ header_sound node sender (message.Vote vote) header taken is = absurd (none-some
 header_sound node sender (message.Certificate certificate) header taken is = absurd (none-some header is)
 header_sound node sender (message.Coin coin) header taken is = absurd (none-some header is)
 
-certificate_sound : (node : Node) (sender : Author) (m : Message) (certificate : Certificate) → IsTaken node (record { sender = sender; message = m }) → as_certificate m ≡ Some certificate → IsSound node certificate.header
-certificate_sound node sender (message.Certificate new) certificate taken is = subst (λ (c : Certificate). IsSound node c.header) (same_Some new certificate is) (sound_certificate node sender new taken)
+certificate_sound : (node : Node) (sender : Author) (m : Message) (certificate : Certificate) → IsTaken node (record { sender = sender; message = m })
+    → as_certificate m ≡ Some certificate → IsSound node certificate.header
+certificate_sound node sender (message.Certificate new) certificate taken is = subst (λ (c : Certificate). IsSound node c.header)
+    (same_Some new certificate is) (sound_certificate node sender new taken)
 certificate_sound node sender (message.Batch batch) certificate taken is = absurd (none-some certificate is)
 certificate_sound node sender (message.BatchAck ack) certificate taken is = absurd (none-some certificate is)
 certificate_sound node sender (message.Header header) certificate taken is = absurd (none-some certificate is)
@@ -106,7 +112,8 @@ certificate_sound node sender (message.Vote vote) certificate taken is = absurd 
 certificate_sound node sender (message.Coin coin) certificate taken is = absurd (none-some certificate is)
 
 -- each certificate above the genesis is of such a header
-pub sound : (node : Node) (history : History) → IsLegal node history → (certificate : Certificate) → Contains (certificates node history) certificate → 0 < certificate.header.round → IsSound node certificate.header
+pub sound : (node : Node) (history : History) → IsLegal node history → (certificate : Certificate) → Contains (certificates node history) certificate
+    → 0 < certificate.header.round → IsSound node certificate.header
 sound node history legal certificate inside above =
     let first = map genesis (numbers (size_of node)) in
     elim (Contains-append_cases (first ++ received history) (filter_map (completed node history) (headers history)) certificate inside) [
@@ -166,7 +173,8 @@ pub same_digests : (one other : List ℕ) → bytes_eq one other ≡ true → by
 same_digests one other same = (bytes_eq-Decides other one).1 (sym ((bytes_eq-Decides one other).0 same))
 
 -- a parent that is held by its certificate, since it lies too high for the floor
-parent_held : (node : Node) (history : History) (event : Event) → Adds node history event → (round : ℕ) (p : ParentReference) → is_held (slots node history) (floor node history) round p ≡ true → floor node history < round - 1
+parent_held : (node : Node) (history : History) (event : Event) → Adds node history event → (round : ℕ) (p : ParentReference)
+    → is_held (slots node history) (floor node history) round p ≡ true → floor node history < round - 1
     → (parent : Certificate) × (slots node (history ++ event ∷ []) (round - 1) p.author.0 ≡ Some parent) × (is_named parent p ≡ true)
 parent_held node history event adds round p held high =
     elim (given_or_none (slots node history (round - 1) p.author.0)) [

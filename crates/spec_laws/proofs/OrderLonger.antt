@@ -349,7 +349,8 @@ order_longer before after longer more =
     ]
 
 -- the greatest wave that is directly committed of coins doesn't go down
-pub top_grows : (before : Ledger) (after : Slots) → Extends before.slots after → (more : List ℕ) (wave : ℕ) → top before ≡ Some wave → (greatest : ℕ) × (top (grown before after more) ≡ Some greatest) × (wave ≤ greatest)
+pub top_grows : (before : Ledger) (after : Slots) → Extends before.slots after → (more : List ℕ) (wave : ℕ) → top before ≡ Some wave → (greatest : ℕ)
+    × (top (grown before after more) ≡ Some greatest) × (wave ≤ greatest)
 top_grows before after ext more wave found =
     let facts = is_top_of before (length before.coins) wave found in
     let within = facts.within in

@@ -1,5 +1,6 @@
 -- What is proposed at a legal history passes the checks, and is new there.
-use Rattle.std.proofs.Common.{◌≡◌, ℕ, zero, suc, ◌+◌, ◌-◌, ◌*◌, ◌^◌, ◌<◌, ◌≤◌, arith, Bool, true, false, List, [], ◌∷◌, ◌++◌, map, take, length, Option, Some, None, ◌⊎◌, inl, inr, refl, ap, sym, ◌∙◌, subst}
+use Rattle.std.proofs.Common.{◌≡◌, ℕ, zero, suc, ◌+◌, ◌-◌, ◌*◌, ◌^◌, ◌<◌, ◌≤◌, arith, Bool, true, false, List, [], ◌∷◌, ◌++◌, map, take, length}
+use Rattle.std.proofs.Common.{Option, Some, None, ◌⊎◌, inl, inr, refl, ap, sym, ◌∙◌, subst}
 use Rattle.std.specs.Prelude.{Contains, filter, filter_map, fold, max, find, not, ◌==◌, nat_le, nat_lt, is_some, sum_by}
 use Rattle.std.specs.List.{list_all, range_with_len}
 use Rattle.std.specs.Option.{option_map_or, option_or, option_to_list}
@@ -130,17 +131,20 @@ same_bytes bytes = (bytes_eq-Decides bytes bytes).1 refl
 
 -- ---- rounds
 
-full_stays : (node : Node) (history : History) (event : Event) → Adds node history event → (r : ℕ) → is_full node (slots node history) r ≡ true → is_full node (slots node (history ++ event ∷ [])) r ≡ true
+full_stays : (node : Node) (history : History) (event : Event) → Adds node history event → (r : ℕ) → is_full node (slots node history) r ≡ true
+    → is_full node (slots node (history ++ event ∷ [])) r ≡ true
 full_stays node history event adds r full =
     let enough = leb-true _ _ full in
     let more = weight-within node.charter (λ a. is_some (slots node history r a)) (λ a. is_some (slots node (history ++ event ∷ []) r a))
     (λ a within. holds_more (slots node history r a) (slots node (history ++ event ∷ []) r a) (λ c. kept_slot node history event adds r a c)) in
     le-leb _ _ (omega (arith, enough, more))
 
-new_coin-turn : (node : Node) (history : History) (later : State) (sender : Author) (coin : Coin) → is_new (coin_answer node (whole node history) later sender coin) ≡ true → (coin.wave == length (coins history) + 1) ≡ true
+new_coin-turn : (node : Node) (history : History) (later : State) (sender : Author) (coin : Coin)
+    → is_new (coin_answer node (whole node history) later sender coin) ≡ true → (coin.wave == length (coins history) + 1) ≡ true
 new_coin-turn node history later sender coin h = grind (arith, h, common_steps)
 
-new_coin-full : (node : Node) (history : History) (later : State) (sender : Author) (coin : Coin) → is_new (coin_answer node (whole node history) later sender coin) ≡ true → is_full node (slots node history) (2 * coin.wave + 1) ≡ true
+new_coin-full : (node : Node) (history : History) (later : State) (sender : Author) (coin : Coin)
+    → is_new (coin_answer node (whole node history) later sender coin) ≡ true → is_full node (slots node history) (2 * coin.wave + 1) ≡ true
 new_coin-full node history later sender coin h = grind (arith, h, common_steps)
 
 -- the last round of each wave that has a coin is full
@@ -192,7 +196,8 @@ full_rounds node history = filter (is_full node (slots node history)) (map (λ c
 pub round_above : (node : Node) (history : History) → IsNode node → (r : ℕ) → is_full node (slots node history) r ≡ true → r < round node history
 round_above node history sound r full =
     let held = some_held node history sound r full in
-    let among = subst (λ k. Contains (map (λ (c : Certificate). c.header.round) (certificates node history)) k) held.2 (mapped_in (λ (c : Certificate). c.header.round) (certificates node history) held.0 held.1) in
+    let among = subst (λ k. Contains (map (λ (c : Certificate). c.header.round) (certificates node history)) k) held.2
+    (mapped_in (λ (c : Certificate). c.header.round) (certificates node history) held.0 held.1) in
     let most = greatest 0 (full_rounds node history) r (picked_in (is_full node (slots node history)) (map (λ c. c.header.round) (certificates node history)) r among full) in
     omega (arith, most)
 
@@ -293,7 +298,8 @@ new_batch-free node history batch h =
 abbrev IsOnlyBatch : History → Type 0
 IsOnlyBatch history = (batch : BatchView) → Contains (batches history) batch → batch_at history (batch_digest batch) ≡ Some batch
 
-only_more : (node : Node) (history : History) (sender : Author) (m : Message) → is_new (admit node history (record { sender = sender; message = m })) ≡ true → (batch : BatchView) → Contains (option_to_list (as_batch m)) batch
+only_more : (node : Node) (history : History) (sender : Author) (m : Message) → is_new (admit node history (record { sender = sender; message = m }))
+    ≡ true → (batch : BatchView) → Contains (option_to_list (as_batch m)) batch
     → option_or (batch_at history (batch_digest batch)) (find (λ b. same_digest (batch_digest b) (batch_digest batch)) (option_to_list (as_batch m))) ≡ Some batch
 only_more node history sender (message.Batch new) fresh batch inside =
     elim (Contains-push_cases [] new batch inside) [
@@ -323,7 +329,8 @@ one_batch : (node : Node) (history : History) → IsLegal node history → IsOnl
 one_batch node = legal-induction node IsOnlyBatch (λ batch inside. absurd (Contains-nothing batch inside)) (only_push node)
 
 -- a batch that came passed the checks
-pub passed_batch : (node : Node) (sender : Author) (m : Message) (batch : BatchView) → IsTaken node (record { sender = sender; message = m }) → as_batch m ≡ Some batch → is_worker node.charter batch.worker ≡ true
+pub passed_batch : (node : Node) (sender : Author) (m : Message) (batch : BatchView) → IsTaken node (record { sender = sender; message = m })
+    → as_batch m ≡ Some batch → is_worker node.charter batch.worker ≡ true
 passed_batch node sender (message.Batch new) batch taken is =
     let none = taken.passed in
     let worker : is_worker node.charter new.worker ≡ true =
@@ -411,7 +418,16 @@ batches_named node history legal named inside =
                 let is = rw may at from.2 in
                 let same : record { digest = batch_digest batch; worker = batch.worker } ≡ named = same_Some (record { digest = batch_digest batch; worker = batch.worker }) named is in
                 let parts = and_parts _ _ (and_parts (batch.author.0 == node.own.0) _ may).1 in
-                subst (IsNamed node history) same (record { digest = are_digest_bytes _; number = limits.worker; batch = batch; held = one_batch node history legal batch from.1; worker = refl; known = worker; available = parts.0 })
+                subst (IsNamed node history) same
+                (record {
+                  digest = are_digest_bytes _;
+                  number = limits.worker;
+                  batch = batch;
+                  held = one_batch node history legal batch from.1;
+                  worker = refl;
+                  known = worker;
+                  available = parts.0;
+                })
             | inr not ↦ let nothing = rw not at from.2 in absurd (none-some named nothing)
           ]
     ]
@@ -436,7 +452,8 @@ proposed node history header is =
           ]
     ]
 
-pub signature_taken : (node : Node) → IsNode node → (header : Header) → header.body.author ≡ node.own → is_signed node.charter accepts_all header.body.author (header_signed header.body) header.signature ≡ true
+pub signature_taken : (node : Node) → IsNode node → (header : Header) → header.body.author ≡ node.own
+    → is_signed node.charter accepts_all header.body.author (header_signed header.body) header.signature ≡ true
 signature_taken node sound header own =
     ap (λ (a : Author). is_signed node.charter accepts_all a (header_signed header.body) header.signature) own ∙ rw sound.own_key refl
 
@@ -456,7 +473,8 @@ below_weighs node history sound r =
     here ∙ ap (stake_of charter) place.1)
     0 (size_of node) (omega arith)
 
-passes : (node : Node) (history : History) (accepts : Accepts) → IsLegal node history → is_signed node.charter accepts node.own (header_signed (proposal node history)) (node.sign (header_digest (proposal node history))) ≡ true
+passes : (node : Node) (history : History) (accepts : Accepts) → IsLegal node history → is_signed node.charter accepts node.own
+    (header_signed (proposal node history)) (node.sign (header_digest (proposal node history))) ≡ true
     → fault_of node.charter accepts (own_event node (signed node (proposal node history))) ≡ None
 passes node history accepts legal signature =
     let n = size_of node in
@@ -477,13 +495,16 @@ passes node history accepts legal signature =
     all_from (λ b. is_worker node.charter b.worker) body.batches (λ b inside. (batches_named node history legal b inside).known) in
     rw (member, own, quorum, few, members, workers, signature) refl
 
-may_be_named : (node : Node) (history : History) (header : Header) (named : BatchReference) (batch : BatchView) → batch_at history named.digest ≡ Some batch → batch.worker ≡ named.worker → is_available node (whole node history) named.digest ≡ true
+may_be_named : (node : Node) (history : History) (header : Header) (named : BatchReference) (batch : BatchView) → batch_at history named.digest
+    ≡ Some batch → batch.worker ≡ named.worker → is_available node (whole node history) named.digest ≡ true
     → may_name node (whole node history) header named ≡ true
 may_be_named node history header named batch held worker available =
     let same : (batch.worker == named.worker) ≡ true = ap (λ w. w == named.worker) worker ∙ same_number named.worker in
-    and_from _ _ (ap (λ o. option_map_or (λ b. b.worker == named.worker) o false) held ∙ same) (or_right (not (is_own node header.body.author)) (is_available node (whole node history) named.digest) available)
+    and_from _ _ (ap (λ o. option_map_or (λ b. b.worker == named.worker) o false) held ∙ same)
+    (or_right (not (is_own node header.body.author)) (is_available node (whole node history) named.digest) available)
 
-pub header_by_parts : (node : Node) (now : State) (header : Header) → is_low (floor_in node now) header.body.round ≡ false → is_own node header.body.author ≡ true → now.own_headers header.body.round ≡ None
+pub header_by_parts : (node : Node) (now : State) (header : Header) → is_low (floor_in node now) header.body.round ≡ false
+    → is_own node header.body.author ≡ true → now.own_headers header.body.round ≡ None
     → all_held now.slots (floor_in node now) header.body ≡ true → list_all (may_name node now header) header.body.batches ≡ true → header_answer node now header ≡ New (header_outputs node header)
 header_by_parts node now header high own free held named = rw (high, own, free, held, named) refl
 

@@ -71,7 +71,8 @@ wider from end parents rest =
       few = omega (arith, rest.few);
     }
 
-one_more : (from end : ℕ) (p : ParentReference) (parents : List ParentReference) → p.author.0 ≡ from → from < end → IsDigest p.certificate → AreFrom (from + 1) end parents → AreFrom from end (p ∷ parents)
+one_more : (from end : ℕ) (p : ParentReference) (parents : List ParentReference) → p.author.0 ≡ from → from < end → IsDigest p.certificate
+    → AreFrom (from + 1) end parents → AreFrom from end (p ∷ parents)
 one_more from end p parents is less digest rest =
     record {
       each = All-cons (λ q. (from ≤ q.author.0) × (q.author.0 < end)) p parents (omega (arith, is), omega (arith, is, less)) (wider from end parents rest).each;

@@ -1,5 +1,6 @@
 -- What admission puts out may be given out.
-use Rattle.std.proofs.Common.{◌≡◌, ℕ, ◌+◌, ◌*◌, ◌/◌, ◌<◌, min, zero, suc, ◌-◌, Bool, true, false, List, [], ◌∷◌, ◌++◌, map, length, take, drop, Option, Some, None, inl, inr, refl, ap, sym, ◌∙◌, subst, arith}
+use Rattle.std.proofs.Common.{◌≡◌, ℕ, ◌+◌, ◌*◌, ◌/◌, ◌<◌, min, zero, suc, ◌-◌, Bool, true, false, List, [], ◌∷◌, ◌++◌, map, length, take, drop}
+use Rattle.std.proofs.Common.{Option, Some, None, inl, inr, refl, ap, sym, ◌∙◌, subst, arith}
 use Rattle.std.specs.Prelude.{All, Contains, filter, flat_map, nat_le, ◌==◌, ◌||◌, slice_get, option_map, filter_map, if◌then◌else◌}
 use Rattle.std.specs.List.{list_all, range_with_len}
 use Rattle.std.specs.Str.{bytes_eq}
@@ -13,10 +14,12 @@ use Rattle.wire.specs.Batches.{batch_body}
 use Rattle.wire.specs.Digests.{certificate_digest_of}
 use Rattle.wire.specs.declared.message.Message.TheVariants as message
 use Rattle.wire.specs.declared.output.Output.TheVariants as output
-use Rattle.spec_model.specs.Admitting.{admit, is_own, batch_outputs, header_outputs, pieces, piece_at, order_outputs, batch_answer, ack_answer, header_answer, may_name, vote_answer, held_answer, certificate_answer, same_header, coin_answer}
+use Rattle.spec_model.specs.Admitting.{admit, is_own, batch_outputs, header_outputs, pieces, piece_at, order_outputs, batch_answer, ack_answer}
+use Rattle.spec_model.specs.Admitting.{header_answer, may_name, vote_answer, held_answer, certificate_answer, same_header, coin_answer}
 use Rattle.spec_model.specs.Giving.{is_given, given, IsPiece, MayGive}
 use Rattle.spec_model.specs.Histories.{History, batches, headers, coins, received, as_batch, as_header}
-use Rattle.spec_model.specs.Holdings.{batch_digest, batch_at, has_acked, is_low, is_full, all_held, own_vote, counted_vote, voted_header, voted_digest, completed, certificates, genesis, slots, order, floor}
+use Rattle.spec_model.specs.Holdings.{batch_digest, batch_at, has_acked, is_low, is_full, all_held, own_vote, counted_vote, voted_header}
+use Rattle.spec_model.specs.Holdings.{voted_digest, completed, certificates, genesis, slots, order, floor}
 use Rattle.spec_laws.specs.Laws.{PutsOutGiven, OutputsGiven}
 use Rattle.committee.specs.Charter.{numbers}
 use Rattle.spec_model.specs.Nodes.{Node, size_of}
@@ -245,7 +248,9 @@ header_put node history sender header =
     elim (cases_Bool (is_own node header.body.author)) [ inl own ↦ own_header_put node history sender header own | inr foreign ↦ foreign_header_put node history sender header foreign ]
 
 certificate_put : (node : Node) (history : History) (sender : Author) (certificate : Certificate)
-    → PutsOutGiven node history (record { sender = sender; message = message.Certificate certificate }) (certificate_answer node (whole node history) (whole node (history ++ record { sender = sender; message = message.Certificate certificate } ∷ [])) certificate)
+    → PutsOutGiven node history (record { sender = sender; message = message.Certificate certificate })
+    (certificate_answer node (whole node history)
+    (whole node (history ++ record { sender = sender; message = message.Certificate certificate } ∷ [])) certificate)
 certificate_put node history sender certificate =
     let event : Event = record { sender = sender; message = message.Certificate certificate } in
     elim (cases_Bool (is_low (floor node history) certificate.header.round)) [
@@ -266,7 +271,8 @@ certificate_put node history sender certificate =
     ]
 
 coin_put : (node : Node) (history : History) (sender : Author) (coin : Coin)
-    → PutsOutGiven node history (record { sender = sender; message = message.Coin coin }) (coin_answer node (whole node history) (whole node (history ++ record { sender = sender; message = message.Coin coin } ∷ [])) sender coin)
+    → PutsOutGiven node history (record { sender = sender; message = message.Coin coin })
+    (coin_answer node (whole node history) (whole node (history ++ record { sender = sender; message = message.Coin coin } ∷ [])) sender coin)
 coin_put node history sender coin =
     let event : Event = record { sender = sender; message = message.Coin coin } in
     elim (cases_Bool (is_own node sender)) [
@@ -307,7 +313,8 @@ completes_given node history sender vote header held (Some certificate) made =
     let there : Contains (certificates node later) certificate =
     Contains-append_right (map genesis (numbers (size_of node)) ++ received later) (filter_map (completed node later) (headers later)) certificate
     (Contains-makes (completed node later) (headers later) header certificate inside made) in
-    let headed : voted_header later header.body.round node.own.0 ≡ Some header = ap (λ r. voted_header later r node.own.0) (eqb-true _ _ parts.0) ∙ header_stays history event vote.round node.own.0 header held in
+    let headed : voted_header later header.body.round node.own.0 ≡ Some header = ap (λ r. voted_header later r node.own.0) (eqb-true _ _ parts.0)
+    ∙ header_stays history event vote.round node.own.0 header held in
     All-cons (MayGive node later) (output.Certificate certificate) []
     (certificate_given node later certificate there (made_given node later header certificate headed (completed-header node later header certificate made) parts.1))
     (All-nil (MayGive node later))
@@ -332,7 +339,8 @@ held_put node history event vote header held headed same in_slot =
     ]
 
 vote_put : (node : Node) (history : History) (sender : Author) (vote : Vote)
-    → PutsOutGiven node history (record { sender = sender; message = message.Vote vote }) (vote_answer node (whole node history) (whole node (history ++ record { sender = sender; message = message.Vote vote } ∷ [])) vote)
+    → PutsOutGiven node history (record { sender = sender; message = message.Vote vote })
+    (vote_answer node (whole node history) (whole node (history ++ record { sender = sender; message = message.Vote vote } ∷ [])) vote)
 vote_put node history sender vote =
     let event : Event = record { sender = sender; message = message.Vote vote } in
     elim (cases_Bool (is_own node vote.author)) [
@@ -361,7 +369,8 @@ vote_put node history sender vote =
       ]
     ]
 
-put_by : (node : Node) (history : History) (sender : Author) (m : Message) → PutsOutGiven node history (record { sender = sender; message = m }) (admit node history (record { sender = sender; message = m }))
+put_by : (node : Node) (history : History) (sender : Author) (m : Message) → PutsOutGiven node history (record { sender = sender; message = m })
+    (admit node history (record { sender = sender; message = m }))
 put_by node history sender (message.Batch batch) = batch_put node history sender batch
 put_by node history sender (message.BatchAck ack) = ack_put node history sender ack
 put_by node history sender (message.Header header) = header_put node history sender header

@@ -60,7 +60,8 @@ pub completed-same : (node : Node) (history : History) (event : Event) (header :
     → completed node (history ++ event ∷ []) header ≡ completed node history header
 completed-same node history event header none =
     ap (λ counted. certificate_by node counted header)
-    (fun_ext (λ voter. counted_vote-push node history event header.body voter ∙ ap (option_or (counted_vote node history header.body voter)) (none voter) ∙ or_none (counted_vote node history header.body voter)))
+    (fun_ext (λ voter. counted_vote-push node history event header.body voter ∙ ap (option_or (counted_vote node history header.body voter))
+    (none voter) ∙ or_none (counted_vote node history header.body voter)))
 
 -- a vote for another slot isn't on a header
 pub not_on : (vote : Vote) (header : HeaderBody) (voter : ℕ) → is_of_slot vote.round vote.author.0 header ≡ false → find (is_vote_on header voter) (vote ∷ []) ≡ None
@@ -75,7 +76,8 @@ completed-header node history header certificate made =
     ]
 
 -- where no other member voted on an own header, the node itself alone did
-alone_voted : (node : Node) (history : History) (header : HeaderBody) → ((voter : ℕ) → find (is_vote_on header voter) (votes history) ≡ None) → (voter : ℕ) → has_voted node history header voter ≡ (voter == node.own.0)
+alone_voted : (node : Node) (history : History) (header : HeaderBody) → ((voter : ℕ) → find (is_vote_on header voter) (votes history) ≡ None)
+    → (voter : ℕ) → has_voted node history header voter ≡ (voter == node.own.0)
 alone_voted node history header none voter =
     elim (cases_Bool (voter == node.own.0)) [ inl own ↦ rw own refl | inr other ↦ let gone = none voter in rw (other, gone) refl ]
 
@@ -132,7 +134,8 @@ abbrev pub first_at : Node → ℕ → ℕ → Option Certificate
 first_at node = slots_of (map genesis (numbers (size_of node)))
 
 -- what a slot holds, part by part
-pub slots-parts : (node : Node) (history : History) (round author : ℕ) → ((header : Header) → Contains (headers history) header → voted_header history header.body.round header.body.author.0 ≡ Some header)
+pub slots-parts : (node : Node) (history : History) (round author : ℕ)
+    → ((header : Header) → Contains (headers history) header → voted_header history header.body.round header.body.author.0 ≡ Some header)
     → slots node history round author ≡ option_or (first_at node round author) (option_or (slots_of (received history) round author) (own_at node history round author))
 slots-parts node history round author only =
     let at : Certificate → Bool = λ c. is_of_slot round author c.header in
@@ -173,7 +176,9 @@ free_parts one two three h = let first = neither one (option_or two three) h in 
 -- what a slot holds behind an event that may add to one of its parts
 slot_more : (node : Node) (history : History) (event : Event) (round author : ℕ) → IsOnly history → IsOnly (history ++ event ∷ [])
     → (add : Option Certificate)
-    → option_or (first_at node round author) (option_or (option_or (slots_of (received history) round author) (slots_of (option_to_list (as_certificate event.message)) round author)) (own_at node (history ++ event ∷ []) round author))
+    → option_or (first_at node round author)
+    (option_or (option_or (slots_of (received history) round author) (slots_of (option_to_list (as_certificate event.message)) round author))
+    (own_at node (history ++ event ∷ []) round author))
     ≡ option_or (option_or (first_at node round author) (option_or (slots_of (received history) round author) (own_at node history round author))) add
     → slots node (history ++ event ∷ []) round author ≡ option_or (slots node history round author) add
 slot_more node history event round author before after add h =
@@ -326,7 +331,8 @@ slots_more node history sender (message.Certificate certificate) adds before aft
       | inl here ↦
           let place = slot_is round author certificate.header here in
           let free : slots node history round author ≡ None =
-          ap (λ r. slots node history r author) (sym place.0) ∙ ap (slots node history certificate.header.round) (sym place.1) ∙ new_certificate-free node (whole node history) (whole node (history ++ event ∷ [])) certificate adds.new in
+          ap (λ r. slots node history r author) (sym place.0) ∙ ap (slots node history certificate.header.round) (sym place.1)
+          ∙ new_certificate-free node (whole node history) (whole node (history ++ event ∷ [])) certificate adds.new in
           put_in _ _ _ _ _ same (sym (slots-parts node history round author before) ∙ free)
       | inr other ↦ rw other (unchanged _ _ _ _ same)
     ])

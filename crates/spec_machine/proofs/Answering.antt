@@ -8,7 +8,8 @@ use Rattle.std.proofs.lemmas.Bool.{cases_Bool, cases_lt, and_from, eqb-true, lt-
 use Rattle.wire.specs.declared.message.Message.TheVariants as message
 use Rattle.wire.specs.declared.output.Output.TheVariants as output
 use Rattle.committee.specs.Charter.{weight}
-use Rattle.spec_model.specs.Admitting.{when◌gives◌else◌, admit, is_new, is_own, header_outputs, vote_outputs, order_outputs, pieces, may_name, known_header_answer, held_header_answer, voted_answer, held_answer, held_certificate_answer, IsTaken, IsLegal}
+use Rattle.spec_model.specs.Admitting.{when◌gives◌else◌, admit, is_new, is_own, header_outputs, vote_outputs, order_outputs, pieces, may_name}
+use Rattle.spec_model.specs.Admitting.{known_header_answer, held_header_answer, voted_answer, held_answer, held_certificate_answer, IsTaken, IsLegal}
 use Rattle.spec_model.specs.Giving.{collected, kept}
 use Rattle.spec_model.specs.Histories.{History, coins}
 use Rattle.spec_model.specs.Holdings.{certificate_by, slots, floor, is_low, is_full, is_held, all_held}
@@ -143,8 +144,10 @@ certificate_outputs certificate false (Some first) held = record { only_new = λ
 certificate_outputs certificate false None true = record { only_new = λ one other same. ap (λ o. New o) (same refl) }
 certificate_outputs certificate false None false = record { only_new = λ one other same. refl }
 
-certificate_same : (node : Node) (history : History) (sender : Author) (certificate : Certificate) → IsKept node history → IsTaken node (record { sender = sender; message = message.Certificate certificate })
-    → admit node history (record { sender = sender; message = message.Certificate certificate }) ≡ answered node (kept node history) (record { sender = sender; message = message.Certificate certificate })
+certificate_same : (node : Node) (history : History) (sender : Author) (certificate : Certificate) → IsKept node history
+    → IsTaken node (record { sender = sender; message = message.Certificate certificate })
+    → admit node history (record { sender = sender; message = message.Certificate certificate })
+    ≡ answered node (kept node history) (record { sender = sender; message = message.Certificate certificate })
 certificate_same node history sender certificate is taken =
     let event : Event = record { sender = sender; message = message.Certificate certificate } in
     let keeps = kept node history in
@@ -155,7 +158,8 @@ certificate_same node history sender certificate is taken =
     let outputs = order_outputs (whole node history) (whole node (history ++ event ∷ [])) in
     let others = order_outputs keeps (grown node keeps event.message) in
     let lows : low ≡ is_low (floor_in node keeps) header.round = ap (λ f. is_low f header.round) is.floors in
-    let first : admit node history event ≡ certificate_answer_by certificate low found held outputs = ap (λ h. certificate_answer_by certificate low found h outputs) (held_same node history is header) in
+    let first : admit node history event ≡ certificate_answer_by certificate low found held outputs =
+    ap (λ h. certificate_answer_by certificate low found h outputs) (held_same node history is header) in
     elim (cases_Bool low) [
       | inl under ↦
           first ∙ ap (λ b. certificate_answer_by certificate b found held outputs) under

@@ -106,7 +106,8 @@ record IsAckNew (node : Node) (state : State) (digest : Digest) (member : ℕ) :
   within : member < size_of node
   other : member ≢ node.own.0
 
-ack_new : (node : Node) (state : State) (sender : Author) (m : Message) → IsStep node state sender m → (digest : Digest) (member : ℕ) → acknowledges m digest member ≡ true → IsAckNew node state digest member
+ack_new : (node : Node) (state : State) (sender : Author) (m : Message) → IsStep node state sender m → (digest : Digest) (member : ℕ)
+    → acknowledges m digest member ≡ true → IsAckNew node state digest member
 ack_new node state sender m step digest member is =
     let found = any_alone (λ (ack : BatchAck). same_digest ack.batch digest && (ack.author.0 == member)) (as_ack m) is in
     let ack = found.0 in
@@ -131,7 +132,8 @@ named_new node state sender m step digest is =
     let new = new_header node state header step'.new in
     let may = all_to (may_name node state header) header.body.batches named.0 new.named named.1 in
     let available : (not (is_own node header.body.author) || is_available node state named.0.digest) ≡ true =
-    (and_parts (option_map_or (λ (batch : BatchView). batch.worker == named.0.worker) (batch_in state named.0.digest) false) (not (is_own node header.body.author) || is_available node state named.0.digest) may).1 in
+    (and_parts (option_map_or (λ (batch : BatchView). batch.worker == named.0.worker) (batch_in state named.0.digest) false)
+    (not (is_own node header.body.author) || is_available node state named.0.digest) may).1 in
     let it = but_for (is_own node header.body.author) (is_available node state named.0.digest) parts.0 available in
     ap (has_own_batch node state) (sym (same_digests named.0.digest digest named.2)) ∙ (and_parts (has_own_batch node state named.0.digest) _ it).0
 
@@ -145,7 +147,9 @@ Differ one other = same_digest (batch_digest one) (batch_digest other) ≡ false
 
 passed_new : (node : Node) (state : State) (sender : Author) (m : Message) → IsStep node state sender m → All (Passed node) (option_to_list (as_batch m))
 passed_new node state sender (message.Batch batch) step =
-    All-cons (Passed node) batch [] (subst (λ a. IsTaken node (record { sender = a; message = message.Batch batch })) (sym (batch_sender node sender batch step.taken)) step.taken) (All-nil (Passed node))
+    All-cons (Passed node) batch []
+    (subst (λ a. IsTaken node (record { sender = a; message = message.Batch batch })) (sym (batch_sender node sender batch step.taken))
+    step.taken) (All-nil (Passed node))
 passed_new node state sender (message.BatchAck ack) step = All-nil (Passed node)
 passed_new node state sender (message.Header header) step = All-nil (Passed node)
 passed_new node state sender (message.Vote vote) step = All-nil (Passed node)

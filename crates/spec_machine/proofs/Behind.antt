@@ -42,7 +42,8 @@ of_voters node state sender m step round voter vote held =
     let by = (and_parts (is_of_slot vote.round vote.author.0 is.header.body) ((vote.voter.0 == voter) && same_digest vote.header (header_digest is.header.body)) is.on).1 in
     (eqb-true vote.voter.0 voter (and_parts (vote.voter.0 == voter) (same_digest vote.header (header_digest is.header.body)) by).0, is.signature)
 
-pub added_well : (node : Node) (state : State) (sender : Author) (m : Message) → IsStep node state sender m → (certificate : Certificate) → certificate_of node state m ≡ Some certificate → IsAddedWell node state certificate
+pub added_well : (node : Node) (state : State) (sender : Author) (m : Message) → IsStep node state sender m → (certificate : Certificate)
+    → certificate_of node state m ≡ Some certificate → IsAddedWell node state certificate
 added_well node state sender m step certificate is =
     elim (certificate_new node state m certificate is) [
       | inl came ↦

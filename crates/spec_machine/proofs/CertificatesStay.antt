@@ -27,7 +27,8 @@ use Rattle.spec_machine.proofs.Step.{IsStep, or_right}
 above_genesis : (floor round : ℕ) → is_low floor round ≡ false → 0 < round
 above_genesis floor round high = grind (arith, high, common_steps)
 
-passed_stays : (node : Node) (state : State) (sender : Author) (m : Message) → IsStep node state sender m → IsBehind node state m → (round author : ℕ) (c : Certificate) → (grown node state m).slots round author ≡ Some c
+passed_stays : (node : Node) (state : State) (sender : Author) (m : Message) → IsStep node state sender m → IsBehind node state m
+    → (round author : ℕ) (c : Certificate) → (grown node state m).slots round author ≡ Some c
     → (c ≡ genesis author) ⊎ IsReceived node (behind node state m) c
 passed_stays node state sender m step back round author c held =
     elim (slot_cases node state m round author c held) [
@@ -40,7 +41,8 @@ passed_stays node state sender m step back round author c held =
           inr (record { above = above_genesis (floor_in node state) c.header.round well.high; passed = well.taken; held = back.held c.header well.held })
     ]
 
-pub member_grown : (node : Node) (state : State) (sender : Author) (m : Message) → IsStep node state sender m → (round author : ℕ) (c : Certificate) → (grown node state m).slots round author ≡ Some c → author < size_of node
+pub member_grown : (node : Node) (state : State) (sender : Author) (m : Message) → IsStep node state sender m → (round author : ℕ) (c : Certificate)
+    → (grown node state m).slots round author ≡ Some c → author < size_of node
 member_grown node state sender m step round author c held =
     elim (slot_cases node state m round author c held) [
       | inl old ↦ step.sound.certificates.of_members round author c old
@@ -57,7 +59,8 @@ added_within : (highest : ℕ) (o : Option Certificate) (c : Certificate) → o 
 added_within highest (Some d) c is = let same = ap (λ (e : Certificate). e.header.round) (same_Some d c is) in grind (arith, same)
 added_within highest None c is = absurd cc
 
-highest_grown : (node : Node) (state : State) (sender : Author) (m : Message) → IsStep node state sender m → (round author : ℕ) (c : Certificate) → (grown node state m).slots round author ≡ Some c → round ≤ (grown node state m).highest
+highest_grown : (node : Node) (state : State) (sender : Author) (m : Message) → IsStep node state sender m → (round author : ℕ) (c : Certificate)
+    → (grown node state m).slots round author ≡ Some c → round ≤ (grown node state m).highest
 highest_grown node state sender m step round author c held =
     elim (slot_cases node state m round author c held) [
       | inl old ↦
@@ -74,7 +77,8 @@ highest_grown node state sender m step round author c held =
 either_most : (one other : ℕ) → (max one other ≡ one) ⊎ (max one other ≡ other)
 either_most one other = elim (cases_lt one other) [ inl less ↦ inr (grind (arith, less)) | inr more ↦ inl (grind (arith, more)) ]
 
-reached_grown : (node : Node) (state : State) (sender : Author) (m : Message) → IsStep node state sender m → (author : ℕ) × (c : Certificate) × ((grown node state m).slots (grown node state m).highest author ≡ Some c)
+reached_grown : (node : Node) (state : State) (sender : Author) (m : Message) → IsStep node state sender m → (author : ℕ) × (c : Certificate)
+    × ((grown node state m).slots (grown node state m).highest author ≡ Some c)
 reached_grown node state sender m step =
     let later = grown node state m in
     let was = step.sound.certificates.reached in
@@ -87,7 +91,9 @@ reached_grown node state sender m step =
           let round = c.header.round in
           let author = c.header.author.0 in
           let here : slots_of (c ∷ []) round author ≡ Some c = ap (λ b. if b then Some c else None) (of_its_slot c.header) in
-          let new : later.slots round author ≡ Some c = or_right (state.slots round author) (slots_of (option_to_list (certificate_of node state m)) round author) well.free ∙ ap (λ o. slots_of (option_to_list o) round author) added.1 ∙ here in
+          let new : later.slots round author ≡ Some c = or_right (state.slots round author)
+          (slots_of (option_to_list (certificate_of node state m)) round author) well.free ∙ ap (λ o. slots_of (option_to_list o) round author)
+          added.1 ∙ here in
           let most : later.highest ≡ max state.highest round = ap (highest_with state.highest) added.1 in
           elim (either_most state.highest round) [
             | inl old ↦ (was.0, was.1, ap (λ r. later.slots r was.0) (most ∙ old) ∙ kept)
@@ -115,7 +121,8 @@ floor_within node state sender m step next =
 
 -- ---- all of it
 
-genesis_stays : (node : Node) (state : State) (sender : Author) (m : Message) → IsStep node state sender m → IsBehind node state m → floor_in node (behind node state m) ≡ 0 → (author : ℕ) → author < size_of node
+genesis_stays : (node : Node) (state : State) (sender : Author) (m : Message) → IsStep node state sender m → IsBehind node state m
+    → floor_in node (behind node state m) ≡ 0 → (author : ℕ) → author < size_of node
     → (behind node state m).slots 0 author ≡ Some (genesis author)
 genesis_stays node state sender m step back least author member =
     let rises = back.rises in
@@ -132,7 +139,8 @@ reached_stays node state sender m step next back =
     let it = reached_grown node state sender m step in
     (it.0, it.1, slot_stays (floor_in node later) (floor_in node (behind node state m)) later.highest (later.slots later.highest it.0) it.1 floors (omega (arith, floors, within)) it.2)
 
-pub certificates_stay : (node : Node) (state : State) (sender : Author) (m : Message) → IsStep node state sender m → IsNext node state m → IsBehind node state m → AreCertificates node (behind node state m)
+pub certificates_stay : (node : Node) (state : State) (sender : Author) (m : Message) → IsStep node state sender m → IsNext node state m
+    → IsBehind node state m → AreCertificates node (behind node state m)
 certificates_stay node state sender m step next back =
     let later = grown node state m in
     let was : (round author : ℕ) (c : Certificate) → (behind node state m).slots round author ≡ Some c → (floor_in node (behind node state m) ≤ round) × (later.slots round author ≡ Some c) =

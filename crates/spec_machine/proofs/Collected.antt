@@ -207,7 +207,8 @@ same_order node state m next =
     let some = (grown node kept m).slots in
     let waves : last_wave (ledger_in node state) ≡ last_wave (ledger_in node kept) = ap (λ o. option_map_or (λ w. w) o 0) (kept_top node state next.members placed) in
     let leaders = kept_leader node state next.members placed in
-    let ordered : Slots → Option Certificate → ℕ → List Digest = λ s previous wave. map (λ (c : Certificate). certificate_digest c.header) (segments (ledger_of node s coins) previous (newer (ledger_of node s coins) wave)) in
+    let ordered : Slots → Option Certificate → ℕ → List Digest = λ s previous wave. map (λ (c : Certificate). certificate_digest c.header)
+    (segments (ledger_of node s coins) previous (newer (ledger_of node s coins) wave)) in
     ap (λ l. state.order ++ l) (
     elim (given_or_none (top (ledger_in node state))) [
       | inr none ↦
@@ -217,7 +218,8 @@ same_order node state m next =
           let is = still_committed node state m next at.0 at.1 at.2 in
           let floor = at.2.floor in
           ap (ordered all (last_leader (ledger_in node state))) at.2.last_wave
-          ∙ since_from (floor_in node state) (ledger_of node all coins) some next.members same at.0 at.2.above is.0 is.1 (λ round below. omega (arith, below, floor)) (last_leader (ledger_in node state))
+          ∙ since_from (floor_in node state) (ledger_of node all coins) some next.members same at.0 at.2.above is.0 is.1
+          (λ round below. omega (arith, below, floor)) (last_leader (ledger_in node state))
           ∙ sym (ap (ordered some (last_leader (ledger_in node state))) at.2.last_wave)
     ]
     ∙ ap (λ p. ordered some p (last_wave (ledger_in node state))) leaders
@@ -237,7 +239,8 @@ unless_same one other round found also floors same =
       | inr high ↦ ap (λ o. if is_low one round then None else o) (same high) ∙ ap (λ f. unless_low f round also) floors
     ]
 
-slot_same : (one other : ℕ) (round : ℕ) (found also : Option Certificate) → one ≡ other → (one ≤ round → found ≡ also) → (if nat_lt round one then None else found) ≡ (if nat_lt round other then None else also)
+slot_same : (one other : ℕ) (round : ℕ) (found also : Option Certificate) → one ≡ other → (one ≤ round → found ≡ also)
+    → (if nat_lt round one then None else found) ≡ (if nat_lt round other then None else also)
 slot_same one other round found also floors same =
     elim (cases_Bool (nat_lt round one)) [
       | inl below ↦ ap (λ b. if b then None else found) below ∙ sym (ap (λ b. if b then None else also) (ap (nat_lt round) (sym floors) ∙ below))

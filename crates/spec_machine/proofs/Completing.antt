@@ -122,7 +122,8 @@ are_votes node sound counted from =
 signed : (node : Node) (digest : Digest) (v : VoteEntry) → v.voter.0 < size_of node → is_signed node.charter accepts_all v.voter digest v.signature ≡ true
 signed node digest v member = let is = slice_get-get_or node.charter.keys v.voter.0 node.key member in rw is refl
 
-pub own_passes : (node : Node) (sender : Author) (header : Header) (counted : ℕ → Option Vote) → IsNode node → IsTaken node (record { sender = sender; message = message.Header header }) → AreOfVoters counted
+pub own_passes : (node : Node) (sender : Author) (header : Header) (counted : ℕ → Option Vote) → IsNode node
+    → IsTaken node (record { sender = sender; message = message.Header header }) → AreOfVoters counted
     → quorum node ≤ weight node.charter (λ voter. is_some (counted voter)) → IsTaken node (record { sender = node.own; message = message.Certificate (certificate_with node counted header.body) })
 own_passes node sender header counted sound taken of enough =
     let charter = node.charter in
@@ -158,6 +159,11 @@ made node counted header certificate by =
     elim (cases_Bool ((header.body.author.0 == node.own.0) && nat_le (quorum node) (weight node.charter (λ voter. is_some (counted voter))))) [
       | inl passes ↦
           let is = rw passes at by in
-          record { is = same_Some _ _ is; enough = leb-true _ _ (and_parts (header.body.author.0 == node.own.0) (nat_le (quorum node) (weight node.charter (λ voter. is_some (counted voter)))) passes).1 }
+          record {
+            is = same_Some _ _ is;
+            enough =
+                leb-true _ _ (and_parts (header.body.author.0 == node.own.0)
+                (nat_le (quorum node) (weight node.charter (λ voter. is_some (counted voter)))) passes).1;
+          }
       | inr fails ↦ let nothing = rw fails at by in absurd (none-some certificate nothing)
     ]

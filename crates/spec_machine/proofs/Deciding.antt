@@ -28,7 +28,8 @@ use Rattle.spec_machine.proofs.Proposing.{below_high, state_proposes}
 abbrev bare : State → State
 bare state = record state { named = λ digest. false; highest = 0 }
 
-bare_answers : (node : Node) (state : State) (sender : Author) (m : Message) → answered node state (record { sender = sender; message = m }) ≡ answered node (bare state) (record { sender = sender; message = m })
+bare_answers : (node : Node) (state : State) (sender : Author) (m : Message) → answered node state (record { sender = sender; message = m })
+    ≡ answered node (bare state) (record { sender = sender; message = m })
 bare_answers node state sender (message.Batch batch) = refl
 bare_answers node state sender (message.BatchAck ack) = refl
 bare_answers node state sender (message.Header header) = refl
@@ -45,7 +46,8 @@ answers_alike node one other event legal also taken alike =
     (fun_ext (λ round. alike.same_headers round))
     (fun_ext (λ round. fun_ext (λ voter. alike.same_counted round voter)))
     (fun_ext (λ round. fun_ext (λ author. alike.same_slots round author))) refl alike.same_coins
-    (ap (λ s. order_by (ledger_of node s (coins one))) (fun_ext (λ round. fun_ext (λ author. alike.same_slots round author))) ∙ ap (λ c. order_by (ledger_of node (slots node other) c)) alike.same_coins) in
+    (ap (λ s. order_by (ledger_of node s (coins one))) (fun_ext (λ round. fun_ext (λ author. alike.same_slots round author)))
+    ∙ ap (λ c. order_by (ledger_of node (slots node other) c)) alike.same_coins) in
     state_answers node one event legal taken
     ∙ bare_answers node (kept node one) event.sender event.message
     ∙ ap (λ s. answered node (collected node s) event) bared

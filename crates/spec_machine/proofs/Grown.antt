@@ -10,7 +10,8 @@ use Rattle.std.proofs.lemmas.List.Folds.{list_any-append}
 use Rattle.std.proofs.lemmas.Slice.Eq.{bytes_eq-Decides}
 use Rattle.wire.specs.declared.message.Message.TheVariants as message
 use Rattle.spec_model.specs.Histories.{History, batches, acks, headers, votes, coins, as_batch, as_ack, as_header, as_vote, as_coin}
-use Rattle.spec_model.specs.Holdings.{has_acked, was_named, voted_header, voted_digest, is_vote_on, counted_vote, own_vote, counted_at, certificate_by, completed, certificates, slots, ledger_of, ledger_at, order}
+use Rattle.spec_model.specs.Holdings.{has_acked, was_named, voted_header, voted_digest, is_vote_on, counted_vote, own_vote, counted_at}
+use Rattle.spec_model.specs.Holdings.{certificate_by, completed, certificates, slots, ledger_of, ledger_at, order}
 use Rattle.spec_model.specs.Nodes.{Node}
 use Rattle.spec_model.specs.Ordering.{newer, last_wave, segments}
 use Rattle.spec_model.specs.Slots.{same_digest, header_digest, certificate_digest, is_of_slot, slots_of}
@@ -55,7 +56,8 @@ found_at (message.Vote vote) round author = refl
 found_at (message.Certificate certificate) round author = refl
 found_at (message.Coin coin) round author = refl
 
-header_later : (history : History) (event : Event) (round author : ℕ) → voted_header (history ++ event ∷ []) round author ≡ option_or (voted_header history round author) (header_at event.message round author)
+header_later : (history : History) (event : Event) (round author : ℕ) → voted_header (history ++ event ∷ []) round author
+    ≡ option_or (voted_header history round author) (header_at event.message round author)
 header_later history event round author = voted_header-push history event round author ∙ ap (option_or (voted_header history round author)) (found_at event.message round author)
 
 abbrev digest_of : Header → Digest
@@ -74,7 +76,8 @@ abbrev counted_on : Node → History → ℕ → Option Header → Option Vote
 counted_on node history voter = option_and_then (λ header. counted_vote node history header.body voter)
 
 -- without a vote the votes on a header stay
-unchanged : (node : Node) (history : History) (event : Event) (header : HeaderBody) (voter : ℕ) → as_vote event.message ≡ None → counted_vote node (history ++ event ∷ []) header voter ≡ counted_vote node history header voter
+unchanged : (node : Node) (history : History) (event : Event) (header : HeaderBody) (voter : ℕ) → as_vote event.message ≡ None
+    → counted_vote node (history ++ event ∷ []) header voter ≡ counted_vote node history header voter
 unchanged node history event header voter none =
     counted_vote-push node history event header voter
     ∙ ap (λ o. option_or (counted_vote node history header voter) (find (is_vote_on header voter) (option_to_list o))) none
@@ -84,7 +87,9 @@ unchanged node history event header voter none =
 counted_same : (node : Node) (history : History) (event : Event) (round voter : ℕ) → as_vote event.message ≡ None → header_at event.message round node.own.0 ≡ None
     → counted_at node (history ++ event ∷ []) round voter ≡ option_or (counted_at node history round voter) None
 counted_same node history event round voter no_vote no_header =
-    ap (counted_on node (history ++ event ∷ []) voter) (header_later history event round node.own.0 ∙ ap (option_or (voted_header history round node.own.0)) no_header ∙ or_none (voted_header history round node.own.0))
+    ap (counted_on node (history ++ event ∷ []) voter)
+    (header_later history event round node.own.0 ∙ ap (option_or (voted_header history round node.own.0)) no_header
+    ∙ or_none (voted_header history round node.own.0))
     ∙ elim (given_or_none (voted_header history round node.own.0)) [
       | inl found ↦
           ap (counted_on node (history ++ event ∷ []) voter) found.1 ∙ unchanged node history event found.0.body voter no_vote
@@ -179,7 +184,8 @@ counted_by node history sender (message.Header header) adds round voter = counte
 counted_by node history sender (message.Vote vote) adds round voter = counted_new node history sender vote adds round voter
 counted_by node history sender (message.Batch batch) adds round voter = counted_same node history (record { sender = sender; message = message.Batch batch }) round voter refl refl
 counted_by node history sender (message.BatchAck ack) adds round voter = counted_same node history (record { sender = sender; message = message.BatchAck ack }) round voter refl refl
-counted_by node history sender (message.Certificate certificate) adds round voter = counted_same node history (record { sender = sender; message = message.Certificate certificate }) round voter refl refl
+counted_by node history sender (message.Certificate certificate) adds round voter = counted_same node history
+    (record { sender = sender; message = message.Certificate certificate }) round voter refl refl
 counted_by node history sender (message.Coin coin) adds round voter = counted_same node history (record { sender = sender; message = message.Coin coin }) round voter refl refl
 
 -- ---- certificates
@@ -236,10 +242,12 @@ all_within most bound (first ∷ rest) less each =
     all_within (max most first.header.round) bound rest (grind (arith, less, here)) (λ c inside. each c (Contains-later first rest c inside))
 
 -- a certificate that an event adds is there behind it
-added_in : (node : Node) (history : History) (event : Event) → Adds node history event → (c : Certificate) → slots node history c.header.round c.header.author.0 ≡ None → added node history event ≡ Some c
+added_in : (node : Node) (history : History) (event : Event) → Adds node history event → (c : Certificate)
+    → slots node history c.header.round c.header.author.0 ≡ None → added node history event ≡ Some c
     → Contains (certificates node (history ++ event ∷ [])) c
 added_in node history event adds c free is =
-    let held : slots node (history ++ event ∷ []) c.header.round c.header.author.0 ≡ Some c = slots_grow node history event adds.longer c.header.round c.header.author.0 ∙ rw (free, is, of_its_slot c.header) refl in
+    let held : slots node (history ++ event ∷ []) c.header.round c.header.author.0 ≡ Some c = slots_grow node history event adds.longer c.header.round
+    c.header.author.0 ∙ rw (free, is, of_its_slot c.header) refl in
     (found_passes (λ d. is_of_slot c.header.round c.header.author.0 d.header) (certificates node (history ++ event ∷ [])) c held).1
 
 -- the slot of a certificate that an event adds held nothing
@@ -262,7 +270,8 @@ added_free node history sender (message.Header header) adds c is = absurd (none-
 added_free node history sender (message.Coin coin) adds c is = absurd (none-some c is)
 
 -- no certificate is lost
-stays_in : (node : Node) (history : History) (event : Event) → Adds node history event → (c : Certificate) → Contains (certificates node history) c → Contains (certificates node (history ++ event ∷ [])) c
+stays_in : (node : Node) (history : History) (event : Event) → Adds node history event → (c : Certificate) → Contains (certificates node history) c
+    → Contains (certificates node (history ++ event ∷ [])) c
 stays_in node history event adds c inside =
     let held = kept_slot node history event adds c.header.round c.header.author.0 c (in_slots node history adds.legal c inside) in
     (found_passes (λ d. is_of_slot c.header.round c.header.author.0 d.header) (certificates node (history ++ event ∷ [])) c held).1
@@ -307,7 +316,8 @@ order_is node history event adds =
     let lengthens = order_lengthens node history (event ∷ []) (slots node later) adds.longer (record { placed = in_place node later; same = λ round author above. refl }) in
     ap (λ s. order node history ++ newly_ordered before (ledger_of node s (coins history ++ option_to_list (as_coin event.message)))) (slots_are node history event adds)
     ∙ ap (λ c. order node history ++ newly_ordered before (ledger_of node (slots node later) c)) (sym (coins_later history event))
-    ∙ ap (λ p. order node history ++ map (λ (c : Certificate). certificate_digest c.header) (segments (ledger_at node later) p (newer (ledger_at node later) (last_wave before)))) (sym (last_is before))
+    ∙ ap (λ p. order node history ++ map (λ (c : Certificate). certificate_digest c.header)
+    (segments (ledger_at node later) p (newer (ledger_at node later) (last_wave before)))) (sym (last_is before))
     ∙ sym lengthens.order
 
 -- ---- all of it

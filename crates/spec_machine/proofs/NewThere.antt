@@ -21,7 +21,8 @@ pub record IsNewBatch (node : Node) (now : State) (batch : BatchView) : Type 0 w
 held_batch : (node : Node) (now : State) (batch held : BatchView) → batch_in now (batch_digest batch) ≡ Some held → is_new (batch_answer node now batch) ≡ true → ⊥
 held_batch node now batch held is h = grind (arith, h, is, common_steps)
 
-with_room : (node : Node) (now : State) (batch : BatchView) → batch_in now (batch_digest batch) ≡ None → is_new (batch_answer node now batch) ≡ true → nat_le node.charter.batches (length now.batches) ≡ false
+with_room : (node : Node) (now : State) (batch : BatchView) → batch_in now (batch_digest batch) ≡ None → is_new (batch_answer node now batch) ≡ true
+    → nat_le node.charter.batches (length now.batches) ≡ false
 with_room node now batch none h = grind (arith, h, none, common_steps)
 
 more_room : (most held : ℕ) → nat_le most held ≡ false → held < most
@@ -133,7 +134,8 @@ certificate_free : (node : Node) (now later : State) (certificate : Certificate)
     → now.slots certificate.header.round certificate.header.author.0 ≡ None
 certificate_free node now later certificate h = grind (arith, h, common_steps)
 
-certificate_high : (node : Node) (now later : State) (certificate : Certificate) → is_new (certificate_answer node now later certificate) ≡ true → is_low (floor_in node now) certificate.header.round ≡ false
+certificate_high : (node : Node) (now later : State) (certificate : Certificate) → is_new (certificate_answer node now later certificate) ≡ true
+    → is_low (floor_in node now) certificate.header.round ≡ false
 certificate_high node now later certificate h = grind (arith, h, common_steps)
 
 certificate_held : (node : Node) (now later : State) (certificate : Certificate) → is_new (certificate_answer node now later certificate) ≡ true

@@ -61,7 +61,8 @@ leads ledger some placed wave c is =
     let at = place.0 in
     record { held = leader_in ledger (suc wave) c placed is; some = omega (arith, at); member = place.1 }
 
-newer_each : (ledger : Ledger) (P : Certificate → Type 0) → ((wave : ℕ) (c : Certificate) → leader ledger (suc wave) ≡ Some c → P c) → (base wave : ℕ) (last c : Certificate) → P last → Contains (newer_to ledger base wave last) c → P c
+newer_each : (ledger : Ledger) (P : Certificate → Type 0) → ((wave : ℕ) (c : Certificate) → leader ledger (suc wave) ≡ Some c → P c)
+    → (base wave : ℕ) (last c : Certificate) → P last → Contains (newer_to ledger base wave last) c → P c
 newer_each ledger P each base zero last c here inside =
     elim (Contains-push_cases [] last c inside) [ inl none ↦ absurd (Contains-nothing c none) | inr same ↦ subst P same here ]
 newer_each ledger P each base (suc wave) last c here inside =
@@ -97,7 +98,8 @@ among_rounds ledger c above =
     let round = c.header.round in
     let some = above.some in
     flat_in (round_of (size_in ledger) ledger.slots) (range_with_len 1 round) round c (number_in 1 round round (omega (arith, some)) (omega arith))
-    (Contains-makes (ledger.slots round) (numbers (size_in ledger)) c.header.author.0 c (number_in 0 (size_in ledger) c.header.author.0 (omega arith) (let member = above.member in omega (arith, member))) above.held)
+    (Contains-makes (ledger.slots round) (numbers (size_in ledger)) c.header.author.0 c
+    (number_in 0 (size_in ledger) c.header.author.0 (omega arith) (let member = above.member in omega (arith, member))) above.held)
 
 orders_some : (ledger : Ledger) (c : Certificate) → IsAbove ledger c → segment ledger None c ≡ [] → ⊥
 orders_some ledger c above none =
@@ -138,7 +140,8 @@ first_order node state sender m step next none =
     let is : (grown node state m).order ≡ digests (segments later None (committed later)) = ap (λ l. l ++ newly_ordered before later) empty ∙ new in (
       λ ordered. elim (given_or_none (top later)) [
         | inr nothing ↦ nothing
-        | inl found ↦ absurd (committed_order later next.members next.extends.placed_after found.0 found.1 (none_mapped (λ c. certificate_digest c.header) (segments later None (committed later)) (sym is ∙ ordered)))
+        | inl found ↦ absurd (committed_order later next.members next.extends.placed_after found.0 found.1
+            (none_mapped (λ c. certificate_digest c.header) (segments later None (committed later)) (sym is ∙ ordered)))
       ],
       λ nothing. is ∙ ap (λ o. digests (segments later None (option_map_or (newer_at later 0) o []))) nothing,
     )

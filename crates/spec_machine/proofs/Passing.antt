@@ -65,7 +65,8 @@ pub record PassesBody (node : Node) (body : HeaderBody) : Type 0 where
   pub members : list_all (λ parent. is_member node.charter parent.author) body.parents ≡ true
   pub workers : list_all (λ batch. is_worker node.charter batch.worker) body.batches ≡ true
 
-pub header_passes : (node : Node) (sender : Author) (header : Header) → IsTaken node (record { sender = sender; message = message.Header header }) → (header.body.author ≡ sender) × PassesBody node header.body
+pub header_passes : (node : Node) (sender : Author) (header : Header) → IsTaken node (record { sender = sender; message = message.Header header })
+    → (header.body.author ≡ sender) × PassesBody node header.body
 header_passes node sender header taken =
     let event : Event = record { sender = sender; message = message.Header header } in
     let tests = all_tests node event in

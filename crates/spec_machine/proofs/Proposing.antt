@@ -99,6 +99,8 @@ state_proposes node history legal =
       proposed =
           ap (propose_of node keeps) rounds
           ∙ ap (λ o. if is_some o || nat_lt (2 ^ 48) r then None else Some (signed node (proposal_of node keeps r))) (unless (floor node history) r (now.own_headers r) high)
-          ∙ ap (λ below. if is_some (now.own_headers r) || nat_lt (2 ^ 48) r then None else Some (signed node (record { author = node.own; round = r; batches = take 128 (nameable node now); parents = map as_parent below })))
+          ∙ ap (λ below. if is_some (now.own_headers r) || nat_lt (2 ^ 48) r then None
+          else Some (signed node
+          (record { author = node.own; round = r; batches = take 128 (nameable node now); parents = map as_parent below })))
           (sym (round_from (size_of node) (floor node history) (slots node history) keeps.slots same (r - 1) low));
     }

@@ -1,5 +1,6 @@
 -- A new event puts out all that it adds to the order.
-use Rattle.std.proofs.Common.{◌≡◌, ℕ, ◌+◌, ◌-◌, ◌*◌, ◌/◌, ◌<◌, ◌≤◌, zero, suc, take, arith, Bool, false, List, [], ◌∷◌, ◌++◌, map, length, drop, Option, Some, None, inl, inr, refl, ap, sym, ◌∙◌, subst}
+use Rattle.std.proofs.Common.{◌≡◌, ℕ, ◌+◌, ◌-◌, ◌*◌, ◌/◌, ◌<◌, ◌≤◌, zero, suc, take, arith, Bool, false, List, [], ◌∷◌, ◌++◌, map, length, drop}
+use Rattle.std.proofs.Common.{Option, Some, None, inl, inr, refl, ap, sym, ◌∙◌, subst}
 use Rattle.std.proofs.Math.Nat.{mul-div-le, lt-mul-div-succ}
 use Rattle.std.proofs.Math.Path.{fun_ext}
 use Rattle.std.specs.Prelude.{filter, flat_map, ⊤, nat_le, is_some, slice_get, ◌==◌, ◌||◌}
@@ -12,7 +13,8 @@ use Rattle.wire.specs.Batches.{batch_body}
 use Rattle.wire.specs.declared.message.Message.TheVariants as message
 use Rattle.wire.specs.declared.output.Output.TheVariants as output
 use Rattle.std.proofs.lemmas.Grind.{common_steps}
-use Rattle.spec_model.specs.Admitting.{is_own, is_new, batch_answer, ack_answer, header_answer, vote_answer, certificate_answer, coin_answer, may_name, known_header_answer, same_header, batch_outputs, header_outputs, order_outputs, pieces, piece_at}
+use Rattle.spec_model.specs.Admitting.{is_own, is_new, batch_answer, ack_answer, header_answer, vote_answer, certificate_answer, coin_answer}
+use Rattle.spec_model.specs.Admitting.{may_name, known_header_answer, same_header, batch_outputs, header_outputs, order_outputs, pieces, piece_at}
 use Rattle.spec_model.specs.Holdings.{batch_digest, ledger_of, is_low, is_full, all_held}
 use Rattle.spec_model.specs.Nodes.{Node}
 use Rattle.spec_model.specs.Slots.{Slots, same_digest, header_digest, certificate_digest}
@@ -208,7 +210,8 @@ puts_by : (node : Node) (state : State) (sender : Author) (m : Message)
     → PutsOut (order_outputs state (after node state (record { sender = sender; message = m }))) (answered node state (record { sender = sender; message = m }))
 puts_by node state sender (message.Batch batch) = subst (λ l. PutsOut l (batch_answer node state batch)) (sym (none_put_out node state sender (message.Batch batch) tt)) (batch_puts node state batch)
 puts_by node state sender (message.BatchAck ack) = subst (λ l. PutsOut l (ack_answer node state ack)) (sym (none_put_out node state sender (message.BatchAck ack) tt)) (ack_puts node state ack)
-puts_by node state sender (message.Header header) = subst (λ l. PutsOut l (header_answer node state header)) (sym (none_put_out node state sender (message.Header header) tt)) (header_puts node state header)
+puts_by node state sender (message.Header header) = subst (λ l. PutsOut l (header_answer node state header))
+    (sym (none_put_out node state sender (message.Header header) tt)) (header_puts node state header)
 puts_by node state sender (message.Vote vote) = vote_puts node state (grown node state (message.Vote vote)) vote
 puts_by node state sender (message.Certificate certificate) = certificate_puts node state (grown node state (message.Certificate certificate)) certificate
 puts_by node state sender (message.Coin coin) = coin_puts node state (grown node state (message.Coin coin)) sender coin

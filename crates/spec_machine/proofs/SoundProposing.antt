@@ -122,7 +122,8 @@ record IsNamed (node : Node) (state : State) (named : BatchReference) : Type 0 w
   available : is_available node state named.digest ≡ true
 
 -- a batch that is named is own, held and available
-named_well : (node : Node) (state : State) → sound.AreBatches node state → (named : BatchReference) (batch : BatchView) → Contains state.batches batch → to_name node state batch ≡ Some named → IsNamed node state named
+named_well : (node : Node) (state : State) → sound.AreBatches node state → (named : BatchReference) (batch : BatchView) → Contains state.batches batch
+    → to_name node state batch ≡ Some named → IsNamed node state named
 named_well node state good named batch inside names =
     let taken = All-contains (λ b. IsTaken node (record { sender = b.author; message = message.Batch b })) state.batches batch good.passed inside in
     let worker = passed_batch node batch.author (message.Batch batch) batch taken refl in

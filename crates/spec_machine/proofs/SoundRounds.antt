@@ -57,7 +57,8 @@ parent_there slots floor round p high held =
     ]
 
 -- below a certificate whose parents lie above the floor the round is full
-below_received : (node : Node) (state : State) → IsNode node → (c : Certificate) → IsReceived node state c → floor_in node state < c.header.round - 1 → is_full node state.slots (c.header.round - 1) ≡ true
+below_received : (node : Node) (state : State) → IsNode node → (c : Certificate) → IsReceived node state c → floor_in node state < c.header.round - 1
+    → is_full node state.slots (c.header.round - 1) ≡ true
 below_received node state sound c received high =
     let quorum = names_quorum node sound c (sound_certificate node node.own c received.passed) in
     let there = weight-within node.charter (is_named_by c) (λ author. is_some (state.slots (c.header.round - 1) author))

@@ -44,7 +44,8 @@ state_stands node state event sound is taken new =
       acked = λ digest member before. true_stays (state.acked digest member) (acknowledges m digest member) before;
       named = λ digest before. true_stays (state.named digest) (names node m digest) before;
       votes = λ round author digest voted.
-          stays_unless floor (floor_in node (after node state event)) round (state.votes round author) (option_map (λ header. header_digest header.body) (header_at m round author)) digest floors voted;
+          stays_unless floor (floor_in node (after node state event)) round (state.votes round author)
+          (option_map (λ header. header_digest header.body) (header_at m round author)) digest floors voted;
       own_headers = λ round header held.
           stays_unless floor (floor_in node (after node state event)) round (state.own_headers round) (header_at m round node.own.0) header floors held;
       counted = λ round voter vote counted.

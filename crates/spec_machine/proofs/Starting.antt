@@ -30,6 +30,7 @@ starts_fresh node =
     (fun_ext (λ round. fun_ext (λ author. nothing floor round)))
     (fun_ext (λ round. nothing floor round))
     (fun_ext (λ round. fun_ext (λ voter. nothing floor round)))
-    (fun_ext (λ round. fun_ext (λ author. let above : nat_lt round floor ≡ false = grind arith in ap (λ b. if b then None else slots node [] round author) above ∙ ap (λ l. slots_of l round author) all)))
+    (fun_ext (λ round. fun_ext (λ author. let above : nat_lt round floor ≡ false = grind arith in
+    ap (λ b. if b then None else slots node [] round author) above ∙ ap (λ l. slots_of l round author) all)))
     (ap highest_of all ∙ none_higher (numbers (size_of node)))
     refl refl

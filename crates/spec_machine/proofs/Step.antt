@@ -135,7 +135,8 @@ pub record IsOwnNew (node : Node) (state : State) (round : ℕ) (header : Header
   pub held : all_held state.slots (floor_in node state) header.body ≡ true
   pub free : state.own_headers round ≡ None
 
-pub own_new : (node : Node) (state : State) (sender : Author) (header : Header) (round : ℕ) → IsStep node state sender (message.Header header) → is_of_slot round node.own.0 header.body ≡ true → IsOwnNew node state round header
+pub own_new : (node : Node) (state : State) (sender : Author) (header : Header) (round : ℕ) → IsStep node state sender (message.Header header)
+    → is_of_slot round node.own.0 header.body ≡ true → IsOwnNew node state round header
 own_new node state sender header round step place =
     let new = new_header node state header step.new in
     let own = (and_parts (header.body.round == round) (header.body.author.0 == node.own.0) place).1 in

@@ -133,7 +133,8 @@ vote_or_none node state sender (message.Certificate certificate) step round head
 vote_or_none node state sender (message.Coin coin) step round header held = inl (λ voter. refl)
 
 -- where no vote is new the same count
-same_counts : (node : Node) (state : State) (m : Message) (round : ℕ) → ((voter : ℕ) → vote_at node m round voter ≡ None) → (voter : ℕ) → counts (grown node state m) round voter ≡ counts state round voter
+same_counts : (node : Node) (state : State) (m : Message) (round : ℕ) → ((voter : ℕ) → vote_at node m round voter ≡ None) → (voter : ℕ)
+    → counts (grown node state m) round voter ≡ counts state round voter
 same_counts node state m round none voter = ap is_some (ap (option_or (state.counted round voter)) (none voter) ∙ or_none (state.counted round voter))
 
 not_some : {X : Type 0} (o : Option X) → is_some o ≡ false → o ≡ None
@@ -141,7 +142,8 @@ not_some (Some x) is = absurd cc
 not_some None is = refl
 
 -- a header that was complete is so still
-still_complete : (node : Node) (state : State) (m : Message) (round : ℕ) (header : Header) → ((voter : ℕ) → vote_at node m round voter ≡ None) → IsCompleted node state round header → IsCompleted node (grown node state m) round header
+still_complete : (node : Node) (state : State) (m : Message) (round : ℕ) (header : Header) → ((voter : ℕ) → vote_at node m round voter ≡ None)
+    → IsCompleted node state round header → IsCompleted node (grown node state m) round header
 still_complete node state m round header none was =
     let same = same_counts node state m round none in
     let weighs = weight-same node.charter (λ voter. counts (grown node state m) round voter && not (voter == was.last)) (λ voter. counts state round voter && not (voter == was.last))
@@ -158,7 +160,8 @@ still_complete node state m round header none was =
     }
 
 -- who counts behind a vote counted before it, but for the voter
-counted_before : (node : Node) (state : State) (vote : Vote) (voter : ℕ) → (counts (grown node state (message.Vote vote)) vote.round voter && not (voter == vote.voter.0)) ≡ true → counts state vote.round voter ≡ true
+counted_before : (node : Node) (state : State) (vote : Vote) (voter : ℕ)
+    → (counts (grown node state (message.Vote vote)) vote.round voter && not (voter == vote.voter.0)) ≡ true → counts state vote.round voter ≡ true
 counted_before node state vote voter is =
     let m : Message = message.Vote vote in
     let parts = and_parts (counts (grown node state m) vote.round voter) (not (voter == vote.voter.0)) is in
@@ -216,7 +219,8 @@ new_incomplete node state sender header round step place free =
     let few = alone_below node.charter step.node_is.charter own step.node_is.member in
     let alone = weight-same node.charter (counts (grown node state m) round) (λ voter. voter == own)
     (λ voter within.
-    ap is_some (or_right (state.counted round voter) (vote_at node m round voter) (uncounted node state step.sound round voter free) ∙ ap (λ b. if b && (voter == own) then Some (own_vote node header.body) else None) place)
+    ap is_some (or_right (state.counted round voter) (vote_at node m round voter) (uncounted node state step.sound round voter free)
+    ∙ ap (λ b. if b && (voter == own) then Some (own_vote node header.body) else None) place)
     ∙ is_given (voter == own) (own_vote node header.body)) in
     omega (arith, few, alone)
   where
@@ -253,7 +257,8 @@ complete_grown node state sender m step round header held enough =
       ]
     ]
 
-complete_stays : (node : Node) (state : State) (sender : Author) (m : Message) → IsStep node state sender m → IsBehind node state m → (round : ℕ) (header : Header) → (behind node state m).own_headers round ≡ Some header
+complete_stays : (node : Node) (state : State) (sender : Author) (m : Message) → IsStep node state sender m → IsBehind node state m
+    → (round : ℕ) (header : Header) → (behind node state m).own_headers round ≡ Some header
     → quorum node ≤ weight node.charter (counts (behind node state m) round) → IsCompleted node (behind node state m) round header
 complete_stays node state sender m step back round header is enough =
     let later = grown node state m in

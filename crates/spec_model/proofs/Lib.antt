@@ -1,2 +1,1 @@
 pub mod Placing
-pub mod Ranges

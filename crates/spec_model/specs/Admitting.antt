@@ -1,12 +1,13 @@
 -- Admission: what a node answers an event, and what it gives out for it. Of the tests the first that applies decides.
 -- It reads what the node holds now, and of a new event what the node then holds.
-use Rattle.std.specs.Prelude.{◌≡◌, ℕ, ◌+◌, ◌-◌, ◌*◌, ◌/◌, ◌==◌, ◌&&◌, ◌||◌, not, nat_le, Bool, true, false, List, [], ◌∷◌, ◌++◌, map, length, take, drop, Option, Some, None, is_some, option_map, slice_get, All, IsTrue, if◌then◌else◌}
-use Rattle.std.specs.List.{list_all, range_with_len}
+use Rattle.std.specs.Prelude.{◌≡◌, ℕ, ◌+◌, ◌-◌, ◌*◌, ◌==◌, ◌&&◌, ◌||◌, not, nat_le, Bool, true, false, List, [], ◌∷◌, ◌++◌, map, length, drop}
+use Rattle.std.specs.Prelude.{Option, Some, None, is_some, option_map, slice_get, All, IsTrue, if◌then◌else◌}
+use Rattle.std.specs.List.{list_all}
 use Rattle.std.specs.Option.{option_map_or, option_to_list}
 use Rattle.std.specs.Str.{bytes_eq}
 use Rattle.wire.specs.Batches.{batch_body}
 use Rattle.wire.specs.Grammar.{IsMessage}
-use Rattle.wire.specs.declared.limits.TheConstants.{MAX_ORDER_DIGESTS}
+pub use Rattle.header.specs.Answers.{is_new, piece_at, pieces}
 use Rattle.header.specs.Checks.{fault_of, accepts_all}
 use Rattle.std.specs.Cmp.Lexicographic.{pointwise}
 use Rattle.wire.specs.declared.message.Message.TheVariants as message
@@ -19,7 +20,8 @@ use Rattle.spec_model.specs.Slots.{same_digest, header_digest, certificate_diges
 use Rattle.spec_model.specs.Words.{Author, BatchAck, BatchReference, Certificate, Coin, BatchView, Digest, Event, Header, HeaderBody, Message, Output, ParentReference, Vote}
 use Rattle.header.specs.declared.admission.Admission.{Admission}
 use Rattle.header.specs.declared.admission.Admission.TheVariants.{New, Known, Refused}
-use Rattle.header.specs.declared.refusal.Refusal.TheVariants.{TooOld, MissingParents, MissingBatch, Equivocation, CertConflict, DigestClash, AlreadyProposed, NotOurs, CoinOutOfTurn, CoinEarly, CoinConflict, StoreFull}
+use Rattle.header.specs.declared.refusal.Refusal.TheVariants.{TooOld, MissingParents, MissingBatch, Equivocation, CertConflict, DigestClash}
+use Rattle.header.specs.declared.refusal.Refusal.TheVariants.{AlreadyProposed, NotOurs, CoinOutOfTurn, CoinEarly, CoinConflict, StoreFull}
 
 -- an author is the node itself
 abbrev pub is_own : Node → Author → Bool
@@ -37,14 +39,6 @@ batch_outputs node batch =
 abbrev pub header_outputs : Node → Header → List Output
 header_outputs node header =
     (if is_own node header.body.author then output.Header header else output.Vote (own_vote node header.body)) ∷ []
-
--- the piece of this number, from 0 on, of a list that follows so many digests of the order
-abbrev pub piece_at : ℕ → List Digest → ℕ → Output
-piece_at start digests piece = output.Order (start + MAX_ORDER_DIGESTS * piece) (take MAX_ORDER_DIGESTS (drop (MAX_ORDER_DIGESTS * piece) digests))
-
--- the list in pieces of as many digests as an output may have, but for the last one
-abbrev pub pieces : ℕ → List Digest → List Output
-pieces start digests = map (piece_at start digests) (range_with_len 0 ((length digests + (MAX_ORDER_DIGESTS - 1)) / MAX_ORDER_DIGESTS))
 
 -- what is added to the order
 abbrev pub order_outputs : State → State → List Output
@@ -183,12 +177,6 @@ abbrev pub admit : Node → History → Event → Admission
 admit node history event = answer node (whole node history) (whole node (history ++ event ∷ [])) event
 
 -- ---- runs
-
--- the event that got the answer is new
-abbrev pub is_new : Admission → Bool
-is_new (New outputs) = true
-is_new (Known outputs) = false
-is_new (Refused refusal) = false
 
 -- the history after an event: a new one is added, and no other
 abbrev pub history_after : Node → History → Event → History

@@ -1,15 +1,10 @@
 -- A history: the events of a node, the oldest first, and what it has of each kind.
-use Rattle.std.specs.Prelude.{◌≡◌, ℕ, List, ◌++◌, filter_map, Option, Some, None}
+use Rattle.std.specs.Prelude.{ℕ, List, filter_map, Option, Some, None}
 use Rattle.wire.specs.declared.message.Message.TheVariants as message
 use Rattle.spec_model.specs.Words.{BatchAck, Certificate, BatchView, Event, Header, Message, Vote}
 
 abbrev pub History : Type 0
 History = List Event
-
--- one list is a beginning of another
-pub record Begins {X : Type 0} (one other : List X) : Type 0 where
-  pub rest : List X
-  pub parts : other ≡ one ++ rest
 
 -- what a message is, if it is of the kind
 abbrev pub as_batch : Message → Option BatchView

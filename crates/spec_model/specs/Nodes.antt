@@ -36,8 +36,8 @@ abbrev pub node_view : {S : Type 0} → Scheme S → declared.Node S → Node
 node_view scheme node = record {
   own = node.own;
   charter = node.committee;
-  key = own_key node.signer;
-  sign = signature_of node.signer;
+  key = scheme.own_key node.signer;
+  sign = scheme.signature_of node.signer;
 }
 
 -- a node's signer and a verifier belong together: what the node signs is accepted for its key

@@ -1,5 +1,6 @@
 -- Leaders, which of them are committed, and the order. The waves are counted from 1.
-use Rattle.std.specs.Prelude.{ℕ, zero, suc, ◌+◌, ◌-◌, ◌*◌, ◌%◌, ◌&&◌, not, nat_le, Bool, false, List, [], ◌∷◌, ◌++◌, map, length, filter, flat_map, Option, Some, None, slice_get, option_and_then, if◌then◌else◌}
+use Rattle.std.specs.Prelude.{ℕ, zero, suc, ◌+◌, ◌-◌, ◌*◌, ◌%◌, ◌&&◌, not, nat_le, Bool, false, List, [], ◌∷◌, ◌++◌, map, length, filter, flat_map}
+use Rattle.std.specs.Prelude.{Option, Some, None, slice_get, option_and_then, if◌then◌else◌}
 use Rattle.std.specs.List.{range_with_len}
 use Rattle.std.specs.Option.{option_map_or}
 use Rattle.committee.specs.Charter.{Charter, weight, support_of}

@@ -4,10 +4,6 @@
 
 ghost use Rattle.spec_records.specs.Records.{OneRecord, NoConfiguration, OneConfiguration};
 
-mod version;
-
-pub use version::Version;
-
 /// A record is that of one event only, of those that passed the checks of one committee.
 pub fn one_record()
     ensures { OneRecord }

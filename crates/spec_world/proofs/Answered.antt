@@ -17,7 +17,9 @@ use Rattle.spec_machine.specs.Laws.{is_order}
 use Rattle.spec_machine.specs.Machine.{after}
 use Rattle.spec_machine.proofs.Answering.{state_answers}
 use Rattle.spec_machine.proofs.PuttingOut.{order_is_put_out}
-use Rattle.spec_model.specs.Admitting.{admit, answer, is_own, batch_outputs, header_outputs, piece_at, pieces, batch_answer, ack_answer, header_answer, may_name, held_header_answer, voted_answer, known_header_answer, vote_answer, same_header, certificate_answer, coin_answer, IsLegal}
+use Rattle.spec_model.specs.Admitting.{admit, answer, is_own, batch_outputs, header_outputs, piece_at, pieces, batch_answer, ack_answer}
+use Rattle.spec_model.specs.Admitting.{header_answer, may_name, held_header_answer, voted_answer, known_header_answer, vote_answer, same_header}
+use Rattle.spec_model.specs.Admitting.{certificate_answer, coin_answer, IsLegal}
 use Rattle.spec_model.specs.Giving.{MayGive, kept}
 use Rattle.spec_model.specs.Histories.{History}
 use Rattle.spec_model.specs.Holdings.{batch_digest, order, is_low, is_full, all_held}
@@ -62,7 +64,12 @@ new_put node history event outputs legal is =
     let out = order_is_put_out node (kept node history) event outputs (sym (state_answers node history event adds.legal adds.taken) ∙ is) in
     let digests = drop (length (kept node history).order) (after node (kept node history) event).order in
     All-weaker (Contains outputs) (IsPut node later)
-    (λ o inside. record { by = by_new history event outputs refl is inside; may = All-contains (MayGive node later) outputs o may inside; behind = pieces_behind node history event digests outputs out.pieces o inside })
+    (λ o inside. record {
+      by = by_new history event outputs refl is inside;
+      may = All-contains (MayGive node later) outputs o may inside;
+      behind =
+          pieces_behind node history event digests outputs out.pieces o inside;
+    })
     outputs (All-contains_itself outputs)
 
 -- ---- a known event puts out no order

@@ -32,7 +32,8 @@ as_it_is : (group events : History) → IsFilled group events group
 as_it_is group events = record { more = []; rest = events; parts = refl; is = sym (append-nil group); fits = inl refl }
 
 -- with an event, and then more of them
-with_event : (group : History) (event : Event) (events filling : History) → FitsGroup (map record_of (group ++ event ∷ [])) → IsFilled (group ++ event ∷ []) events filling → IsFilled group (event ∷ events) filling
+with_event : (group : History) (event : Event) (events filling : History) → FitsGroup (map record_of (group ++ event ∷ []))
+    → IsFilled (group ++ event ∷ []) events filling → IsFilled group (event ∷ events) filling
 with_event group event events filling fits is = record {
   more = event ∷ is.more;
   rest = is.rest;

@@ -17,7 +17,8 @@ use Rattle.journal.proofs.Stops.{repaired_cut}
 use Rattle.spec_model.specs.Histories.{History}
 use Rattle.spec_model.specs.Nodes.{Node}
 use Rattle.spec_records.specs.Records.{record_of}
-use Rattle.spec_world.specs.World.{Phase, not_begun, group_written, group_synced, gate_opened, gate_synced, World, Holds, events_of, first_of, group_in, content_in, call_in, call_for, as_journal, MayStop, between, inside, run_on, IsOpened}
+use Rattle.spec_world.specs.World.{Phase, not_begun, group_written, group_synced, gate_opened, gate_synced, World, Holds, events_of, first_of}
+use Rattle.spec_world.specs.World.{group_in, content_in, call_in, call_for, as_journal, MayStop, between, inside, run_on, IsOpened}
 use Rattle.spec_world.specs.Steps.{take_to, device_call, settle, group_to, IsCalled, next_phase, Leads}
 use Rattle.spec_world.specs.Runs.{StopsArePossible, RunsGoOn, RunsBeginWithWhatStands, GroupsSettle, AppendsMakeCalls}
 use Rattle.spec_world.proofs.Bytes.{group_in_bytes}

@@ -27,7 +27,8 @@ first_and_others world =
     ap (λ l. world.settled ++ l) (events_split world.groups) ∙ sym (append_assoc world.settled (first_of world.groups) (events_of (drop 1 world.groups)))
 
 -- a group that is taken stands behind what was taken
-pub taken_more : (world : World) (count : ℕ) → Begins (taken_in world) world.accepted → 1 ≤ length (group_to world count) → world.settled ++ events_of (world.groups ++ group_to world count ∷ []) ≡ take count world.accepted
+pub taken_more : (world : World) (count : ℕ) → Begins (taken_in world) world.accepted → 1 ≤ length (group_to world count) → world.settled
+    ++ events_of (world.groups ++ group_to world count ∷ []) ≡ take count world.accepted
 taken_more world count begins some =
     let all = taken_in world in
     let more = group_to world count in

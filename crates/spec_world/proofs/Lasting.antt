@@ -98,12 +98,14 @@ answered_events world next came event (New outputs) is inside =
 answered_events world next came event (Known outputs) is inside = same_events world next (accept came) event (ap (λ (w : World). w.began) is) (ap (λ (w : World). w.accepted) is) inside
 answered_events world next came event (Refused refusal) is inside = absurd is
 
-step_events : (node : Node) (world : World) (move : Move) (next : World) (event : Event) → Stands node world → IsStep node world move next → Contains (next.began ++ next.accepted) event → CameBy world move event
+step_events : (node : Node) (world : World) (move : Move) (next : World) (event : Event) → Stands node world → IsStep node world move next
+    → Contains (next.began ++ next.accepted) event → CameBy world move event
 step_events node world (accept came) next event at step inside = answered_events world next came event (admit node (world.began ++ world.accepted) came) step.is inside
 step_events node world (take_to count) next event at step inside = same_events world next (take_to count) event (ap (λ (w : World). w.began) step.is) (ap (λ (w : World). w.accepted) step.is) inside
 step_events node world device_call next event at step inside = same_events world next device_call event (ap (λ (w : World). w.began) step.is) (ap (λ (w : World). w.accepted) step.is) inside
 step_events node world settle next event at step inside = same_events world next settle event (ap (λ (w : World). w.began) step.is) (ap (λ (w : World). w.accepted) step.is) inside
-step_events node world (release waiting) next event at step inside = same_events world next (release waiting) event (ap (λ (w : World). w.began) step.is) (ap (λ (w : World). w.accepted) step.is) inside
+step_events node world (release waiting) next event at step inside = same_events world next (release waiting) event
+    (ap (λ (w : World). w.began) step.is) (ap (λ (w : World). w.accepted) step.is) inside
 step_events node world read_order next event at step inside = same_events world next read_order event (ap (λ (w : World). w.began) step) (ap (λ (w : World). w.accepted) step) inside
 step_events node world (restart found) next event at step inside =
     let is_left = left node world found at step.left in

@@ -57,11 +57,13 @@ module _ (node : Node) (world : World) (at : Stands node world) where
       let begins = (kept given there).begins in
       legal-begins node given.history begins.rest (subst (IsLegal node) begins.parts (settled_legal node world at))
 
-  orders_there : (one other : Given) (earlier later : List Digest) → Contains world.given one → Contains world.given other → order_given (order node one.history) one.outgoing ≡ Some earlier → order_given (order node other.history) other.outgoing ≡ Some later
+  orders_there : (one other : Given) (earlier later : List Digest) → Contains world.given one → Contains world.given other
+      → order_given (order node one.history) one.outgoing ≡ Some earlier → order_given (order node other.history) other.outgoing ≡ Some later
       → IsNoLater one other earlier later → Begins earlier later
   orders_there one other earlier later there also is is' no_later =
       orders_begin node one.history other.history earlier later (legal_at other also) no_later.begins no_later.no_longer
-      (order_of node one.history one.outgoing earlier (legal_at one there) (kept one there).ended is) (order_of node other.history other.outgoing later (legal_at other also) (kept other also).ended is')
+      (order_of node one.history one.outgoing earlier (legal_at one there) (kept one there).ended is)
+      (order_of node other.history other.outgoing later (legal_at other also) (kept other also).ended is')
 
   nested_there : (one other : Given) → Contains world.given one → Contains world.given other → Begins one.history other.history ⊎ Begins other.history one.history
   nested_there one other there also =

@@ -19,7 +19,9 @@ use Rattle.header.specs.declared.admission.Admission.{Admission}
 use Rattle.header.specs.declared.admission.Admission.TheVariants.{New, Known, Refused}
 use Rattle.spec_records.specs.Records.{record_of}
 use Rattle.spec_world.specs.World.{Phase, not_begun, Waiting, Outgoing, put_out, read, World, Holds, taken_in, first_of, group_in, call_for}
-use Rattle.spec_world.specs.Steps.{Move, accept, take_to, device_call, settle, release, read_order, restart, ticketed, with_new, with_known, with_given, IsAnswered, IsTakenTo, IsCalled, IsSettled, IsReleased, IsRestarted, next_phase, group_to, IsStep, Leads}
+use Rattle.spec_world.specs.Steps.{Move, accept, take_to, device_call, settle, release, read_order, restart, ticketed, with_new, with_known}
+use Rattle.spec_world.specs.Steps.{with_given, IsAnswered, IsTakenTo, IsCalled, IsSettled, IsReleased, IsRestarted, next_phase, group_to, IsStep}
+use Rattle.spec_world.specs.Steps.{Leads}
 use Rattle.spec_world.proofs.Answered.{new_put, known_put}
 use Rattle.spec_world.proofs.Bytes.{group_in_bytes, longer_bytes}
 use Rattle.spec_world.proofs.Disks.{IsAt, Fits, FitsAsGroup, first_fits, due_first, called, longer_stands, longer_ends}

@@ -1,5 +1,6 @@
 -- The orders that go out: each begins every later one.
-use Rattle.std.proofs.Common.{◌≡◌, ℕ, ◌+◌, ◌-◌, ◌<◌, ◌≤◌, List, [], ◌∷◌, ◌++◌, length, take, drop, Some, refl, ap, sym, ◌∙◌, subst, arith, append_assoc, length-append, length-take, length-drop, take-append-drop}
+use Rattle.std.proofs.Common.{◌≡◌, ℕ, ◌+◌, ◌-◌, ◌<◌, ◌≤◌, List, [], ◌∷◌, ◌++◌, length, take, drop, Some, refl, ap, sym, ◌∙◌, subst, arith}
+use Rattle.std.proofs.Common.{append_assoc, length-append, length-take, length-drop, take-append-drop}
 use Rattle.std.proofs.lemmas.Option.{same_Some, none-some}
 use Rattle.std.proofs.lemmas.List.{append-nil, take-take, take_at, take-append-le, drop-take}
 use Rattle.wire.specs.declared.output.Output.TheVariants as output
@@ -115,7 +116,8 @@ of_piece node history start digests legal put =
     }
 
 -- each order that was given out is one
-pub order_of : (node : Node) (history : History) (outgoing : Outgoing) (digests : List Digest) → IsLegal node history → IsEnded node history outgoing → order_given (order node history) outgoing ≡ Some digests
+pub order_of : (node : Node) (history : History) (outgoing : Outgoing) (digests : List Digest) → IsLegal node history → IsEnded node history outgoing
+    → order_given (order node history) outgoing ≡ Some digests
     → IsOrderOf node history digests
 order_of node history (read all) digests legal ended is = subst (IsOrderOf node history) (same_Some _ _ is) (of_read node history all legal ended)
 order_of node history (put_out (output.Order start piece)) digests legal ended is = subst (IsOrderOf node history) (same_Some _ _ is) (of_piece node history start piece legal ended)

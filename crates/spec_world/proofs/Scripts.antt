@@ -16,7 +16,8 @@ use Rattle.header.specs.declared.admission.Admission.TheVariants.{New, Known, Re
 use Rattle.spec_records.specs.Records.{record_of}
 use Rattle.spec_world.specs.World.{Waiting, put_out, Given, World, events_of, content_in}
 use Rattle.spec_world.specs.Steps.{Move, accept, take_to, device_call, settle, release, restart, ticketed, with_new, with_known, with_given, IsAnswered, group_to, Leads, IsRun}
-use Rattle.spec_world.specs.Text.{Command, take_in, flush, stop, Desk, desk_on, all_in, settled_in, with_answer, group_of, flushed, after, is_due, due, without_due, frames, carried_out, text, desk_behind}
+use Rattle.spec_world.specs.Text.{Command, take_in, flush, stop, Desk, desk_on, all_in, settled_in, with_answer, group_of, flushed, after, is_due}
+use Rattle.spec_world.specs.Text.{due, without_due, frames, carried_out, text, desk_behind}
 use Rattle.wire.specs.Outputs.{frame_of}
 use Rattle.spec_world.specs.Scripts.{IsAtDesk, WentOut, IsTakenIn, ScriptsAreRuns, ScriptsBegin}
 use Rattle.spec_world.proofs.Ballots.{picked_of}
@@ -138,7 +139,8 @@ module _ (node : Node) (sound : IsNode node) (moves : List Move) (world : World)
   })
 
   -- with a group that fits
-  group_flushed : (group rest : History) → drop (length desk.settled) desk.accepted ≡ group ++ rest → FitsGroup (map record_of group) → Goes node world (record desk { settled = desk.settled ++ group }) []
+  group_flushed : (group rest : History) → drop (length desk.settled) desk.accepted ≡ group ++ rest → FitsGroup (map record_of group)
+      → Goes node world (record desk { settled = desk.settled ++ group }) []
   group_flushed group rest parts fits =
       let begins = settled_accepted node world (run_stands node moves world sound run) in
       let pending : begins.rest ≡ group ++ rest =
@@ -225,7 +227,8 @@ release_goes node world desk w at waits ready =
     }
 
 -- and one after the other
-releases_go : (node : Node) (world : World) (desk : Desk) (outputs : List Waiting) → IsAtDesk world desk → ((w : Waiting) → Contains outputs w → Contains desk.waiting w × (w.ticket ≤ length desk.settled))
+releases_go : (node : Node) (world : World) (desk : Desk) (outputs : List Waiting) → IsAtDesk world desk
+    → ((w : Waiting) → Contains outputs w → Contains desk.waiting w × (w.ticket ≤ length desk.settled))
     → Goes node world desk outputs
 releases_go node world desk [] at each = goes_nowhere node world desk at
 releases_go node world desk (w ∷ outputs) at each =

@@ -10,7 +10,8 @@ use Rattle.spec_model.specs.Words.{Event, Output}
 use Rattle.header.specs.declared.admission.Admission.{Admission}
 use Rattle.header.specs.declared.admission.Admission.TheVariants.{New, Known, Refused}
 use Rattle.spec_records.specs.Records.{record_of}
-use Rattle.spec_world.specs.World.{Phase, not_begun, group_written, group_synced, gate_opened, gate_synced, Waiting, Outgoing, put_out, read, World, taken_in, first_of, StandsFor, IsOpened, next_call, MayStop, run_on}
+use Rattle.spec_world.specs.World.{Phase, not_begun, group_written, group_synced, gate_opened, gate_synced, Waiting, Outgoing, put_out, read, World}
+use Rattle.spec_world.specs.World.{taken_in, first_of, StandsFor, IsOpened, next_call, MayStop, run_on}
 
 -- ---- the moves
 

@@ -1,17 +1,16 @@
 -- The text of a script: what a node with one owner writes for commands, one after the other.
 use Rattle.std.specs.Prelude.{ℕ, ◌+◌, nat_le, ◌&&◌, not, Bool, List, [], ◌∷◌, ◌++◌, map, length, drop, if◌then◌else◌}
-use Rattle.std.specs.Int.{w32, to_be_bytes}
 use Rattle.std.specs.List.{filter, flat_map}
 use Rattle.journal.specs.Format.{body_len}
 use Rattle.journal.specs.declared.layout.TheConstants.{MAX_GROUP_BYTES, MAX_GROUP_RECORDS}
 use Rattle.spec_model.specs.Admitting.{admit}
 use Rattle.spec_model.specs.Histories.{History}
 use Rattle.spec_model.specs.Nodes.{Node}
-use Rattle.spec_model.specs.Words.{Event, Output}
+use Rattle.spec_model.specs.Words.{Event}
 use Rattle.header.specs.declared.admission.Admission.{Admission}
 use Rattle.header.specs.declared.admission.Admission.TheVariants.{New, Known, Refused}
 use Rattle.spec_records.specs.Records.{record_of}
-use Rattle.wire.specs.Outputs.{output_bytes}
+use Rattle.wire.specs.Outputs.{frame_of}
 use Rattle.spec_world.specs.World.{Waiting}
 use Rattle.spec_world.specs.Steps.{ticketed}
 
@@ -88,10 +87,6 @@ due desk = filter (λ waiting. is_due desk waiting) desk.waiting
 
 abbrev pub without_due : Desk → Desk
 without_due desk = record desk { waiting = filter (λ waiting. not (is_due desk waiting)) desk.waiting }
-
--- an output as a frame: the length of its bytes in four, the highest first, and its bytes
-unfoldable pub frame_of : Output → List ℕ
-frame_of output = to_be_bytes w32 (length (output_bytes output)) ++ output_bytes output
 
 abbrev pub frames : List Waiting → List ℕ
 frames waiting = flat_map (λ one. frame_of one.output) waiting

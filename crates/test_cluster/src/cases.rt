@@ -3,11 +3,11 @@
 use crate::disks::{Grip, GrippedDisk, disks_of, new_grips};
 use crate::moves::{call_of, coin, delivery, gift, leaving, member, parted};
 use crate::schedules::{play_broken, play_tolerated};
-use crate::settings::{MEMBERS, Settings};
 use crate::telling::{tell_error, tell_move, tell_order, tell_outputs, tell_proposal};
 use crate::threads::{circulate, meet};
 use cluster::{Cluster, Move};
 use sigface::{HashSign, HashVerify};
+use sim_members::{MEMBERS, Settings};
 use sim_script::{Command, FormError, Labels, define_batch, define_header, parse};
 use std::alloc::{AllocError, Global};
 use std::sync::Wait;

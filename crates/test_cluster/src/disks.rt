@@ -143,17 +143,14 @@ impl GrippedDisk {
 impl Disk for GrippedDisk {
     ghost use Rattle.diskmodel.specs.Outcomes.{counts_last, only_last};
 
-    ghost content = { λ gripped. ⟦<MemDisk as Disk>⟧.device.content gripped.disk };
-
-    ghost outcome = { λ gripped. ⟦<MemDisk as Disk>⟧.device.outcome gripped.disk };
-
-    ghost clock = { λ gripped. ⟦<MemDisk as Disk>⟧.device.clock gripped.disk };
-
-    ghost outcome_since = { λ gripped. ⟦<MemDisk as Disk>⟧.device.outcome_since gripped.disk };
-
-    ghost faults = { λ gripped. ⟦<MemDisk as Disk>⟧.device.faults gripped.disk };
-
-    ghost calls = { λ gripped. ⟦<MemDisk as Disk>⟧.device.calls gripped.disk };
+    ghost device = { record {
+      content = λ gripped. ⟦<MemDisk as Disk>⟧.device.content gripped.disk;
+      outcome = λ gripped. ⟦<MemDisk as Disk>⟧.device.outcome gripped.disk;
+      clock = λ gripped. ⟦<MemDisk as Disk>⟧.device.clock gripped.disk;
+      outcome_since = λ gripped. ⟦<MemDisk as Disk>⟧.device.outcome_since gripped.disk;
+      faults = λ gripped. ⟦<MemDisk as Disk>⟧.device.faults gripped.disk;
+      calls = λ gripped. ⟦<MemDisk as Disk>⟧.device.calls gripped.disk;
+    } };
 
     ghost content_is_outcome = { λ gripped. gripped.disk.history.kept.possible };
 

@@ -6,12 +6,12 @@ mod cases;
 mod disks;
 mod moves;
 mod schedules;
-mod settings;
 mod telling;
 mod threads;
 
 use cases::ClusterCases;
-use settings::Settings;
+use sim_members::Settings;
+use sim_script::DEPTH;
 use std::fs::{self, File};
 use std::io::{self, BufRead, Print, Write};
 use std::process::ExitCode;
@@ -20,8 +20,14 @@ use std::sync::Wait;
 use std::thread::Threads;
 use test_cases::{Ending, Player, names_of};
 
+/// Batches that a member holds at most: so few that a case can come to one more.
+pub const BATCHES: u64 = 2;
+
 fn main(rt: HostRuntime) -> ExitCode {
-    let (Ok(settings), Ok(names)) = (Settings::new(rt.alloc()), names_of(&rt, rt.alloc())) else {
+    let (Ok(settings), Ok(names)) = (
+        Settings::new(rt.alloc(), DEPTH, BATCHES),
+        names_of(&rt, rt.alloc()),
+    ) else {
         return ExitCode::FAILURE;
     };
     match tested(&rt, &settings, &names) {

@@ -8,9 +8,10 @@ mod report;
 mod schedule;
 mod wishes;
 
-use crate::settings::Settings;
+use crate::BATCHES;
 use report::Report;
 use schedule::{Honest, Schedule};
+use sim_members::Settings;
 use std::alloc::Global;
 use test_cases::{Told, bad};
 
@@ -38,7 +39,7 @@ fn play_all(alloc: Global, honest: Honest, words: &str, answer: &mut String) -> 
         bad(answer);
         return Ok(());
     };
-    let settings = Settings::of_depth(alloc, task.depth)?;
+    let settings = Settings::new(alloc, task.depth, BATCHES)?;
     let mut report = Report::new(alloc);
     for number in 0..task.count {
         play(alloc, &settings, honest, task, number, &mut report)?;

@@ -2,11 +2,11 @@
 
 ghost use Rattle.std.specs.Prelude.{◌≡◌, ◌+◌, [], length, vec_len, All, IfOk, OnOk};
 
-use crate::settings::Settings;
 use crate::telling::tell_error;
 use cluster::{Applied, Cluster, ClusterError, Move};
 use diskmodel::{Disk, Gate, MemDisk};
 use sigface::{HashSign, HashVerify};
+use sim_members::Settings;
 use std::alloc::Global;
 use std::sync::Wait;
 use std::sync::atomic::{AtomicBool, Ordering};

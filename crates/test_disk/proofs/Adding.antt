@@ -6,7 +6,8 @@ use Rattle.journal.specs.Format.{body_len}
 use Rattle.journal.specs.declared.record.Record.{Record}
 
 -- the records so far and the next one are no longer than all of them
-pub len_more : (xs : List Record) (i : ℕ) (x : Record) → i < length xs → x ≡ get_or xs i x → body_len (map (λ (r : Record). r.bytes) (take i xs)) + (4 + length x.bytes) ≤ body_len (map (λ (r : Record). r.bytes) xs)
+pub len_more : (xs : List Record) (i : ℕ) (x : Record) → i < length xs → x ≡ get_or xs i x → body_len (map (λ (r : Record). r.bytes) (take i xs)) +
+    (4 + length x.bytes) ≤ body_len (map (λ (r : Record). r.bytes) xs)
 len_more xs i x inside is =
     let f : List ℕ → ℕ = λ bytes. 4 + length bytes in
     let each : List (List ℕ) = map (λ (r : Record). r.bytes) xs in

@@ -11,13 +11,14 @@ use Rattle.book.specs.Book.{BookView, SettlesNext}
 use Rattle.book.specs.OnTheWay.{AreOnTheWay, StandsAtLegal}
 use Rattle.book.proofs.OnTheWay.{way_settles}
 use Rattle.sigface.specs.declared.pair.HashSign.{HashSign}
-use Rattle.sigface.specs.contracts.pair.HashSignSign.TheImpl.{own_key-value, signature_of-value}
+use Rattle.sigface.specs.contracts.pair.HashSignSign.TheImpl.{scheme-value}
 
 -- a node that signs with the test pair
 abbrev pub node_in : ConfigView HashSign → Node
-node_in setting = node_of own_key-value.it signature_of-value.it setting
+node_in setting = node_of scheme-value.it setting
 
-pub way_here : (setting : ConfigView HashSign) (book : BookView HashSign) (groups : List (List (List ℕ))) → book.validator.setting ≡ setting → AreOnTheWay (node_in setting) book groups → AreOnTheWay (node_in book.validator.setting) book groups
+pub way_here : (setting : ConfigView HashSign) (book : BookView HashSign) (groups : List (List (List ℕ))) → book.validator.setting ≡ setting
+    → AreOnTheWay (node_in setting) book groups → AreOnTheWay (node_in book.validator.setting) book groups
 way_here setting book groups is way = subst (λ (s : ConfigView HashSign). AreOnTheWay (node_in s) book groups) (sym is) way
 
 -- what is said of a group that was taken, if one was
@@ -28,7 +29,8 @@ taken_is node before later found group is way =
     subst (λ (f : Option (List (List ℕ))). IfSome f (λ g. (groups : List (List (List ℕ))) → AreOnTheWay node before groups → AreOnTheWay node later (groups ++ g ∷ []))) is way
 
 -- the first of them is settled next
-pub settles_here : (setting : ConfigView HashSign) (book : BookView HashSign) (first : List (List ℕ)) (rest : List (List (List ℕ))) → book.validator.setting ≡ setting → AreOnTheWay (node_in setting) book (first ∷ rest) → SettlesNext (node_in book.validator.setting) book first
+pub settles_here : (setting : ConfigView HashSign) (book : BookView HashSign) (first : List (List ℕ)) (rest : List (List (List ℕ)))
+    → book.validator.setting ≡ setting → AreOnTheWay (node_in setting) book (first ∷ rest) → SettlesNext (node_in book.validator.setting) book first
 settles_here setting book first rest is way = way_settles (node_in book.validator.setting) book first rest (way_here setting book (first ∷ rest) is way)
 
 -- these groups are on the way of a book
@@ -37,7 +39,8 @@ Way book groups = AreOnTheWay (node_in book.validator.setting) book groups
 
 -- a group that was taken is the only one on the way, where none was
 pub taken_alone : (before later : BookView HashSign) (found : Option (List (List ℕ))) (group : List (List ℕ)) → found ≡ Some group → later.validator.setting ≡ before.validator.setting
-    → IfSome found (λ group. (groups : List (List (List ℕ))) → AreOnTheWay (node_in before.validator.setting) before groups → AreOnTheWay (node_in before.validator.setting) later (groups ++ group ∷ []))
+    → IfSome found (λ group. (groups : List (List (List ℕ))) → AreOnTheWay (node_in before.validator.setting) before groups
+    → AreOnTheWay (node_in before.validator.setting) later (groups ++ group ∷ []))
     → Way before [] → Way later (group ∷ [])
 taken_alone before later found group is setting way none =
     way_here before.validator.setting later (group ∷ []) setting (taken_is (node_in before.validator.setting) before later found group is way [] none)
@@ -47,7 +50,8 @@ pub settles_alone : (book : BookView HashSign) (group synced : List (List ℕ)) 
 settles_alone book group synced is way = subst (λ (g : List (List ℕ)). SettlesNext (node_in book.validator.setting) book g) (sym is) (settles_here book.validator.setting book group [] refl way)
 
 -- a fresh validator stands at the empty history
-pub stands_fresh : (config setting : ConfigView HashSign) (tables : Tables) → setting ≡ config → IsNode (node_in config) → kept (node_in config) [] ≡ fresh (node_in config) → AreAtSound (node_in config) tables (fresh (node_in config)) → StandsAtLegal (node_in setting) tables
+pub stands_fresh : (config setting : ConfigView HashSign) (tables : Tables) → setting ≡ config → IsNode (node_in config) → kept (node_in config) []
+    ≡ fresh (node_in config) → AreAtSound (node_in config) tables (fresh (node_in config)) → StandsAtLegal (node_in setting) tables
 stands_fresh config setting tables is node first at =
     subst (λ (s : ConfigView HashSign). StandsAtLegal (node_in s) tables) (sym is) (record {
       history = [];

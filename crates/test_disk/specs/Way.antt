@@ -1,10 +1,8 @@
 -- What is on the way of a book.
 use Rattle.std.specs.Prelude.{ℕ, List}
 use Rattle.book.specs.Book.{BookView}
-use Rattle.spec_model.specs.Words.{Digest, Signature}
 use Rattle.book.specs.OnTheWay.{AreOnTheWay}
 use Rattle.validator.specs.Setting.{node_of}
-use Rattle.wire.specs.declared.keys.Key.{Key}
 use Rattle.sigface.specs.Scheme.{Scheme}
 
 -- these groups are on the way of a book whose validator has such a signer

@@ -2,8 +2,8 @@
 
 use crate::words::Told;
 use committee::{Committee, CommitteeError, DEFAULT_DEPTH};
-use sigface::HashSign;
 use header::Node;
+use sigface::HashSign;
 use std::alloc::{AllocError, Global};
 use test_cases::write_hex;
 use validator::Config;

@@ -56,11 +56,13 @@ is_new graph certificate is =
     ]
 
 -- what was held is held
-stays : (before after : DagView) (certificate : Certificate) → IsWith before after certificate → (round author : ℕ) (c : Certificate) → slots_in before round author ≡ Some c → slots_in after round author ≡ Some c
+stays : (before after : DagView) (certificate : Certificate) → IsWith before after certificate → (round author : ℕ) (c : Certificate)
+    → slots_in before round author ≡ Some c → slots_in after round author ≡ Some c
 stays before after certificate more round author c held = more.slots round author ∙ ap (λ o. option_or o (slots_of (certificate ∷ []) round author)) held
 
 -- what is held of another slot was held
-elsewhere : (before after : DagView) (certificate : Certificate) → IsWith before after certificate → (round author : ℕ) → is_of_slot round author certificate.header ≡ false → slots_in after round author ≡ slots_in before round author
+elsewhere : (before after : DagView) (certificate : Certificate) → IsWith before after certificate → (round author : ℕ)
+    → is_of_slot round author certificate.header ≡ false → slots_in after round author ≡ slots_in before round author
 elsewhere before after certificate more round author other =
     elim (given_or_none (slots_in before round author)) [
       | inl old ↦ stays before after certificate more round author old.0 old.1 ∙ sym old.1
@@ -68,7 +70,8 @@ elsewhere before after certificate more round author other =
     ]
 
 -- what wasn't held is the new one
-fresh : (before after : DagView) (certificate : Certificate) → IsWith before after certificate → (round author : ℕ) (c : Certificate) → slots_in before round author ≡ None → slots_in after round author ≡ Some c
+fresh : (before after : DagView) (certificate : Certificate) → IsWith before after certificate → (round author : ℕ) (c : Certificate)
+    → slots_in before round author ≡ None → slots_in after round author ≡ Some c
     → (is_of_slot round author certificate.header ≡ true) × (certificate ≡ c)
 fresh before after certificate more round author c none new =
     let found : slots_of (certificate ∷ []) round author ≡ Some c = sym (more.slots round author ∙ ap (λ o. option_or o (slots_of (certificate ∷ []) round author)) none) ∙ new in
@@ -87,7 +90,8 @@ placed_after before after certificate is more round author c held =
     ]
 
 -- nothing that is held has it as a parent
-childless : (before after : DagView) (certificate : Certificate) → IsGraph before → IsNew before certificate → IsWith before after certificate → (above other : ℕ) (child : Certificate) → slots_in after above other ≡ Some child
+childless : (before after : DagView) (certificate : Certificate) → IsGraph before → IsNew before certificate → IsWith before after certificate
+    → (above other : ℕ) (child : Certificate) → slots_in after above other ≡ Some child
     → is_parent certificate child ≡ false
 childless before after certificate is new more above other child held =
     elim (cases_Bool (is_parent certificate child)) [
@@ -134,7 +138,8 @@ no_support charter sound test none =
     ap (nat_le (support_of charter)) nothing ∙ grind (arith, positive)
 
 -- a wave that had no leader isn't committed
-pub no_leader : (before after : DagView) (certificate : Certificate) (coins : List ℕ) → IsGraph before → IsNew before certificate → IsWith before after certificate → (wave : ℕ) → leader (ledger_in before coins) wave ≡ None
+pub no_leader : (before after : DagView) (certificate : Certificate) (coins : List ℕ) → IsGraph before → IsNew before certificate
+    → IsWith before after certificate → (wave : ℕ) → leader (ledger_in before coins) wave ≡ None
     → is_directly_committed (with_certificate before after coins) wave ≡ false
 no_leader before after certificate coins is new more wave none =
     let now = with_certificate before after coins in
@@ -168,7 +173,8 @@ same_support before after certificate coins more c apart =
     ]))))
 
 -- so no more than one wave is committed with it
-pub one_wave : (before after : DagView) (certificate : Certificate) (coins : List ℕ) → IsGraph before → IsNew before certificate → IsWith before after certificate → (wave : ℕ) → ((v : ℕ) → v ≢ wave → certificate.header.round ≢ 2 * v)
+pub one_wave : (before after : DagView) (certificate : Certificate) (coins : List ℕ) → IsGraph before → IsNew before certificate
+    → IsWith before after certificate → (wave : ℕ) → ((v : ℕ) → v ≢ wave → certificate.header.round ≢ 2 * v)
     → IsStep (ledger_in before coins) (with_certificate before after coins) wave
 one_wave before after certificate coins is new more wave apart =
     let was = ledger_in before coins in
@@ -194,7 +200,8 @@ one_wave before after certificate coins is new more wave apart =
     leader_round ledger (suc v) c some placed lead = let place = leader_place ledger v c some placed lead in omega (arith, place.0)
 
 -- a member supports a leader of the round below with it if it did so before, or is its author and it names the leader
-supports_with : (before after : DagView) (certificate : Certificate) (coins : List ℕ) → IsNew before certificate → IsWith before after certificate → (c : Certificate) → c.header.round + 1 ≡ certificate.header.round → (m : ℕ)
+supports_with : (before after : DagView) (certificate : Certificate) (coins : List ℕ) → IsNew before certificate → IsWith before after certificate
+    → (c : Certificate) → c.header.round + 1 ≡ certificate.header.round → (m : ℕ)
     → supports (with_certificate before after coins) c m ≡ (supports (ledger_in before coins) c m || ((m == certificate.header.author.0) && list_any (is_named c) certificate.header.parents))
 supports_with before after certificate coins new more c next m =
     let above = c.header.round + 1 in
@@ -221,7 +228,8 @@ supports_with before after certificate coins new more c next m =
     or_false false = refl
 
 -- so a set of those is enough exactly where the leader has support
-pub enough_with : (before after : DagView) (certificate : Certificate) (coins : List ℕ) → IsGraph before → IsNew before certificate → IsWith before after certificate → (round author : ℕ) (c : Certificate) → slots_in before round author ≡ Some c
+pub enough_with : (before after : DagView) (certificate : Certificate) (coins : List ℕ) → IsGraph before → IsNew before certificate
+    → IsWith before after certificate → (round author : ℕ) (c : Certificate) → slots_in before round author ≡ Some c
     → round + 1 ≡ certificate.header.round → (test : ℕ → Bool)
     → ((m : ℕ) → test m ≡ (has_parent_in before (round + 1) m round author || ((m == certificate.header.author.0) && list_any (is_named c) certificate.header.parents)))
     → has_support (with_certificate before after coins) c ≡ nat_le (support_of before.charter) (weight before.charter test)
@@ -263,7 +271,8 @@ one_coin graph coins value wave is last =
       kept = directly_committed_kept was (slots_in graph) ext (value ∷ []);
       fewer = λ v other within. omega (arith, within, long, last, other);
       same = λ v other within. elim (given_or_none (leader was v)) [
-        | inl found ↦ ap (λ o. option_map_or (has_support now) o false) (leader_kept was (slots_in graph) ext (value ∷ []) v found.0 found.1) ∙ sym (ap (λ o. option_map_or (has_support was) o false) found.1)
+        | inl found ↦ ap (λ o. option_map_or (has_support now) o false) (leader_kept was (slots_in graph) ext (value ∷ []) v found.0 found.1)
+            ∙ sym (ap (λ o. option_map_or (has_support was) o false) found.1)
         | inr none ↦ elim (given_or_none (leader now v)) [
           | inl new ↦
               let at = leader_new was (slots_in graph) (value ∷ []) v new.0 (omega (arith, within, long, last, other)) none new.1 in
@@ -315,11 +324,13 @@ grows_some before after more last wave c chain ext some step is higher within he
     (all ∙ ap (map slot_of) (sym (newer_same before after more ext (wave_of last) (wave - 1) c (omega (arith, within)) held)))
 
 -- where it isn't committed nothing is
-pub grows_none : (before now : Ledger) (last : Option ℕ) (wave : ℕ) (chain : List (ℕ × Author)) → IsStep before now wave → top before ≡ last → (wave_of last < wave → is_directly_committed now wave ≡ false) → chain ≡ [] → IsChain now last chain
+pub grows_none : (before now : Ledger) (last : Option ℕ) (wave : ℕ) (chain : List (ℕ × Author)) → IsStep before now wave → top before ≡ last
+    → (wave_of last < wave → is_directly_committed now wave ≡ false) → chain ≡ [] → IsChain now last chain
 grows_none before now last wave chain step is none empty = chain_none now last chain (step_none before now wave last step is none) empty
 
 -- so it is with a certificate
-pub certificate_some : (before after : DagView) (certificate : Certificate) (coins : List ℕ) (last : Option ℕ) (wave round author : ℕ) (chain : List (ℕ × Author)) → IsGraph before → IsNew before certificate → IsWith before after certificate
+pub certificate_some : (before after : DagView) (certificate : Certificate) (coins : List ℕ) (last : Option ℕ) (wave round author : ℕ)
+    (chain : List (ℕ × Author)) → IsGraph before → IsNew before certificate → IsWith before after certificate
     → top (ledger_in before coins) ≡ last → certificate.header.round ≡ 2 * wave → wave_of last < wave → (led : IsLed (ledger_in before coins) wave round author)
     → has_support (with_certificate before after coins) led.certificate ≡ true → chain ≡ map slot_of (newer_to (ledger_in before coins) (wave_of last) (wave - 1) led.certificate)
     → IsChain (ledger_in after coins) last chain
@@ -333,15 +344,18 @@ certificate_some before after certificate coins last wave round author chain is 
     (one_wave before after certificate coins is new more wave (λ v other same. other (omega (arith, level, same)))) is_top higher (omega (arith, within.1, long))
     (is_in (slots_in before) round author led.certificate is.placed led.held) leads supported all)
 
-pub certificate_none : (before after : DagView) (certificate : Certificate) (coins : List ℕ) (last : Option ℕ) (wave : ℕ) (chain : List (ℕ × Author)) → IsGraph before → IsNew before certificate → IsWith before after certificate
-    → top (ledger_in before coins) ≡ last → ((v : ℕ) → v ≢ wave → certificate.header.round ≢ 2 * v) → (wave_of last < wave → is_directly_committed (with_certificate before after coins) wave ≡ false) → chain ≡ []
+pub certificate_none : (before after : DagView) (certificate : Certificate) (coins : List ℕ) (last : Option ℕ) (wave : ℕ) (chain : List (ℕ × Author))
+    → IsGraph before → IsNew before certificate → IsWith before after certificate
+    → top (ledger_in before coins) ≡ last → ((v : ℕ) → v ≢ wave → certificate.header.round ≢ 2 * v)
+    → (wave_of last < wave → is_directly_committed (with_certificate before after coins) wave ≡ false) → chain ≡ []
     → IsChain (ledger_in after coins) last chain
 certificate_none before after certificate coins last wave chain is new more is_top apart none empty =
     subst (λ l. IsChain l last chain) (same_ledger before after certificate coins more)
     (grows_none (ledger_in before coins) (with_certificate before after coins) last wave chain (one_wave before after certificate coins is new more wave apart) is_top none empty)
 
 -- a leader without support isn't committed
-pub not_enough : (before after : DagView) (certificate : Certificate) (coins : List ℕ) (wave : ℕ) (c : Certificate) → Extends (slots_in before) (slots_in after) → leader (ledger_in before coins) wave ≡ Some c
+pub not_enough : (before after : DagView) (certificate : Certificate) (coins : List ℕ) (wave : ℕ) (c : Certificate)
+    → Extends (slots_in before) (slots_in after) → leader (ledger_in before coins) wave ≡ Some c
     → has_support (with_certificate before after coins) c ≡ false → is_directly_committed (with_certificate before after coins) wave ≡ false
 not_enough before after certificate coins wave c ext leads few =
     ap (λ o. option_map_or (has_support (with_certificate before after coins)) o false) (leader_kept (ledger_in before coins) (slots_in after) ext [] wave c leads) ∙ few

@@ -1,5 +1,6 @@
 -- The greatest committed wave, and the leaders that are newer than a committed one.
-use Rattle.std.proofs.Common.{◌≡◌, ◌≢◌, ℕ, zero, suc, ◌+◌, ◌-◌, ◌*◌, ◌/◌, ◌%◌, ◌<◌, ◌≤◌, true, false, List, [], ◌∷◌, ◌++◌, map, length, Option, Some, None, ◌⊎◌, inl, inr, refl, ap, sym, ◌∙◌, subst, arith}
+use Rattle.std.proofs.Common.{◌≡◌, ◌≢◌, ℕ, zero, suc, ◌+◌, ◌-◌, ◌*◌, ◌/◌, ◌%◌, ◌<◌, ◌≤◌, true, false, List, [], ◌∷◌, ◌++◌, map, length, Option, Some}
+use Rattle.std.proofs.Common.{None, ◌⊎◌, inl, inr, refl, ap, sym, ◌∙◌, subst, arith}
 use Rattle.std.specs.Prelude.{nat_le, slice_get, unwrap_or}
 use Rattle.std.specs.Option.{option_map_or}
 use Rattle.std.proofs.lemmas.Bool.{cases_Bool, cases_lt, le-leb, true≢false}
@@ -96,7 +97,8 @@ low_waves graph is coins (suc left) low =
     rw (low_wave graph is coins left (omega (arith, low))) (low_waves graph is coins left (omega (arith, low)))
 
 -- where no wave down to that of the floor is committed, none is
-pub top_found : (graph : DagView) → IsGraph graph → (coins : List ℕ) (left : ℕ) → left ≤ graph.floor / 2 → top (ledger_in graph coins) ≡ top_to (ledger_in graph coins) left → None ≡ top (ledger_in graph coins)
+pub top_found : (graph : DagView) → IsGraph graph → (coins : List ℕ) (left : ℕ) → left ≤ graph.floor / 2 → top (ledger_in graph coins)
+    ≡ top_to (ledger_in graph coins) left → None ≡ top (ledger_in graph coins)
 top_found graph is coins left low so_far = sym (so_far ∙ low_waves graph is coins left low)
 
 -- ---- one wave that is committed now
@@ -165,7 +167,8 @@ newer_at_is ledger base wave c higher is_leader =
     let young : nat_le wave base ≡ false = grind (arith, higher) in
     rw young (ap (λ o. option_map_or (newer_to ledger base (wave - 1)) o []) is_leader)
 
-pub chain_some : (ledger : Ledger) (last : Option ℕ) (wave : ℕ) (c : Certificate) (chain : List (ℕ × Author)) → 0 < size_in ledger → AreInPlace ledger.slots → top ledger ≡ Some (suc wave) → wave_of last ≤ wave
+pub chain_some : (ledger : Ledger) (last : Option ℕ) (wave : ℕ) (c : Certificate) (chain : List (ℕ × Author)) → 0 < size_in ledger
+    → AreInPlace ledger.slots → top ledger ≡ Some (suc wave) → wave_of last ≤ wave
     → leader ledger (suc wave) ≡ Some c → chain ≡ map slot_of (newer_to ledger (wave_of last) wave c) → IsChain ledger last chain
 chain_some ledger last wave c chain some placed is low is_leader all =
     let place = leader_place ledger wave c some placed is_leader in
@@ -179,7 +182,8 @@ chain_some ledger last wave c chain some placed is low is_leader all =
     }
 
 -- behind a committed wave the newer leaders are a chain
-pub chain_all : (ledger : Ledger) (last : Option ℕ) (chain : List (ℕ × Author)) → 0 < size_in ledger → AreInPlace ledger.slots → IsSure ledger last → chain ≡ map slot_of (newer ledger (wave_of last)) → IsChain ledger last chain
+pub chain_all : (ledger : Ledger) (last : Option ℕ) (chain : List (ℕ × Author)) → 0 < size_in ledger → AreInPlace ledger.slots → IsSure ledger last
+    → chain ≡ map slot_of (newer ledger (wave_of last)) → IsChain ledger last chain
 chain_all ledger last chain some placed sure all =
     elim (top_or_above ledger last sure) [
       | inl is ↦ chain_none ledger last chain is (all ∙ ap (map slot_of) (newer_none ledger last is))

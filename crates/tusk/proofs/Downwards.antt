@@ -44,11 +44,13 @@ missed : (ledger : Ledger) (base wave round author : ℕ) (earlier : Certificate
 missed ledger base wave round author earlier low is apart =
     let young = young_wave base wave low in
     elim (given_or_none (ledger.slots round author)) [
-      | inl held ↦ let apart' : reaches_in ledger held.0 earlier ≡ false = ap (λ o. option_map_or (λ start. reaches_in ledger start earlier) o false) (sym held.1) ∙ apart in rw (held.1, young, is, apart') refl
+      | inl held ↦ let apart' : reaches_in ledger held.0 earlier ≡ false = ap (λ o. option_map_or (λ start. reaches_in ledger start earlier) o false)
+          (sym held.1) ∙ apart in rw (held.1, young, is, apart') refl
       | inr nothing ↦ rw nothing refl
     ]
 
-reached : (ledger : Ledger) (base wave round : ℕ) (author : Author) (earlier : Certificate) → AreInPlace ledger.slots → base ≤ wave → leader ledger (suc wave) ≡ Some earlier → ledger.slots earlier.header.round earlier.header.author.0 ≡ Some earlier
+reached : (ledger : Ledger) (base wave round : ℕ) (author : Author) (earlier : Certificate) → AreInPlace ledger.slots → base ≤ wave
+    → leader ledger (suc wave) ≡ Some earlier → ledger.slots earlier.header.round earlier.header.author.0 ≡ Some earlier
     → slot_reaches ledger round author.0 earlier ≡ true
     → newer_slots ledger base (suc wave) round author.0 ≡ newer_slots ledger base wave earlier.header.round earlier.header.author.0 ++ (round, author) ∷ []
 reached ledger base wave round author earlier placed low is held_earlier reaches =
@@ -70,7 +72,8 @@ reached ledger base wave round author earlier placed low is held_earlier reaches
 -- ---- one wave after the other
 
 -- a leader that was taken, behind those of the waves above it, the newest first
-pub step_taken : (graph : dag.DagView) (coins : List ℕ) (base left next round : ℕ) (author : Author) (slot : ℕ × Author) (taken all : List (ℕ × Author)) → AreInPlace (dag.slots_in graph) → left ≡ suc next → base ≤ next
+pub step_taken : (graph : dag.DagView) (coins : List ℕ) (base left next round : ℕ) (author : Author) (slot : ℕ × Author)
+    (taken all : List (ℕ × Author)) → AreInPlace (dag.slots_in graph) → left ≡ suc next → base ≤ next
     → IsLed (ledger_in graph coins) left slot.0 slot.1.0 → dag.reaches_in graph round author.0 slot.0 slot.1.0 ≡ true
     → newer_slots (ledger_in graph coins) base left round author.0 ++ reverse taken ≡ all
     → newer_slots (ledger_in graph coins) base next slot.0 slot.1.0 ++ reverse (taken ++ (round, author) ∷ []) ≡ all
@@ -134,7 +137,8 @@ step_last ledger base left round author taken all placed low there so_far =
 -- ---- one round down
 
 -- whom those reach whom a slot reaches in a round
-pub stepped : (graph : dag.DagView) → dag.IsGraph graph → (start author round : ℕ) (above : ℕ → Bool) → 0 < round → round ≤ start → ((other : ℕ) → above other ≡ dag.reaches_in graph start author round other) → (other : ℕ)
+pub stepped : (graph : dag.DagView) → dag.IsGraph graph → (start author round : ℕ) (above : ℕ → Bool) → 0 < round → round ≤ start
+    → ((other : ℕ) → above other ≡ dag.reaches_in graph start author round other) → (other : ℕ)
     → dag.is_parent_of graph round (round - 1) above other ≡ dag.reaches_in graph start author (round - 1) other
 stepped graph is start author round above some within so_far other =
     let level : round ≡ (round - 1) + 1 = omega (arith, some) in

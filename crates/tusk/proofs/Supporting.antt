@@ -24,7 +24,8 @@ supports_in graph is coins round author c held member =
     ∙ ap (λ (r : ℕ). option_map_or (is_parent c) (slots_in graph (r + 1) member) false) (sym place.0)
 
 -- a reference by its author and digest is one to what the slot holds
-pub named_in : (graph : DagView) → IsGraph graph → (round : ℕ) (author : Author) (c : Certificate) (digest : Digest) (parents : List ParentReference) → slots_in graph round author.0 ≡ Some c → Some digest ≡ digest_in graph round author.0
+pub named_in : (graph : DagView) → IsGraph graph → (round : ℕ) (author : Author) (c : Certificate) (digest : Digest) (parents : List ParentReference)
+    → slots_in graph round author.0 ≡ Some c → Some digest ≡ digest_in graph round author.0
     → list_any (λ parent. (parent.author.0 == author.0) && same_digest parent.certificate digest) parents ≡ list_any (is_named c) parents
 named_in graph is round author c digest parents held digested =
     let place = slot_is round author.0 c.header (is.placed round author.0 c held) in
@@ -33,7 +34,8 @@ named_in graph is round author c digest parents held digested =
     ∙ ap (λ (a : ℕ). list_any (λ (parent : ParentReference). (parent.author.0 == a) && same_digest parent.certificate (certificate_digest c.header)) parents) (sym place.1)
 
 -- the leader of a wave with a coin is what the slot holds that the coin chooses
-pub leader_chosen : (graph : DagView) (coins : List ℕ) (wave coin : ℕ) → Some coin ≡ coin_of coins wave → option_map slot_of (slots_in graph (2 * wave - 1) (coin % size_in graph)) ≡ option_map slot_of (leader (ledger_in graph coins) wave)
+pub leader_chosen : (graph : DagView) (coins : List ℕ) (wave coin : ℕ) → Some coin ≡ coin_of coins wave
+    → option_map slot_of (slots_in graph (2 * wave - 1) (coin % size_in graph)) ≡ option_map slot_of (leader (ledger_in graph coins) wave)
 leader_chosen graph coins zero coin is = absurd cc
 leader_chosen graph coins (suc wave) coin is =
     let round : 2 * suc wave - 1 ≡ 2 * wave + 1 = omega arith in
@@ -45,7 +47,10 @@ pub above_all : (graph : DagView) → IsGraph graph → (round author : ℕ) →
 above_all graph is round author past =
     let few = is.few in
     elim (cases_Bool (nat_le graph.floor round)) [
-      | inl above ↦ rw above (ap (λ row. option_map (λ placed. placed.certificate) (option_and_then (λ slots. option_and_then (λ held. held) (slice_get slots author)) row)) (slice_get_past graph.rounds (round - graph.floor) (omega (arith, few, past, leb-true graph.floor round above))))
+      | inl above ↦ rw above
+          (ap (λ row. option_map (λ placed. placed.certificate)
+          (option_and_then (λ slots. option_and_then (λ held. held) (slice_get slots author)) row))
+          (slice_get_past graph.rounds (round - graph.floor) (omega (arith, few, past, leb-true graph.floor round above))))
       | inr below ↦ rw below refl
     ]
 

@@ -7,7 +7,10 @@ use Rattle.std.proofs.lemmas.Bool.{true≢false}
 use Rattle.wire.specs.Batches.{batch_body}
 use Rattle.wire.specs.declared.message.Message.TheVariants as message
 use Rattle.wire.specs.declared.output.Output.TheVariants as output
-use Rattle.spec_model.specs.Admitting.{answer, batch_answer, held_batch_answer, ack_answer, held_header_answer, voted_answer, known_header_answer, header_answer, held_answer, own_header_answer, vote_answer, held_certificate_answer, certificate_answer, coin_answer, when◌gives◌else◌, is_own, may_name, same_header, batch_outputs, header_outputs, vote_outputs, order_outputs}
+use Rattle.spec_model.specs.Admitting.{answer, batch_answer, held_batch_answer, ack_answer, held_header_answer, voted_answer, known_header_answer}
+use Rattle.spec_model.specs.Admitting.{header_answer, held_answer, own_header_answer, vote_answer, held_certificate_answer, certificate_answer}
+use Rattle.spec_model.specs.Admitting.{coin_answer, when◌gives◌else◌, is_own, may_name, same_header, batch_outputs, header_outputs, vote_outputs}
+use Rattle.spec_model.specs.Admitting.{order_outputs}
 use Rattle.spec_model.specs.Holdings.{batch_digest, is_low, is_full, all_held}
 use Rattle.spec_model.specs.Nodes.{Node}
 use Rattle.spec_model.specs.Slots.{same_digest, header_digest, certificate_digest}
@@ -15,7 +18,9 @@ use Rattle.spec_model.specs.States.{State, batch_in, has_own_batch, floor_in}
 use Rattle.spec_model.specs.Words.{Author, BatchAck, Certificate, Coin, BatchView, Event, Header, Message, Vote}
 use Rattle.header.specs.declared.admission.Admission.{Admission}
 use Rattle.header.specs.declared.admission.Admission.TheVariants.{New, Known, Refused}
-use Rattle.header.specs.declared.refusal.Refusal.TheVariants.{Memory, Down, TooOld, MissingParents, MissingBatch, Equivocation, CertConflict, DigestClash, AlreadyProposed, NotOurs, CoinOutOfTurn, CoinEarly, CoinConflict, StoreFull}
+use Rattle.header.specs.declared.refusal.Refusal.TheVariants.{Memory, Down, TooOld, MissingParents, MissingBatch, Equivocation, CertConflict}
+use Rattle.header.specs.declared.refusal.Refusal.TheVariants.{DigestClash, AlreadyProposed, NotOurs, CoinOutOfTurn, CoinEarly, CoinConflict}
+use Rattle.header.specs.declared.refusal.Refusal.TheVariants.{StoreFull}
 use Rattle.header.specs.declared.refusal.Refusal.{Refusal}
 use Rattle.admission.specs.Answers.{IsAnswer}
 use Rattle.admission.specs.declared.step.Step.{Step}
@@ -67,17 +72,20 @@ known : (node : Node) (now : State) (header : Header) → Up (when known_header_
 known node now header =
     let here = now.own_headers header.body.round in
     let there = now.votes header.body.round header.body.author.0 in
-    pick (λ v. when (if v then option_map (λ held. held_header_answer node held header) here else option_map (λ voted. voted_answer node voted header) there) gives (λ answer. answer) else free node now header)
+    pick (λ v. when (if v then option_map (λ held. held_header_answer node held header) here else option_map (λ voted. voted_answer node voted header)
+    there) gives (λ answer. answer) else free node now header)
     (is_own node header.body.author)
     (find (λ o. when option_map (λ held. held_header_answer node held header) o gives (λ answer. answer) else free node now header) here
-    (λ held. pick (λ v. if v then Known (header_outputs node held) else Refused AlreadyProposed) (same_digest (header_digest held.body) (header_digest header.body)) refl refl) (free_up node now header))
+    (λ held. pick (λ v. if v then Known (header_outputs node held) else Refused AlreadyProposed)
+    (same_digest (header_digest held.body) (header_digest header.body)) refl refl) (free_up node now header))
     (find (λ o. when option_map (λ voted. voted_answer node voted header) o gives (λ answer. answer) else free node now header) there
     (λ voted. pick (λ v. if v then Known (header_outputs node header) else Refused Equivocation) (same_digest voted (header_digest header.body)) refl refl) (free_up node now header))
 
 headers : (node : Node) (now : State) (header : Header) → Up (header_answer node now header)
 unfolding free
 headers node now header =
-    pick (λ v. if v then Refused TooOld else when known_header_answer node now header gives (λ answer. answer) else free node now header) (is_low (floor_in node now) header.body.round) refl (known node now header)
+    pick (λ v. if v then Refused TooOld else when known_header_answer node now header gives (λ answer. answer) else free node now header)
+    (is_low (floor_in node now) header.body.round) refl (known node now header)
 
 own : (node : Node) (now later : State) (header : Header) (vote : Vote) → Up (own_header_answer node now later header vote)
 own node now later header vote =
@@ -100,7 +108,8 @@ certificates node now later certificate =
     let slot = now.slots certificate.header.round certificate.header.author.0 in
     pick (λ v. if v then Refused TooOld else when slot gives (λ held. held_certificate_answer held certificate) else rest) (is_low (floor_in node now) certificate.header.round) refl
     (find (λ o. when o gives (λ held. held_certificate_answer held certificate) else rest) slot
-    (λ held. pick (λ v. if v then Refused CertConflict else if same_header held.header certificate.header then Known [] else Refused DigestClash) (not (same_digest (certificate_digest held.header) (certificate_digest certificate.header))) refl
+    (λ held. pick (λ v. if v then Refused CertConflict else if same_header held.header certificate.header then Known [] else Refused DigestClash)
+    (not (same_digest (certificate_digest held.header) (certificate_digest certificate.header))) refl
     (pick (λ v. if v then Known [] else Refused DigestClash) (same_header held.header certificate.header) refl refl))
     (pick (λ v. if v then Refused MissingParents else New (order_outputs now later)) (not (all_held now.slots (floor_in node now) certificate.header)) refl refl))
 
@@ -108,7 +117,8 @@ coins : (node : Node) (now later : State) (sender : Author) (coin : Coin) → Up
 coins node now later sender coin =
     let last = if not (is_full node now.slots (2 * coin.wave + 1)) then Refused CoinEarly else New (order_outputs now later) in
     let rest = if not (coin.wave == length now.coins + 1) then Refused CoinOutOfTurn else last in
-    pick (λ v. if v then Refused NotOurs else when slice_get now.coins (coin.wave - 1) gives (λ taken. if taken == coin.value then Known [] else Refused CoinConflict) else rest) (not (is_own node sender)) refl
+    pick (λ v. if v then Refused NotOurs else when slice_get now.coins (coin.wave - 1) gives
+    (λ taken. if taken == coin.value then Known [] else Refused CoinConflict) else rest) (not (is_own node sender)) refl
     (find (λ o. when o gives (λ taken. if taken == coin.value then Known [] else Refused CoinConflict) else rest) (slice_get now.coins (coin.wave - 1))
     (λ taken. pick (λ v. if v then Known [] else Refused CoinConflict) (taken == coin.value) refl refl)
     (pick (λ v. if v then Refused CoinOutOfTurn else last) (not (coin.wave == length now.coins + 1)) refl

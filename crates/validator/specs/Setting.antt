@@ -1,8 +1,7 @@
 -- What a validator is set up with, as a node.
 use Rattle.committee.specs.Charter.{Charter}
 use Rattle.spec_model.specs.Nodes.{Node}
-use Rattle.spec_model.specs.Words.{Author, Digest, Signature}
-use Rattle.wire.specs.declared.keys.Key.{Key}
+use Rattle.spec_model.specs.Words.{Author}
 use Rattle.sigface.specs.Scheme.{Scheme}
 
 -- a member's number, its committee and its signer
@@ -16,6 +15,6 @@ abbrev pub node_of : {S : Type 0} → Scheme S → ConfigView S → Node
 node_of scheme setting = record {
   own = setting.own;
   charter = setting.charter;
-  key = own_key setting.signer;
-  sign = signature_of setting.signer;
+  key = scheme.own_key setting.signer;
+  sign = scheme.signature_of setting.signer;
 }

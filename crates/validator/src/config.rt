@@ -6,8 +6,8 @@ ghost use Rattle.spec_model.specs.Nodes.{IsNode};
 ghost use Rattle.validator.specs.Setting.{node_of};
 
 use committee::Committee;
-use sigface::Sign;
 use header::Node;
+use sigface::Sign;
 use std::marker::Model;
 use wire::{Author, Key};
 

@@ -7,7 +7,7 @@ use sigface::Sign;
 use std::alloc::{AllocError, Global};
 use wire::{Author, BatchReference, Header, ParentReference, Round, WireError};
 
-/// The signed header of these parts, which rise and are few enough. `AllocError` where a growth was refused.
+/// The signed header of these parts, which rise and are few enough. `AllocError` where an allocation failed.
 pub(crate) fn signed<S: Sign>(
     alloc: Global,
     signer: &S,

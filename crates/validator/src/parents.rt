@@ -24,7 +24,7 @@ fn parent(dag: &Dag, round: Round, author: Author) -> Option<ParentReference>
     }
 }
 
-/// All certificates of a round by author, as a header names them. `AllocError` where a growth was refused.
+/// All certificates of a round by author, as a header names them. `AllocError` where an allocation failed.
 pub(crate) fn parents_of(
     alloc: Global,
     dag: &Dag,

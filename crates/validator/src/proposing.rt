@@ -58,8 +58,8 @@ fn header_for<S: Sign>(
 }
 
 /// The header that a validator proposes: over all certificates of the round below its own, with the least batches that may be
-/// named, up to a header's limit. None where the round has an own header, or is past the greatest round. `AllocError` where a
-/// growth was refused.
+/// named, up to a header's limit. None where the round has an own header, or is past the greatest round. `AllocError` where an
+/// allocation failed.
 pub(crate) fn propose<S: Sign>(
     alloc: Global,
     signer: &S,

@@ -23,8 +23,7 @@ use crate::taking::take;
 use admission::{Refusal, Step, Tables, votes_agree};
 use committee::Committee;
 use header::Checked;
-use sigface::TableSeed;
-use sigface::Sign;
+use sigface::{Sign, TableSeed};
 use std::alloc::{AllocError, Global};
 use std::marker::Model;
 use wire::{Author, Digest, Header, Round};
@@ -63,7 +62,7 @@ impl<'a, S: Sign> Model for Validator<'a, S> {
 }
 
 impl<'a, S: Sign> Validator<'a, S> {
-    /// One that has taken nothing: it holds the genesis. `AllocError` where a growth was refused.
+    /// One that has taken nothing: it holds the genesis. `AllocError` where an allocation failed.
     pub fn new(alloc: Global, config: &'a Config<S>) -> Result<Validator<'a, S>, AllocError>
         ensures setting { IfOk result (λ made. made.setting ≡ config.now) }
         ensures at { let node = node_of S.scheme config.now in IfOk result (λ made. AreAtSound node made.tables (fresh node)) }
@@ -97,7 +96,7 @@ impl<'a, S: Sign> Validator<'a, S> {
     /// Takes an event that passed the checks of its committee, and tells what comes of it. A known event changes nothing.
     ///
     /// # Errors
-    /// The refusal of admission, or `Memory` where a growth was refused. They change nothing.
+    /// The refusal of admission, or `Memory` where an allocation failed. They change nothing.
     pub fn step(&mut self, event: Checked) -> Result<Step, Refusal>
         requires passed { fault_of self.old.setting.charter accepts_all event ≡ None }
         ensures answer { let node = node_of S.scheme self.old.setting in (state : State) → AreAtSound node self.old.tables state
@@ -207,7 +206,7 @@ impl<'a, S: Sign> Validator<'a, S> {
 
     /// The header that the validator proposes: over all certificates of the round below its own, with the at most
     /// `MAX_BATCHES` least digests of available own batches that no own header has named. None where its round has an own
-    /// header, or is past `Round::MAX`. `AllocError` where a growth was refused.
+    /// header, or is past `Round::MAX`. `AllocError` where an allocation failed.
     pub fn propose(&self) -> Result<Option<Header>, AllocError>
         ensures at { let node = node_of S.scheme self.now.setting in IfOk result (λ found. (state : State) → AreAtSound node self.now.tables state
             → found ≡ proposed node state) }

@@ -34,7 +34,9 @@ pub get-entries : (entries : List (Slot × Digest)) (slot : Slot) → get (from_
 get-entries entries slot = get-from_entries slots_total entries slot ∙ find_is-digest_at entries slot
 
 -- entries that differ at one slot make maps that differ there
-pub one_more : (old new : List (Slot × Digest)) (s : Slot) (d : Digest) → ((q : Slot) → digest_at new q ≡ cond (is_at (slot_cmp s) q) (Some d) (digest_at old q)) → from_entries {R = slot_cmp} new ≡ insert (from_entries old) s d
+pub one_more : (old new : List (Slot × Digest)) (s : Slot) (d : Digest)
+    → ((q : Slot) → digest_at new q ≡ cond (is_at (slot_cmp s) q) (Some d) (digest_at old q)) → from_entries {R = slot_cmp} new
+    ≡ insert (from_entries old) s d
 one_more old new s d h = same_map slots_total exact_slots _ _ (λ q.
     get-entries new q ∙ h q ∙ ap (λ b. cond b (Some d) (digest_at old q)) ((eq_by_cmp_equiv slots_total).symm s q)
     ∙ sym (get-insert slots_total (from_entries old) s d q ∙ ap (cond (is_at (slot_cmp q) s) (Some d)) (get-entries old q)))
@@ -45,7 +47,8 @@ is_equal Equal h = refl
 is_equal Greater h = absurd cc
 
 -- one entry, of the slot or not, that is kept or not
-one_entry : (round : ℕ) (e : Slot × Digest) (slot : Slot) (kept all : List (Slot × Digest)) (tie later low : Bool) → is_at (slot_cmp slot) e.0 ≡ tie → nat_lt round e.0.round ≡ later → nat_le slot.round round ≡ low
+one_entry : (round : ℕ) (e : Slot × Digest) (slot : Slot) (kept all : List (Slot × Digest)) (tie later low : Bool) → is_at (slot_cmp slot) e.0 ≡ tie
+    → nat_lt round e.0.round ≡ later → nat_le slot.round round ≡ low
     → digest_at kept slot ≡ cond low None (digest_at all slot) → digest_at (cond later (e ∷ kept) kept) slot ≡ cond low None (cond tie (Some e.1) (digest_at all slot))
 one_entry round e slot kept all true true true t l w h =
     let same : slot.round ≡ e.0.round = ap (λ (s : Slot). s.round) (exact_slots slot e.0 (is_equal _ t)) in
@@ -59,7 +62,8 @@ one_entry round e slot kept all false true low t l w h = ap (λ b. cond b (Some 
 one_entry round e slot kept all false false low t l w h = h
 
 -- the entries above a round have what was there above it, and nothing else
-pub digest_at-filter : (round : ℕ) (entries : List (Slot × Digest)) (slot : Slot) → digest_at (filter (λ e. nat_lt round e.0.round) entries) slot ≡ cond (nat_le slot.round round) None (digest_at entries slot)
+pub digest_at-filter : (round : ℕ) (entries : List (Slot × Digest)) (slot : Slot) → digest_at (filter (λ e. nat_lt round e.0.round) entries) slot
+    ≡ cond (nat_le slot.round round) None (digest_at entries slot)
 digest_at-filter round [] slot = elim (nat_le slot.round round) as (λ b. ◌≡◌ {A = Option Digest} None (cond b None None)) [ true ↦ refl | false ↦ refl ]
 digest_at-filter round (e ∷ rest) slot =
     one_entry round e slot (filter (λ f. nat_lt round f.0.round) rest) rest _ _ _ refl refl refl (digest_at-filter round rest slot)

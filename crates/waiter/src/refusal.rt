@@ -9,7 +9,7 @@ use thiserror::Error;
 /// Why a message doesn't wait. Printed as its number and its name.
 #[derive(Clone, Copy, Debug, PartialEq, Eq, Error)]
 pub enum WaitRefusal {
-    /// A growth was refused.
+    /// An allocation failed.
     #[error("1 Memory")]
     Memory,
     /// As many wait as may.

@@ -2,27 +2,28 @@
 use Rattle.std.proofs.Common.{◌≡◌, ℕ, Bool, true, false, List, [], ◌∷◌, ◌++◌, cond, Result, Ok, Err, append_assoc, sym, ◌∙◌}
 use Rattle.std.specs.Prelude.{OnOk, OnErr}
 use Rattle.std.proofs.lemmas.List.{append-nil}
-use Rattle.wire.specs.Putting.{Begins, Keeps}
+use Rattle.wire.specs.Lists.{Begins}
+use Rattle.wire.specs.Putting.{Keeps}
 
--- four pieces behind what was there
+-- four pieces after what was there
 pub four_pieces : (start a b c d one two three four : List ℕ) → one ≡ start ++ a → two ≡ one ++ b → three ≡ two ++ c → four ≡ three ++ d → four ≡ start ++ (a ++ b ++ c ++ d)
 four_pieces start a b c d one two three four e1 e2 e3 e4 = rw (e4, e3, e2, e1) (simp append_assoc)
 
--- a tag and two pieces behind what was there, the second of them not yet put
+-- a tag and two pieces after what was there, the second of them not yet put
 pub tagged_pieces : (start : List ℕ) (tag : ℕ) (a b one two : List ℕ) → one ≡ start ++ tag ∷ [] → two ≡ one ++ a → two ++ b ≡ start ++ tag ∷ (a ++ b)
 tagged_pieces start tag a b one two e1 e2 = rw (e2, e1) (simp append_assoc)
 
--- a piece that was put, or was refused, keeps what was there
+-- a piece keeps what was there, whether it was put or its allocation failed
 pub put_kept : (put : Bool) (old text new : List ℕ) → new ≡ cond put (old ++ text) old → Keeps old new
-unfolding Begins
-put_kept true old text new e start begins = (begins.0 ++ text, rw (e, begins.1) (append_assoc start begins.0 text))
-put_kept false old text new e start begins = (begins.0, e ∙ begins.1)
+put_kept true old text new e start begins =
+    record { rest = begins.rest ++ text; parts = rw (e, begins.parts) (append_assoc start begins.rest text) }
+put_kept false old text new e start begins = record { rest = begins.rest; parts = e ∙ begins.parts }
 
--- so what was there begins what is there after a refusal
+-- so what was there is a prefix of what is there where an allocation failed
 pub rest_at_refusal : {X E : Type 0} (r : Result X E) (old new : List ℕ) → Keeps old new → OnErr r ((rest : List ℕ) × (new ≡ old ++ rest))
-unfolding Begins
 rest_at_refusal (Ok x) old new kept = tt
-rest_at_refusal (Err x) old new kept = kept old ([], sym (append-nil old))
+rest_at_refusal (Err x) old new kept =
+    let begins : Begins old new = kept old (record { rest = []; parts = sym (append-nil old) }) in (begins.rest, begins.parts)
 
 -- where the last piece was put, all is there
 pub put_rest : {X E : Type 0} (r : Result X E) (before text new whole : List ℕ) → OnOk r (new ≡ before ++ text) → before ++ text ≡ whole → OnOk r (new ≡ whole)

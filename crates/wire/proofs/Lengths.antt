@@ -9,7 +9,8 @@ use Rattle.wire.specs.declared.header.Header.{Header}
 use Rattle.wire.specs.declared.header.Certificate.{Certificate}
 use Rattle.wire.specs.References.{IsBatchReference, IsParentReference, IsVoteEntry}
 use Rattle.wire.specs.Grammar.{IsHeaderBody, IsHeader, IsCertificate}
-use Rattle.wire.specs.Spelling.{batch_reference_bytes, parent_reference_bytes, vote_entry_bytes, batches_bytes, parents_bytes, votes_bytes, header_body, header_body_len, header_bytes, certificate_bytes}
+use Rattle.wire.specs.Spelling.{batch_reference_bytes, parent_reference_bytes, vote_entry_bytes, batches_bytes, parents_bytes, votes_bytes, header_body, header_body_len, header_bytes}
+use Rattle.wire.specs.Spelling.{certificate_bytes}
 
 -- entries that are all as long
 same_length : {X : Type 0} (text : X → List ℕ) (Is : X → Type 0) (len : ℕ) → ((x : X) → Is x → length (text x) ≡ len) → (xs : List X) → All Is xs → length (flat_map text xs) ≡ len * length xs
@@ -22,7 +23,8 @@ header_length h is =
     let batches : length (flat_map batch_reference_bytes h.batches) ≡ 34 * length h.batches =
     same_length batch_reference_bytes IsBatchReference 34 (λ b fits. omega (arith, length-append b.digest.0 (to_be_bytes w16 b.worker), fits.digest.count_is)) h.batches is.batches.each in
     let parents : length (flat_map parent_reference_bytes h.parents) ≡ 34 * length h.parents =
-    same_length parent_reference_bytes IsParentReference 34 (λ p fits. omega (arith, length-append (to_be_bytes w16 p.author.0) p.certificate.0, fits.certificate.count_is)) h.parents is.parents.each in
+    same_length parent_reference_bytes IsParentReference 34 (λ p fits. omega (arith, length-append (to_be_bytes w16 p.author.0) p.certificate.0, fits.certificate.count_is)) h.parents
+    is.parents.each in
     omega (arith, length-append (batches_bytes h.batches) (parents_bytes h.parents), batches, parents)
 
 pub header_spelled : (h : Header) → IsHeader h → length (3 ∷ header_bytes h) ≡ 1 + header_body_len h.body + 64

@@ -4,7 +4,7 @@ use Rattle.std.specs.List.{flat_map}
 use Rattle.std.proofs.lemmas.Bool.{cases_lt}
 use Rattle.std.proofs.lemmas.List.{take_more, flat_map_more, get_or_default, take_all}
 
--- behind what was there and the count stand the pieces so far, and then those with one more
+-- after what was there and the count stand the pieces so far, and then those with one more
 pub one_more : {X : Type 0} (piece_of : X → List ℕ) (front count before later : List ℕ) (list : List X) (index : ℕ) (other : X) → index < length list
     → before ≡ front ++ (count ++ flat_map piece_of (take index list)) → later ≡ before ++ piece_of (get_or list index other) → later ≡ front ++ (count ++ flat_map piece_of (take (index + 1) list))
 one_more piece_of front count before later list index other within so_far put =
@@ -23,7 +23,7 @@ each_more P list index other within each here k x below =
           subst (λ i. P (get_or list i x)) last (subst P (get_or_default list index other x within) here)
     ]
 
--- behind the last piece all stand there
+-- after the last piece all stand there
 pub all_put : {X : Type 0} (piece_of : X → List ℕ) (front count later : List ℕ) (list : List X) (index : ℕ) → length list ≤ index → later ≡ front ++ (count ++ flat_map piece_of (take index list))
     → later ≡ front ++ (count ++ flat_map piece_of list)
 all_put piece_of front count later list index past so_far = so_far ∙ ap (λ l. front ++ (count ++ flat_map piece_of l)) (take_all index list past)

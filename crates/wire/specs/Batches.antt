@@ -16,7 +16,7 @@ pub record BatchView : Type 0 where
 abbrev pub transaction_bytes : List ℕ → List ℕ
 transaction_bytes transaction = to_be_bytes w32 (length transaction) ++ transaction
 
--- the body of a batch: author, worker, and the transactions behind their count
+-- the body of a batch: author, worker, and the transactions after their count
 abbrev pub batch_body : BatchView → List ℕ
 batch_body b =
     to_be_bytes w16 b.author.0 ++ to_be_bytes w16 b.worker ++ to_be_bytes w32 (length b.transactions)

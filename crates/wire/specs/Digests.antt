@@ -6,15 +6,15 @@ use Rattle.wire.specs.declared.header.HeaderBody.{HeaderBody}
 use Rattle.wire.specs.Batches.{BatchView, batch_body}
 use Rattle.wire.specs.Spelling.{body_bytes, header_body}
 
--- of a batch: behind the letter B
+-- of a batch: after the letter B
 abbrev pub batch_digest_of : BatchView → List ℕ
 batch_digest_of b = sha256 (66 ∷ batch_body b)
 
--- of a header, without its signature: behind the letter H
+-- of a header, without its signature: after the letter H
 abbrev pub header_digest_of : HeaderBody → List ℕ
 header_digest_of h = sha256 (72 ∷ header_body h)
 
--- of a certificate, whatever its votes: behind the letter C the header's digest, round and author
+-- of a certificate, whatever its votes: after the letter C the header's digest, round and author
 abbrev pub certificate_digest_of : List ℕ → ℕ → ℕ → List ℕ
 certificate_digest_of header round author = sha256 (67 ∷ header ++ to_be_bytes w64 round ++ to_be_bytes w16 author)
 

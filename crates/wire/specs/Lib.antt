@@ -1,3 +1,4 @@
+pub mod Lists
 pub mod Rising
 pub mod References
 pub mod Fields

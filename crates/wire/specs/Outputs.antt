@@ -24,11 +24,11 @@ receiver_of (output.Order start digests) = 65534
 abbrev pub digest_bytes : Digest → List ℕ
 digest_bytes d = d.0
 
--- the digests behind their count
+-- the digests after their count
 abbrev pub digests_bytes : List Digest → List ℕ
 digests_bytes digests = to_be_bytes w32 (length digests) ++ flat_map digest_bytes digests
 
--- a piece of the order: behind the tag 7 the place of its first digest, and the digests
+-- a piece of the order: after the tag 7 the place of its first digest, and the digests
 abbrev pub order_bytes : ℕ → List Digest → List ℕ
 order_bytes start digests = 7 ∷ to_be_bytes w64 start ++ digests_bytes digests
 
@@ -53,6 +53,10 @@ content_len (output.Order start digests) = 13 + 32 * length digests
 -- an output in bytes
 abbrev pub output_bytes : Output → List ℕ
 output_bytes o = to_be_bytes w16 (receiver_of o) ++ content_of o
+
+-- an output as a frame: the length of its bytes in four, the highest first, and its bytes
+unfoldable pub frame_of : Output → List ℕ
+frame_of output = to_be_bytes w32 (length (output_bytes output)) ++ output_bytes output
 
 -- a piece of the order has at most 16,000 digests
 pub record AreOrdered (digests : List Digest) : Type 0 where

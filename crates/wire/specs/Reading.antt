@@ -23,13 +23,13 @@ use Rattle.wire.specs.declared.votes.VoteEntry.{VoteEntry}
 use Rattle.wire.specs.Batches.{BatchView, has_room}
 use Rattle.wire.specs.References.{batch_follows, parent_follows, vote_follows}
 
--- a step behind another one: it goes on with what that one gave, or passes its fault on
+-- a step after another one: it goes on with what that one gave, or passes its fault on
 infixl 10 ◌>>=◌
 abbrev pub ◌>>=◌ : {A B : Type 0} → Result A WireError → (A → Result B WireError) → Result B WireError
 (Ok x) >>= f = f x
 (Err e) >>= f = Err e
 
--- the value of a field and the bytes behind it, or the first fault
+-- the value of a field and the bytes after it, or the first fault
 abbrev pub Read : Type 0 → Type 0
 Read X = Result (X × List ℕ) WireError
 
@@ -81,14 +81,14 @@ count_at w limit bytes = do
 
 -- ---- lists. The order is tested as soon as the key of an entry is read, a transaction's length as soon as it is read
 
--- so many entries, each read behind those before it
+-- so many entries, each read after those before it
 unfoldable pub more_at : {X : Type 0} → (List X → List ℕ → Read X) → ℕ → List X → List ℕ → Read (List X)
 more_at entry_at zero before bytes = Ok (before, bytes)
 more_at entry_at (suc n) before bytes = do
   entry ← entry_at before bytes
   more_at entry_at n (before ++ entry.0 ∷ []) entry.1
 
--- a batch behind those before it
+-- a batch after those before it
 unfoldable pub batch_reference_at : List BatchReference → List ℕ → Read BatchReference
 batch_reference_at before bytes = do
   digest ← digest_at bytes
@@ -100,7 +100,7 @@ batches_at bytes = do
   count ← count_at w16 MAX_BATCHES bytes
   more_at batch_reference_at count.0 [] count.1
 
--- a parent behind those before it
+-- a parent after those before it
 unfoldable pub parent_reference_at : List ParentReference → List ℕ → Read ParentReference
 parent_reference_at before bytes = do
   author ← author_at bytes
@@ -112,7 +112,7 @@ parents_at bytes = do
   count ← count_at w16 MAX_PARENTS bytes
   more_at parent_reference_at count.0 [] count.1
 
--- a vote of a certificate behind those before it
+-- a vote of a certificate after those before it
 unfoldable pub vote_entry_at : List VoteEntry → List ℕ → Read VoteEntry
 vote_entry_at before bytes = do
   voter ← author_at bytes
@@ -124,7 +124,7 @@ votes_at bytes = do
   count ← count_at w16 MAX_VOTES bytes
   more_at vote_entry_at count.0 [] count.1
 
--- a transaction behind those before it: its length is at most 65,536, and the body with it has at most 500,000 bytes
+-- a transaction after those before it: its length is at most 65,536, and the body with it has at most 500,000 bytes
 unfoldable pub transaction_at : List (List ℕ) → List ℕ → Read (List ℕ)
 transaction_at before bytes = do
   len ← number_at w32 bytes

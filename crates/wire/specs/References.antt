@@ -1,5 +1,5 @@
 -- The lists of headers and certificates: what each entry has, how many there are, and their order.
-use Rattle.std.specs.Prelude.{◌≤◌, All, Bool, IsTrue, List, [], ◌∷◌, length, nat_lt, if◌then◌else◌}
+use Rattle.std.specs.Prelude.{Bool, List, [], ◌∷◌, nat_lt, if◌then◌else◌}
 use Rattle.std.specs.Ordering.{nat_cmp, is_lt}
 use Rattle.std.specs.Cmp.Lexicographic.{slice_cmp}
 use Rattle.std.specs.Str.{bytes_eq}
@@ -10,15 +10,19 @@ use Rattle.wire.specs.declared.references.BatchReference.{BatchReference}
 use Rattle.wire.specs.declared.references.ParentReference.{ParentReference}
 use Rattle.wire.specs.declared.votes.VoteEntry.{VoteEntry}
 use Rattle.wire.specs.Fields.{IsNumber, IsAuthor, IsDigest, IsSignature}
-use Rattle.wire.specs.Rising.{rises, follows}
+use Rattle.wire.specs.Rising.{rises, follows, AreEntries}
 
 -- of two digests, the first byte that differs tells which comes first
 abbrev pub digest_before : Digest → Digest → Bool
 digest_before a b = is_lt (slice_cmp nat_cmp a.0 b.0)
 
+-- of two batches, the one with the lower digest comes first
+abbrev pub batch_before : BatchReference → BatchReference → Bool
+batch_before a b = digest_before a.digest b.digest
+
 -- the batches rise by digest
 abbrev pub batches_rise : List BatchReference → Bool
-batches_rise = rises (λ a b. digest_before a.digest b.digest)
+batches_rise = rises batch_before
 
 -- a batch of this digest may come next
 abbrev pub batch_follows : List BatchReference → Digest → Bool
@@ -32,17 +36,25 @@ placed (first ∷ rest) batch =
     else if bytes_eq first.digest.0 batch.digest.0 then first ∷ rest
     else first ∷ placed rest batch
 
+-- of two parents, the one by the lower author comes first
+abbrev pub parent_before : ParentReference → ParentReference → Bool
+parent_before a b = nat_lt a.author.0 b.author.0
+
 -- the parents rise by author
 abbrev pub parents_rise : List ParentReference → Bool
-parents_rise = rises (λ a b. nat_lt a.author.0 b.author.0)
+parents_rise = rises parent_before
 
 -- a parent by this author may come next
 abbrev pub parent_follows : List ParentReference → Author → Bool
 parent_follows parents author = follows (λ a. nat_lt a.author.0 author.0) parents
 
+-- of two votes, the one by the lower voter comes first
+abbrev pub vote_before : VoteEntry → VoteEntry → Bool
+vote_before a b = nat_lt a.voter.0 b.voter.0
+
 -- the votes rise by voter
 abbrev pub votes_rise : List VoteEntry → Bool
-votes_rise = rises (λ a b. nat_lt a.voter.0 b.voter.0)
+votes_rise = rises vote_before
 
 -- a vote by this voter may come next
 abbrev pub vote_follows : List VoteEntry → Author → Bool
@@ -64,19 +76,13 @@ pub record IsVoteEntry (v : VoteEntry) : Type 0 where
   pub signature : IsSignature v.signature
 
 -- a header names at most 128 batches, which rise by digest
-pub record AreBatches (batches : List BatchReference) : Type 0 where
-  pub few : length batches ≤ MAX_BATCHES
-  pub each : All IsBatchReference batches
-  pub rise : IsTrue (batches_rise batches)
+abbrev pub AreBatches : List BatchReference → Type 0
+AreBatches = AreEntries MAX_BATCHES IsBatchReference batch_before
 
 -- a header names at most 31 parents, which rise by author, so no author twice
-pub record AreParents (parents : List ParentReference) : Type 0 where
-  pub few : length parents ≤ MAX_PARENTS
-  pub each : All IsParentReference parents
-  pub rise : IsTrue (parents_rise parents)
+abbrev pub AreParents : List ParentReference → Type 0
+AreParents = AreEntries MAX_PARENTS IsParentReference parent_before
 
 -- a certificate has at most 31 votes, which rise by voter, so no voter twice
-pub record AreVotes (votes : List VoteEntry) : Type 0 where
-  pub few : length votes ≤ MAX_VOTES
-  pub each : All IsVoteEntry votes
-  pub rise : IsTrue (votes_rise votes)
+abbrev pub AreVotes : List VoteEntry → Type 0
+AreVotes = AreEntries MAX_VOTES IsVoteEntry vote_before

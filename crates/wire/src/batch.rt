@@ -74,7 +74,7 @@ impl Batch {
         self.count
     }
 
-    /// The same batch once more. The body isn't copied. `AllocError` where a growth was refused.
+    /// The same batch once more. The body isn't copied. `AllocError` where an allocation failed.
     pub fn share(&self) -> Result<Batch, AllocError>
         ensures { IfOk result (λ batch. batch ≡ self.now) }
     {
@@ -86,7 +86,7 @@ impl Batch {
         })
     }
 
-    /// Its body: author, worker, and the transactions behind their count.
+    /// Its body: author, worker, and the transactions after their count.
     pub fn body(&self) -> &[u8]
         ensures value { result.now ≡ batch_body self.now }
         ensures len { length result.now ≡ body_len self.now.transactions }
@@ -118,7 +118,7 @@ impl Model for OpenBatch {
 }
 
 impl OpenBatch {
-    /// A batch of no transactions. `AllocError` where a growth was refused.
+    /// A batch of no transactions. `AllocError` where an allocation failed.
     pub fn new(alloc: Global, author: Author, worker: u16) -> Result<OpenBatch, AllocError>
         ensures { IfOk result (λ batch. batch ≡ record { author = author; worker = worker; transactions = [] }) }
     {
@@ -163,7 +163,7 @@ impl OpenBatch {
     }
 
     /// Adds a transaction of at most `MAX_TRANSACTION_BYTES` at the end, where `has_room` says that it may.
-    /// `AllocError` where a growth was refused.
+    /// `AllocError` where an allocation failed.
     pub fn push(&mut self, transaction: &[u8]) -> Result<(), AllocError>
         requires short { length transaction.now ≤ MAX_TRANSACTION_BYTES }
         requires room { IsTrue (has_room self.old.transactions (length transaction.now)) }
@@ -177,7 +177,7 @@ impl OpenBatch {
         Ok(())
     }
 
-    /// The batch of these transactions. Where a growth is refused the open batch is handed back as it was.
+    /// The batch of these transactions. Where an allocation fails the open batch is handed back as it was.
     pub fn close(self) -> Result<Batch, AllocFailed<OpenBatch>>
         ensures { MatchResult result (λ batch. batch ≡ self) (λ failed. failed.value ≡ self) }
     {

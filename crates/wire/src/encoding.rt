@@ -4,7 +4,7 @@ ghost use Rattle.std.specs.Prelude.{◌≡◌, ℕ, List, ◌≤◌, ◌+◌, �
 ghost use Rattle.wire.specs.declared.limits.TheConstants.{MAX_BATCH_BYTES, MAX_BATCHES, MAX_PARENTS, MAX_VOTES};
 ghost use Rattle.wire.specs.Spelling.{batch_reference_bytes, parent_reference_bytes, vote_entry_bytes, batches_bytes, parents_bytes, votes_bytes, header_body, header_body_len, spelling, length_of};
 ghost use Rattle.wire.specs.Putting.{Keeps};
-ghost use Rattle.wire.specs.Fields.{AreBytes, IsDigest, IsSignature};
+ghost use Rattle.wire.specs.Fields.{IsDigest, IsSignature};
 ghost use Rattle.wire.specs.Batches.{IsBatch};
 ghost use Rattle.wire.specs.Grammar.{IsAck, IsHeaderBody, IsHeader, IsVote, IsCertificate, IsCoin, IsMessage, Spells};
 ghost use Rattle.wire.specs.References.{IsBatchReference, IsParentReference, IsVoteEntry, AreBatches, AreParents, AreVotes};
@@ -60,7 +60,7 @@ const COUNT_BYTES: usize = 2;
 /// Bytes of a vote in a certificate.
 const VOTE_ENTRY_BYTES: usize = 66;
 
-// Puts bytes. What stood there before stays, also where the growth is refused.
+// Puts bytes. What stood there before stays, also where the allocation fails.
 #[tactic(auto, using(crate::proofs::Joining::put_kept))]
 fn put_bytes(out: &mut Vec<u8>, bytes: &[u8]) -> Result<(), AllocError>
     ensures bytes { OnOk result (out.new.items ≡ out.old.items ++ bytes.now) }
@@ -299,8 +299,8 @@ pub fn encoded_len(message: &Message) -> usize
     }
 }
 
-/// Puts the one spelling of a message behind these bytes. `AllocError` where a growth was refused: a part of it
-/// may stand there then.
+/// Puts the one spelling of a message after these bytes. `AllocError` where an allocation failed: then a part of
+/// it may stand there.
 #[tactic(auto, using(crate::proofs::Joining::rest_at_refusal))]
 pub fn encode_onto(out: &mut Vec<u8>, message: &Message) -> Result<(), AllocError>
     ensures bytes { OnOk result (out.new.items ≡ out.old.items ++ spelling message.now) }
@@ -321,7 +321,7 @@ pub fn encode_onto(out: &mut Vec<u8>, message: &Message) -> Result<(), AllocErro
     }
 }
 
-/// The one spelling of a message. `AllocError` where a growth was refused.
+/// The one spelling of a message. `AllocError` where an allocation failed.
 pub fn encode(alloc: Global, message: &Message) -> Result<Vec<u8>, AllocError>
     ensures spelling { IfOk result (λ bytes. Spells message.now bytes.items) }
     ensures len { IfOk result (λ bytes. length bytes.items ≡ length_of message.now) }

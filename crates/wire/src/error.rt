@@ -9,7 +9,7 @@ use thiserror::Error;
 /// Why bytes are no message. Printed as its number and its name.
 #[derive(Clone, Copy, Debug, PartialEq, Eq, Error)]
 pub enum WireError {
-    /// A growth was refused.
+    /// An allocation failed.
     #[error("1 Memory")]
     Memory,
     /// The input ends within a field.

@@ -56,7 +56,7 @@ pub struct Certificate {
 }
 
 impl HeaderBody {
-    /// The same body once more. `AllocError` where a growth was refused.
+    /// The same body once more. `AllocError` where an allocation failed.
     pub fn try_clone(&self) -> Result<HeaderBody, AllocError>
         ensures { IfOk result (λ body. body ≡ self.now) }
     {
@@ -75,7 +75,7 @@ impl HeaderBody {
 }
 
 impl Header {
-    /// The same header once more. `AllocError` where a growth was refused.
+    /// The same header once more. `AllocError` where an allocation failed.
     pub fn try_clone(&self) -> Result<Header, AllocError>
         ensures { IfOk result (λ header. header ≡ self.now) }
     {
@@ -105,7 +105,7 @@ impl Vote {
 }
 
 impl Certificate {
-    /// The same certificate once more. `AllocError` where a growth was refused.
+    /// The same certificate once more. `AllocError` where an allocation failed.
     pub fn try_clone(&self) -> Result<Certificate, AllocError>
         ensures { IfOk result (λ certificate. certificate ≡ self.now) }
     {

@@ -5,6 +5,7 @@
 mod batch;
 mod digests;
 mod encoding;
+mod entries;
 mod error;
 mod header;
 mod keys;

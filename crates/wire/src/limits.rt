@@ -25,7 +25,7 @@ pub const MAX_VOTES: usize = 31;
 /// Digests of one piece of the order, at most, so that it fits a frame.
 pub const MAX_ORDER_DIGESTS: usize = 16_000;
 
-/// Bytes of a frame behind its length, at most.
+/// Bytes of a frame after its length, at most.
 pub const MAX_FRAME_BYTES: usize = 524_288;
 
 /// The limits in numbers. Every other promise names them.

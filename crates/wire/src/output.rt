@@ -83,7 +83,7 @@ impl OrderDigests {
         self.list.len() < MAX_ORDER_DIGESTS
     }
 
-    /// Adds a digest at the end, where `has_room` says that it may. `AllocError` where a growth was refused.
+    /// Adds a digest at the end, where `has_room` says that it may. `AllocError` where an allocation failed.
     pub fn push(&mut self, digest: Digest) -> Result<(), AllocError>
         requires { length self.old < MAX_ORDER_DIGESTS }
         ensures ok { OnOk result (self.new ≡ self.old ++ digest ∷ []) }

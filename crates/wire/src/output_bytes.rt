@@ -97,8 +97,8 @@ fn content_length(output: &Output) -> usize
     }
 }
 
-/// The receiver of an output, two bytes, and what it gets: a message, or a piece of the order. `AllocError`
-/// where a growth was refused.
+/// The receiver of an output, two bytes, and what it gets: a message, or a piece of the order.
+/// `AllocError` where an allocation failed.
 pub fn encode_output(alloc: Global, output: &Output) -> Result<Vec<u8>, AllocError>
     ensures bytes { IfOk result (λ bytes. bytes.items ≡ output_bytes output.now) }
     ensures fits { IfOk result (λ _. IsOutput output.now) }

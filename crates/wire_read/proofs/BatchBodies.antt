@@ -34,7 +34,8 @@ grown ts t = rw sum_by_push (omega arith)
 front_short : (front rest : List (List ℕ)) → Short (front ++ rest) → Short front
 front_short front rest short = omega (arith, short, sum_by-append (λ t. 4 + length t) front rest)
 
-transaction_takes : (before : List (List ℕ)) (bytes : List ℕ) (x : List ℕ × List ℕ) → IsBytes bytes → Short before → transaction_at before bytes ≡ Ok x → Takes bytes (transaction_bytes x.0) x.1 × IsTransaction x.0 × Short (before ++ x.0 ∷ [])
+transaction_takes : (before : List (List ℕ)) (bytes : List ℕ) (x : List ℕ × List ℕ) → IsBytes bytes → Short before → transaction_at before bytes ≡ Ok x
+    → Takes bytes (transaction_bytes x.0) x.1 × IsTransaction x.0 × Short (before ++ x.0 ∷ [])
 unfolding transaction_at
 transaction_takes before bytes x fits short e =
     let a = bind_ok (number_at w32 bytes) (λ len. cond (not (ltb MAX_TRANSACTION_BYTES len.0) && has_room before len.0) (bytes_at len.0 len.1) (Err TooMany)) x e in
@@ -67,8 +68,10 @@ batch_text b = to_be_bytes w16 b.author.0 ++ (to_be_bytes w16 b.worker ++ (to_be
 pub contents_take : (bytes : List ℕ) (x : BatchView × List ℕ) → IsBytes bytes → batch_at bytes ≡ Ok x → Takes bytes (batch_body x.0) x.1 × IsBatch x.0
 unfolding batch_at transactions_at
 contents_take bytes x fits e =
-    let a = bind_ok (author_at bytes) (λ author. number_at w16 author.1 >>= λ worker. transactions_at worker.1 >>= λ transactions. Ok (record { author = author.0; worker = worker.0; transactions = transactions.0 }, transactions.1)) x e in
-    let b = bind_ok (number_at w16 a.0.1) (λ worker. transactions_at worker.1 >>= λ transactions. Ok (record { author = a.0.0; worker = worker.0; transactions = transactions.0 }, transactions.1)) x a.2 in
+    let a = bind_ok (author_at bytes) (λ author. number_at w16 author.1 >>= λ worker. transactions_at worker.1
+    >>= λ transactions. Ok (record { author = author.0; worker = worker.0; transactions = transactions.0 }, transactions.1)) x e in
+    let b = bind_ok (number_at w16 a.0.1) (λ worker. transactions_at worker.1
+    >>= λ transactions. Ok (record { author = a.0.0; worker = worker.0; transactions = transactions.0 }, transactions.1)) x a.2 in
     let c = bind_ok (transactions_at b.0.1) (λ transactions. Ok (record { author = a.0.0; worker = b.0.0; transactions = transactions.0 }, transactions.1)) x b.2 in
     let t0 = author_takes bytes a.0 fits a.1 in
     let t1 = number_takes w16 (2 ^ 16) wide16 a.0.1 b.0.0 b.0.1 t0.0.rest_fits b.1 in
@@ -76,7 +79,8 @@ contents_take bytes x fits e =
     let from1 = Takes-then a.0.1 (to_be_bytes w16 b.0.0) b.0.1 (to_be_bytes w32 (length c.0.0) ++ flat_map transaction_bytes c.0.0) c.0.1 t1.0 r.takes in
     let from0 = Takes-then bytes (to_be_bytes w16 a.0.0.0) a.0.1 (to_be_bytes w16 b.0.0 ++ (to_be_bytes w32 (length c.0.0) ++ flat_map transaction_bytes c.0.0)) c.0.1 t0.0 from1 in
     let made : BatchView × List ℕ = (record { author = a.0.0; worker = b.0.0; transactions = c.0.0 }, c.0.1) in
-    subst (λ (y : BatchView × List ℕ). Takes bytes (batch_text y.0) y.1 × IsBatch y.0) {x = made} (ok_is made x c.2) (from0, record { author = t0.1; worker = t1.1; each = All-from_recursion IsTransaction c.0.0 r.fits; short = r.sound })
+    subst (λ (y : BatchView × List ℕ). Takes bytes (batch_text y.0) y.1 × IsBatch y.0) {x = made} (ok_is made x c.2)
+    (from0, record { author = t0.1; worker = t1.1; each = All-from_recursion IsTransaction c.0.0 r.fits; short = r.sound })
 
 pub contents_again : (b : BatchView) (rest : List ℕ) → IsBatch b → batch_at (batch_body b ++ rest) ≡ Ok (b, rest)
 unfolding batch_at transactions_at
@@ -84,5 +88,6 @@ contents_again b rest is =
     let text = to_be_bytes w32 (length b.transactions) ++ flat_map transaction_bytes b.transactions in
     let regrouped : batch_body b ++ rest ≡ to_be_bytes w16 b.author.0 ++ (to_be_bytes w16 b.worker ++ (text ++ rest)) = simp append_assoc in
     let limit : length b.transactions ≤ MAX_TRANSACTIONS = omega (arith, few b.transactions, is.short) in
-    let all = counted_again w32 (2 ^ 32) wide32 MAX_TRANSACTIONS transaction_at transaction_bytes IsTransaction Short transaction_is b.transactions rest (omega arith) limit (recursion_from_All IsTransaction b.transactions is.each) is.short in
+    let all = counted_again w32 (2 ^ 32) wide32 MAX_TRANSACTIONS transaction_at transaction_bytes IsTransaction Short transaction_is b.transactions rest (omega arith) limit
+    (recursion_from_All IsTransaction b.transactions is.each) is.short in
     ap batch_at regrouped ∙ rw (author_again b.author (to_be_bytes w16 b.worker ++ (text ++ rest)) is.author, number_again w16 (2 ^ 16) wide16 b.worker (text ++ rest) is.worker, all) refl

@@ -1,4 +1,4 @@
--- What is read of the beginning of some bytes: the same as of all of them, unless it ends within a field.
+-- What is read of a prefix of some bytes: the same as of all of them, unless it ends within a field.
 use Rattle.std.proofs.Common.{◌≡◌, ℕ, zero, suc, ◌<◌, ◌≤◌, Bool, true, false, cond, List, [], ◌∷◌, ◌++◌, length, take, drop, Result, Ok, Err, ◌⊎◌, inl, inr, refl, sym, ap, ◌∙◌, arith}
 use Rattle.std.specs.Prelude.{◌+◌, ◌&&◌, not, nat_lt, nat_le, ◌==◌, if◌then◌else◌}
 use Rattle.std.specs.Int.{Width, w16, w32, w64, byte_len, from_be_bytes}
@@ -18,10 +18,12 @@ use Rattle.wire.specs.Batches.{has_room}
 use Rattle.wire.specs.Grammar.{IsMessage}
 use Rattle.wire.specs.References.{batch_follows, parent_follows, vote_follows}
 use Rattle.wire.specs.Spelling.{spelling}
-use Rattle.wire.specs.Reading.{◌>>=◌, Read, number_at, bytes_at, author_at, digest_at, signature_at, round_at, wave_at, count_at, more_at, batch_reference_at, batches_at, parent_reference_at, parents_at, vote_entry_at, votes_at, transaction_at, transactions_at, batch_at, ack_at, header_body_at, header_at, vote_at, certificate_at, coin_at, tagged_at, message_of}
+use Rattle.wire.specs.Reading.{◌>>=◌, Read, number_at, bytes_at, author_at, digest_at, signature_at, round_at, wave_at, count_at, more_at, batch_reference_at, batches_at}
+use Rattle.wire.specs.Reading.{parent_reference_at, parents_at, vote_entry_at, votes_at, transaction_at, transactions_at, batch_at, ack_at, header_body_at, header_at, vote_at}
+use Rattle.wire.specs.Reading.{certificate_at, coin_at, tagged_at, message_of}
 use Rattle.wire_read.proofs.Messages.{tagged_again}
 
--- what was read is read again with more bytes behind, and a fault that was met is met again, unless it is that the bytes end
+-- what was read is read again with more bytes after, and a fault that was met is met again, unless it is that the bytes end
 abbrev Stays : {X : Type 0} → List ℕ → Read X → Read X → Type 0
 Stays more (Ok found) later = later ≡ Ok (found.0, found.1 ++ more)
 Stays more (Err fault) later = (fault ≡ Short) ⊎ (later ≡ Err fault)
@@ -30,7 +32,7 @@ Stays more (Err fault) later = (fault ≡ Short) ⊎ (later ≡ Err fault)
 abbrev Goes : {X : Type 0} → (List ℕ → Read X) → Type 0
 Goes at = (bytes more : List ℕ) → Stays more (at bytes) (at (bytes ++ more))
 
--- and of one step behind another
+-- and of one step after another
 behind : {X Y : Type 0} (more : List ℕ) (one other : Read X) (f : X × List ℕ → Read Y) → Stays more one other → ((p : X × List ℕ) → Stays more (f p) (f (p.0, p.1 ++ more)))
     → Stays more (one >>= f) (other >>= f)
 behind more (Ok p) other f stays next = rw stays (next p)
@@ -108,8 +110,9 @@ more_go entry_at goes (suc count) before bytes more =
     behind more (entry_at before bytes) (entry_at before (bytes ++ more)) (λ entry. more_at entry_at count (before ++ entry.0 ∷ []) entry.1) (goes before bytes more)
     (λ p. more_go entry_at goes count (before ++ p.0 ∷ []) p.1 more)
 
--- a list behind its count
-list_goes : {X : Type 0} (w : Width) (limit : ℕ) (entry_at : List X → List ℕ → Read X) → ((before : List X) → Goes (entry_at before)) → Goes (λ bytes. count_at w limit bytes >>= λ count. more_at entry_at count.0 [] count.1)
+-- a list after its count
+list_goes : {X : Type 0} (w : Width) (limit : ℕ) (entry_at : List X → List ℕ → Read X) → ((before : List X) → Goes (entry_at before))
+    → Goes (λ bytes. count_at w limit bytes >>= λ count. more_at entry_at count.0 [] count.1)
 list_goes w limit entry_at goes bytes more =
     behind more (count_at w limit bytes) (count_at w limit (bytes ++ more)) (λ count. more_at entry_at count.0 [] count.1) (count_goes w limit bytes more)
     (λ p. more_go entry_at goes p.0 [] p.1 more)
@@ -156,7 +159,8 @@ votes_go = list_goes w16 MAX_VOTES vote_entry_at vote_entry_goes
 transaction_goes : (before : List (List ℕ)) → Goes (transaction_at before)
 unfolding transaction_at
 transaction_goes before bytes more =
-    behind more (number_at w32 bytes) (number_at w32 (bytes ++ more)) (λ len. if not (nat_lt MAX_TRANSACTION_BYTES len.0) && has_room before len.0 then bytes_at len.0 len.1 else Err TooMany) (number_goes w32 bytes more)
+    behind more (number_at w32 bytes) (number_at w32 (bytes ++ more)) (λ len. if not (nat_lt MAX_TRANSACTION_BYTES len.0) && has_room before len.0 then bytes_at len.0 len.1 else Err TooMany)
+    (number_goes w32 bytes more)
     (λ p. passed more (not (nat_lt MAX_TRANSACTION_BYTES p.0) && has_room before p.0) TooMany (bytes_at p.0 p.1) (bytes_at p.0 (p.1 ++ more)) (bytes_go p.0 p.1 more))
 
 transactions_go : Goes transactions_at
@@ -170,7 +174,8 @@ unfolding batch_at
 batch_goes bytes more =
     behind more (author_at bytes) (author_at (bytes ++ more)) _ (author_goes bytes more)
     (λ author. behind more (number_at w16 author.1) (number_at w16 (author.1 ++ more)) _ (number_goes w16 author.1 more)
-    (λ worker. behind more (transactions_at worker.1) (transactions_at (worker.1 ++ more)) (λ transactions. Ok (record { author = author.0; worker = worker.0; transactions = transactions.0 }, transactions.1)) (transactions_go worker.1 more)
+    (λ worker. behind more (transactions_at worker.1) (transactions_at (worker.1 ++ more))
+    (λ transactions. Ok (record { author = author.0; worker = worker.0; transactions = transactions.0 }, transactions.1)) (transactions_go worker.1 more)
     (λ p. refl)))
 
 ack_goes : Goes ack_at
@@ -192,7 +197,8 @@ header_goes : Goes header_at
 unfolding header_at
 header_goes bytes more =
     behind more (header_body_at bytes) (header_body_at (bytes ++ more)) _ (header_body_goes bytes more)
-    (λ body. behind more (signature_at body.1) (signature_at (body.1 ++ more)) (λ signature. Ok (record { body = body.0; signature = signature.0 }, signature.1)) (signature_goes body.1 more) (λ p. refl))
+    (λ body. behind more (signature_at body.1) (signature_at (body.1 ++ more)) (λ signature. Ok (record { body = body.0; signature = signature.0 }, signature.1)) (signature_goes body.1 more)
+    (λ p. refl))
 
 vote_goes : Goes vote_at
 unfolding vote_at
@@ -237,7 +243,7 @@ tagged_goes (tag ∷ bytes) more =
 
 -- ---- the laws
 
--- how many bytes are left behind what was read
+-- how many bytes are left after what was read
 abbrev left_of : Read Message → ℕ
 left_of (Ok p) = length p.1
 left_of (Err e) = 0
@@ -259,7 +265,7 @@ short_by m bytes more (Ok p) other stays is some =
 short_by m bytes more (Err e) other (inl short) is some = ap (λ f. Err f) short
 short_by m bytes more (Err e) other (inr same) is some = let bad = sym same ∙ is in absurd cc
 
--- each proper beginning of a spelling ends within a field
+-- each proper prefix of a spelling ends within a field
 pub beginnings_are_short : (m : Message) (bytes more : List ℕ) → IsMessage m → spelling m ≡ bytes ++ more → 0 < length more → message_of bytes ≡ Err Short
 unfolding message_of
 beginnings_are_short m bytes more fits parts some =

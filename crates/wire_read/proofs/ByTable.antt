@@ -1,5 +1,7 @@
 -- Reading goes by the table: field for field it takes the same bytes and meets the same fault.
-use Rattle.std.proofs.Common.{◌≡◌, ◌↔◌, ℕ, ◌+◌, ◌≤◌, zero, suc, Bool, true, false, not, ltb, leb, ◌&&◌, List, [], ◌∷◌, ◌++◌, map, length, take, drop, sum_by, Result, Ok, Err, Option, Some, None, IsOk, nat_lt, nat_le, refl, sym, ap, ap₂, subst, ◌∙◌, inl, inr, arith, length-take, take-append-drop, append_assoc, ltb-false, le-ltb, is_lt, nat_cmp, eqb-true}
+use Rattle.std.proofs.Common.{◌≡◌, ◌↔◌, ℕ, ◌+◌, ◌≤◌, zero, suc, Bool, true, false, not, ltb, leb, ◌&&◌, List, [], ◌∷◌, ◌++◌, map, length, take, drop, sum_by, Result, Ok, Err, Option, Some}
+use Rattle.std.proofs.Common.{None, IsOk, nat_lt, nat_le, refl, sym, ap, ap₂, subst, ◌∙◌, inl, inr, arith, length-take, take-append-drop, append_assoc, ltb-false, le-ltb, is_lt, nat_cmp}
+use Rattle.std.proofs.Common.{eqb-true}
 use Rattle.std.specs.List.{concat}
 use Rattle.std.specs.Int.{Width, w8, w16, w32, w64, byte_len, from_be_bytes, is_in_range}
 use Rattle.std.specs.Prelude.{◌==◌, if◌then◌else◌}
@@ -26,8 +28,11 @@ use Rattle.wire.specs.declared.message.BatchAck.{BatchAck}
 use Rattle.wire.specs.declared.message.Coin.{Coin}
 use Rattle.wire.specs.Batches.{BatchView, has_room}
 use Rattle.wire.specs.References.{batch_follows, parent_follows, vote_follows}
-use Rattle.wire.specs.Reading.{◌>>=◌, Read, number_at, bytes_at, author_at, digest_at, signature_at, round_at, wave_at, count_at, more_at, batch_reference_at, batches_at, parent_reference_at, parents_at, vote_entry_at, votes_at, transaction_at, transactions_at, batch_at, ack_at, header_body_at, header_at, vote_at, certificate_at, coin_at, tagged_at, message_of}
-use Rattle.wire_read.specs.Table.{Field, Part, one, many, bytes, number, round, wave, rising_digest, rising_member, transaction_len, header_body, parts_of, next_entry, next_part, next, HasFault, HasNone}
+use Rattle.wire.specs.Reading.{◌>>=◌, Read, number_at, bytes_at, author_at, digest_at, signature_at, round_at, wave_at, count_at, more_at, batch_reference_at, batches_at}
+use Rattle.wire.specs.Reading.{parent_reference_at, parents_at, vote_entry_at, votes_at, transaction_at, transactions_at, batch_at, ack_at, header_body_at, header_at, vote_at}
+use Rattle.wire.specs.Reading.{certificate_at, coin_at, tagged_at, message_of}
+use Rattle.wire_read.specs.Table.{Field, Part, one, many, bytes, number, round, wave, rising_digest, rising_member, transaction_len, header_body, parts_of, next_entry, next_part, next}
+use Rattle.wire_read.specs.Table.{HasFault, HasNone}
 use Rattle.wire_read.proofs.Cuts.{Next, past, Told, one_told, told_fault, has_fault, told_none, has_none}
 
 abbrev said_by : Result Message WireError → Option WireError
@@ -41,16 +46,18 @@ Goes n text read = Told n text (said_by read)
 -- ---- one field
 
 -- a step of steps
-steps : {X Y : Type 0} (r : Result X WireError) (f : X → Result Y WireError) (k : Y → Result Message WireError) (n : Next) (text : List ℕ) → Goes n text (r >>= λ x. f x >>= k) → Goes n text ((r >>= f) >>= k)
+steps : {X Y : Type 0} (r : Result X WireError) (f : X → Result Y WireError) (k : Y → Result Message WireError) (n : Next) (text : List ℕ) → Goes n text (r >>= λ x. f x >>= k)
+    → Goes n text ((r >>= f) >>= k)
 steps (Ok x) f k n text goes = goes
 steps (Err e) f k n text goes = goes
 
--- what is read behind a value: its fault, or what the table tells behind it
+-- what is read after a value: its fault, or what the table tells after it
 abbrev Behind : Option WireError → Next → List ℕ → Result Message WireError → Type 0
 Behind None n rest read = Goes n rest read
 Behind (Some fault) n rest read = read ≡ Err fault
 
-passes : (field : Field) (n : Next) (text : List ℕ) (read : Result Message WireError) (said : Option WireError) → n [] ≡ Some field → field.width ≤ length text → field.fault (take field.width text) ≡ said
+passes : (field : Field) (n : Next) (text : List ℕ) (read : Result Message WireError) (said : Option WireError) → n [] ≡ Some field → field.width ≤ length text
+    → field.fault (take field.width text) ≡ said
     → Behind said (past n (take field.width text)) (drop field.width text) read → Goes n text read
 passes field n text read None is long said goes =
     let value = take field.width text in
@@ -78,7 +85,8 @@ field_then value field n text k is behind =
       | inr enough ↦
           let long : field.width ≤ length text = ltb-false _ _ enough in
           let size : length (take field.width text) ≡ field.width = omega (arith, length-take field.width text, long) in
-          rw enough (passes field n text (k (value (take field.width text), drop field.width text)) (field.fault (take field.width text)) is long refl (behind (take field.width text) (drop field.width text) size))
+          rw enough (passes field n text (k (value (take field.width text), drop field.width text)) (field.fault (take field.width text)) is long refl
+          (behind (take field.width text) (drop field.width text) size))
     ]
 
 -- a field of so many bytes
@@ -97,12 +105,14 @@ author_then fault n text k is behind = steps (number_at w16 text) (λ x. Ok (rec
 digest_then : (fault : List ℕ → Option WireError) (n : Next) (text : List ℕ) (k : Digest × List ℕ → Result Message WireError) → n [] ≡ Some (sized 32 fault)
     → ((v rest : List ℕ) → Behind (fault v) (past n v) rest (k (record { 0 = v }, rest))) → Goes n text (digest_at text >>= k)
 unfolding digest_at
-digest_then fault n text k is behind = steps (bytes_at 32 text) (λ x. Ok (record { 0 = x.0 }, x.1)) k n text (field_then (λ v. v) (sized 32 fault) n text (λ x. k (record { 0 = x.0 }, x.1)) is (λ v rest size. behind v rest))
+digest_then fault n text k is behind =
+    steps (bytes_at 32 text) (λ x. Ok (record { 0 = x.0 }, x.1)) k n text (field_then (λ v. v) (sized 32 fault) n text (λ x. k (record { 0 = x.0 }, x.1)) is (λ v rest size. behind v rest))
 
 signature_then : (n : Next) (text : List ℕ) (k : Signature × List ℕ → Result Message WireError) → n [] ≡ Some (bytes 64)
     → ((v rest : List ℕ) → Goes (past n v) rest (k (record { 0 = v }, rest))) → Goes n text (signature_at text >>= k)
 unfolding signature_at
-signature_then n text k is behind = steps (bytes_at 64 text) (λ x. Ok (record { 0 = x.0 }, x.1)) k n text (field_then (λ v. v) (bytes 64) n text (λ x. k (record { 0 = x.0 }, x.1)) is (λ v rest size. behind v rest))
+signature_then n text k is behind =
+    steps (bytes_at 64 text) (λ x. Ok (record { 0 = x.0 }, x.1)) k n text (field_then (λ v. v) (bytes 64) n text (λ x. k (record { 0 = x.0 }, x.1)) is (λ v rest size. behind v rest))
 
 -- ---- tests
 
@@ -130,7 +140,8 @@ unfolding count_at
 count_then w limit n text k is goes =
     steps (number_at w text) _ k n text
     (number_then w (number w (is_in_range 0 limit) TooMany).fault n text _ is
-    (λ v rest. clear (is_in_range 0 limit (from_be_bytes w v)) (nat_lt limit (from_be_bytes w v)) TooMany (past n v) rest (Ok (from_be_bytes w v, rest)) k (above limit (from_be_bytes w v)) (goes v rest)))
+    (λ v rest. clear (is_in_range 0 limit (from_be_bytes w v)) (nat_lt limit (from_be_bytes w v)) TooMany (past n v) rest (Ok (from_be_bytes w v, rest)) k (above limit (from_be_bytes w v))
+    (goes v rest)))
 
 round_then : (n : Next) (text : List ℕ) (k : ℕ × List ℕ → Result Message WireError) → n [] ≡ Some round
     → ((v rest : List ℕ) → Goes (past n v) rest (k (from_be_bytes w64 v, rest))) → Goes n text (round_at text >>= k)
@@ -138,7 +149,8 @@ unfolding round_at
 round_then n text k is goes =
     steps (number_at w64 text) _ k n text
     (number_then w64 round.fault n text _ is
-    (λ v rest. clear (is_in_range 0 MAX_ROUND (from_be_bytes w64 v)) (nat_lt MAX_ROUND (from_be_bytes w64 v)) BadRound (past n v) rest (Ok (from_be_bytes w64 v, rest)) k (above MAX_ROUND (from_be_bytes w64 v)) (goes v rest)))
+    (λ v rest. clear (is_in_range 0 MAX_ROUND (from_be_bytes w64 v)) (nat_lt MAX_ROUND (from_be_bytes w64 v)) BadRound (past n v) rest (Ok (from_be_bytes w64 v, rest)) k
+    (above MAX_ROUND (from_be_bytes w64 v)) (goes v rest)))
 
 wave_then : (n : Next) (text : List ℕ) (k : ℕ × List ℕ → Result Message WireError) → n [] ≡ Some wave
     → ((v rest : List ℕ) → Goes (past n v) rest (k (from_be_bytes w64 v, rest))) → Goes n text (wave_at text >>= k)
@@ -146,7 +158,8 @@ unfolding wave_at
 wave_then n text k is goes =
     steps (number_at w64 text) _ k n text
     (number_then w64 wave.fault n text _ is
-    (λ v rest. held (is_in_range 1 MAX_WAVE (from_be_bytes w64 v)) (nat_lt 0 (from_be_bytes w64 v) && nat_le (from_be_bytes w64 v) MAX_WAVE) BadRound (past n v) rest (Ok (from_be_bytes w64 v, rest)) k refl (goes v rest)))
+    (λ v rest. held (is_in_range 1 MAX_WAVE (from_be_bytes w64 v)) (nat_lt 0 (from_be_bytes w64 v) && nat_le (from_be_bytes w64 v) MAX_WAVE) BadRound (past n v) rest
+    (Ok (from_be_bytes w64 v, rest)) k refl (goes v rest)))
 
 -- ---- lists
 
@@ -162,7 +175,8 @@ pushed : {X K : Type 0} (of_key : List ℕ → K) (of_entry : X → K) (keys : L
     → map of_key (keys ++ key ∷ []) ≡ map of_entry (before ++ x ∷ [])
 pushed of_key of_entry keys before key x same is = map-append of_key keys (key ∷ []) ∙ ap₂ (λ a b. a ++ b ∷ []) same is ∙ sym (map-append of_entry before (x ∷ []))
 
-more_then : {X K : Type 0} (key : List (List ℕ) → Field) (value : List ℕ → Field) (entry_at : List X → List ℕ → Read X) (of_key : List ℕ → K) (of_entry : X → K) → IsRead key value entry_at of_key of_entry → (count : ℕ) (keys : List (List ℕ)) (before : List X)
+more_then : {X K : Type 0} (key : List (List ℕ) → Field) (value : List ℕ → Field) (entry_at : List X → List ℕ → Read X) (of_key : List ℕ → K) (of_entry : X → K)
+    → IsRead key value entry_at of_key of_entry → (count : ℕ) (keys : List (List ℕ)) (before : List X)
     → map of_key keys ≡ map of_entry before → (n : Next) (text : List ℕ) (k : List X × List ℕ → Result Message WireError) → ((xs : List X) (rest : List ℕ) → Goes n rest (k (xs, rest)))
     → Goes (next_entry key value n count keys) text (more_at entry_at count before text >>= k)
 unfolding next_entry more_at
@@ -172,7 +186,8 @@ more_then key value entry_at of_key of_entry is (suc count) keys before same n t
     (is keys before same (next_entry key value n (suc count) keys) text (λ x. more_at entry_at count (before ++ x.0 ∷ []) x.1 >>= k) refl (λ v. refl)
     (λ v u rest x of. more_then key value entry_at of_key of_entry is count (keys ++ v ∷ []) (before ++ x ∷ []) (pushed of_key of_entry keys before v x same of) n rest k goes))
 
-list_then : {X K : Type 0} (w : Width) (limit : ℕ) (key : List (List ℕ) → Field) (value : List ℕ → Field) (entry_at : List X → List ℕ → Read X) (of_key : List ℕ → K) (of_entry : X → K) → IsRead key value entry_at of_key of_entry → (parts : List Part) (text : List ℕ)
+list_then : {X K : Type 0} (w : Width) (limit : ℕ) (key : List (List ℕ) → Field) (value : List ℕ → Field) (entry_at : List X → List ℕ → Read X) (of_key : List ℕ → K) (of_entry : X → K)
+    → IsRead key value entry_at of_key of_entry → (parts : List Part) (text : List ℕ)
     (k : List X × List ℕ → Result Message WireError) → ((xs : List X) (rest : List ℕ) → Goes (next_part parts) rest (k (xs, rest)))
     → Goes (next_part (many w limit key value ∷ parts)) text ((count_at w limit text >>= λ count. more_at entry_at count.0 [] count.1) >>= k)
 unfolding next_part
@@ -198,7 +213,8 @@ batch_is keys before same n text k is later goes =
     let less : List ℕ → List ℕ → Bool = λ a b. is_lt (slice_cmp nat_cmp a b) in
     steps (digest_at text) _ k n text
     (digest_then (rising_digest keys).fault n text _ is
-    (λ v rest. held (follows (λ a. less a v) keys) (batch_follows before (record { 0 = v })) NotCanonical (past n v) rest _ k (same_follows (λ a. less a v) (λ key. key) (λ b. b.digest.0) keys before same)
+    (λ v rest. held (follows (λ a. less a v) keys) (batch_follows before (record { 0 = v })) NotCanonical (past n v) rest _ k
+    (same_follows (λ a. less a v) (λ key. key) (λ b. b.digest.0) keys before same)
     (steps (number_at w16 rest) _ k (past n v) rest
     (number_then w16 (bytes 2).fault (past n v) rest _ (later v) (λ u rest. goes v u rest _ refl)))))
 
@@ -225,7 +241,8 @@ vote_entry_is keys before same n text k is later goes =
     (signature_then (past n v) rest _ (later v) (λ u rest. goes v u rest _ refl)))))
 
 -- what transactions of these lengths add to a body
-lengths_sum : (keys : List (List ℕ)) (before : List (List ℕ)) → map (from_be_bytes w32) keys ≡ map (λ t. length t) before → sum_by (λ len. 4 + from_be_bytes w32 len) keys ≡ sum_by (λ t. 4 + length t) before
+lengths_sum : (keys : List (List ℕ)) (before : List (List ℕ)) → map (from_be_bytes w32) keys ≡ map (λ t. length t) before
+    → sum_by (λ len. 4 + from_be_bytes w32 len) keys ≡ sum_by (λ t. 4 + length t) before
 lengths_sum keys before same = sum_by_map (λ n. 4 + n) (from_be_bytes w32) keys ∙ ap (λ l. sum_by (λ n. 4 + n) l) same ∙ sym (sum_by_map (λ n. 4 + n) (λ t. length t) before)
   where
     sum_by_map : {A : Type 0} (g : ℕ → ℕ) (f : A → ℕ) (l : List A) → sum_by (λ a. g (f a)) l ≡ sum_by g (map f l)
@@ -239,21 +256,26 @@ transaction_is keys before same n text k is later goes =
     (number_then w32 (transaction_len keys).fault n text _ is
     (λ v rest.
     let len = from_be_bytes w32 v in
-    let room : has_room before len ≡ nat_le (8 + sum_by (λ l. 4 + from_be_bytes w32 l) keys + (4 + len)) MAX_BATCH_BYTES = ap (λ m. nat_le (8 + m + (4 + len)) MAX_BATCH_BYTES) (sym (lengths_sum keys before same)) in
-    held (nat_le len MAX_TRANSACTION_BYTES && nat_le (8 + sum_by (λ l. 4 + from_be_bytes w32 l) keys + (4 + len)) MAX_BATCH_BYTES) (not (nat_lt MAX_TRANSACTION_BYTES len) && has_room before len) TooMany (past n v) rest (bytes_at len rest) k
+    let room : has_room before len ≡ nat_le (8 + sum_by (λ l. 4 + from_be_bytes w32 l) keys + (4 + len)) MAX_BATCH_BYTES =
+    ap (λ m. nat_le (8 + m + (4 + len)) MAX_BATCH_BYTES) (sym (lengths_sum keys before same)) in
+    held (nat_le len MAX_TRANSACTION_BYTES && nat_le (8 + sum_by (λ l. 4 + from_be_bytes w32 l) keys + (4 + len)) MAX_BATCH_BYTES)
+    (not (nat_lt MAX_TRANSACTION_BYTES len) && has_room before len) TooMany (past n v) rest (bytes_at len rest) k
     (ap₂ (λ a b. a && b) (within MAX_TRANSACTION_BYTES len) room)
     (field_then (λ u. u) (bytes len) (past n v) rest k (later v) (λ u rest size. goes v u rest u (sym size)))))
 
 -- ---- messages
 
-batch_then : (text : List ℕ) (k : BatchView × List ℕ → Result Message WireError) → ((x : BatchView) (rest : List ℕ) → Goes (next_part []) rest (k (x, rest))) → Goes (next_part (parts_of 1)) text (batch_at text >>= k)
+batch_then : (text : List ℕ) (k : BatchView × List ℕ → Result Message WireError) → ((x : BatchView) (rest : List ℕ) → Goes (next_part []) rest (k (x, rest)))
+    → Goes (next_part (parts_of 1)) text (batch_at text >>= k)
 unfolding batch_at transactions_at parts_of next_part
 batch_then text k goes =
     steps (author_at text) _ k _ text (author_then (bytes 2).fault _ text _ refl (λ a rest.
     steps (number_at w16 rest) _ k _ rest (number_then w16 (bytes 2).fault _ rest _ refl (λ b rest.
-    steps (transactions_at rest) _ k _ rest (list_then w32 MAX_TRANSACTIONS transaction_len (λ len. bytes (from_be_bytes w32 len)) transaction_at (from_be_bytes w32) (λ t. length t) transaction_is [] rest _ (λ c rest. goes _ rest))))))
+    steps (transactions_at rest) _ k _ rest (list_then w32 MAX_TRANSACTIONS transaction_len (λ len. bytes (from_be_bytes w32 len)) transaction_at (from_be_bytes w32) (λ t. length t)
+    transaction_is [] rest _ (λ c rest. goes _ rest))))))
 
-ack_then : (text : List ℕ) (k : BatchAck × List ℕ → Result Message WireError) → ((x : BatchAck) (rest : List ℕ) → Goes (next_part []) rest (k (x, rest))) → Goes (next_part (parts_of 2)) text (ack_at text >>= k)
+ack_then : (text : List ℕ) (k : BatchAck × List ℕ → Result Message WireError) → ((x : BatchAck) (rest : List ℕ) → Goes (next_part []) rest (k (x, rest)))
+    → Goes (next_part (parts_of 2)) text (ack_at text >>= k)
 unfolding ack_at parts_of next_part
 ack_then text k goes =
     steps (author_at text) _ k _ text (author_then (bytes 2).fault _ text _ refl (λ a rest.
@@ -265,16 +287,20 @@ unfolding header_body_at batches_at parents_at next_part
 body_then parts text k goes =
     steps (author_at text) _ k _ text (author_then (bytes 2).fault _ text _ refl (λ a rest.
     steps (round_at rest) _ k _ rest (round_then _ rest _ refl (λ b rest.
-    steps (batches_at rest) _ k _ rest (list_then w16 MAX_BATCHES rising_digest (λ key. bytes 2) batch_reference_at (λ key. key) (λ b. b.digest.0) batch_is (many w16 MAX_PARENTS rising_member (λ key. bytes 32) ∷ parts) rest _ (λ c rest.
-    steps (parents_at rest) _ k _ rest (list_then w16 MAX_PARENTS rising_member (λ key. bytes 32) parent_reference_at (from_be_bytes w16) (λ p. p.author.0) parent_is parts rest _ (λ d rest. goes _ rest))))))))
+    steps (batches_at rest) _ k _ rest (list_then w16 MAX_BATCHES rising_digest (λ key. bytes 2) batch_reference_at (λ key. key) (λ b. b.digest.0) batch_is
+    (many w16 MAX_PARENTS rising_member (λ key. bytes 32) ∷ parts) rest _ (λ c rest.
+    steps (parents_at rest) _ k _ rest (list_then w16 MAX_PARENTS rising_member (λ key. bytes 32) parent_reference_at (from_be_bytes w16) (λ p. p.author.0) parent_is parts rest _
+    (λ d rest. goes _ rest))))))))
 
-header_then : (text : List ℕ) (k : Header × List ℕ → Result Message WireError) → ((x : Header) (rest : List ℕ) → Goes (next_part []) rest (k (x, rest))) → Goes (next_part (parts_of 3)) text (header_at text >>= k)
+header_then : (text : List ℕ) (k : Header × List ℕ → Result Message WireError) → ((x : Header) (rest : List ℕ) → Goes (next_part []) rest (k (x, rest)))
+    → Goes (next_part (parts_of 3)) text (header_at text >>= k)
 unfolding header_at parts_of next_part
 header_then text k goes =
     steps (header_body_at text) _ k _ text (body_then (one (bytes 64) ∷ []) text _ (λ a rest.
     steps (signature_at rest) _ k _ rest (signature_then _ rest _ refl (λ b rest. goes _ rest))))
 
-vote_then : (text : List ℕ) (k : Vote × List ℕ → Result Message WireError) → ((x : Vote) (rest : List ℕ) → Goes (next_part []) rest (k (x, rest))) → Goes (next_part (parts_of 4)) text (vote_at text >>= k)
+vote_then : (text : List ℕ) (k : Vote × List ℕ → Result Message WireError) → ((x : Vote) (rest : List ℕ) → Goes (next_part []) rest (k (x, rest)))
+    → Goes (next_part (parts_of 4)) text (vote_at text >>= k)
 unfolding vote_at parts_of next_part
 vote_then text k goes =
     steps (digest_at text) _ k _ text (digest_then (bytes 32).fault _ text _ refl (λ a rest.
@@ -283,13 +309,15 @@ vote_then text k goes =
     steps (author_at rest) _ k _ rest (author_then (bytes 2).fault _ rest _ refl (λ d rest.
     steps (signature_at rest) _ k _ rest (signature_then _ rest _ refl (λ e rest. goes _ rest))))))))))
 
-certificate_then : (text : List ℕ) (k : Certificate × List ℕ → Result Message WireError) → ((x : Certificate) (rest : List ℕ) → Goes (next_part []) rest (k (x, rest))) → Goes (next_part (parts_of 5)) text (certificate_at text >>= k)
+certificate_then : (text : List ℕ) (k : Certificate × List ℕ → Result Message WireError) → ((x : Certificate) (rest : List ℕ) → Goes (next_part []) rest (k (x, rest)))
+    → Goes (next_part (parts_of 5)) text (certificate_at text >>= k)
 unfolding certificate_at votes_at parts_of next_part
 certificate_then text k goes =
     steps (header_body_at text) _ k _ text (body_then (many w16 MAX_VOTES rising_member (λ key. bytes 64) ∷ []) text _ (λ a rest.
     steps (votes_at rest) _ k _ rest (list_then w16 MAX_VOTES rising_member (λ key. bytes 64) vote_entry_at (from_be_bytes w16) (λ v. v.voter.0) vote_entry_is [] rest _ (λ b rest. goes _ rest))))
 
-coin_then : (text : List ℕ) (k : Coin × List ℕ → Result Message WireError) → ((x : Coin) (rest : List ℕ) → Goes (next_part []) rest (k (x, rest))) → Goes (next_part (parts_of 6)) text (coin_at text >>= k)
+coin_then : (text : List ℕ) (k : Coin × List ℕ → Result Message WireError) → ((x : Coin) (rest : List ℕ) → Goes (next_part []) rest (k (x, rest)))
+    → Goes (next_part (parts_of 6)) text (coin_at text >>= k)
 unfolding coin_at parts_of next_part
 coin_then text k goes =
     steps (wave_at text) _ k _ text (wave_then _ text _ refl (λ a rest.
@@ -298,7 +326,7 @@ coin_then text k goes =
 abbrev whole : Message × List ℕ → Result Message WireError
 whole found = if length found.1 == 0 then Ok found.0 else Err Trailing
 
--- behind the last field
+-- after the last field
 ends_there : (m : Message) (rest : List ℕ) → Goes (next_part []) rest (whole (m, rest))
 unfolding next_part
 ends_there m rest =
@@ -309,7 +337,7 @@ ends_there m rest =
       | inr some ↦ rw some (record { fields = []; rest = rest; whole = refl; pass = tt; ends = rw some refl })
     ]
 
--- what is read behind a tag
+-- what is read after a tag
 abbrev IsTagged : ℕ → List ℕ → Type 0
 IsTagged tag text = Behind (if is_in_range 1 6 tag then None else Some BadTag) (next_part (parts_of tag)) text (tagged_at (tag ∷ text) >>= whole)
 
@@ -362,7 +390,8 @@ by_tag tag text =
 told : (text : List ℕ) → Told next text (said_by (message_of text))
 unfolding next message_of
 told [] = record { fields = []; rest = []; whole = refl; pass = tt; ends = unfold tagged_at in refl }
-told (tag ∷ text) = passes (sized 1 (λ v. if is_in_range 1 6 (from_be_bytes w8 v) then None else Some BadTag)) next (tag ∷ text) (tagged_at (tag ∷ text) >>= whole) _ refl (omega arith) refl (by_tag tag text)
+told (tag ∷ text) = passes (sized 1 (λ v. if is_in_range 1 6 (from_be_bytes w8 v) then None else Some BadTag)) next (tag ∷ text) (tagged_at (tag ∷ text) >>= whole) _ refl (omega arith) refl
+    (by_tag tag text)
 
 -- ---- the law
 

@@ -5,11 +5,11 @@ use Rattle.std.proofs.lemmas.List.{length-append}
 use Rattle.wire.specs.declared.error.WireError.{WireError}
 use Rattle.wire_read.specs.Table.{Field, Passes, fault_at, HasFault, HasNone, next}
 
--- what comes behind some fields
+-- what comes after some fields
 abbrev pub Next : Type 0
 Next = List (List ℕ) → Option Field
 
--- what comes behind this field and some more
+-- what comes after this field and some more
 abbrev pub past : Next → List ℕ → Next
 past n value = λ fields. n (value ∷ fields)
 
@@ -18,7 +18,7 @@ abbrev pub AllPass : Next → List (List ℕ) → Type 0
 AllPass n [] = Unit {0}
 AllPass n (value ∷ fields) = Passes (n []) value × AllPass (past n value) fields
 
--- how the rest behind them ends
+-- how the rest after them ends
 abbrev pub Ends : Option Field → List ℕ → Option WireError → Type 0
 Ends o rest None = (rest ≡ []) × (o ≡ None)
 Ends o rest (Some fault) = fault_at o rest ≡ Some fault
@@ -81,7 +81,8 @@ one_end o rest (Some fault) None ends end =
     let bad : None ≡ Some fault = subst (λ (p : Option Field). fault_at p [] ≡ Some fault) end.1 (subst (λ (l : List ℕ). fault_at o l ≡ Some fault) end.0 ends) in absurd cc
 one_end o rest (Some fault) (Some other) ends end = sym ends ∙ end
 
-one_fault : (n : Next) (p q : List (List ℕ)) (x y : List ℕ) (said says : Option WireError) → concat p ++ x ≡ concat q ++ y → AllPass n p → AllPass n q → Ends (n p) x said → Ends (n q) y says → said ≡ says
+one_fault : (n : Next) (p q : List (List ℕ)) (x y : List ℕ) (said says : Option WireError) → concat p ++ x ≡ concat q ++ y → AllPass n p → AllPass n q → Ends (n p) x said → Ends (n q) y says
+    → said ≡ says
 one_fault n [] [] x y said says e pass passes ends end = one_end (n []) x said says ends (subst (λ (l : List ℕ). Ends (n []) l says) (sym e) end)
 one_fault n [] (u ∷ q) x y said says e pass passes ends end =
     absurd (goes_past (n []) u (concat q ++ y) said passes.0 (subst (λ (l : List ℕ). Ends (n []) l said) (e ∙ append_assoc u (concat q) y) ends))

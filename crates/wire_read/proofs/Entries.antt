@@ -5,7 +5,8 @@ use Rattle.wire.specs.declared.error.WireError.TheVariants.{Memory, Short, Trail
 use Rattle.wire.specs.Reading.{◌>>=◌, Read, Faults, more_at}
 
 -- one more was read
-pub goes_on : {X : Type 0} (entry_at : List X → List ℕ → Read X) (count i : ℕ) (before : List X) (bytes : List ℕ) (entry : X) (rest : List ℕ) (total : Read (List X)) → i < count → entry_at before bytes ≡ Ok (entry, rest)
+pub goes_on : {X : Type 0} (entry_at : List X → List ℕ → Read X) (count i : ℕ) (before : List X) (bytes : List ℕ) (entry : X) (rest : List ℕ) (total : Read (List X)) → i < count
+    → entry_at before bytes ≡ Ok (entry, rest)
     → more_at entry_at (count - i) before bytes ≡ total → more_at entry_at (count - (i + 1)) (before ++ entry ∷ []) rest ≡ total
 unfolding more_at
 goes_on entry_at count i before bytes entry rest total lt h so_far =
@@ -32,7 +33,8 @@ ends entry_at e count i before bytes total lt h so_far =
     rw (← so_far, k) one
 
 -- all were read
-pub is_done : {X : Type 0} (entry_at : List X → List ℕ → Read X) (count i : ℕ) (before : List X) (bytes : List ℕ) (total : Read (List X)) → count ≤ i → more_at entry_at (count - i) before bytes ≡ total → total ≡ Ok (before, bytes)
+pub is_done : {X : Type 0} (entry_at : List X → List ℕ → Read X) (count i : ℕ) (before : List X) (bytes : List ℕ) (total : Read (List X)) → count ≤ i
+    → more_at entry_at (count - i) before bytes ≡ total → total ≡ Ok (before, bytes)
 unfolding more_at
 is_done entry_at count i before bytes total le so_far =
     let k : count - i ≡ 0 = omega arith in

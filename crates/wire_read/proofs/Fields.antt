@@ -15,7 +15,7 @@ use Rattle.wire.specs.declared.round.TheConstants.Round.{MAX as MAX_ROUND}
 use Rattle.wire.specs.declared.round.TheConstants.Wave.{MAX as MAX_WAVE}
 use Rattle.wire.specs.Fields.{HasBytes, IsAuthor, IsDigest, IsSignature, IsRound, IsWave}
 use Rattle.wire.specs.Reading.{number_at, bytes_at, author_at, digest_at, signature_at, round_at, wave_at, count_at}
-use Rattle.wire_read.proofs.Steps.{bind_ok, guard_ok, held_ok, ok_is, IsBytes, IsBytes-drop, IsBytes-take, are_bytes, Takes}
+use Rattle.wire_read.proofs.Steps.{bind_ok, guard_ok, held_ok, ok_is, IsBytes, IsBytes-drop, IsBytes-take, has_bytes, Takes}
 
 -- ---- numbers
 
@@ -49,14 +49,18 @@ wide64 = record {
   below = λ bytes fits. omega (arith, fits 0, fits 1, fits 2, fits 3, fits 4, fits 5, fits 6, fits 7);
 }
 
-pub number_takes : (w : Width) (limit : ℕ) (wide : IsWide w limit) (bytes : List ℕ) (n : ℕ) (rest : List ℕ) → IsBytes bytes → number_at w bytes ≡ Ok (n, rest) → Takes bytes (to_be_bytes w n) rest × (n < limit)
+pub number_takes : (w : Width) (limit : ℕ) (wide : IsWide w limit) (bytes : List ℕ) (n : ℕ) (rest : List ℕ) → IsBytes bytes → number_at w bytes ≡ Ok (n, rest)
+    → Takes bytes (to_be_bytes w n) rest × (n < limit)
 number_takes w limit wide bytes n rest fits e =
     let g = guard_ok (ltb (length bytes) (byte_len w)) Short (from_be_bytes w (take (byte_len w) bytes), drop (byte_len w) bytes) (n, rest) e in
     let long : byte_len w ≤ length bytes = ltb-false _ _ g.0 in
     let n-is : from_be_bytes w (take (byte_len w) bytes) ≡ n = ap (λ (p : ℕ × List ℕ). p.0) g.1 in
     let rest-is : drop (byte_len w) bytes ≡ rest = ap (λ (p : ℕ × List ℕ). p.1) g.1 in
-    let front : to_be_bytes w n ≡ take (byte_len w) bytes = rw (← n-is) (wide.back (take (byte_len w) bytes) (omega (arith, length-take (byte_len w) bytes)) (IsBytes-take (byte_len w) bytes fits)) in
-    (record { parts = rw (front, ← rest-is) (sym (take-append-drop (byte_len w) bytes)); rest_fits = rw (← rest-is) (IsBytes-drop (byte_len w) bytes fits) }, rw (← n-is) (wide.below (take (byte_len w) bytes) (IsBytes-take (byte_len w) bytes fits)))
+    let front : to_be_bytes w n ≡ take (byte_len w) bytes =
+    rw (← n-is) (wide.back (take (byte_len w) bytes) (omega (arith, length-take (byte_len w) bytes)) (IsBytes-take (byte_len w) bytes fits)) in (
+      record { parts = rw (front, ← rest-is) (sym (take-append-drop (byte_len w) bytes)); rest_fits = rw (← rest-is) (IsBytes-drop (byte_len w) bytes fits) },
+      rw (← n-is) (wide.below (take (byte_len w) bytes) (IsBytes-take (byte_len w) bytes fits)),
+    )
 
 pub number_again : (w : Width) (limit : ℕ) (wide : IsWide w limit) (n : ℕ) (rest : List ℕ) → n < limit → number_at w (to_be_bytes w n ++ rest) ≡ Ok (n, rest)
 number_again w limit wide n rest lt =
@@ -70,7 +74,8 @@ pub bytes_take : (count : ℕ) (bytes : List ℕ) (x : List ℕ × List ℕ) →
 bytes_take count bytes x fits e =
     let g = guard_ok (ltb (length bytes) count) Short (take count bytes, drop count bytes) x e in
     let long : count ≤ length bytes = ltb-false _ _ g.0 in
-    subst (λ (y : List ℕ × List ℕ). Takes bytes y.0 y.1 × HasBytes count y.0) g.1 (record { parts = sym (take-append-drop count bytes); rest_fits = IsBytes-drop count bytes fits }, are_bytes count bytes long fits)
+    subst (λ (y : List ℕ × List ℕ). Takes bytes y.0 y.1 × HasBytes count y.0) g.1
+    (record { parts = sym (take-append-drop count bytes); rest_fits = IsBytes-drop count bytes fits }, has_bytes count bytes long fits)
 
 pub bytes_again : (count : ℕ) (text rest : List ℕ) → HasBytes count text → bytes_at count (text ++ rest) ≡ Ok (text, rest)
 bytes_again count text rest are =
@@ -148,7 +153,8 @@ wave_again wave rest is =
     let within = both_true (lt-ltb _ _ is.least) (le-leb _ _ is.limit) in
     rw (number_again w64 (2 ^ 64) wide64 wave rest (omega (arith, is.limit)), within) refl
 
-pub count_takes : (w : Width) (top : ℕ) (wide : IsWide w top) (limit : ℕ) (bytes : List ℕ) (x : ℕ × List ℕ) → IsBytes bytes → count_at w limit bytes ≡ Ok x → Takes bytes (to_be_bytes w x.0) x.1 × (x.0 ≤ limit)
+pub count_takes : (w : Width) (top : ℕ) (wide : IsWide w top) (limit : ℕ) (bytes : List ℕ) (x : ℕ × List ℕ) → IsBytes bytes → count_at w limit bytes ≡ Ok x
+    → Takes bytes (to_be_bytes w x.0) x.1 × (x.0 ≤ limit)
 unfolding count_at
 count_takes w top wide limit bytes x fits e =
     let a = bind_ok (number_at w bytes) (λ n. cond (ltb limit n.0) (Err TooMany) (Ok n)) x e in

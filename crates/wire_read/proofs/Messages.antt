@@ -1,4 +1,4 @@
--- The laws of whole messages: what is read is spelled so, what is spelled so is read, whatever follows, and so no spelling begins another.
+-- The laws of whole messages: what is read is spelled so, what is spelled so is read, whatever follows, and so no spelling is a prefix of another.
 use Rattle.std.proofs.Common.{◌≡◌, ℕ, ◌<◌, ◌^◌, Bool, true, false, cond, eqb, List, [], ◌∷◌, ◌++◌, length, Result, Ok, Err, refl, sym, ap, subst, ◌∙◌, append_assoc, ne_eqb, arith, ◌⊎◌, inl, inr}
 use Rattle.std.specs.Prelude.{IfOk}
 use Rattle.std.specs.Int.{w16, w64, to_be_bytes}
@@ -22,9 +22,11 @@ use Rattle.wire.specs.declared.message.Message.TheVariants as message
 use Rattle.wire.specs.Batches.{batch_body, IsBatch}
 use Rattle.wire.specs.Grammar.{IsAck, IsHeaderBody, IsHeader, IsVote, IsCertificate, IsCoin, IsMessage, Spells}
 use Rattle.wire.specs.Spelling.{ack_bytes, batches_bytes, parents_bytes, votes_bytes, header_body, header_bytes, vote_bytes, certificate_bytes, coin_bytes, spelling}
-use Rattle.wire.specs.Reading.{◌>>=◌, Read, number_at, author_at, digest_at, signature_at, round_at, wave_at, batches_at, parents_at, votes_at, batch_at, ack_at, header_body_at, header_at, vote_at, certificate_at, coin_at, tagged_at, message_of, Gives}
+use Rattle.wire.specs.Reading.{◌>>=◌, Read, number_at, author_at, digest_at, signature_at, round_at, wave_at, batches_at, parents_at, votes_at, batch_at, ack_at, header_body_at, header_at}
+use Rattle.wire.specs.Reading.{vote_at, certificate_at, coin_at, tagged_at, message_of, Gives}
 use Rattle.wire_read.proofs.Steps.{bind_ok, held_ok, ok_is, IsBytes, IsBytes-rest, Takes, Takes-then}
-use Rattle.wire_read.proofs.Fields.{wide64, number_takes, number_again, author_takes, author_again, digest_takes, digest_again, signature_takes, signature_again, round_takes, round_again, wave_takes, wave_again}
+use Rattle.wire_read.proofs.Fields.{wide64, number_takes, number_again, author_takes, author_again, digest_takes, digest_again, signature_takes, signature_again, round_takes, round_again}
+use Rattle.wire_read.proofs.Fields.{wave_takes, wave_again}
 use Rattle.wire_read.proofs.RisingLists.{batches_take, batches_again, parents_take, parents_again, votes_take, votes_again}
 use Rattle.wire_read.proofs.BatchBodies.{contents_take, contents_again}
 
@@ -66,7 +68,8 @@ body_from author round batches parents = record { author = author; round = round
 body_takes : (bytes : List ℕ) (x : HeaderBody × List ℕ) → IsBytes bytes → header_body_at bytes ≡ Ok x → Takes bytes (header_body x.0) x.1 × IsHeaderBody x.0
 unfolding header_body_at
 body_takes bytes x fits e =
-    let a = bind_ok (author_at bytes) (λ author. round_at author.1 >>= λ round. batches_at round.1 >>= λ batches. parents_at batches.1 >>= λ parents. Ok (body_from author.0 round.0 batches.0 parents.0, parents.1)) x e in
+    let a = bind_ok (author_at bytes) (λ author. round_at author.1 >>= λ round. batches_at round.1 >>= λ batches. parents_at batches.1
+    >>= λ parents. Ok (body_from author.0 round.0 batches.0 parents.0, parents.1)) x e in
     let b = bind_ok (round_at a.0.1) (λ round. batches_at round.1 >>= λ batches. parents_at batches.1 >>= λ parents. Ok (body_from a.0.0 round.0 batches.0 parents.0, parents.1)) x a.2 in
     let c = bind_ok (batches_at b.0.1) (λ batches. parents_at batches.1 >>= λ parents. Ok (body_from a.0.0 b.0.0 batches.0 parents.0, parents.1)) x b.2 in
     let d = bind_ok (parents_at c.0.1) (λ parents. Ok (body_from a.0.0 b.0.0 c.0.0 parents.0, parents.1)) x c.2 in
@@ -78,7 +81,8 @@ body_takes bytes x fits e =
     let from2 = Takes-then a.0.1 (to_be_bytes w64 b.0.0) b.0.1 (batches_bytes c.0.0 ++ parents_bytes d.0.0) d.0.1 t2.0 from3 in
     let from1 = Takes-then bytes (to_be_bytes w16 a.0.0.0) a.0.1 (to_be_bytes w64 b.0.0 ++ (batches_bytes c.0.0 ++ parents_bytes d.0.0)) d.0.1 t1.0 from2 in
     let made : HeaderBody × List ℕ = (body_from a.0.0 b.0.0 c.0.0 d.0.0, d.0.1) in
-    subst (λ (y : HeaderBody × List ℕ). Takes bytes (header_body y.0) y.1 × IsHeaderBody y.0) {x = made} (ok_is made x d.2) (from1, record { author = t1.1; round = t2.1; batches = t3.1; parents = t4.1 })
+    subst (λ (y : HeaderBody × List ℕ). Takes bytes (header_body y.0) y.1 × IsHeaderBody y.0) {x = made} (ok_is made x d.2)
+    (from1, record { author = t1.1; round = t2.1; batches = t3.1; parents = t4.1 })
 
 body_again : (h : HeaderBody) (rest : List ℕ) → IsHeaderBody h → header_body_at (header_body h ++ rest) ≡ Ok (h, rest)
 unfolding header_body_at
@@ -145,12 +149,15 @@ vote_parts bytes header round author voter signature fits e1 e2 e3 e4 e5 =
 vote_takes : (bytes : List ℕ) (x : Vote × List ℕ) → IsBytes bytes → vote_at bytes ≡ Ok x → Takes bytes (vote_text x.0) x.1 × IsVote x.0
 unfolding vote_at
 vote_takes bytes x fits e =
-    let a = bind_ok (digest_at bytes) (λ header. round_at header.1 >>= λ round. author_at round.1 >>= λ author. author_at author.1 >>= λ voter. signature_at voter.1 >>= λ signature. Ok (vote_from header.0 round.0 author.0 voter.0 signature.0, signature.1)) x e in
-    let b = bind_ok (round_at a.0.1) (λ round. author_at round.1 >>= λ author. author_at author.1 >>= λ voter. signature_at voter.1 >>= λ signature. Ok (vote_from a.0.0 round.0 author.0 voter.0 signature.0, signature.1)) x a.2 in
+    let a = bind_ok (digest_at bytes) (λ header. round_at header.1 >>= λ round. author_at round.1 >>= λ author. author_at author.1 >>= λ voter. signature_at voter.1
+    >>= λ signature. Ok (vote_from header.0 round.0 author.0 voter.0 signature.0, signature.1)) x e in
+    let b = bind_ok (round_at a.0.1) (λ round. author_at round.1 >>= λ author. author_at author.1 >>= λ voter. signature_at voter.1
+    >>= λ signature. Ok (vote_from a.0.0 round.0 author.0 voter.0 signature.0, signature.1)) x a.2 in
     let c = bind_ok (author_at b.0.1) (λ author. author_at author.1 >>= λ voter. signature_at voter.1 >>= λ signature. Ok (vote_from a.0.0 b.0.0 author.0 voter.0 signature.0, signature.1)) x b.2 in
     let d = bind_ok (author_at c.0.1) (λ voter. signature_at voter.1 >>= λ signature. Ok (vote_from a.0.0 b.0.0 c.0.0 voter.0 signature.0, signature.1)) x c.2 in
     let s = bind_ok (signature_at d.0.1) (λ signature. Ok (vote_from a.0.0 b.0.0 c.0.0 d.0.0 signature.0, signature.1)) x d.2 in
-    subst (λ (y : Vote × List ℕ). Takes bytes (vote_text y.0) y.1 × IsVote y.0) {x = (vote_from a.0.0 b.0.0 c.0.0 d.0.0 s.0.0, s.0.1)} (ok_is (vote_from a.0.0 b.0.0 c.0.0 d.0.0 s.0.0, s.0.1) x s.2) (vote_parts bytes a.0 b.0 c.0 d.0 s.0 fits a.1 b.1 c.1 d.1 s.1)
+    subst (λ (y : Vote × List ℕ). Takes bytes (vote_text y.0) y.1 × IsVote y.0) {x = (vote_from a.0.0 b.0.0 c.0.0 d.0.0 s.0.0, s.0.1)}
+    (ok_is (vote_from a.0.0 b.0.0 c.0.0 d.0.0 s.0.0, s.0.1) x s.2) (vote_parts bytes a.0 b.0 c.0 d.0 s.0 fits a.1 b.1 c.1 d.1 s.1)
 
 vote_again : (v : Vote) (rest : List ℕ) → IsVote v → vote_at (vote_bytes v ++ rest) ≡ Ok (v, rest)
 unfolding vote_at
@@ -160,7 +167,13 @@ vote_again v rest is =
     let two = to_be_bytes w16 v.author.0 ++ three in
     let one = to_be_bytes w64 v.round ++ two in
     let regrouped : vote_bytes v ++ rest ≡ v.header.0 ++ (to_be_bytes w64 v.round ++ (to_be_bytes w16 v.author.0 ++ (to_be_bytes w16 v.voter.0 ++ (v.signature.0 ++ rest)))) = simp append_assoc in
-    ap vote_at regrouped ∙ rw (digest_again v.header one is.header, round_again v.round two is.round, author_again v.author three is.author, author_again v.voter four is.voter, signature_again v.signature rest is.signature) refl
+    ap vote_at regrouped ∙ rw (
+      digest_again v.header one is.header,
+      round_again v.round two is.round,
+      author_again v.author three is.author,
+      author_again v.voter four is.voter,
+      signature_again v.signature rest is.signature,
+    ) refl
 
 vote_spelled : (bytes : List ℕ) (x : Vote × List ℕ) → IsBytes bytes → vote_at bytes ≡ Ok x → Takes bytes (vote_bytes x.0) x.1 × IsVote x.0
 vote_spelled bytes x fits e =
@@ -219,7 +232,7 @@ chosen : {A : Type 0} (b : Bool) (x y z : A) → cond b x y ≡ z → ((b ≡ tr
 chosen true x y z e = inl (refl, e)
 chosen false x y z e = inr (refl, e)
 
--- what a kind of message has is read behind its tag
+-- what a kind of message has is read after its tag
 abbrev of_kind : {X : Type 0} (at : List ℕ → Read X) (wrap : X → Message) → List ℕ → Read Message
 of_kind at wrap bytes = at bytes >>= λ y. Ok (wrap y.0, y.1)
 
@@ -228,7 +241,8 @@ record IsTagged {X : Type 0} (tag : ℕ) (text : X → List ℕ) (Fits : X → T
   text_is : (x : X) → spelling (wrap x) ≡ tag ∷ text x
   fits : (x : X) → Fits x → IsMessage (wrap x)
 
-kind_takes : {X : Type 0} (at : List ℕ → Read X) (text : X → List ℕ) (Fits : X → Type 0) (wrap : X → Message) (tag : ℕ) (is : IsKind at text Fits) (tagged : IsTagged tag text Fits wrap) (bytes : List ℕ) (x : Message × List ℕ)
+kind_takes : {X : Type 0} (at : List ℕ → Read X) (text : X → List ℕ) (Fits : X → Type 0) (wrap : X → Message) (tag : ℕ) (is : IsKind at text Fits) (tagged : IsTagged tag text Fits wrap)
+    (bytes : List ℕ) (x : Message × List ℕ)
     → IsBytes bytes → of_kind at wrap bytes ≡ Ok x → Takes (tag ∷ bytes) (spelling x.0) x.1 × IsMessage x.0
 kind_takes {X} at text Fits wrap tag is tagged bytes x fits e =
     let a = bind_ok (at bytes) (λ y. Ok (wrap y.0, y.1)) x e in
@@ -259,7 +273,8 @@ tagged_takes (tag ∷ bytes) x fits e =
     tag_takes tag 2 bytes x _ _ (kind_takes ack_at ack_bytes IsAck (λ a. message.BatchAck a) 2 ack_kind (record { text_is = λ _. refl; fits = λ _ h. h }) bytes x rest) (
     tag_takes tag 3 bytes x _ _ (kind_takes header_at header_bytes IsHeader (λ h. message.Header h) 3 header_kind (record { text_is = λ _. refl; fits = λ _ h. h }) bytes x rest) (
     tag_takes tag 4 bytes x _ _ (kind_takes vote_at vote_bytes IsVote (λ v. message.Vote v) 4 vote_kind (record { text_is = λ _. refl; fits = λ _ h. h }) bytes x rest) (
-    tag_takes tag 5 bytes x _ _ (kind_takes certificate_at certificate_bytes IsCertificate (λ c. message.Certificate c) 5 certificate_kind (record { text_is = λ _. refl; fits = λ _ h. h }) bytes x rest) (
+    tag_takes tag 5 bytes x _ _ (kind_takes certificate_at certificate_bytes IsCertificate (λ c. message.Certificate c) 5 certificate_kind (record { text_is = λ _. refl; fits = λ _ h. h })
+    bytes x rest) (
     tag_takes tag 6 bytes x _ _ (kind_takes coin_at coin_bytes IsCoin (λ c. message.Coin c) 6 coin_kind (record { text_is = λ _. refl; fits = λ _ h. h }) bytes x rest) (
     no_message tag bytes x (Err BadTag) refl)))))) e
 
@@ -294,13 +309,13 @@ pub is_found : (bytes : List ℕ) (r : Result Message WireError) → IsBytes byt
 is_found bytes (Ok m) fits given = is_spelled bytes m fits given
 is_found bytes (Err e) fits given = tt
 
--- two messages whose spellings begin the same bytes are one
+-- two messages whose spellings are prefixes of the same bytes are one
 pub one_message : (m n : Message) (x y : List ℕ) → IsMessage m → IsMessage n → spelling m ++ x ≡ spelling n ++ y → (m ≡ n) × (x ≡ y)
 one_message m n x y is-m is-n e =
     let same = ok_is (m, x) (n, y) (sym (tagged_again m x is-m) ∙ ap tagged_at e ∙ tagged_again n y is-n) in
     (ap (λ (p : Message × List ℕ). p.0) same, ap (λ (p : Message × List ℕ). p.1) same)
 
--- bytes behind a message are refused as such
+-- bytes after a message are refused as such
 pub trailing : (m : Message) (rest : List ℕ) → IsMessage m → 0 < length rest → message_of (spelling m ++ rest) ≡ Err Trailing
 unfolding message_of
 trailing m rest is some =

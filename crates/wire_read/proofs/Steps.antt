@@ -46,8 +46,8 @@ IsBytes-take n bytes h i =
 pub IsBytes-rest : (b : ℕ) (bytes : List ℕ) → IsBytes (b ∷ bytes) → IsBytes bytes
 IsBytes-rest b bytes h i = h (suc i)
 
-pub are_bytes : (n : ℕ) (bytes : List ℕ) → n ≤ length bytes → IsBytes bytes → HasBytes n (take n bytes)
-are_bytes n bytes long h = record {
+pub has_bytes : (n : ℕ) (bytes : List ℕ) → n ≤ length bytes → IsBytes bytes → HasBytes n (take n bytes)
+has_bytes n bytes long h = record {
   count_is = omega (arith, length-take n bytes);
   each = All-from_get_or (λ byte. byte < 256) (take n bytes) 0 (λ i _. IsBytes-take n bytes h i);
 }

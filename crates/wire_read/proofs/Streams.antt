@@ -1,4 +1,4 @@
--- A stream is frames in one way, and frames behind frames are frames.
+-- A stream is frames in one way, and frames after frames are frames.
 use Rattle.std.proofs.Common.{◌≡◌, ℕ, ◌+◌, ◌-◌, ◌≤◌, ◌<◌, List, [], ◌∷◌, ◌++◌, length, take, drop, drop-drop, refl, sym, ap, subst, ◌∙◌, append_assoc, arith}
 use Rattle.std.specs.Prelude.{All, Vec, Option, Some, None}
 use Rattle.std.specs.Option.{MatchOption}
@@ -30,7 +30,7 @@ whole_is_not_partial body rest is partial =
 whole_is_not_long : (body rest : List ℕ) → IsFrameBody body → IsTooLong (frame body ++ rest) → ⊥
 whole_is_not_long body rest is long = omega (arith, long.above, field_is body rest is, is)
 
--- frames that begin the same bytes are one
+-- frames that are prefixes of the same bytes are one
 same_front : (b c x y : List ℕ) → IsFrameBody b → IsFrameBody c → frame b ++ x ≡ frame c ++ y → (b ≡ c) × (x ≡ y)
 same_front b c x y is-b is-c e =
     let len : length b ≡ length c = sym (field_is b x is-b) ∙ ap length_field e ∙ field_is c y is-c in
@@ -39,16 +39,20 @@ same_front b c x y is-b is-c e =
     let back : x ≡ y = sym (drop_at b x (length b) refl) ∙ ap (λ (l : List ℕ). drop (length b) l) behind ∙ drop_at c y (length b) (sym len) in
     (front, back)
 
--- the first frame, and the others behind it
+-- the first frame, and the others after it
 cons : (b : List ℕ) (bs : List (List ℕ)) (rest : List ℕ) → stream_of (b ∷ bs) rest ≡ frame b ++ stream_of bs rest
 cons b bs rest = ap (λ (l : List ℕ). l ++ rest) (flat_map-cons frame b bs) ∙ append_assoc (frame b) (flat_map frame bs) rest
+
+-- the first frames of the same bytes are one, and so are the bytes after them
+same_first : (c d : List ℕ) (a b : List (List ℕ)) (x y : List ℕ) → IsFrameBody c → IsFrameBody d → stream_of (c ∷ a) x ≡ stream_of (d ∷ b) y → (c ≡ d) × (stream_of a x ≡ stream_of b y)
+same_first c d a b x y is-c is-d e = same_front c d (stream_of a x) (stream_of b y) is-c is-d (sym (cons c a x) ∙ e ∙ cons d b y)
 
 one_way : (a b : List (List ℕ)) (x y : List ℕ) → AllByRecursion IsFrameBody a → AllByRecursion IsFrameBody b → IsPartial x → IsPartial y → stream_of a x ≡ stream_of b y → (a ≡ b) × (x ≡ y)
 one_way [] [] x y all-a all-b part-x part-y e = (refl, e)
 one_way [] (c ∷ b) x y all-a all-b part-x part-y e = absurd (whole_is_not_partial c (stream_of b y) all-b.0 (subst IsPartial (e ∙ cons c b y) part-x))
 one_way (c ∷ a) [] x y all-a all-b part-x part-y e = absurd (whole_is_not_partial c (stream_of a x) all-a.0 (subst IsPartial (sym e ∙ cons c a x) part-y))
 one_way (c ∷ a) (d ∷ b) x y all-a all-b part-x part-y e =
-    let front = same_front c d (stream_of a x) (stream_of b y) all-a.0 all-b.0 (sym (cons c a x) ∙ e ∙ cons d b y) in
+    let front = same_first c d a b x y all-a.0 all-b.0 e in
     let more = one_way a b x y all-a.1 all-b.1 part-x part-y front.1 in
     (rw (front.0, more.0) refl, more.1)
 
@@ -59,7 +63,7 @@ not_both [] [] x y all-a all-b part long e =
 not_both [] (c ∷ b) x y all-a all-b part long e = whole_is_not_partial c (stream_of b y) all-b.0 (subst IsPartial (e ∙ cons c b y) part)
 not_both (c ∷ a) [] x y all-a all-b part long e = whole_is_not_long c (stream_of a x) all-a.0 (subst (λ (l : List ℕ). IsTooLong l) (sym e ∙ cons c a x) long)
 not_both (c ∷ a) (d ∷ b) x y all-a all-b part long e =
-    let front = same_front c d (stream_of a x) (stream_of b y) all-a.0 all-b.0 (sym (cons c a x) ∙ e ∙ cons d b y) in
+    let front = same_first c d a b x y all-a.0 all-b.0 e in
     not_both a b x y all-a.1 all-b.1 part long front.1
 
 pub same : (stream : List ℕ) (a b : List (List ℕ)) (x y : List ℕ) → Splits stream a x → Splits stream b y → (a ≡ b) × (x ≡ y)
@@ -70,11 +74,14 @@ either stream a x p q = not_both a q.bodies x q.rest (recursion_from_All IsFrame
 
 -- ---- one more piece
 
-behind : (stream : List ℕ) (before : List (List ℕ)) (old piece : List ℕ) (bodies : List (List ℕ)) (rest : List ℕ) → stream ≡ stream_of before old → old ++ piece ≡ stream_of bodies rest → stream ++ piece ≡ stream_of (before ++ bodies) rest
+behind : (stream : List ℕ) (before : List (List ℕ)) (old piece : List ℕ) (bodies : List (List ℕ)) (rest : List ℕ) → stream ≡ stream_of before old → old ++ piece ≡ stream_of bodies rest
+    → stream ++ piece ≡ stream_of (before ++ bodies) rest
 behind stream before old piece bodies rest e f =
-    ap (λ (l : List ℕ). l ++ piece) e ∙ append_assoc (flat_map frame before) old piece ∙ ap (λ (l : List ℕ). flat_map frame before ++ l) f ∙ sym (append_assoc (flat_map frame before) (flat_map frame bodies) rest) ∙ ap (λ (l : List ℕ). l ++ rest) (sym (flat_map-append frame before bodies))
+    ap (λ (l : List ℕ). l ++ piece) e ∙ append_assoc (flat_map frame before) old piece ∙ ap (λ (l : List ℕ). flat_map frame before ++ l) f
+    ∙ sym (append_assoc (flat_map frame before) (flat_map frame bodies) rest) ∙ ap (λ (l : List ℕ). l ++ rest) (sym (flat_map-append frame before bodies))
 
-pub joined : (stream : List ℕ) (before : List (List ℕ)) (old piece : List ℕ) (bodies : List (List ℕ)) (rest : List ℕ) → Splits stream before old → Splits (old ++ piece) bodies rest → Splits (stream ++ piece) (before ++ bodies) rest
+pub joined : (stream : List ℕ) (before : List (List ℕ)) (old piece : List ℕ) (bodies : List (List ℕ)) (rest : List ℕ) → Splits stream before old → Splits (old ++ piece) bodies rest
+    → Splits (stream ++ piece) (before ++ bodies) rest
 joined stream before old piece bodies rest p q = record {
   whole = behind stream before old piece bodies rest p.whole q.whole;
   each = All-append IsFrameBody before bodies p.each q.each;
@@ -90,7 +97,7 @@ broken stream before old piece p q = record {
   long = q.long;
 }
 
--- what breaks is broken with more behind it
+-- what breaks is broken with more after it
 breaks_yet : (stream more : List ℕ) → Breaks stream → Breaks (stream ++ more)
 breaks_yet stream more p = record {
   bodies = p.bodies;
@@ -103,7 +110,7 @@ breaks_yet stream more p = record {
   };
 }
 
--- ---- a piece in two parts, the first of which goes behind what is held
+-- ---- a piece in two parts, the first of which goes after what is held
 
 module _ (old front behind first piece : List ℕ) (held : first ≡ old ++ front) (parts : piece ≡ front ++ behind) where
   pub together : first ++ behind ≡ old ++ piece
@@ -126,7 +133,8 @@ module _ (old front behind first piece : List ℕ) (held : first ≡ old ++ fron
     second_breaks p = subst (λ (l : List ℕ). Breaks l) together (broken first (bodies_bytes bodies) [] behind whole_first p)
 
 -- a whole frame at the front, by its length field
-pub framed : (bytes body : List ℕ) → IsBytes bytes → 4 ≤ length bytes → length_field bytes ≤ length (drop 4 bytes) → body ≡ take (length_field bytes) (drop 4 bytes) → bytes ≡ frame body ++ drop (4 + length body) bytes
+pub framed : (bytes body : List ℕ) → IsBytes bytes → 4 ≤ length bytes → length_field bytes ≤ length (drop 4 bytes) → body ≡ take (length_field bytes) (drop 4 bytes)
+    → bytes ≡ frame body ++ drop (4 + length body) bytes
 framed bytes body fits long whole is =
     let n = length_field bytes in
     let len : length body ≡ n = ap (λ (l : List ℕ). length l) is ∙ omega (arith, length-take n (drop 4 bytes), whole) in
@@ -153,13 +161,15 @@ one_more {B} now stream bodies more copy taken found body until whole is longer 
     let n = 4 + length (now body) in
     let rest = drop taken stream in
     let before = bodies_bytes bodies in
-    let there = subst (λ (o : Option B). MatchOption o (IsPartial (take (length stream - taken) rest)) (λ b. IsFrameBody (now b) × (take (length stream - taken) rest ≡ frame (now b) ++ drop (4 + length (now b)) (take (length stream - taken) rest)))) is whole in
+    let there = subst (λ (o : Option B). MatchOption o (IsPartial (take (length stream - taken) rest))
+    (λ b. IsFrameBody (now b) × (take (length stream - taken) rest ≡ frame (now b) ++ drop (4 + length (now b)) (take (length stream - taken) rest)))) is whole in
     let front : rest ≡ frame (now body) ++ drop n rest = subst (λ (l : List ℕ). l ≡ frame (now body) ++ drop n l) (left stream taken until.0) there.1 in
     let after : drop n rest ≡ drop (taken + n) stream = drop-drop n taken stream in
     let bytes : bodies_bytes more ≡ before ++ now body ∷ [] = ap bodies_bytes longer ∙ map-append (λ (b : Vec ℕ Global). b.items) bodies (copy ∷ []) ∙ ap (λ (b : List ℕ). before ++ b ∷ []) same in
     let joint : stream ≡ stream_of (before ++ now body ∷ []) (drop (taken + n) stream) =
     until.1 ∙ ap (λ (l : List ℕ). flat_map frame before ++ l) (front ∙ ap (λ (l : List ℕ). frame (now body) ++ l) after ∙ sym (cons (now body) [] (drop (taken + n) stream)))
-    ∙ sym (append_assoc (flat_map frame before) (flat_map frame (now body ∷ [])) (drop (taken + n) stream)) ∙ ap (λ (l : List ℕ). l ++ drop (taken + n) stream) (sym (flat_map-append frame before (now body ∷ []))) in (
+    ∙ sym (append_assoc (flat_map frame before) (flat_map frame (now body ∷ [])) (drop (taken + n) stream))
+    ∙ ap (λ (l : List ℕ). l ++ drop (taken + n) stream) (sym (flat_map-append frame before (now body ∷ []))) in (
       omega (arith, ap length front, framed_len (now body) (drop n rest), length-drop taken stream, until.0),
       joint ∙ ap (λ (l : List (List ℕ)). stream_of l (drop (taken + n) stream)) (sym bytes),
       subst (All IsFrameBody) (sym bytes) (All-push IsFrameBody before (now body) until.2 there.0),

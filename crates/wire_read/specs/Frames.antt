@@ -36,7 +36,7 @@ pub record Splits (stream : List ℕ) (bodies : List (List ℕ)) (rest : List �
   pub each : All IsFrameBody bodies
   pub partial : IsPartial rest
 
--- behind whole frames the stream so far has a length above the limit in a frame's place
+-- after whole frames the stream so far has a length above the limit in a frame's place
 pub record Breaks (stream : List ℕ) : Type 0 where
   pub bodies : List (List ℕ)
   pub rest : List ℕ

@@ -16,7 +16,7 @@ pub record Field : Type 0 where
   pub width : ℕ
   pub fault : List ℕ → Option WireError
 
--- a part of a message: a field, or entries behind a count of this width, at most this limit. An entry is a key, by the keys before it, and a field, by its key
+-- a part of a message: a field, or entries after a count of this width, at most this limit. An entry is a key, by the keys before it, and a field, by its key
 pub data Part : Type 0 where
   one : Field → Part
   many : Width → ℕ → (List (List ℕ) → Field) → (List ℕ → Field) → Part
@@ -63,7 +63,7 @@ transaction_len lens = number w32 (λ n. nat_le n MAX_TRANSACTION_BYTES && nat_l
 abbrev pub header_body : List Part
 header_body = one (bytes 2) ∷ one round ∷ many w16 MAX_BATCHES rising_digest (λ key. bytes 2) ∷ many w16 MAX_PARENTS rising_member (λ key. bytes 32) ∷ []
 
--- what stands behind each tag
+-- what stands after each tag
 unfoldable pub parts_of : ℕ → List Part
 parts_of tag =
     -- author, worker, transactions (length, bytes)
@@ -81,14 +81,14 @@ parts_of tag =
 
 -- ---- the next field
 
--- the field behind these ones of so many entries, with these keys before them; behind the last entry it is that of what follows
+-- the field after these ones of so many entries, with these keys before them; after the last entry it is that of what follows
 unfoldable pub next_entry : (List (List ℕ) → Field) → (List ℕ → Field) → (List (List ℕ) → Option Field) → ℕ → List (List ℕ) → List (List ℕ) → Option Field
 next_entry key value after zero keys fields = after fields
 next_entry key value after (suc n) keys [] = Some (key keys)
 next_entry key value after (suc n) keys (k ∷ []) = Some (value k)
 next_entry key value after (suc n) keys (k ∷ v ∷ fields) = next_entry key value after n (keys ++ k ∷ []) fields
 
--- the field behind these ones of the parts; none behind the last part
+-- the field after these ones of the parts; none after the last part
 unfoldable pub next_part : List Part → List (List ℕ) → Option Field
 next_part [] fields = None
 next_part (one field ∷ parts) [] = Some field
@@ -96,7 +96,7 @@ next_part (one field ∷ parts) (f ∷ fields) = next_part parts fields
 next_part (many w limit key value ∷ parts) [] = Some (number w (is_in_range 0 limit) TooMany)
 next_part (many w limit key value ∷ parts) (count ∷ fields) = next_entry key value (next_part parts) (from_be_bytes w count) [] fields
 
--- the field behind these ones of a message, the first of which is its tag
+-- the field after these ones of a message, the first of which is its tag
 unfoldable pub next : List (List ℕ) → Option Field
 next [] = Some (number w8 (is_in_range 1 6) BadTag)
 next (tag ∷ fields) = next_part (parts_of (from_be_bytes w8 tag)) fields
@@ -108,12 +108,12 @@ abbrev pub Passes : Option Field → List ℕ → Type 0
 Passes None f = ⊥
 Passes (Some field) f = (length f ≡ field.width) × (field.fault f ≡ None)
 
--- these bytes are fields that pass, each as the field behind those before it, and a rest. Such fields need not begin a message: no digest passes behind one of all 255
+-- these bytes are fields that pass, each as the field after those before it, and a rest. Such fields need not begin a message: no digest passes after one of all 255
 pub record IsCut (text : List ℕ) (fields : List (List ℕ)) (rest : List ℕ) : Type 0 where
   pub whole : text ≡ concat fields ++ rest
   pub pass : (before behind : List (List ℕ)) (f : List ℕ) → fields ≡ before ++ f ∷ behind → Passes (next before) f
 
--- the fault of the rest, where this field is next: it ends within the field, or has the fault of the field, if any; or it goes on behind the last field
+-- the fault of the rest, where this field is next: it ends within the field, or has the fault of the field, if any; or it goes on after the last field
 abbrev pub fault_at : Option Field → List ℕ → Option WireError
 fault_at None rest = if length rest == 0 then None else Some Trailing
 fault_at (Some field) rest = if nat_lt (length rest) field.width then Some Short else field.fault (take field.width rest)

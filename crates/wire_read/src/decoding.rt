@@ -124,8 +124,8 @@ pub fn decode(alloc: Global, bytes: &[u8]) -> Result<Message, WireError>
     message_in(alloc, bytes)
 }
 
-/// No spelling of a message begins another: two messages, each with bytes behind it, that are the same
-/// bytes are one message with the same bytes behind it.
+/// No spelling of a message is a prefix of another: two messages, each with bytes after it, that are the
+/// same bytes are one message with the same bytes after it.
 pub fn one_spelling()
     ensures { (m n : Message) (x y : List ℕ) → IsMessage m → IsMessage n → spelling m ++ x ≡ spelling n ++ y → (m ≡ n) × (x ≡ y) }
 {}
@@ -135,12 +135,12 @@ pub fn one_body()
     ensures { OneBody }
 {}
 
-/// Bytes that go on behind a message are refused as such, whatever they are.
+/// Bytes that go on after a message are refused as such, whatever they are.
 pub fn what_follows_is_trailing()
     ensures { (m : Message) (rest : List ℕ) → IsMessage m → 0 < length rest → message_of (spelling m ++ rest) ≡ Err Trailing }
 {}
 
-/// Each proper beginning of a message's spelling is refused as one that ends too early.
+/// Each proper prefix of a message's spelling is refused as one that ends too early.
 pub fn beginnings_are_short()
     ensures { (m : Message) (bytes more : List ℕ) → IsMessage m → spelling m ≡ bytes ++ more → 0 < length more → message_of bytes ≡ Err Short }
 {}
@@ -152,7 +152,7 @@ pub fn faults_stay()
 
 /// Reading gives what the table of fields says, whatever the bytes. Cut by the table, the fault is that of
 /// the first field that breaks a limit, an order or a range, and every field before it passes. Where none
-/// does, the bytes end within a field, go on behind the last one, or are a message.
+/// does, the bytes end within a field, go on after the last one, or are a message.
 pub fn faults_by_the_table()
     ensures fault { (bytes : List ℕ) (fault : WireError) → (message_of bytes ≡ Err fault) ↔ HasFault bytes fault }
     ensures none { (bytes : List ℕ) → IsOk (message_of bytes) ↔ HasNone bytes }

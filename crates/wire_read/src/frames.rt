@@ -50,8 +50,8 @@ impl FrameReader {
     }
 
     /// Takes the next piece of the stream and gives the bodies of the frames that are whole now, in their
-    /// order. `TooMany` where a length above the limit stands in a frame's place, `Memory` where a growth was
-    /// refused. A refusal leaves the reader as it was before the piece, and gives none of its frames.
+    /// order. `TooMany` where a length above the limit stands in a frame's place, `Memory` where an allocation
+    /// failed. A refusal leaves the reader as it was before the piece, and gives none of its frames.
     pub fn feed(&mut self, piece: &[u8]) -> Result<Vec<Vec<u8>>, WireError>
         // Where the stream so far is frames of the bodies before and what is held, with the piece it is
         // frames of these and the new bodies, and what is held then.
@@ -71,7 +71,7 @@ impl FrameReader {
     }
 }
 
-// Takes a piece behind what is held, and gives the bodies of the frames that are whole then. Behind the frame that is begun bodies are
+// Takes a piece after what is held, and gives the bodies of the frames that are whole then. After the frame that is begun bodies are
 // cut out of the piece itself, and what is left of it is held. A refusal leaves what was held at the front.
 fn feed_held(alloc: Global, held: &mut Vec<u8>, piece: &[u8]) -> Result<Vec<Vec<u8>>, WireError>
     ensures splits { IfOk result (λ bodies. Splits (held.old.items ++ piece.now) (bodies_bytes bodies.items) held.new.items) }

@@ -36,7 +36,7 @@ impl From<AllocError> for WriteError {
 /// as that takes, and makes one that was interrupted again.
 ///
 /// # Errors
-/// `Memory` where a growth was refused, `Output` where the writer failed or took no more.
+/// `Memory` where an allocation failed, `Output` where the writer failed or took no more.
 pub fn write_output<W: Write>(
     alloc: Global,
     output: &Output,

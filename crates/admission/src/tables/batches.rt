@@ -19,7 +19,7 @@ impl<'a> Tables<'a> {
     /// Takes a batch of this digest.
     ///
     /// # Errors
-    /// What admission answers, or `Memory` where a growth was refused. They change nothing.
+    /// What admission answers, or `Memory` where an allocation failed. They change nothing.
     pub fn take_batch(
         &mut self,
         alloc: Global,
@@ -47,7 +47,7 @@ impl<'a> Tables<'a> {
     /// Takes an acknowledgement.
     ///
     /// # Errors
-    /// What admission answers, or `Memory` where a growth was refused. They change nothing.
+    /// What admission answers, or `Memory` where an allocation failed. They change nothing.
     pub fn take_ack(&mut self, alloc: Global, ack: &BatchAck) -> Result<Step, Refusal>
         requires meets { MeetSome self.old (message.BatchAck ack.now) }
         ensures answer { Answers self.old (message.BatchAck ack.now) result }

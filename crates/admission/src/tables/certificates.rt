@@ -19,13 +19,13 @@ use crate::tables::Tables;
 use crate::tables::answer::{Answer, is_new, lacks_parents, new_step};
 use crate::tables::facts::others_stay;
 use dag::{Added, DagRefusal};
-use sequencer::Sequencer;
 use header::{Outputs, Refusal};
+use sequencer::Sequencer;
 use std::alloc::{AllocError, Global};
 use wire::{Certificate, Digest, Output};
 
-// Holds a new certificate of this digest, and puts out what it adds to the order behind other outputs. `AllocError` where a
-// growth was refused: the certificates, the coins and the order haven't changed then.
+// Holds a new certificate of this digest, and puts out what it adds to the order behind other outputs. `AllocError` where an
+// allocation failed: the certificates, the coins and the order haven't changed then.
 pub(crate) fn hold_certificate(
     sequencer: &mut Sequencer,
     alloc: Global,
@@ -108,7 +108,7 @@ impl<'a> Tables<'a> {
     /// Takes a certificate of this digest.
     ///
     /// # Errors
-    /// What admission answers, or `Memory` where a growth was refused. They change nothing.
+    /// What admission answers, or `Memory` where an allocation failed. They change nothing.
     pub fn take_certificate(
         &mut self,
         alloc: Global,

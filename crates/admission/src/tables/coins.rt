@@ -17,13 +17,13 @@ use crate::step::Step;
 use crate::tables::Tables;
 use crate::tables::answer::{Answer, is_new, new_step};
 use crate::tables::facts::others_stay;
-use sequencer::Sequencer;
 use header::{Outputs, Refusal};
+use sequencer::Sequencer;
 use std::alloc::{AllocError, Global};
 use wire::{Author, Coin, Output, Round};
 
-// Takes the coin of the next wave, and puts out what it adds to the order behind other outputs. `AllocError` where a growth
-// was refused: the certificates, the coins and the order haven't changed then.
+// Takes the coin of the next wave, and puts out what it adds to the order behind other outputs. `AllocError` where an allocation
+// failed: the certificates, the coins and the order haven't changed then.
 fn push_coin(
     sequencer: &mut Sequencer,
     alloc: Global,
@@ -100,7 +100,7 @@ impl<'a> Tables<'a> {
     /// Takes a coin from a sender.
     ///
     /// # Errors
-    /// What admission answers, or `Memory` where a growth was refused. They change nothing.
+    /// What admission answers, or `Memory` where an allocation failed. They change nothing.
     pub fn take_coin(&mut self, alloc: Global, sender: Author, coin: &Coin) -> Result<Step, Refusal>
         ensures answer { AnswersFrom self.old sender (message.Coin coin.now) result }
         ensures refused { RefusesFrom self.old sender (message.Coin coin.now) result }

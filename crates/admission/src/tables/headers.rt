@@ -15,8 +15,8 @@ use crate::tables::Tables;
 use crate::tables::answer::{Answer, is_new, known_step, lacks_parents, new_step};
 use crate::tables::facts::others_stay;
 use crate::votes::keep_vote;
-use sigface::Sign;
 use header::Refusal;
+use sigface::Sign;
 use std::alloc::{AllocError, Global};
 use wire::{Author, Digest, Header, Output, Vote, certificate_digest};
 
@@ -201,7 +201,7 @@ impl<'a> Tables<'a> {
     /// Takes a header of this digest. A new one of another member gets the vote, with this signer's signature.
     ///
     /// # Errors
-    /// What admission answers, or `Memory` where a growth was refused. They change nothing.
+    /// What admission answers, or `Memory` where an allocation failed. They change nothing.
     pub fn take_header<S: Sign>(
         &mut self,
         alloc: Global,

@@ -146,7 +146,7 @@ impl<'a> Tables<'a> {
     /// Takes a vote.
     ///
     /// # Errors
-    /// What admission answers, or `Memory` where a growth was refused. They change nothing.
+    /// What admission answers, or `Memory` where an allocation failed. They change nothing.
     pub fn take_vote(&mut self, alloc: Global, vote: Vote) -> Result<Step, Refusal>
         requires meets { MeetSome self.old (message.Vote vote) }
         ensures answer { Answers self.old (message.Vote vote) result }

@@ -1,5 +1,9 @@
+use Rattle.std.proofs.Common.{◌≡◌, ap}
+use Rattle.flusher.specs.Rounds.{journal_of}
 use Rattle.journal.specs.Journal.{disk_of}
-use Rattle.node.proofs.Begun.{begins_behind}
+use Rattle.opening.proofs.Telling.{ok_weaker}
+use Rattle.validator.specs.Setting.{node_of}
+use Rattle.node.proofs.Begun.{begins_behind, opening_goes_on}
 use Rattle.node.proofs.start.Goals as goal
 
 pub begin-requires-clause-at : goal.begin-requires-clause-at
@@ -7,3 +11,12 @@ begin-requires-clause-at g c =
     let opened = c.in_ok-validator in
     (begins_behind g.S.Sign.scheme c.args.config.now opened.validator.setting (g.D.Disk.device.content (disk_of opened.journal)) opened.validator.tables
     opened.ensures.setting opened.ensures.holds).at
+
+pub returns-clause-opening : goal.returns-clause-opening
+returns-clause-opening g c =
+    let opened = c.in_ok-validator in
+    opening_goes_on (node_of g.S.Sign.scheme c.args.config.now) g.D.Disk.device (λ given. disk_of given.1) (λ started. disk_of (journal_of started.2)) c.args.disk
+    (opened.validator, opened.journal) c.begin.result opened.ensures.opening
+    (ok_weaker c.begin.result (λ started. journal_of started.2 ≡ opened.journal) (λ started. disk_of (journal_of started.2) ≡ disk_of opened.journal)
+    (λ started is. ap disk_of is) c.begin.ensures.journal)
+    c.begin.ensures.err

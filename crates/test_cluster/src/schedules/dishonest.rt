@@ -4,8 +4,8 @@
 use super::headers::{Made, Which};
 use super::schedule::{Answered, PACKER, Schedule};
 use crate::moves::UNSIGNED;
-use crate::settings::MEMBERS;
 use header::make;
+use sim_members::MEMBERS;
 use sim_script::{Proposed, certificate, signer, vote};
 use std::alloc::{AllocError, Global};
 use wire::{

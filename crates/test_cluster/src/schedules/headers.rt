@@ -1,6 +1,6 @@
 //! The headers that were made, by their places, and who gave out votes on them.
 
-use crate::settings::MEMBERS;
+use sim_members::MEMBERS;
 use sim_script::Proposed;
 use std::alloc::{AllocError, Global};
 use wire::{Author, Digest, Header, certificate_digest, header_digest};

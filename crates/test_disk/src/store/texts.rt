@@ -4,10 +4,10 @@ use crate::store::headers::message_in;
 use crate::store::scripts::{Line, Script, tell_text};
 use crate::store::words::{Told, bad, put, told_bad};
 use diskmodel::MemDisk;
+use header::{Event, Node};
 use journal::{Journal, Record};
 use ref_script::{Command, text};
 use sigface::HashSign;
-use header::{Event, Node};
 use std::alloc::{AllocError, Global};
 use wire::Author;
 

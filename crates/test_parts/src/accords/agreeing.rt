@@ -11,12 +11,12 @@ ghost use Rattle.spec_model.specs.Slots.{slots_of};
 ghost use Rattle.test_parts.specs.Accords as accords;
 
 use crate::accords::alike::{coins_agree, digests_agree, same_committee, same_header};
+use header::Event;
 use ref_order::certificates::{certificates, order};
 use ref_order::histories::coins;
 use ref_order::past::Past;
 use ref_order::slots::slot;
 use sigface::Sign;
-use header::Event;
 use std::alloc::{AllocError, Global};
 use wire::{Certificate, Digest, HeaderBody};
 

@@ -4,11 +4,11 @@ ghost use Rattle.spec_model.specs.Nodes.{node_view};
 ghost use Rattle.spec_model.specs.States.{whole};
 ghost use Rattle.std.specs.Prelude.{[]};
 
+use header::{Event, Node};
 use ref_admission::admitting::answer;
 use ref_order::held::Held;
 use ref_order::past::Past;
 use sigface::Sign;
-use header::{Event, Node};
 use std::alloc::{AllocError, Global};
 use wire::{Batch, Certificate, Digest, Header, Vote};
 

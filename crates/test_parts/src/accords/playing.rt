@@ -6,10 +6,9 @@ use crate::accords::legal::is_last_new;
 use crate::accords::made::Made;
 use crate::parts::parted;
 use committee::{Committee, MAX_MEMBERS, MemberSet};
-use header::recheck;
+use header::{Event, Node, recheck};
 use sigface::HashSign;
 use sim_script::{FormError, Proposed, signer};
-use header::{Event, Node};
 use std::alloc::{AllocError, Global};
 use wire::{
     Author, Certificate, Coin, MAX_VOTES, Message, Signature, Vote, VoteEntries, VoteEntry, Wave,

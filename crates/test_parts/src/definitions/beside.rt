@@ -5,11 +5,11 @@ use crate::definitions::played::{Played, tell_kind};
 use crate::definitions::searching::past;
 use crate::definitions::showing::{add, batch_label, order, outputs};
 use crate::parts::{list, whether};
+use header::{Admission, Event, Refusal};
 use ref_admission::proposing::propose;
 use ref_machine::{Tables, after, answered, fresh, is_ready, proposed, round_in};
 use ref_order::certificates::{floor, round};
 use ref_order::held::{Held, floor_in};
-use header::{Admission, Event, Refusal};
 use std::alloc::AllocError;
 use wire::{Batch, Digest, Header, batch_digest};
 

@@ -10,7 +10,7 @@ use crate::definitions::showing::{header_label, line, order, outputs};
 use crate::definitions::weighing::{committee_of, label_genesis};
 use crate::parts::list;
 use committee::Committee;
-use header::check;
+use header::{Admission, Event, Node, Outputs, check};
 use ref_admission::runs::{admit_last, answers, each_new};
 use ref_machine::{Tables, after, fresh};
 use ref_order::certificates::round;
@@ -20,7 +20,6 @@ use sim_script::{
     BATCHES, Command, DEPTH, FormError, Labels, OWN, Setting, committee_file, define_batch,
     define_header, message_of, parse, signer,
 };
-use header::{Admission, Event, Node, Outputs};
 use std::alloc::{AllocError, Global};
 use wire::{Author, Coin, Message, Wave};
 

@@ -13,9 +13,9 @@ use crate::definitions::looking::number;
 use crate::definitions::weighing::committee_of;
 use crate::parts::parted;
 use bodies::tell_bodies;
+use header::Node;
 use playing::play_lines;
 use sim_script::{BATCHES, DEPTH, FormError, OWN, signer};
-use header::Node;
 use std::alloc::{AllocError, Global};
 
 /// The lines of a case.

@@ -3,8 +3,7 @@
 use crate::parts::words::{Told, author_of, list, member_in, numbers_in, parted};
 use batchstore::BatchStore;
 use committee::Committee;
-use sigface::TableSeed;
-use sigface::HashSign;
+use sigface::{HashSign, TableSeed};
 use std::alloc::{AllocError, Global};
 use wire::{Author, Batch, BatchReference, Digest, Key, OpenBatch, batch_digest};
 

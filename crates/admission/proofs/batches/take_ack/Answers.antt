@@ -26,7 +26,8 @@ pub returns-in-Ok-New-clause-answer : goal.returns-in-Ok-New-clause-answer
 returns-in-Ok-New-clause-answer c = λ node state event came has.
     let stock = c.args.batches.now in
     let ack = c.args.ack.now in
-    let own : has_own stock ack.batch ≡ true = true_from_ne_false (has_own stock ack.batch) (λ isnt. let bad = c.in-Ok-New.ensures.not_ours.1 (not_both (is_member stock ack.author.0) _ isnt) in absurd cc) in
+    let own : has_own stock ack.batch ≡ true = true_from_ne_false (has_own stock ack.batch)
+    (λ isnt. let bad = c.in-Ok-New.ensures.not_ours.1 (not_both (is_member stock ack.author.0) _ isnt) in absurd cc) in
     let other : holds stock ack.batch ack.author.0 ≡ false =
     false_from_ne_true (holds stock ack.batch ack.author.0) (λ is. let same = c.in-Ok-New.ensures.known.1 (and_from _ _ own is) in let new = c.in-Ok-New.field-0-is in absurd cc) in
     answered_as node state event (message.BatchAck ack) came ∙ ack_ours node state stock ack has own ∙ ap (λ b. if b then Known [] else New []) other
@@ -36,14 +37,16 @@ pub returns-in-Ok-New-clause-refused : goal.returns-in-Ok-New-clause-refused
 returns-in-Ok-New-clause-refused c = λ node state event came has refusal is.
     let stock = c.args.batches.now in
     let ack = c.args.ack.now in
-    let own : has_own stock ack.batch ≡ true = true_from_ne_false (has_own stock ack.batch) (λ isnt. let bad = c.in-Ok-New.ensures.not_ours.1 (not_both (is_member stock ack.author.0) _ isnt) in absurd cc) in
+    let own : has_own stock ack.batch ≡ true = true_from_ne_false (has_own stock ack.batch)
+    (λ isnt. let bad = c.in-Ok-New.ensures.not_ours.1 (not_both (is_member stock ack.author.0) _ isnt) in absurd cc) in
     absurd (not_refused (holds stock ack.batch ack.author.0) refusal (sym (answered_as node state event (message.BatchAck ack) came ∙ ack_ours node state stock ack has own) ∙ is))
 
 pub returns-in-Ok-New-clause-new : goal.returns-in-Ok-New-clause-new
 returns-in-Ok-New-clause-new c = λ new node state event came has.
     let stock = c.args.batches.now in
     let ack = c.args.ack.now in
-    let own : has_own stock ack.batch ≡ true = true_from_ne_false (has_own stock ack.batch) (λ isnt. let bad = c.in-Ok-New.ensures.not_ours.1 (not_both (is_member stock ack.author.0) _ isnt) in absurd cc) in
+    let own : has_own stock ack.batch ≡ true = true_from_ne_false (has_own stock ack.batch)
+    (λ isnt. let bad = c.in-Ok-New.ensures.not_ours.1 (not_both (is_member stock ack.author.0) _ isnt) in absurd cc) in
     after_as (λ s. HasBatches node s c.ack.new.self) node state event (message.BatchAck ack) came
     (subst (λ s. HasBatches node (behind node state (message.BatchAck ack)) s) (sym (c.in-Ok-New.ensures.new (ap (λ a. Ok a) c.in-Ok-New.field-0-is))) (ack_comes node state stock ack own has))
 
@@ -69,7 +72,8 @@ returns-in-Err-clause-answer c = λ node state event came has.
     elim c.in-Err.ensures.memory [
       | inl ours ↦
           let is : c.in-Err.refusal ≡ store.NotOurs = cc in
-          let own : has_own stock ack.batch ≡ false = not_own (is_member stock ack.author.0) (has_own stock ack.batch) (lt-ltb ack.author.0 (length stock.charter.keys) c.requires) (c.in-Err.ensures.not_ours.0 ours) in
+          let own : has_own stock ack.batch ≡ false = not_own (is_member stock ack.author.0) (has_own stock ack.batch)
+          (lt-ltb ack.author.0 (length stock.charter.keys) c.requires) (c.in-Err.ensures.not_ours.0 ours) in
           inr (answered_as node state event (message.BatchAck ack) came ∙ ack_not_ours node state stock ack has own ∙ ap (λ r. Refused r) (sym (c.refusal_of.ensures ∙ ap as_refusal is)))
       | inr memory ↦
           let is : c.in-Err.refusal ≡ store.Memory = cc in
@@ -83,11 +87,13 @@ returns-in-Err-clause-refused c = λ node state event came has refusal refused.
     elim c.in-Err.ensures.memory [
       | inl ours ↦
           let is : c.in-Err.refusal ≡ store.NotOurs = cc in
-          let own : has_own stock ack.batch ≡ false = not_own (is_member stock ack.author.0) (has_own stock ack.batch) (lt-ltb ack.author.0 (length stock.charter.keys) c.requires) (c.in-Err.ensures.not_ours.0 ours) in
+          let own : has_own stock ack.batch ≡ false = not_own (is_member stock ack.author.0) (has_own stock ack.batch)
+          (lt-ltb ack.author.0 (length stock.charter.keys) c.requires) (c.in-Err.ensures.not_ours.0 ours) in
           let both : ◌≡◌ {A = Admission} (Refused NotOurs) (Refused refusal) = sym (answered_as node state event (message.BatchAck ack) came ∙ ack_not_ours node state stock ack has own) ∙ refused in
           let same : NotOurs ≡ refusal = cc in
           ap (λ r. Err r) (c.refusal_of.ensures ∙ ap as_refusal is ∙ same)
       | inr memory ↦
-          let own : has_own stock ack.batch ≡ true = true_from_ne_false (has_own stock ack.batch) (λ isnt. let ours = c.in-Err.ensures.not_ours.1 (not_both (is_member stock ack.author.0) _ isnt) in absurd cc) in
+          let own : has_own stock ack.batch ≡ true = true_from_ne_false (has_own stock ack.batch)
+          (λ isnt. let ours = c.in-Err.ensures.not_ours.1 (not_both (is_member stock ack.author.0) _ isnt) in absurd cc) in
           absurd (not_refused (holds stock ack.batch ack.author.0) refusal (sym (answered_as node state event (message.BatchAck ack) came ∙ ack_ours node state stock ack has own) ∙ refused))
     ]

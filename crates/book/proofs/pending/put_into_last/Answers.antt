@@ -16,7 +16,8 @@ pub returns-clause-ok : goal.returns-clause-ok
 returns-clause-ok c = on_ok c.put-put.result c.put-put.ensures.ok
   where
     on_ok : {X E : Type 0} (r : Result X E) → OnOk r (c.put-put.new.self ≡ c.in-Some.last ++ record_of c.args.event.now ∷ [])
-        → OnOk r ((front : List (List (List ℕ))) (last : List (List ℕ)) → c.args.drafts.now.items ≡ front ++ last ∷ [] → c.push_back_reserved.new.self.items ≡ front ++ (last ++ record_of c.args.event.now ∷ []) ∷ [])
+        → OnOk r ((front : List (List (List ℕ))) (last : List (List ℕ)) → c.args.drafts.now.items ≡ front ++ last ∷ []
+        → c.push_back_reserved.new.self.items ≡ front ++ (last ++ record_of c.args.event.now ∷ []) ∷ [])
     on_ok (Ok x) put = λ front last parts.
         let same = push_same front c.pop_back.new.self.items last c.in-Some.last (sym parts ∙ c.in-Some.ensures.items) in
         c.push_back_reserved.ensures.items ∙ ap (λ (l : List (List ℕ)). c.pop_back.new.self.items ++ l ∷ []) (put ∙ ap (λ (l : List (List ℕ)). l ++ record_of c.args.event.now ∷ []) (sym same.1))

@@ -13,17 +13,22 @@ pub returns-clause-ok : goal.returns-clause-ok
 returns-clause-ok c =
     let old = c.args.bytes.now.items in
     let front : List ℕ = c.to_be_bytes.result ++ 1 ∷ [] ++ c.two_bytes.result in
-    let middle : c.extend_from_slice-2.new.self.items ≡ old ++ front = behind_three old c.to_be_bytes.result (1 ∷ []) c.two_bytes.result c.extend_from_slice.new.self.items c.push.new.self.items c.extend_from_slice-2.new.self.items
+    let middle : c.extend_from_slice-2.new.self.items ≡ old ++ front = behind_three old c.to_be_bytes.result (1 ∷ []) c.two_bytes.result
+    c.extend_from_slice.new.self.items c.push.new.self.items c.extend_from_slice-2.new.self.items
     c.in_ok-extend_from_slice.ensures.items c.in_ok-push.ensures.items c.in_ok-extend_from_slice-2.ensures.items in
     let event = c.args.event.now in
     let size : c.to_be_bytes.result ≡ to_be_bytes w32 c.args.len = c.to_be_bytes.ensures in
-    let whole : front ++ spelling c.message.result.now ≡ record_bytes (record_of event) = λ i. ((size ∙ ap (to_be_bytes w32) c.requires.len) i ++ 1 ∷ [] ++ (c.two_bytes.ensures.bytes ∙ ap (λ a. to_be_bytes w16 a.0) c.sender.ensures) i) ++ spelling (c.message.ensures i) in
-    whole_behind c.encode_onto.result old front c.extend_from_slice-2.new.self.items (spelling c.message.result.now) (record_bytes (record_of event)) c.encode_onto.new.out.items middle whole c.encode_onto.ensures.bytes
+    let whole : front ++ spelling c.message.result.now ≡ record_bytes (record_of event) =
+    λ i. ((size ∙ ap (to_be_bytes w32) c.requires.len) i ++ 1 ∷ [] ++ (c.two_bytes.ensures.bytes ∙ ap (λ a. to_be_bytes w16 a.0) c.sender.ensures)
+    i) ++ spelling (c.message.ensures i) in
+    whole_behind c.encode_onto.result old front c.extend_from_slice-2.new.self.items (spelling c.message.result.now) (record_bytes (record_of event))
+    c.encode_onto.new.out.items middle whole c.encode_onto.ensures.bytes
 
 pub returns-clause-err : goal.returns-clause-err
 returns-clause-err c =
     let old = c.args.bytes.now.items in
     let front : List ℕ = c.to_be_bytes.result ++ 1 ∷ [] ++ c.two_bytes.result in
-    let middle : c.extend_from_slice-2.new.self.items ≡ old ++ front = behind_three old c.to_be_bytes.result (1 ∷ []) c.two_bytes.result c.extend_from_slice.new.self.items c.push.new.self.items c.extend_from_slice-2.new.self.items
+    let middle : c.extend_from_slice-2.new.self.items ≡ old ++ front = behind_three old c.to_be_bytes.result (1 ∷ []) c.two_bytes.result
+    c.extend_from_slice.new.self.items c.push.new.self.items c.extend_from_slice-2.new.self.items
     c.in_ok-extend_from_slice.ensures.items c.in_ok-push.ensures.items c.in_ok-extend_from_slice-2.ensures.items in
     part_behind c.encode_onto.result old front c.extend_from_slice-2.new.self.items c.encode_onto.new.out.items middle c.encode_onto.ensures.kept

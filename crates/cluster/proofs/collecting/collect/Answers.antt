@@ -20,7 +20,8 @@ returns-clause-ok g c =
     let node = node_of g.S.Sign.scheme c.args.desk.now.book.validator.setting in
     ok_both c.release_all.result _ _ _ (λ released none world at was.
     let read = c.in_ok-read_order.ensures.ok world at was in
-    all_collected node g.D.Disk.device world c.args.desk.now c.release_all.new.desk c.args.given.now c.read_order.new.given c.release_all.new.given read c.read_order.ensures.outputs (released read.to read.at read.whole)
+    all_collected node g.D.Disk.device world c.args.desk.now c.release_all.new.desk c.args.given.now c.read_order.new.given c.release_all.new.given
+    read c.read_order.ensures.outputs (released read.to read.at read.whole)
     (sym c.is_down.ensures ∙ c.if-is_down.false) none) c.release_all.ensures.ok c.release_all.ensures.none_left
 
 pub returns-clause-err : goal.returns-clause-err
@@ -28,4 +29,6 @@ returns-clause-err g c =
     let node = node_of g.S.Sign.scheme c.args.desk.now.book.validator.setting in
     err_more c.release_all.result _ _ (λ released world at was.
     let read = c.in_ok-read_order.ensures.ok world at was in
-    some_collected node g.D.Disk.device world c.args.desk.now c.release_all.new.desk c.args.given.now c.read_order.new.given c.release_all.new.given read c.read_order.ensures.outputs (released read.to read.at read.whole) (sym c.is_down.ensures ∙ c.if-is_down.false)) c.release_all.ensures.err
+    some_collected node g.D.Disk.device world c.args.desk.now c.release_all.new.desk c.args.given.now c.read_order.new.given c.release_all.new.given
+    read c.read_order.ensures.outputs (released read.to read.at read.whole) (sym c.is_down.ensures ∙ c.if-is_down.false))
+    c.release_all.ensures.err

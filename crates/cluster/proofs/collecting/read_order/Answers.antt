@@ -20,6 +20,7 @@ returns-in-Ok-clause-ok g c =
     (λ is world at was.
     let more = c.as_slice.ensures.value ∙ c.in-Ok.ensures.order (run_of world) at.is_of_world.stands in
     let digests : new ≡ before.order ++ drop (length before.order) (order node (settled_in world)) =
-    is ∙ ap (λ (l : List Digest). l ++ c.as_slice.result.now) (ap (λ (o : GivenOutView). o.order) c.given.view_is) ∙ ap (λ (l : List Digest). before.order ++ l) more ∙ ap (λ n. before.order ++ drop n (order node (settled_in world))) from in
+    is ∙ ap (λ (l : List Digest). l ++ c.as_slice.result.now) (ap (λ (o : GivenOutView). o.order) c.given.view_is)
+    ∙ ap (λ (l : List Digest). before.order ++ l) more ∙ ap (λ n. before.order ++ drop n (order node (settled_in world))) from in
     has_read node g.D.Disk.device world c.args.desk.now before later at was (c.in-Ok.ensures.step world at) (ap (λ (o : GivenOutView). o.outputs) c.given.view_is) digests)
     (grown c.extend_from_slice.result old c.as_slice.result.now new c.extend_from_slice.ensures.items)

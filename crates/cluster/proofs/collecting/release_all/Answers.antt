@@ -17,10 +17,12 @@ releasing-init g c = record {
 pub releasing-preserved : goal.releasing-preserved
 releasing-preserved g c =
     let node = node_of g.S.Sign.scheme c.args.desk.now.book.validator.setting in
-    let more = subst (λ (s : ConfigView g.row.S.Denot). IsReleasedNext (node_of g.S.Sign.scheme s) g.D.Disk.device c.releasing.desk c.release_next.new.desk c.releasing.given c.release_next.new.given) c.releasing.invariant.setting
+    let more = subst (λ (s : ConfigView g.row.S.Denot). IsReleasedNext (node_of g.S.Sign.scheme s) g.D.Disk.device c.releasing.desk
+    c.release_next.new.desk c.releasing.given c.release_next.new.given) c.releasing.invariant.setting
     (c.in_ok-release_next.ensures.some c.if-branch.true) in
     record {
-      so_far = λ world at whole. released_more node g.D.Disk.device world c.args.desk.now c.releasing.desk c.release_next.new.desk c.args.given.now c.releasing.given c.release_next.new.given (c.releasing.invariant.so_far world at whole) more;
+      so_far = λ world at whole. released_more node g.D.Disk.device world c.args.desk.now c.releasing.desk c.release_next.new.desk c.args.given.now
+          c.releasing.given c.release_next.new.given (c.releasing.invariant.so_far world at whole) more;
       setting = c.release_next.ensures.setting ∙ c.releasing.invariant.setting;
       journal = c.release_next.ensures.journal ∙ c.releasing.invariant.journal;
     }

@@ -23,6 +23,7 @@ pub returns : goal.returns
 returns g c =
     let well : Result (MemberView g.row.S.Denot g.row.D.Denot) AllocError → MemberView g.row.S.Denot g.row.D.Denot → Type 0 = λ one member. one ≡ Ok member in
     let all = c.args.ended.items in
-    let end = YieldsList-end (YieldsList-from_vec {s = c.into_iter-member-iterator.result} all (search rules) (search rules)) c.ended.yielded c.ended.member-iterator c.ended.yielded_by c.next.result c.next.new.self c.in-None.is c.next.ensures.steps in
+    let end = YieldsList-end (YieldsList-from_vec {s = c.into_iter-member-iterator.result} all (search rules) (search rules)) c.ended.yielded
+    c.ended.member-iterator c.ended.yielded_by c.next.result c.next.new.self c.in-None.is c.next.ensures.steps in
     let whole : all ≡ c.ended.yielded = sym end.0 ∙ map-id c.ended.yielded in
     subst (λ (l : List (Result (MemberView g.row.S.Denot g.row.D.Denot) AllocError)). AllZip well l c.ended.members.items) (sym whole) c.ended.invariant.so_far

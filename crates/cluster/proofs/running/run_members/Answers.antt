@@ -1,6 +1,5 @@
 use Rattle.std.proofs.Common.{List, subst}
 use Rattle.std.specs.List.{AllZip}
-use Rattle.validator.specs.Setting.{node_of}
 use Rattle.cluster.specs.Member.{MemberView}
 use Rattle.cluster.specs.Threads.{HasRun}
 use Rattle.cluster.specs.declared.worker.Worker.{Worker}
@@ -13,4 +12,5 @@ returns g c =
     if_ok_more c.all_members.result _ _
     (λ members all.
     subst (λ (l : List (MemberView g.row.S.Denot g.row.D.Denot)). AllZip run l members.items) c.in_ok-workers.ensures
-    (gathered run (λ (w : Worker g.row.S.Denot g.row.D.Denot g.row.G.Denot). w.member) c.in_ok-workers.workers.items c.in_ok-ended.ended.items members.items c.in_ok-ended.ensures all)) c.all_members.ensures
+    (gathered run (λ (w : Worker g.row.S.Denot g.row.D.Denot g.row.G.Denot). w.member) c.in_ok-workers.workers.items c.in_ok-ended.ended.items
+    members.items c.in_ok-ended.ensures all)) c.all_members.ensures

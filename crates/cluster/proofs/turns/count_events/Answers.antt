@@ -8,7 +8,8 @@ use Rattle.cluster.proofs.turns.count_events.Goals as goal
 
 pub returns-in-Ok-clause-count : goal.returns-in-Ok-clause-count
 returns-in-Ok-clause-count g c = λ node history told_as.
-    c.saturating_sub.ensures ∙ ap (λ n. n - 1) (c.len.ensures ∙ c.in-Ok.records.ok.0) ∙ told_length node (g.D.Disk.device.content c.args.disk) c.in-Ok.records.items history c.in-Ok.ensures.records told_as
+    c.saturating_sub.ensures ∙ ap (λ n. n - 1) (c.len.ensures ∙ c.in-Ok.records.ok.0) ∙ told_length node (g.D.Disk.device.content c.args.disk)
+    c.in-Ok.records.items history c.in-Ok.ensures.records told_as
 
 pub returns-in-Err-clause-refused : goal.returns-in-Err-clause-refused
 returns-in-Err-clause-refused g c = λ node history told_as.

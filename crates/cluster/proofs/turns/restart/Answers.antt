@@ -13,7 +13,8 @@ returns-in-Ok-clause-opened g c =
     let node = node_of g.S.Sign.scheme c.args.config.now in
     let found = g.D.Disk.device.content c.stop.new.self in
     let may = subst (λ (d : g.row.D.Denot). g.D.Disk.device.outcome d found) c.into_disk-disk.ensures c.stop.ensures.content in
-    let opened = opened_same node g.D.Disk.device found (g.D.Disk.device.content c.in_ok-events.disk) c.in-Ok.desk (told_same node (g.D.Disk.device.content c.in_ok-events.disk) found c.in_ok-events.ensures.same) c.in-Ok.ensures.ok in
+    let opened = opened_same node g.D.Disk.device found (g.D.Disk.device.content c.in_ok-events.disk) c.in-Ok.desk
+    (told_same node (g.D.Disk.device.content c.in_ok-events.disk) found c.in_ok-events.ensures.same) c.in-Ok.ensures.ok in
     (found, may, opened, c.in_ok-events.ensures.count node opened.history opened.told_first)
 
 pub returns-in_err-events-clause-refused : goal.returns-in_err-events-clause-refused
@@ -43,4 +44,4 @@ returns-in_err-events-clause-device g c =
 pub returns-in-Err-clause-device : goal.returns-in-Err-clause-device
 returns-in-Err-clause-device g c = λ is.
     counts_as g.D.Disk.device c.in_ok-events.disk _ (c.in_ok-events.ensures.no_fault ∙ c.stop.ensures.faults ∙ ap g.D.Disk.device.faults c.into_disk-disk.ensures)
-    (c.in-Err.failed.disk, c.in-Err.ensures.cause.1.0 (err_of c.in-Err.failed.error is))
+    (c.in-Err.failed.disk, c.in-Err.ensures.opening.cause.1.0 (err_of c.in-Err.failed.error is))

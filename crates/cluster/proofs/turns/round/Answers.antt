@@ -5,7 +5,8 @@ use Rattle.cluster.proofs.turns.round.Goals as goal
 
 pub returns-in-Ok-clause-moved : goal.returns-in-Ok-clause-moved
 returns-in-Ok-clause-moved g c = λ world at.
-    settled (node_of g.S.Sign.scheme c.args.desk.now.book.validator.setting) g.D.Disk.device world c.args.desk.now c.flush.new.self at (up_of _ _ c.args.desk.now.book.down c.in-Ok.ensures.down.1) c.in-Ok.count c.in-Ok.ensures.idle c.in-Ok.ensures.flushed c.in-Ok.ensures.steps
+    settled (node_of g.S.Sign.scheme c.args.desk.now.book.validator.setting) g.D.Disk.device world c.args.desk.now c.flush.new.self at
+    (up_of _ _ c.args.desk.now.book.down c.in-Ok.ensures.down.1) c.in-Ok.count c.in-Ok.ensures.idle c.in-Ok.ensures.flushed c.in-Ok.ensures.steps
 
 pub returns-in-Err-clause-moved : goal.returns-in-Err-clause-moved
 returns-in-Err-clause-moved g c = λ world at.

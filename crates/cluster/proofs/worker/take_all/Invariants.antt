@@ -1,4 +1,3 @@
-use Rattle.validator.specs.Setting.{node_of}
 use Rattle.cluster.specs.Threads.{HasRun}
 use Rattle.cluster.proofs.worker.take_all.Given as goal
 

@@ -1,6 +1,5 @@
 use Rattle.std.proofs.Common.{subst}
 use Rattle.spec_model.specs.Words.{Author}
-use Rattle.validator.specs.Setting.{node_of}
 use Rattle.cluster.specs.Threads.{IsHeard}
 use Rattle.cluster.proofs.Acting.{took_one}
 use Rattle.cluster.proofs.Sent.{heard_as}

@@ -29,7 +29,8 @@ returns-then-one_is_quorum-clause-refused c _ =
     let distinct : repeats (filter_map key_of list) ≡ false = cc (c.if-repeats.ensures, c.deref.ensures.value, c.in_ok-keys.ensures.keys) in
     let staked : stakes_in (length list) file ≡ Some stakes = rw length-map c.in_ok-stakes.ensures.stakes in
     let reaches : list_any (λ stake. nat_le (2 * sum stakes / 3 + 1) stake) stakes ≡ true = sym (rw c.deref-2.ensures.value at c.if-one_is_quorum.ensures) in
-    let read = answer-read file list stakes c.in-Some-Some-Some.depth c.in-Some-Some-Some.workers c.in-Some-Some-Some.batches c.in-Some.ensures size c.in_ok-keys.ensures.each distinct c.in-Some-Some-Some.ensures c.in-Some-Some-Some.ensures' c.in-Some-Some-Some.ensures'' staked in
+    let read = answer-read file list stakes c.in-Some-Some-Some.depth c.in-Some-Some-Some.workers c.in-Some-Some-Some.batches c.in-Some.ensures size
+    c.in_ok-keys.ensures.each distinct c.in-Some-Some-Some.ensures c.in-Some-Some-Some.ensures' c.in-Some-Some-Some.ensures'' staked in
     rw reaches at read
 
 pub returns-clause-ok : goal.returns-clause-ok
@@ -41,7 +42,8 @@ returns-clause-ok c =
     let distinct : repeats (filter_map key_of list) ≡ false = cc (c.if-repeats.ensures, c.deref.ensures.value, c.in_ok-keys.ensures.keys) in
     let staked : stakes_in (length list) file ≡ Some stakes = rw length-map c.in_ok-stakes.ensures.stakes in
     let none : list_any (λ stake. nat_le (2 * sum stakes / 3 + 1) stake) stakes ≡ false = sym (rw c.deref-2.ensures.value at c.if-one_is_quorum.ensures) in
-    let read = answer-read file list stakes c.in-Some-Some-Some.depth c.in-Some-Some-Some.workers c.in-Some-Some-Some.batches c.in-Some.ensures size c.in_ok-keys.ensures.each distinct c.in-Some-Some-Some.ensures c.in-Some-Some-Some.ensures' c.in-Some-Some-Some.ensures'' staked in
+    let read = answer-read file list stakes c.in-Some-Some-Some.depth c.in-Some-Some-Some.workers c.in-Some-Some-Some.batches c.in-Some.ensures size
+    c.in_ok-keys.ensures.each distinct c.in-Some-Some-Some.ensures c.in-Some-Some-Some.ensures' c.in-Some-Some-Some.ensures'' staked in
     rw c.in_ok-keys.ensures.keys (rw none at read)
 
 pub invariant_of-result : goal.invariant_of-result
@@ -50,7 +52,8 @@ invariant_of-result c =
     let stakes = c.in_ok-stakes.stakes.items in
     let are = file-stakes (length c.in-Some.elements.now) file stakes c.in_ok-stakes.ensures.stakes in
     let size = size-bounds (has_stakes file) (length c.in-Some.elements.now) (search (rules, c.if-not-is_size.ensures, c.has_stakes.ensures)) in
-    let whole : length c.in_ok-keys.keys.items ≡ length c.in-Some.elements.now = ap length c.in_ok-keys.ensures.keys ∙ length-read key_of (map view c.in-Some.elements.now) c.in_ok-keys.ensures.each ∙ length-map c.in-Some.elements.now view in
+    let whole : length c.in_ok-keys.keys.items ≡ length c.in-Some.elements.now = ap length c.in_ok-keys.ensures.keys
+    ∙ length-read key_of (map view c.in-Some.elements.now) c.in_ok-keys.ensures.each ∙ length-map c.in-Some.elements.now view in
     let none : list_any (λ stake. nat_le (2 * sum stakes / 3 + 1) stake) stakes ≡ false = sym (rw c.deref-2.ensures.value at c.if-one_is_quorum.ensures) in
     record {
       size = rw whole size;
@@ -67,27 +70,31 @@ pub returns-then-not-is_size-clause-refused : goal.returns-then-not-is_size-clau
 returns-then-not-is_size-clause-refused c _ =
     let file = table_view c.args.table.now in
     let list = map view c.in-Some.elements.now in
-    let size : is_size (has_stakes file) (length list) ≡ false = ap (λ n. is_size (has_stakes file) n) (length-map c.in-Some.elements.now view) ∙ sym (c.if-not-is_size.ensures ∙ ap (λ s. is_size s (length c.in-Some.elements.now)) c.has_stakes.ensures) in
+    let size : is_size (has_stakes file) (length list) ≡ false = ap (λ n. is_size (has_stakes file) n) (length-map c.in-Some.elements.now view)
+    ∙ sym (c.if-not-is_size.ensures ∙ ap (λ s. is_size s (length c.in-Some.elements.now)) c.has_stakes.ensures) in
     answer-size file list c.in-Some.ensures size
 
 pub returns-in_err-keys-clause-memory : goal.returns-in_err-keys-clause-memory
 returns-in_err-keys-clause-memory c _ =
     let file = table_view c.args.table.now in
     let list = map view c.in-Some.elements.now in
-    let size : is_size (has_stakes file) (length list) ≡ true = ap (λ n. is_size (has_stakes file) n) (length-map c.in-Some.elements.now view) ∙ sym (c.if-not-is_size.ensures ∙ ap (λ s. is_size s (length c.in-Some.elements.now)) c.has_stakes.ensures) in
+    let size : is_size (has_stakes file) (length list) ≡ true = ap (λ n. is_size (has_stakes file) n) (length-map c.in-Some.elements.now view)
+    ∙ sym (c.if-not-is_size.ensures ∙ ap (λ s. is_size s (length c.in-Some.elements.now)) c.has_stakes.ensures) in
     good-size file list c.in-Some.ensures size
 
 pub returns-in_err-stakes-clause-memory : goal.returns-in_err-stakes-clause-memory
 returns-in_err-stakes-clause-memory c _ =
     let file = table_view c.args.table.now in
     let list = map view c.in-Some.elements.now in
-    let size : is_size (has_stakes file) (length list) ≡ true = ap (λ n. is_size (has_stakes file) n) (length-map c.in-Some.elements.now view) ∙ sym (c.if-not-is_size.ensures ∙ ap (λ s. is_size s (length c.in-Some.elements.now)) c.has_stakes.ensures) in
+    let size : is_size (has_stakes file) (length list) ≡ true = ap (λ n. is_size (has_stakes file) n) (length-map c.in-Some.elements.now view)
+    ∙ sym (c.if-not-is_size.ensures ∙ ap (λ s. is_size s (length c.in-Some.elements.now)) c.has_stakes.ensures) in
     good-size file list c.in-Some.ensures size
 
 pub returns-then-repeats-clause-refused : goal.returns-then-repeats-clause-refused
 returns-then-repeats-clause-refused c _ =
     let file = table_view c.args.table.now in
     let list = map view c.in-Some.elements.now in
-    let size : is_size (has_stakes file) (length list) ≡ true = ap (λ n. is_size (has_stakes file) n) (length-map c.in-Some.elements.now view) ∙ sym (c.if-not-is_size.ensures ∙ ap (λ s. is_size s (length c.in-Some.elements.now)) c.has_stakes.ensures) in
+    let size : is_size (has_stakes file) (length list) ≡ true = ap (λ n. is_size (has_stakes file) n) (length-map c.in-Some.elements.now view)
+    ∙ sym (c.if-not-is_size.ensures ∙ ap (λ s. is_size s (length c.in-Some.elements.now)) c.has_stakes.ensures) in
     let repeated : repeats (filter_map key_of list) ≡ true = cc (c.if-repeats.ensures, c.deref.ensures.value, c.in_ok-keys.ensures.keys) in
     answer-repeats file list c.in-Some.ensures size c.in_ok-keys.ensures.each repeated

@@ -10,6 +10,9 @@ returns-in-None-clause-cause c _ =
 
 pub loop-element-preserved : goal.loop-element-preserved
 loop-element-preserved c = record {
-  stakes = c.in_ok-push-in-Some.ensures.items ∙ ap (λ before. before ++ c.in-Some.stake ∷ []) c.loop-element.invariant.stakes ∙ sym (read_more stake_in c.args.elements.now c.loop-element.element-index c.element-item.result c.in-Some.stake c.loop-element-test.true c.element-item.is (sym c.in-Some.ensures));
-  each = each_more stake_in c.args.elements.now c.loop-element.element-index c.element-item.result c.in-Some.stake c.loop-element-test.true c.element-item.is (sym c.in-Some.ensures) c.loop-element.invariant.each;
+  stakes = c.in_ok-push-in-Some.ensures.items ∙ ap (λ before. before ++ c.in-Some.stake ∷ []) c.loop-element.invariant.stakes
+      ∙ sym (read_more stake_in c.args.elements.now c.loop-element.element-index c.element-item.result c.in-Some.stake c.loop-element-test.true
+      c.element-item.is (sym c.in-Some.ensures));
+  each = each_more stake_in c.args.elements.now c.loop-element.element-index c.element-item.result c.in-Some.stake c.loop-element-test.true
+      c.element-item.is (sym c.in-Some.ensures) c.loop-element.invariant.each;
 }

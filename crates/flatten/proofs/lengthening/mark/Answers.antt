@@ -41,7 +41,19 @@ exact c of round author =
     let all : length c.made.inside.ordered.items ≡ length made.ordered = ap (λ (m : LengtheningView). length m.ordered) c.made.view_is in
     let done : IsSoFar graph c.loop-place.dag made.last.0 c.loop-place.place made.ordered = subst (λ t. IsSoFar graph c.loop-place.dag t c.loop-place.place made.ordered) top c.loop-place.invariant in
     exact_marks graph c.loop-place.dag c.limits_hold.ensures made of c.loop-place.place
-    (let fine = c.made.inside.ordered.ok in omega (arith, c.loop-place-test.false, c.loop-place.auto.place-end, c.min-place-end.ensures, c.saturating_sub-rounds.ensures, c.len.ensures, top, lowest, all, fine))
+    (let fine = c.made.inside.ordered.ok in
+    omega (
+      arith,
+      c.loop-place-test.false,
+      c.loop-place.auto.place-end,
+      c.min-place-end.ensures,
+      c.saturating_sub-rounds.ensures,
+      c.len.ensures,
+      top,
+      lowest,
+      all,
+      fine,
+    ))
     done round author
 
 pub returns-clause-exact : goal.returns-clause-exact

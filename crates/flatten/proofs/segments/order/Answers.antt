@@ -16,8 +16,12 @@ returns-clause-digests c previous certificate leads =
     let bottom = c.lowest-bottom.result in
     let closed = closed_before graph c.limits_hold.ensures previous leader c.args.top free certificate leads bottom c.lowest-bottom.ensures in
     c.in_ok-put_digests.ensures
-    ∙ ap (λ (l : List MemberSet). before ++ (let first = max (leader.0 + 1 - length l) 1 in flat_map (λ r. digests_at graph r (is_in l (leader.0 - r))) (range_with_len first (leader.0 + 1 - first)))) c.deref.ensures.value
-    ∙ ap (λ l. before ++ l) (segment_is graph c.limits_hold.ensures previous leader c.args.top free ordered certificate leads bottom c.lowest-bottom.ensures c.in_ok-ordered.ensures.length (c.in_ok-ordered.ensures.sets closed))
+    ∙ ap (λ (l : List MemberSet). before
+    ++ (let first = max (leader.0 + 1 - length l) 1 in flat_map (λ r. digests_at graph r (is_in l (leader.0 - r)))
+    (range_with_len first (leader.0 + 1 - first)))) c.deref.ensures.value
+    ∙ ap (λ l. before ++ l)
+    (segment_is graph c.limits_hold.ensures previous leader c.args.top free ordered certificate leads bottom c.lowest-bottom.ensures
+    c.in_ok-ordered.ensures.length (c.in_ok-ordered.ensures.sets closed))
 
 pub returns-clause-reads : goal.returns-clause-reads
 returns-clause-reads c previous certificate leads =

@@ -20,7 +20,8 @@ first c certificate held = record {
 }
 
 -- who is free behind what the leader before reaches
-left_free : (c : goal.After-drop-taken-2) → AreUnordered c.args.dag.now (leader_held c.args.dag.now c.args.previous) (lowest_in c.args.dag.now c.args.leader.0) c.args.leader.0 (is_free c.args.dag.now c.args.leader.0 c.take_past.new.taken.items)
+left_free : (c : goal.After-drop-taken-2) → AreUnordered c.args.dag.now (leader_held c.args.dag.now c.args.previous)
+    (lowest_in c.args.dag.now c.args.leader.0) c.args.leader.0 (is_free c.args.dag.now c.args.leader.0 c.take_past.new.taken.items)
     → (certificate : Certificate) → slots_in c.args.dag.now c.args.leader.0 c.args.leader.1.0 ≡ Some certificate
     → Leads c.args.dag.now (leader_held c.args.dag.now c.args.previous) c.args.leader c.args.leader.0 (is_free c.args.dag.now c.args.leader.0 c.take_past.new.taken.items) certificate
 left_free c unordered certificate held = record { held = held; within = omega arith; unordered = unordered }
@@ -30,15 +31,18 @@ marked_leads : (c : goal.After-drop-taken-2) (certificate : Certificate) → slo
     → Leads c.args.dag.now (leader_held c.args.dag.now c.args.previous) c.args.leader c.args.leader.0 (is_free c.args.dag.now c.args.leader.0 c.take_past.new.taken.items) certificate
 marked_leads c certificate held marked =
     let graph = c.args.dag.now in
-    left_free c (first_sets graph c.args.previous c.args.leader certificate c.lowest-low.result (is_free graph c.args.leader.0 c.new-taken.result.items) (is_free graph c.args.leader.0 c.take_past.new.taken.items)
+    left_free c (first_sets graph c.args.previous c.args.leader certificate c.lowest-low.result
+    (is_free graph c.args.leader.0 c.new-taken.result.items) (is_free graph c.args.leader.0 c.take_past.new.taken.items)
     (first c certificate held) marked c.in_ok-past.ensures.sets (λ above r a. ap (λ l. is_free graph c.args.leader.0 l r a) (c.in_ok-past.ensures.same above))) certificate held
 
-chained_leads : (c : goal.After-drop-taken-2) (certificate : Certificate) → slots_in c.args.dag.now c.args.leader.0 c.args.leader.1.0 ≡ Some certificate → HasAllOf c.args.dag.now (leader_held c.args.dag.now c.args.previous) certificate
+chained_leads : (c : goal.After-drop-taken-2) (certificate : Certificate) → slots_in c.args.dag.now c.args.leader.0 c.args.leader.1.0
+    ≡ Some certificate → HasAllOf c.args.dag.now (leader_held c.args.dag.now c.args.previous) certificate
     → IsMarkedBefore c.args.dag.now (c.args.leader.0 - c.args.dag.now.charter.depth) (leader_held c.args.dag.now c.args.previous)
     → Leads c.args.dag.now (leader_held c.args.dag.now c.args.previous) c.args.leader c.args.leader.0 (is_free c.args.dag.now c.args.leader.0 c.take_past.new.taken.items) certificate
 chained_leads c certificate held all marked =
     let graph = c.args.dag.now in
-    left_free c (chained_sets graph c.args.previous c.args.leader certificate c.lowest-low.result (is_free graph c.args.leader.0 c.new-taken.result.items) (is_free graph c.args.leader.0 c.take_past.new.taken.items)
+    left_free c (chained_sets graph c.args.previous c.args.leader certificate c.lowest-low.result
+    (is_free graph c.args.leader.0 c.new-taken.result.items) (is_free graph c.args.leader.0 c.take_past.new.taken.items)
     (first c certificate held) all marked c.in_ok-past.ensures.sets) certificate held
 
 -- what was read
@@ -47,16 +51,22 @@ marked_count : (c : goal.After-drop-taken-2) (certificate : Certificate) → slo
     → c.in_ok-past.past + c.in_ok-reads.reads ≡ read_references_in c.args.dag.now (leader_held c.args.dag.now c.args.previous) certificate
 marked_count c certificate held marked =
     let graph = c.args.dag.now in
-    let none = first_reads graph c.args.previous c.args.leader certificate c.lowest-low.result c.in_ok-past.past (is_free graph c.args.leader.0 c.new-taken.result.items) (first c certificate held) marked c.in_ok-past.ensures.reads c.in_ok-past.ensures.unheld c.in_ok-past.ensures.none in
+    let none = first_reads graph c.args.previous c.args.leader certificate c.lowest-low.result c.in_ok-past.past
+    (is_free graph c.args.leader.0 c.new-taken.result.items) (first c certificate held) marked c.in_ok-past.ensures.reads
+    c.in_ok-past.ensures.unheld c.in_ok-past.ensures.none in
     let read = c.in_ok-reads.ensures.reads (leader_held graph c.args.previous) certificate (marked_leads c certificate held marked) in
     omega (arith, none, read)
 
-chained_count : (c : goal.After-drop-taken-2) (certificate : Certificate) → slots_in c.args.dag.now c.args.leader.0 c.args.leader.1.0 ≡ Some certificate → HasAllOf c.args.dag.now (leader_held c.args.dag.now c.args.previous) certificate
+chained_count : (c : goal.After-drop-taken-2) (certificate : Certificate) → slots_in c.args.dag.now c.args.leader.0 c.args.leader.1.0
+    ≡ Some certificate → HasAllOf c.args.dag.now (leader_held c.args.dag.now c.args.previous) certificate
     → IsMarkedBefore c.args.dag.now (c.args.leader.0 - c.args.dag.now.charter.depth) (leader_held c.args.dag.now c.args.previous)
-    → c.in_ok-past.past + c.in_ok-reads.reads ≡ read_references_in c.args.dag.now (leader_held c.args.dag.now c.args.previous) certificate + unmarked_references_in c.args.dag.now (lowest_in c.args.dag.now c.args.leader.0) (leader_held c.args.dag.now c.args.previous)
+    → c.in_ok-past.past + c.in_ok-reads.reads ≡ read_references_in c.args.dag.now (leader_held c.args.dag.now c.args.previous) certificate +
+    unmarked_references_in c.args.dag.now (lowest_in c.args.dag.now c.args.leader.0) (leader_held c.args.dag.now c.args.previous)
 chained_count c certificate held all marked =
     let graph = c.args.dag.now in
-    let more = chained_reads graph c.args.previous c.args.leader certificate c.lowest-low.result c.in_ok-past.past (is_free graph c.args.leader.0 c.new-taken.result.items) (first c certificate held) all marked c.in_ok-past.ensures.reads c.in_ok-past.ensures.unheld in
+    let more = chained_reads graph c.args.previous c.args.leader certificate c.lowest-low.result c.in_ok-past.past
+    (is_free graph c.args.leader.0 c.new-taken.result.items) (first c certificate held) all marked c.in_ok-past.ensures.reads
+    c.in_ok-past.ensures.unheld in
     let read = c.in_ok-reads.ensures.reads (leader_held graph c.args.previous) certificate (chained_leads c certificate held all marked) in
     omega (arith, more, read)
 
@@ -64,7 +74,8 @@ pub returns-clause-digests : goal.returns-clause-digests
 returns-clause-digests c certificate coins held marked =
     let graph = c.args.dag.now in
     let previous = leader_held graph c.args.previous in
-    c.in_ok-reads.ensures.digests previous certificate (marked_leads c certificate held marked) ∙ ap (λ (l : List Digest). l ++ digests_of (segment (ledger_in graph []) previous certificate)) c.new-digests.ensures.items
+    c.in_ok-reads.ensures.digests previous certificate (marked_leads c certificate held marked)
+    ∙ ap (λ (l : List Digest). l ++ digests_of (segment (ledger_in graph []) previous certificate)) c.new-digests.ensures.items
 
 pub returns-clause-reads : goal.returns-clause-reads
 returns-clause-reads c certificate held marked =
@@ -79,7 +90,8 @@ pub returns-clause-chained : goal.returns-clause-chained
 returns-clause-chained c certificate coins held all marked =
     let graph = c.args.dag.now in
     let previous = leader_held graph c.args.previous in
-    c.in_ok-reads.ensures.digests previous certificate (chained_leads c certificate held all marked) ∙ ap (λ (l : List Digest). l ++ digests_of (segment (ledger_in graph []) previous certificate)) c.new-digests.ensures.items
+    c.in_ok-reads.ensures.digests previous certificate (chained_leads c certificate held all marked)
+    ∙ ap (λ (l : List Digest). l ++ digests_of (segment (ledger_in graph []) previous certificate)) c.new-digests.ensures.items
 
 pub returns-clause-chained_reads : goal.returns-clause-chained_reads
 returns-clause-chained_reads c certificate held all marked =

@@ -20,7 +20,8 @@ returns-then-number-low-clause-sets c from round author above below =
       | then-number-low-via-then-number-low w ↦
           not_above graph c.limits_hold.ensures before.0 before.1.0 round author (omega (arith, w.if-number-low.true, c.number.ensures.value, above))
       | then-number-low-via-else-number-low+then-number w ↦
-          never_reached graph before c.args.top (from.within before c.in-Some.is) (omega (arith, w.if-number.true, w.number-else-number-low.ensures.value, w.number-else-number-low-2.ensures.value)) round author
+          never_reached graph before c.args.top (from.within before c.in-Some.is)
+          (omega (arith, w.if-number.true, w.number-else-number-low.ensures.value, w.number-else-number-low-2.ensures.value)) round author
       | then-number-low-via-else-number-low+else-number+then-is_none w ↦
           let none : is_some (slots_in graph before.0 before.1.0) ≡ false = ap is_some (sym w.get.ensures) ∙ some_copied w.get.result ∙ w.is_none.ensures ∙ ap not w.if-is_none.true in
           none_from graph before.0 before.1.0 round author (none_there (slots_in graph before.0 before.1.0) none)

@@ -23,8 +23,10 @@ closed_same c closed =
     subst (λ (f : ℕ → ℕ → Bool). AreClosed graph (leader + 1 - (c.number-round.result + 1 - c.args.bottom)) leader f) (sym (free_same c))
     (subst (λ b. AreClosed graph b leader (is_free graph c.args.top c.args.taken.now.items)) (sym (bottom_same c)) closed)
 
-walked_sets : (c : goal.After-number) → AreClosed c.args.dag.now c.args.bottom c.args.leader.0 (is_free c.args.dag.now c.args.top c.args.taken.now.items) → (place other : ℕ) → place < c.args.leader.0 + 1 - c.args.bottom
-    → is_in c.in_ok-walked.walked.items place other ≡ orders_in c.args.dag.now c.args.leader.0 c.args.leader.1.0 (is_free c.args.dag.now c.args.top c.args.taken.now.items) (c.args.leader.0 - place) other
+walked_sets : (c : goal.After-number) → AreClosed c.args.dag.now c.args.bottom c.args.leader.0
+    (is_free c.args.dag.now c.args.top c.args.taken.now.items) → (place other : ℕ) → place < c.args.leader.0 + 1 - c.args.bottom
+    → is_in c.in_ok-walked.walked.items place other ≡ orders_in c.args.dag.now c.args.leader.0 c.args.leader.1.0
+    (is_free c.args.dag.now c.args.top c.args.taken.now.items) (c.args.leader.0 - place) other
 walked_sets c closed place other within =
     let leader = c.args.leader in
     c.in_ok-walked.ensures.sets (closed_same c closed) place other (omega (arith, within, c.number-round.ensures.value))
@@ -56,7 +58,9 @@ returns-clause-taken c closed round other above below =
     let old = c.args.taken.now.items in
     walked_free graph c.limits_hold.ensures leader c.args.bottom c.args.top old c.put.new.sets.items walked c.requires.high (walked_sets c closed)
     (λ place author. c.in_ok-put.ensures place author
-    ∙ ap (λ (l : List MemberSet). is_in old place author || (nat_le (c.number-high.result - c.number-round.result) place && is_in l (place - (c.number-high.result - c.number-round.result)) author)) c.deref-2.ensures.value
+    ∙ ap (λ (l : List MemberSet). is_in old place author ||
+    (nat_le (c.number-high.result - c.number-round.result) place && is_in l (place - (c.number-high.result - c.number-round.result)) author))
+    c.deref-2.ensures.value
     ∙ ap (λ (t : ℕ). is_in old place author || (nat_le (t - c.number-round.result) place && is_in walked (place - (t - c.number-round.result)) author)) c.number-high.ensures.value
     ∙ ap (λ (t : ℕ). is_in old place author || (nat_le (c.args.top - t) place && is_in walked (place - (c.args.top - t)) author)) c.number-round.ensures.value)
     round other above below

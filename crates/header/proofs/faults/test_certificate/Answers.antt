@@ -48,7 +48,8 @@ returns-in_err-test_votes-clause-refused g c =
     let body = c.args.certificate.now.header in
     let member : is_member c.args.committee.now body.author ≡ true = search (rules, c.if-not-is_member.ensures) in
     let digest = is_vote_signed c.certificate_digest-certificate_digest.result c.header_digest-header.result body c.header_digest-header.ensures c.certificate_digest-certificate_digest.ensures in
-    let tested = behind_body c.args.committee.now (g.V.Verify.accepts c.args.verifier.now) c.args.certificate.now c.certificate_digest-certificate_digest.result _ member c.in_ok-test_body.ensures digest
+    let tested = behind_body c.args.committee.now (g.V.Verify.accepts c.args.verifier.now) c.args.certificate.now
+    c.certificate_digest-certificate_digest.result _ member c.in_ok-test_body.ensures digest
     c.in_err-test_votes.ensures in
     search (rules, c.from_residual-in_err-test_votes.ensures, tested)
 

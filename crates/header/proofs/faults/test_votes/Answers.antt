@@ -21,5 +21,6 @@ returns g c =
     let votes = c.args.votes.now in
     let enough : quorum_of c.args.committee.now ≤ sum_by (λ vote. named_weight c.args.committee.now vote.voter) votes = omega (arith, c.weight_of_votes.ensures, c.quorum.ensures) in
     let members : list_all (λ vote. is_member c.args.committee.now vote.voter) votes ≡ true = search (rules, rw c.as_slice-votes.ensures.value at c.if-not-voters_are_members.ensures) in
-    let signed : list_all (λ vote. is_signed c.args.committee.now (g.V.Verify.accepts c.args.verifier.now) vote.voter c.args.digest.now vote.signature) votes ≡ true = search (rules, rw c.as_slice-votes.ensures.value at c.if-not-votes_are_signed.ensures) in
+    let signed : list_all (λ vote. is_signed c.args.committee.now (g.V.Verify.accepts c.args.verifier.now) vote.voter c.args.digest.now
+    vote.signature) votes ≡ true = search (rules, rw c.as_slice-votes.ensures.value at c.if-not-votes_are_signed.ensures) in
     passes c.args.committee.now (g.V.Verify.accepts c.args.verifier.now) c.args.digest.now votes enough members signed

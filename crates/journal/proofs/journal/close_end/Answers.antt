@@ -14,7 +14,8 @@ returns-in_err-write_at-clause-any_moment g c =
     let old = c.args.disk.now in
     let at_start = started device old P (λ left now. ap stands (c.requires.firm left (g.met.D.Disk.only_now old left now))) in
     let short : length file < 2 = omega (arith, c.requires.len, c.if-len-lt2.true) in
-    let torn = from_only (IsTorn 0 1) file (g.D.Disk.device.outcome old) (g.D.Disk.device.outcome c.write_at.new.self) P c.requires.firm c.write_at.ensures.outcomes (torn_short file c.args.gate c.requires.found short) in
+    let torn = from_only (IsTorn 0 1) file (g.D.Disk.device.outcome old) (g.D.Disk.device.outcome c.write_at.new.self) P c.requires.firm
+    c.write_at.ensures.outcomes (torn_short file c.args.gate c.requires.found short) in
     let one = goes_on device old old c.write_at.new.self P (g.D.Disk.device.outcome c.write_at.new.self) at_start c.write_at.ensures.time torn in
     one
 
@@ -26,7 +27,8 @@ returns-in_err-sync-clause-any_moment g c =
     let old = c.args.disk.now in
     let at_start = started device old P (λ left now. ap stands (c.requires.firm left (g.met.D.Disk.only_now old left now))) in
     let short : length file < 2 = omega (arith, c.requires.len, c.if-len-lt2.true) in
-    let torn = from_only (IsTorn 0 1) file (g.D.Disk.device.outcome old) (g.D.Disk.device.outcome c.write_at.new.self) P c.requires.firm c.write_at.ensures.outcomes (torn_short file c.args.gate c.requires.found short) in
+    let torn = from_only (IsTorn 0 1) file (g.D.Disk.device.outcome old) (g.D.Disk.device.outcome c.write_at.new.self) P c.requires.firm
+    c.write_at.ensures.outcomes (torn_short file c.args.gate c.requires.found short) in
     let one = goes_on device old old c.write_at.new.self P (g.D.Disk.device.outcome c.write_at.new.self) at_start c.write_at.ensures.time torn in
     goes_on device old c.write_at.new.self c.sync.new.self P (g.D.Disk.device.outcome c.sync.new.self) one c.sync.ensures.time (λ left now. torn left (c.sync.ensures.outcomes left now))
 
@@ -38,7 +40,8 @@ returns-in_ok-sync-clause-any_moment g c =
     let old = c.args.disk.now in
     let at_start = started device old P (λ left now. ap stands (c.requires.firm left (g.met.D.Disk.only_now old left now))) in
     let short : length file < 2 = omega (arith, c.requires.len, c.if-len-lt2.true) in
-    let torn = from_only (IsTorn 0 1) file (g.D.Disk.device.outcome old) (g.D.Disk.device.outcome c.write_at.new.self) P c.requires.firm c.write_at.ensures.outcomes (torn_short file c.args.gate c.requires.found short) in
+    let torn = from_only (IsTorn 0 1) file (g.D.Disk.device.outcome old) (g.D.Disk.device.outcome c.write_at.new.self) P c.requires.firm
+    c.write_at.ensures.outcomes (torn_short file c.args.gate c.requires.found short) in
     let one = goes_on device old old c.write_at.new.self P (g.D.Disk.device.outcome c.write_at.new.self) at_start c.write_at.ensures.time torn in
     goes_on device old c.write_at.new.self c.sync.new.self P (g.D.Disk.device.outcome c.sync.new.self) one c.sync.ensures.time (λ left now. torn left (c.sync.ensures.outcomes left now))
 
@@ -50,7 +53,8 @@ returns-in_err-cut-clause-any_moment g c =
     let old = c.args.disk.now in
     let at_start = started device old P (λ left now. ap stands (c.requires.firm left (g.met.D.Disk.only_now old left now))) in
     let long : 2 ≤ length file = omega (arith, c.requires.len, c.if-len-lt2.false) in
-    let torn = from_only (IsCut (c.args.gate + 1)) file (g.D.Disk.device.outcome old) (g.D.Disk.device.outcome c.cut.new.self) P c.requires.firm c.cut.ensures.outcomes (cut_keeps file c.args.gate c.requires.found long) in
+    let torn = from_only (IsCut (c.args.gate + 1)) file (g.D.Disk.device.outcome old) (g.D.Disk.device.outcome c.cut.new.self) P c.requires.firm
+    c.cut.ensures.outcomes (cut_keeps file c.args.gate c.requires.found long) in
     let one = goes_on device old old c.cut.new.self P (g.D.Disk.device.outcome c.cut.new.self) at_start c.cut.ensures.time torn in
     one
 
@@ -62,9 +66,11 @@ returns-in_err-sync-2-clause-any_moment g c =
     let old = c.args.disk.now in
     let at_start = started device old P (λ left now. ap stands (c.requires.firm left (g.met.D.Disk.only_now old left now))) in
     let long : 2 ≤ length file = omega (arith, c.requires.len, c.if-len-lt2.false) in
-    let torn = from_only (IsCut (c.args.gate + 1)) file (g.D.Disk.device.outcome old) (g.D.Disk.device.outcome c.cut.new.self) P c.requires.firm c.cut.ensures.outcomes (cut_keeps file c.args.gate c.requires.found long) in
+    let torn = from_only (IsCut (c.args.gate + 1)) file (g.D.Disk.device.outcome old) (g.D.Disk.device.outcome c.cut.new.self) P c.requires.firm
+    c.cut.ensures.outcomes (cut_keeps file c.args.gate c.requires.found long) in
     let one = goes_on device old old c.cut.new.self P (g.D.Disk.device.outcome c.cut.new.self) at_start c.cut.ensures.time torn in
-    goes_on device old c.cut.new.self c.sync-then-len-gate.new.self P (g.D.Disk.device.outcome c.sync-then-len-gate.new.self) one c.sync-then-len-gate.ensures.time (λ left now. torn left (c.sync-then-len-gate.ensures.outcomes left now))
+    goes_on device old c.cut.new.self c.sync-then-len-gate.new.self P (g.D.Disk.device.outcome c.sync-then-len-gate.new.self) one
+    c.sync-then-len-gate.ensures.time (λ left now. torn left (c.sync-then-len-gate.ensures.outcomes left now))
 
 pub returns-in_ok-sync-2-clause-any_moment : goal.returns-in_ok-sync-2-clause-any_moment
 returns-in_ok-sync-2-clause-any_moment g c =
@@ -74,9 +80,11 @@ returns-in_ok-sync-2-clause-any_moment g c =
     let old = c.args.disk.now in
     let at_start = started device old P (λ left now. ap stands (c.requires.firm left (g.met.D.Disk.only_now old left now))) in
     let long : 2 ≤ length file = omega (arith, c.requires.len, c.if-len-lt2.false) in
-    let torn = from_only (IsCut (c.args.gate + 1)) file (g.D.Disk.device.outcome old) (g.D.Disk.device.outcome c.cut.new.self) P c.requires.firm c.cut.ensures.outcomes (cut_keeps file c.args.gate c.requires.found long) in
+    let torn = from_only (IsCut (c.args.gate + 1)) file (g.D.Disk.device.outcome old) (g.D.Disk.device.outcome c.cut.new.self) P c.requires.firm
+    c.cut.ensures.outcomes (cut_keeps file c.args.gate c.requires.found long) in
     let one = goes_on device old old c.cut.new.self P (g.D.Disk.device.outcome c.cut.new.self) at_start c.cut.ensures.time torn in
-    goes_on device old c.cut.new.self c.sync-then-len-gate.new.self P (g.D.Disk.device.outcome c.sync-then-len-gate.new.self) one c.sync-then-len-gate.ensures.time (λ left now. torn left (c.sync-then-len-gate.ensures.outcomes left now))
+    goes_on device old c.cut.new.self c.sync-then-len-gate.new.self P (g.D.Disk.device.outcome c.sync-then-len-gate.new.self) one
+    c.sync-then-len-gate.ensures.time (λ left now. torn left (c.sync-then-len-gate.ensures.outcomes left now))
 
 pub returns-in_ok-sync-clause-ends_closed : goal.returns-in_ok-sync-clause-ends_closed
 returns-in_ok-sync-clause-ends_closed g c =

@@ -26,7 +26,8 @@ returns-in_err-read_at-clause-any_moment g c =
     let device = g.D.Disk.device in
     let at_start = started device old P (g.met.D.Disk.only_now old) in
     let one = goes_on device old old c.len.new.self P (g.D.Disk.device.outcome c.len.new.self) at_start c.len.ensures.time c.len.ensures.outcomes in
-    goes_on device old c.len.new.self c.read_at.new.self P (g.D.Disk.device.outcome c.read_at.new.self) one c.read_at.ensures.time (λ left now. c.len.ensures.outcomes left (c.read_at.ensures.outcomes left now))
+    goes_on device old c.len.new.self c.read_at.new.self P (g.D.Disk.device.outcome c.read_at.new.self) one c.read_at.ensures.time
+    (λ left now. c.len.ensures.outcomes left (c.read_at.ensures.outcomes left now))
 
 pub returns-clause-any_moment : goal.returns-clause-any_moment
 returns-clause-any_moment g c =
@@ -35,7 +36,8 @@ returns-clause-any_moment g c =
     let device = g.D.Disk.device in
     let at_start = started device old P (g.met.D.Disk.only_now old) in
     let one = goes_on device old old c.len.new.self P (g.D.Disk.device.outcome c.len.new.self) at_start c.len.ensures.time c.len.ensures.outcomes in
-    goes_on device old c.len.new.self c.read_at.new.self P (g.D.Disk.device.outcome c.read_at.new.self) one c.read_at.ensures.time (λ left now. c.len.ensures.outcomes left (c.read_at.ensures.outcomes left now))
+    goes_on device old c.len.new.self c.read_at.new.self P (g.D.Disk.device.outcome c.read_at.new.self) one c.read_at.ensures.time
+    (λ left now. c.len.ensures.outcomes left (c.read_at.ensures.outcomes left now))
 
 pub returns-clause-bytes : goal.returns-clause-bytes
 returns-clause-bytes g c =

@@ -55,7 +55,8 @@ returns-in_err-write_at-2-clause-any_moment g c =
     let firm : LeavesOnly (file ++ group_bytes c.args.group.now) (g.D.Disk.device.outcome c.sync.new.self) =
     subst (λ (l : List ℕ). LeavesOnly l (g.D.Disk.device.outcome c.sync.new.self)) staged c.in_ok-sync.ensures.firm in
     let opens : (left : List ℕ) → g.D.Disk.device.outcome c.write_at-2.new.self left → P left =
-    from_only (IsTorn (c.args.len - 1) 1) (file ++ group_bytes c.args.group.now) (g.D.Disk.device.outcome c.sync.new.self) (g.D.Disk.device.outcome c.write_at-2.new.self) P firm c.write_at-2.ensures.outcomes
+    from_only (IsTorn (c.args.len - 1) 1) (file ++ group_bytes c.args.group.now) (g.D.Disk.device.outcome c.sync.new.self)
+    (g.D.Disk.device.outcome c.write_at-2.new.self) P firm c.write_at-2.ensures.outcomes
     (λ left torn. torn_gate file c.requires.ends_closed c.args.group.now fits left (subst (λ (n : ℕ). IsTorn n 1 (file ++ group_bytes c.args.group.now) left) gate torn)) in
     let three = goes_on device old c.sync.new.self c.write_at-2.new.self P (g.D.Disk.device.outcome c.write_at-2.new.self) two c.write_at-2.ensures.time opens in
     three
@@ -80,7 +81,8 @@ returns-in_err-sync-2-clause-any_moment g c =
     let firm : LeavesOnly (file ++ group_bytes c.args.group.now) (g.D.Disk.device.outcome c.sync.new.self) =
     subst (λ (l : List ℕ). LeavesOnly l (g.D.Disk.device.outcome c.sync.new.self)) staged c.in_ok-sync.ensures.firm in
     let opens : (left : List ℕ) → g.D.Disk.device.outcome c.write_at-2.new.self left → P left =
-    from_only (IsTorn (c.args.len - 1) 1) (file ++ group_bytes c.args.group.now) (g.D.Disk.device.outcome c.sync.new.self) (g.D.Disk.device.outcome c.write_at-2.new.self) P firm c.write_at-2.ensures.outcomes
+    from_only (IsTorn (c.args.len - 1) 1) (file ++ group_bytes c.args.group.now) (g.D.Disk.device.outcome c.sync.new.self)
+    (g.D.Disk.device.outcome c.write_at-2.new.self) P firm c.write_at-2.ensures.outcomes
     (λ left torn. torn_gate file c.requires.ends_closed c.args.group.now fits left (subst (λ (n : ℕ). IsTorn n 1 (file ++ group_bytes c.args.group.now) left) gate torn)) in
     let three = goes_on device old c.sync.new.self c.write_at-2.new.self P (g.D.Disk.device.outcome c.write_at-2.new.self) two c.write_at-2.ensures.time opens in
     goes_on device old c.write_at-2.new.self c.sync-2.new.self P (g.D.Disk.device.outcome c.sync-2.new.self) three c.sync-2.ensures.time (λ left now. opens left (c.sync-2.ensures.outcomes left now))
@@ -105,7 +107,8 @@ returns-clause-any_moment g c =
     let firm : LeavesOnly (file ++ group_bytes c.args.group.now) (g.D.Disk.device.outcome c.sync.new.self) =
     subst (λ (l : List ℕ). LeavesOnly l (g.D.Disk.device.outcome c.sync.new.self)) staged c.in_ok-sync.ensures.firm in
     let opens : (left : List ℕ) → g.D.Disk.device.outcome c.write_at-2.new.self left → P left =
-    from_only (IsTorn (c.args.len - 1) 1) (file ++ group_bytes c.args.group.now) (g.D.Disk.device.outcome c.sync.new.self) (g.D.Disk.device.outcome c.write_at-2.new.self) P firm c.write_at-2.ensures.outcomes
+    from_only (IsTorn (c.args.len - 1) 1) (file ++ group_bytes c.args.group.now) (g.D.Disk.device.outcome c.sync.new.self)
+    (g.D.Disk.device.outcome c.write_at-2.new.self) P firm c.write_at-2.ensures.outcomes
     (λ left torn. torn_gate file c.requires.ends_closed c.args.group.now fits left (subst (λ (n : ℕ). IsTorn n 1 (file ++ group_bytes c.args.group.now) left) gate torn)) in
     let three = goes_on device old c.sync.new.self c.write_at-2.new.self P (g.D.Disk.device.outcome c.write_at-2.new.self) two c.write_at-2.ensures.time opens in
     goes_on device old c.write_at-2.new.self c.sync-2.new.self P (g.D.Disk.device.outcome c.sync-2.new.self) three c.sync-2.ensures.time (λ left now. opens left (c.sync-2.ensures.outcomes left now))
@@ -117,7 +120,8 @@ returns-clause-ends_closed g c =
     let bytes_are : c.bytes.result.now ≡ group_bytes c.args.group.now = c.bytes.ensures.bytes in
     let staged : g.D.Disk.device.content c.write_at.new.self ≡ file ++ group_bytes c.args.group.now =
     staged_by file c.requires.ends_closed c.args.group.now fits c.args.len c.bytes.result.now _ c.requires.len bytes_are c.in_ok-write_at.ensures.content in
-    let new_is = added file c.requires.ends_closed c.args.group.now fits c.args.len _ _ _ (λ shut. omega arith) c.requires.len (c.sync.ensures.content ∙ staged) (c.sync-2.ensures.content ∙ c.in_ok-write_at-2.ensures.content) in
+    let new_is = added file c.requires.ends_closed c.args.group.now fits c.args.len _ _ _ (λ shut. omega arith) c.requires.len
+    (c.sync.ensures.content ∙ staged) (c.sync-2.ensures.content ∙ c.in_ok-write_at-2.ensures.content) in
     new_is.ends_closed
 
 pub returns-clause-len : goal.returns-clause-len
@@ -127,7 +131,8 @@ returns-clause-len g c =
     let bytes_are : c.bytes.result.now ≡ group_bytes c.args.group.now = c.bytes.ensures.bytes in
     let staged : g.D.Disk.device.content c.write_at.new.self ≡ file ++ group_bytes c.args.group.now =
     staged_by file c.requires.ends_closed c.args.group.now fits c.args.len c.bytes.result.now _ c.requires.len bytes_are c.in_ok-write_at.ensures.content in
-    let new_is = added file c.requires.ends_closed c.args.group.now fits c.args.len _ _ _ (λ shut. omega arith) c.requires.len (c.sync.ensures.content ∙ staged) (c.sync-2.ensures.content ∙ c.in_ok-write_at-2.ensures.content) in
+    let new_is = added file c.requires.ends_closed c.args.group.now fits c.args.len _ _ _ (λ shut. omega arith) c.requires.len
+    (c.sync.ensures.content ∙ staged) (c.sync-2.ensures.content ∙ c.in_ok-write_at-2.ensures.content) in
     omega (arith, new_is.size, c.requires.len, length-group c.args.group.now)
 
 pub returns-clause-records : goal.returns-clause-records
@@ -137,7 +142,8 @@ returns-clause-records g c =
     let bytes_are : c.bytes.result.now ≡ group_bytes c.args.group.now = c.bytes.ensures.bytes in
     let staged : g.D.Disk.device.content c.write_at.new.self ≡ file ++ group_bytes c.args.group.now =
     staged_by file c.requires.ends_closed c.args.group.now fits c.args.len c.bytes.result.now _ c.requires.len bytes_are c.in_ok-write_at.ensures.content in
-    let new_is = added file c.requires.ends_closed c.args.group.now fits c.args.len _ _ _ (λ shut. omega arith) c.requires.len (c.sync.ensures.content ∙ staged) (c.sync-2.ensures.content ∙ c.in_ok-write_at-2.ensures.content) in
+    let new_is = added file c.requires.ends_closed c.args.group.now fits c.args.len _ _ _ (λ shut. omega arith) c.requires.len
+    (c.sync.ensures.content ∙ staged) (c.sync-2.ensures.content ∙ c.in_ok-write_at-2.ensures.content) in
     new_is.records
 
 pub returns-clause-content : goal.returns-clause-content
@@ -147,5 +153,6 @@ returns-clause-content g c =
     let bytes_are : c.bytes.result.now ≡ group_bytes c.args.group.now = c.bytes.ensures.bytes in
     let staged : g.D.Disk.device.content c.write_at.new.self ≡ file ++ group_bytes c.args.group.now =
     staged_by file c.requires.ends_closed c.args.group.now fits c.args.len c.bytes.result.now _ c.requires.len bytes_are c.in_ok-write_at.ensures.content in
-    let new_is = added file c.requires.ends_closed c.args.group.now fits c.args.len _ _ _ (λ shut. omega arith) c.requires.len (c.sync.ensures.content ∙ staged) (c.sync-2.ensures.content ∙ c.in_ok-write_at-2.ensures.content) in
+    let new_is = added file c.requires.ends_closed c.args.group.now fits c.args.len _ _ _ (λ shut. omega arith) c.requires.len
+    (c.sync.ensures.content ∙ staged) (c.sync-2.ensures.content ∙ c.in_ok-write_at-2.ensures.content) in
     new_is.content

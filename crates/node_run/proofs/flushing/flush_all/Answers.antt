@@ -8,7 +8,6 @@ use Rattle.node_run.specs.Ends.{TellsJournal}
 use Rattle.node_run.proofs.Flushed.{told_on}
 use Rattle.node_run.proofs.Moments.{all_on}
 use Rattle.node_seats.proofs.Beginnings.{begins_trans}
-use Rattle.validator.specs.Setting.{node_of}
 use Rattle.node_run.proofs.flushing.flush_all.Goals as goal
 
 pub loop-preserved : goal.loop-preserved

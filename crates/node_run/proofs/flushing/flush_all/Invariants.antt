@@ -3,7 +3,6 @@ use Rattle.std.specs.Prelude.{◌⊎◌}
 use Rattle.diskmodel.specs.Disk.{AtEachMoment}
 use Rattle.node_run.specs.Runs.{HoldsMore}
 use Rattle.wire.specs.Lists.{Begins}
-use Rattle.validator.specs.Setting.{node_of}
 use Rattle.journal.specs.Journal.{disk_of}
 use Rattle.flusher.specs.Rounds.{journal_of, is_down, settled_in, taken_in, HasNoRoom}
 use Rattle.node_run.specs.Ends.{TellsJournal}

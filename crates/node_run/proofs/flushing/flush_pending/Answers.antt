@@ -4,7 +4,6 @@ use Rattle.flusher.specs.Rounds.{settled_in, taken_in}
 use Rattle.book.specs.declared.own.error.FlushError.TheVariants as flush
 use Rattle.node_seats.proofs.Beginnings.{begins_trans}
 use Rattle.wire.specs.Lists.{Begins}
-use Rattle.validator.specs.Setting.{node_of}
 use Rattle.node_run.proofs.Moments.{begins_taken, ok_is_up, up_is_up, round_on}
 use Rattle.node_run.proofs.Flushed.{nothing_left, of_ok, never_ok, stays_up}
 use Rattle.node_run.proofs.flushing.flush_pending.Goals as goal
@@ -26,14 +25,16 @@ loop-preserved g c =
       begins_trans _ _ _ c.loop.invariant.4 round.ensures.told.more,
       λ down. absurd (never_ok round.result c.in-Ok.field-0 _ c.in-Ok.is round.ensures.down.down (subst IsTrue (sym c.loop.invariant.3) down)),
       round.ensures.node ∙ c.loop.invariant.6,
-      begins_trans (settled_in first) (settled_in now) (settled_in later) c.loop.invariant.7 (subst (Begins (settled_in now)) (sym (of_ok round.result c.in-Ok.field-0 c.in-Ok.is round.ensures.settles.settled)) takes),
+      begins_trans (settled_in first) (settled_in now) (settled_in later) c.loop.invariant.7
+          (subst (Begins (settled_in now)) (sym (of_ok round.result c.in-Ok.field-0 c.in-Ok.is round.ensures.settles.settled)) takes),
       inr leaves,
     )
 
 pub returns-in-Ok-eq0-clause-all : goal.returns-in-Ok-eq0-clause-all
 returns-in-Ok-eq0-clause-all g c = λ up fine.
     let round = c.round-round in
-    nothing_left _ _ _ _ _ round.result (c.in-Ok-eq0.is ∙ ap Ok (sym c.in-Ok-eq0.field-0-is ∙ c.in-Ok-eq0.field-0-test)) c.loop.invariant.4 round.ensures.settles.takes round.ensures.settles.size round.ensures.settles.settled
+    nothing_left _ _ _ _ _ round.result (c.in-Ok-eq0.is ∙ ap Ok (sym c.in-Ok-eq0.field-0-is ∙ c.in-Ok-eq0.field-0-test)) c.loop.invariant.4
+    round.ensures.settles.takes round.ensures.settles.size round.ensures.settles.settled
 
 pub returns-in-Ok-eq0-clause-stays : goal.returns-in-Ok-eq0-clause-stays
 returns-in-Ok-eq0-clause-stays g c = λ down.
@@ -47,7 +48,8 @@ returns-in-Ok-eq0-clause-more g c =
     let now = c.loop.rounds.flusher in
     let later = round.new.self.flusher in
     let takes = begins_taken _ (settled_in now) (taken_in later) round.result (ok_is_up round.result 0 ok) round.ensures.settles.takes (λ none. (round.ensures.settles.memory none).1) in
-    begins_trans (settled_in c.args.rounds.now.flusher) (settled_in now) (settled_in later) c.loop.invariant.7 (subst (Begins (settled_in now)) (sym (of_ok round.result 0 ok round.ensures.settles.settled)) takes)
+    begins_trans (settled_in c.args.rounds.now.flusher) (settled_in now) (settled_in later) c.loop.invariant.7
+    (subst (Begins (settled_in now)) (sym (of_ok round.result 0 ok round.ensures.settles.settled)) takes)
 
 pub returns-in-Ok-eq0-clause-any_moment : goal.returns-in-Ok-eq0-clause-any_moment
 returns-in-Ok-eq0-clause-any_moment g c = λ was_up.

@@ -5,7 +5,6 @@ use Rattle.wire.specs.Lists.{Begins}
 use Rattle.diskmodel.specs.Disk.{AtEachMoment}
 use Rattle.flusher.specs.Rounds.{journal_of, is_down, settled_in}
 use Rattle.node_run.specs.Runs.{HoldsMore}
-use Rattle.validator.specs.Setting.{node_of}
 use Rattle.node_run.proofs.flushing.flush_pending.Given as goal
 
 abbrev pub invariant-loop : goal.invariant-loop

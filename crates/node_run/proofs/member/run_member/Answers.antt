@@ -25,12 +25,12 @@ returns-in-Ok-new g c =
     let disk : disk_of (journal_of rounds.flusher) ≡ disk_of (journal_of c.in-Ok.started.2) = ap (λ (f : Flusher g.row.D.Denot). disk_of (journal_of f)) flusher in
     let up : is_down rounds.flusher ≡ false = ap (λ (f : Flusher g.row.D.Denot). is_down f) flusher ∙ started.up in
     let nothing : settled_in rounds.flusher ≡ [] = ap (λ (f : Flusher g.row.D.Denot). settled_in f) flusher ∙ started.nothing_settled.0 in
-    let leaves = subst (λ (settled : List Marked). IfSome left (λ later. AtEachMoment g.D.Disk.device (disk_of (journal_of rounds.flusher)) later (HoldsMore nodes rounds.node settled)))
+    let leaves = subst (λ (settled : List Marked). IfSome left (λ later. AtEachMoment g.D.Disk.device (disk_of (journal_of rounds.flusher)) later (HoldsMore g.S.Sign.scheme rounds.node settled)))
     nothing (c.run_threads-disk.ensures.any_moment up) in
-    let opening = subst (λ (d : g.row.D.Denot). AtEachMoment g.D.Disk.device c.args.disk d (IsToldAsOneOf node (g.D.Disk.device.outcome c.args.disk))) (sym disk) started.any_moment in
+    let opening = subst (λ (d : g.row.D.Denot). AtEachMoment g.D.Disk.device c.args.disk d (IsToldAsOneOf node (g.D.Disk.device.outcome c.args.disk))) (sym disk) started.opening.any_moment in
     subst (λ (ending : Ending). RunsOver node g.D.Disk.device c.args.disk ending left) (sym c.ending.ensures)
-    (ended nodes g.D.Disk.device rounds.node node c.args.disk (disk_of (journal_of rounds.flusher)) c.run_threads-disk.result.0 left
+    (ended g.S.Sign.scheme g.D.Disk.device rounds.node node c.args.disk (disk_of (journal_of rounds.flusher)) c.run_threads-disk.result.0 left
     (ap (λ (s : NodeView g.row.S.Denot). nodes s.setting) shared ∙ ap nodes started.setting)
     (started.begins ∙ ap (λ (s : NodeView g.row.S.Denot). Ok s.start) (sym shared))
-    (ap g.D.Disk.device.faults disk ∙ started.cause.0)
+    (ap g.D.Disk.device.faults disk ∙ started.opening.cause.0)
     c.run_threads-disk.ensures.told c.run_threads-disk.ensures.lost opening leaves)

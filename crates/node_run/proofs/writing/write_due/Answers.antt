@@ -38,7 +38,8 @@ loop-preserved g c =
       stays,
       same,
       begins_trans _ _ _ c.loop.invariant.4 c.write_next.ensures.more,
-      one_more (MayGo node later) next.output c.args.sink.now.faults c.loop.sink.faults c.write_next.new.sink.faults old cur (writer_contents g.W.Write.contents c.write_next.new.sink.writer) so_far may next.puts,
+      one_more (MayGo node later) next.output c.args.sink.now.faults c.loop.sink.faults c.write_next.new.sink.faults old cur
+          (writer_contents g.W.Write.contents c.write_next.new.sink.writer) so_far may next.puts,
     )
 
 pub returns-then-not-write_next-clause-only : goal.returns-then-not-write_next-clause-only
@@ -50,5 +51,6 @@ returns-then-not-write_next-clause-only g c =
     (may_go_yet node c.loop.caller.seat.view later c.write_next.ensures.same.start c.write_next.ensures.more) c.loop.invariant.5 in
     let so_far_now = subst (λ sink. WritesOnly (MayGo node later) c.args.sink.now.faults sink.faults old (writer_contents g.W.Write.contents sink.writer))
     (sym (c.write_next.ensures.none c.if-not-write_next.true)) so_far in
-    no_more (MayGo node later) c.args.sink.now.faults c.write_next.new.sink.faults c.flush.new.self.faults old (writer_contents g.W.Write.contents c.write_next.new.sink.writer) (writer_contents g.W.Write.contents c.flush.new.self.writer)
+    no_more (MayGo node later) c.args.sink.now.faults c.write_next.new.sink.faults c.flush.new.self.faults old
+    (writer_contents g.W.Write.contents c.write_next.new.sink.writer) (writer_contents g.W.Write.contents c.flush.new.self.writer)
     so_far_now c.flush.ensures.broken c.flush.ensures.faults c.flush.ensures.bytes

@@ -32,7 +32,8 @@ loop-preserved g c =
     let new = writer_contents g.W.Write.contents c.write_due.new.sink.writer in
     let so_far = weaker (MayGo node c.loop.caller.seat.view) (MayGo node later) c.args.sink.now.faults c.loop.sink.faults old cur
     (may_go_yet node c.loop.caller.seat.view later c.write_due.ensures.same.start c.write_due.ensures.more) c.loop.invariant.5 in
-    let then_on = subst (λ it. WritesOnly (MayGo (node_of g.S.Sign.scheme it.setting) later) c.loop.sink.faults c.write_due.new.sink.faults cur new) c.loop.invariant.2.node c.write_due.ensures.only in (
+    let then_on = subst (λ it. WritesOnly (MayGo (node_of g.S.Sign.scheme it.setting) later) c.loop.sink.faults c.write_due.new.sink.faults cur new)
+    c.loop.invariant.2.node c.write_due.ensures.only in (
       tt,
       tt,
       stays,

@@ -12,4 +12,5 @@ invariant-loop g l =
     × StaysWith l.initial.caller l.caller
     × IsSame l.initial.caller.seat l.caller.seat
     × Begins l.initial.caller.seat.view.firm l.caller.seat.view.firm
-    × WritesOnly (MayGo (node_of g.S.Sign.scheme l.initial.caller.node.setting) l.caller.seat.view) l.initial.sink.faults l.sink.faults (writer_contents g.W.Write.contents l.initial.sink.writer) (writer_contents g.W.Write.contents l.sink.writer)
+    × WritesOnly (MayGo (node_of g.S.Sign.scheme l.initial.caller.node.setting) l.caller.seat.view) l.initial.sink.faults l.sink.faults
+    (writer_contents g.W.Write.contents l.initial.sink.writer) (writer_contents g.W.Write.contents l.sink.writer)

@@ -19,12 +19,15 @@ returns-in-Ok-clause-found c =
     let bytes = c.args.bytes.now in
     c.passed.ensures.found
     ∙ (λ i. if_passed charter (record { sender = record { 0 = c.from_be_bytes.ensures i }; message = c.in-Ok.message }))
-    ∙ sym (event_is charter bytes c.if-bytes-lt-FRONT_BYTES.false c.if-bytes-ne-EVENT.false ∙ ap (checked_in charter (sender_in bytes)) (ap message_of (sym (take_rest bytes 3)) ∙ c.in-Ok.ensures.fault))
+    ∙ sym (event_is charter bytes c.if-bytes-lt-FRONT_BYTES.false c.if-bytes-ne-EVENT.false ∙ ap (checked_in charter (sender_in bytes))
+    (ap message_of (sym (take_rest bytes 3)) ∙ c.in-Ok.ensures.fault))
 
 pub returns-in-Err-clause-found : goal.returns-in-Err-clause-found
 returns-in-Err-clause-found c =
     let charter = c.args.committee.now in
     let bytes = c.args.bytes.now in
     ok_weaker c.unread.result _ _
-    (λ found is. is.0 ∙ sym (event_is charter bytes c.if-bytes-lt-FRONT_BYTES.false c.if-bytes-ne-EVENT.false ∙ unread_none charter (sender_in bytes) c.in-Err.error (message_of (drop 3 bytes)) (subst (λ r. Faults c.in-Err.error r) (ap message_of (take_rest bytes 3)) c.in-Err.ensures.fault) is.1))
+    (λ found is. is.0 ∙ sym (event_is charter bytes c.if-bytes-lt-FRONT_BYTES.false c.if-bytes-ne-EVENT.false
+    ∙ unread_none charter (sender_in bytes) c.in-Err.error (message_of (drop 3 bytes))
+    (subst (λ r. Faults c.in-Err.error r) (ap message_of (take_rest bytes 3)) c.in-Err.ensures.fault) is.1))
     c.unread.ensures

@@ -25,13 +25,15 @@ returns-in_err-validator-clause-err g c =
     let file = g.D.Disk.device.content (disk_of c.args.journal.now) in
     let p = err_from_is_err_and c.from_residual.result c.from_residual.ensures.1 in
     rw (p.1, p.2)
-    (λ other. tells_same c.in_err-validator.field-0.0 (read_journal node c.args.records.now) (told node file) (sym (told_records node file c.args.records.now c.requires.records)) c.in_err-validator.ensures.err)
+    (λ other. tells_same c.in_err-validator.field-0.0 (read_journal node c.args.records.now) (told node file)
+    (sym (told_records node file c.args.records.now c.requires.records)) c.in_err-validator.ensures.err)
 
 pub returns-clause-stands : goal.returns-clause-stands
 returns-clause-stands g c =
     let node = node_of g.S.Sign.scheme c.args.config.now in
     let file = g.D.Disk.device.content (disk_of c.args.journal.now) in
-    stands_same node (read_journal node c.args.records.now) (told node file) c.in_ok-validator.validator.tables (sym (told_records node file c.args.records.now c.requires.records)) c.in_ok-validator.ensures.stands
+    stands_same node (read_journal node c.args.records.now) (told node file) c.in_ok-validator.validator.tables
+    (sym (told_records node file c.args.records.now c.requires.records)) c.in_ok-validator.ensures.stands
 
 pub write_configuration-requires-clause-empty : goal.write_configuration-requires-clause-empty
 write_configuration-requires-clause-empty g c =

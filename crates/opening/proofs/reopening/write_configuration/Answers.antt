@@ -31,7 +31,13 @@ returns-in_err-append-clause-errors g c =
     (elim c.in_err-append.ensures.errors [
       | inl device ↦ inl device
       | inr full ↦
-          absurd (never_full file configuration c.requires.alive.ends_closed c.requires.empty (omega (arith, c.in_ok-group.ensures.short, ap (λ (l : List ℕ). length l) (λ i. configuration_of c.args.version (c.committee.ensures i) (c.own.ensures i))))
+          absurd (never_full file configuration c.requires.alive.ends_closed c.requires.empty
+          (omega (
+            arith,
+            c.in_ok-group.ensures.short,
+            ap (λ (l : List ℕ). length l)
+                (λ i. configuration_of c.args.version (c.committee.ensures i) (c.own.ensures i)),
+          ))
           (subst (λ group. MAX_JOURNAL_BYTES < length file + length (group_bytes group)) group_is (c.in_err-append.ensures.full.0 (ap (λ e. Err e) full))))
     ])
 
@@ -41,7 +47,10 @@ returns-in_err-append-clause-any_moment g c =
     let old = disk_of c.args.journal.now in
     let file = g.D.Disk.device.content old in
     weaker g.D.Disk.device old (disk_of c.append.new.self) (λ left. told node left ≡ told node file) (IsBeforeOrAfter file c.in_ok-group.group) c.append.ensures.any_moment
-    (λ left is. told_before_or_after c.args.version node file left c.requires.can_tell ((λ i. shaped_version (configuration_of c.args.version (sym c.committee.ensures i) (sym c.own.ensures i))) ∙ c.in_ok-group.ensures.shape) c.requires.empty (subst (λ group. IsBeforeOrAfter file group left) (c.in_ok-group.ensures.group ∙ (λ i. configuration_of c.args.version (c.committee.ensures i) (c.own.ensures i) ∷ [])) is))
+    (λ left is. told_before_or_after c.args.version node file left c.requires.can_tell
+    ((λ i. shaped_version (configuration_of c.args.version (sym c.committee.ensures i) (sym c.own.ensures i))) ∙ c.in_ok-group.ensures.shape)
+    c.requires.empty (subst (λ group. IsBeforeOrAfter file group left)
+    (c.in_ok-group.ensures.group ∙ (λ i. configuration_of c.args.version (c.committee.ensures i) (c.own.ensures i) ∷ [])) is))
 
 pub returns-clause-any_moment : goal.returns-clause-any_moment
 returns-clause-any_moment g c =
@@ -49,22 +58,31 @@ returns-clause-any_moment g c =
     let old = disk_of c.args.journal.now in
     let file = g.D.Disk.device.content old in
     weaker g.D.Disk.device old (disk_of c.append.new.self) (λ left. told node left ≡ told node file) (IsBeforeOrAfter file c.in_ok-group.group) c.append.ensures.any_moment
-    (λ left is. told_before_or_after c.args.version node file left c.requires.can_tell ((λ i. shaped_version (configuration_of c.args.version (sym c.committee.ensures i) (sym c.own.ensures i))) ∙ c.in_ok-group.ensures.shape) c.requires.empty (subst (λ group. IsBeforeOrAfter file group left) (c.in_ok-group.ensures.group ∙ (λ i. configuration_of c.args.version (c.committee.ensures i) (c.own.ensures i) ∷ [])) is))
+    (λ left is. told_before_or_after c.args.version node file left c.requires.can_tell
+    ((λ i. shaped_version (configuration_of c.args.version (sym c.committee.ensures i) (sym c.own.ensures i))) ∙ c.in_ok-group.ensures.shape)
+    c.requires.empty (subst (λ group. IsBeforeOrAfter file group left)
+    (c.in_ok-group.ensures.group ∙ (λ i. configuration_of c.args.version (c.committee.ensures i) (c.own.ensures i) ∷ [])) is))
 
 pub returns-clause-same : goal.returns-clause-same
 returns-clause-same g c =
     let node = node_of g.S.Sign.scheme c.args.config.now in
     let file = g.D.Disk.device.content (disk_of c.args.journal.now) in
     let later = g.D.Disk.device.content (disk_of c.append.new.self) in
-    told_before_or_after c.args.version node file later c.requires.can_tell ((λ i. shaped_version (configuration_of c.args.version (sym c.committee.ensures i) (sym c.own.ensures i))) ∙ c.in_ok-group.ensures.shape) c.requires.empty
-    (subst (λ group. IsBeforeOrAfter file group later) (c.in_ok-group.ensures.group ∙ (λ i. configuration_of c.args.version (c.committee.ensures i) (c.own.ensures i) ∷ [])) (inr c.in_ok-append.ensures.records))
+    told_before_or_after c.args.version node file later c.requires.can_tell
+    ((λ i. shaped_version (configuration_of c.args.version (sym c.committee.ensures i) (sym c.own.ensures i))) ∙ c.in_ok-group.ensures.shape)
+    c.requires.empty
+    (subst (λ group. IsBeforeOrAfter file group later)
+    (c.in_ok-group.ensures.group ∙ (λ i. configuration_of c.args.version (c.committee.ensures i) (c.own.ensures i) ∷ []))
+    (inr c.in_ok-append.ensures.records))
 
 pub returns-clause-texts : goal.returns-clause-texts
 returns-clause-texts g c =
     let file = g.D.Disk.device.content (disk_of c.args.journal.now) in
     let later = g.D.Disk.device.content (disk_of c.append.new.self) in
     one_text file later (configuration_of c.args.version c.args.config.now.charter c.args.config.now.own) c.requires.empty
-    (subst (λ group. stands later ≡ stands_with file group) (c.in_ok-group.ensures.group ∙ (λ i. configuration_of c.args.version (c.committee.ensures i) (c.own.ensures i) ∷ [])) c.in_ok-append.ensures.records)
+    (subst (λ group. stands later ≡ stands_with file group)
+    (c.in_ok-group.ensures.group ∙ (λ i. configuration_of c.args.version (c.committee.ensures i) (c.own.ensures i) ∷ []))
+    c.in_ok-append.ensures.records)
 
 pub returns-in_err-group-clause-keeps : goal.returns-in_err-group-clause-keeps
 returns-in_err-group-clause-keeps g c =
@@ -79,7 +97,9 @@ returns-in_err-append-clause-keeps g c =
     let file = g.D.Disk.device.content old in
     let node = node_of g.S.Sign.scheme c.args.config.now in
     weaker g.D.Disk.device old (disk_of c.append.new.self) (KeepsOrBegins c.args.version node file) (IsBeforeOrAfter file c.in_ok-group.group) c.append.ensures.any_moment
-    (λ left is. begins_with c.args.version node file left c.requires.alive.ends_closed c.requires.empty (subst (λ group. IsBeforeOrAfter file group left) (c.in_ok-group.ensures.group ∙ (λ i. configuration_of c.args.version (c.committee.ensures i) (c.own.ensures i) ∷ [])) is))
+    (λ left is. begins_with c.args.version node file left c.requires.alive.ends_closed c.requires.empty
+    (subst (λ group. IsBeforeOrAfter file group left)
+    (c.in_ok-group.ensures.group ∙ (λ i. configuration_of c.args.version (c.committee.ensures i) (c.own.ensures i) ∷ [])) is))
 
 pub returns-clause-keeps : goal.returns-clause-keeps
 returns-clause-keeps g c =
@@ -87,4 +107,6 @@ returns-clause-keeps g c =
     let file = g.D.Disk.device.content old in
     let node = node_of g.S.Sign.scheme c.args.config.now in
     weaker g.D.Disk.device old (disk_of c.append.new.self) (KeepsOrBegins c.args.version node file) (IsBeforeOrAfter file c.in_ok-group.group) c.append.ensures.any_moment
-    (λ left is. begins_with c.args.version node file left c.requires.alive.ends_closed c.requires.empty (subst (λ group. IsBeforeOrAfter file group left) (c.in_ok-group.ensures.group ∙ (λ i. configuration_of c.args.version (c.committee.ensures i) (c.own.ensures i) ∷ [])) is))
+    (λ left is. begins_with c.args.version node file left c.requires.alive.ends_closed c.requires.empty
+    (subst (λ group. IsBeforeOrAfter file group left)
+    (c.in_ok-group.ensures.group ∙ (λ i. configuration_of c.args.version (c.committee.ensures i) (c.own.ensures i) ∷ [])) is))

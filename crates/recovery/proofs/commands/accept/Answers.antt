@@ -16,7 +16,9 @@ returns-clause-ok g c =
     let node = node_of g.S.Sign.scheme before.validator.setting in
     subst (λ (j : Journal g.row.D.Denot). IsOf node g.D.Disk.device (after node script (take_in c.args.event)) c.accept.new.self.book j) (sym c.accept.ensures.same)
     (accepted_is node g.D.Disk.device script before c.accept.new.self.book c.args.desk.now.journal is c.args.event
-    c.accept.result c.requires.room c.accept.ensures.new c.accept.ensures.known c.accept.ensures.refused (on_err_more c.accept.result _ _ (λ same. ap (λ (d : DeskView g.row.S.Denot g.row.D.Denot). d.book) same) c.accept.ensures.err) never)) c.unless_memory.ensures.ok
+    c.accept.result c.requires.room c.accept.ensures.new c.accept.ensures.known c.accept.ensures.refused
+    (on_err_more c.accept.result _ _ (λ same. ap (λ (d : DeskView g.row.S.Denot g.row.D.Denot). d.book) same) c.accept.ensures.err) never))
+    c.unless_memory.ensures.ok
 
 pub returns-clause-count : goal.returns-clause-count
 returns-clause-count g c =

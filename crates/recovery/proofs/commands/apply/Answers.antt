@@ -11,52 +11,90 @@ use Rattle.opening.proofs.Telling.{ok_weaker}
 use Rattle.recovery.proofs.commands.apply.Goals as goal
 
 pub with_event-requires-clause-stands : goal.with_event-requires-clause-stands
-with_event-requires-clause-stands g c =
-    (c.requires.stands.0, subst (λ (s : ConfigView g.row.S.Denot). IsOf (node_of g.S.Sign.scheme s) g.D.Disk.device c.requires.stands.0 c.args.desk.book c.args.desk.journal) (sym c.requires.setting) c.requires.stands.1)
+with_event-requires-clause-stands g c = (
+  c.requires.stands.0,
+  subst (λ (s : ConfigView g.row.S.Denot). IsOf (node_of g.S.Sign.scheme s) g.D.Disk.device c.requires.stands.0
+      c.args.desk.book c.args.desk.journal) (sym c.requires.setting) c.requires.stands.1,
+)
 
 pub with_event-requires-clause-passed : goal.with_event-requires-clause-passed
 with_event-requires-clause-passed g c =
-    subst (λ (s : ConfigView g.row.S.Denot). fault_of s.charter accepts_all c.in-Event.event ≡ None) (sym c.requires.setting) (subst (λ (k : Command). Passes c.args.config.now.charter k) c.in-Event.is c.requires.passed)
+    subst (λ (s : ConfigView g.row.S.Denot). fault_of s.charter accepts_all c.in-Event.event ≡ None) (sym c.requires.setting)
+    (subst (λ (k : Command). Passes c.args.config.now.charter k) c.in-Event.is c.requires.passed)
 
 pub flushed-requires : goal.flushed-requires
 flushed-requires g c = record {
-  stands = (c.requires.stands.0, subst (λ (s : ConfigView g.row.S.Denot). IsOf (node_of g.S.Sign.scheme s) g.D.Disk.device c.requires.stands.0 c.args.desk.book c.args.desk.journal) (sym c.requires.setting) c.requires.stands.1);
+  stands = (
+    c.requires.stands.0,
+    subst (λ (s : ConfigView g.row.S.Denot). IsOf (node_of g.S.Sign.scheme s) g.D.Disk.device c.requires.stands.0
+        c.args.desk.book c.args.desk.journal) (sym c.requires.setting) c.requires.stands.1,
+  );
 }
 
 pub returns-in-Event-clause-ok : goal.returns-in-Event-clause-ok
 returns-in-Event-clause-ok g c =
-    subst (λ (k : ScriptCommand). IfOk c.with_event.result (λ next. (desk : Desk) → IsOf (node_of g.S.Sign.scheme c.args.config.now) g.D.Disk.device desk c.args.desk.book c.args.desk.journal → IsOf (node_of g.S.Sign.scheme c.args.config.now) g.D.Disk.device (after (node_of g.S.Sign.scheme c.args.config.now) desk k) next.book next.journal)) (ap said (sym c.in-Event.is))
-    (subst (λ (s : ConfigView g.row.S.Denot). IfOk c.with_event.result (λ next. (desk : Desk) → IsOf (node_of g.S.Sign.scheme s) g.D.Disk.device desk c.args.desk.book c.args.desk.journal → IsOf (node_of g.S.Sign.scheme s) g.D.Disk.device (after (node_of g.S.Sign.scheme s) desk (take_in c.in-Event.event)) next.book next.journal)) c.requires.setting c.with_event.ensures.ok)
+    subst (λ (k : ScriptCommand). IfOk c.with_event.result
+    (λ next. (desk : Desk) → IsOf (node_of g.S.Sign.scheme c.args.config.now) g.D.Disk.device desk c.args.desk.book c.args.desk.journal
+    → IsOf (node_of g.S.Sign.scheme c.args.config.now) g.D.Disk.device (after (node_of g.S.Sign.scheme c.args.config.now) desk k) next.book
+    next.journal)) (ap said (sym c.in-Event.is))
+    (subst (λ (s : ConfigView g.row.S.Denot). IfOk c.with_event.result
+    (λ next. (desk : Desk) → IsOf (node_of g.S.Sign.scheme s) g.D.Disk.device desk c.args.desk.book c.args.desk.journal
+    → IsOf (node_of g.S.Sign.scheme s) g.D.Disk.device (after (node_of g.S.Sign.scheme s) desk (take_in c.in-Event.event)) next.book
+    next.journal)) c.requires.setting c.with_event.ensures.ok)
 
 pub returns-in-Event-clause-err : goal.returns-in-Event-clause-err
 returns-in-Event-clause-err g c =
-    subst (λ (k : ScriptCommand). IfErr c.with_event.result (λ failed. (desk : Desk) → IsOf (node_of g.S.Sign.scheme c.args.config.now) g.D.Disk.device desk c.args.desk.book c.args.desk.journal → Breaks (node_of g.S.Sign.scheme c.args.config.now) desk k failed.error (g.D.Disk.device.content failed.disk) (g.D.Disk.device.outcome failed.disk))) (ap said (sym c.in-Event.is))
-    (subst (λ (s : ConfigView g.row.S.Denot). IfErr c.with_event.result (λ failed. (desk : Desk) → IsOf (node_of g.S.Sign.scheme s) g.D.Disk.device desk c.args.desk.book c.args.desk.journal → Breaks (node_of g.S.Sign.scheme s) desk (take_in c.in-Event.event) failed.error (g.D.Disk.device.content failed.disk) (g.D.Disk.device.outcome failed.disk))) c.requires.setting c.with_event.ensures.err)
+    subst (λ (k : ScriptCommand). IfErr c.with_event.result
+    (λ failed. (desk : Desk) → IsOf (node_of g.S.Sign.scheme c.args.config.now) g.D.Disk.device desk c.args.desk.book c.args.desk.journal
+    → Breaks (node_of g.S.Sign.scheme c.args.config.now) desk k failed.error (g.D.Disk.device.content failed.disk)
+    (g.D.Disk.device.outcome failed.disk))) (ap said (sym c.in-Event.is))
+    (subst (λ (s : ConfigView g.row.S.Denot). IfErr c.with_event.result
+    (λ failed. (desk : Desk) → IsOf (node_of g.S.Sign.scheme s) g.D.Disk.device desk c.args.desk.book c.args.desk.journal
+    → Breaks (node_of g.S.Sign.scheme s) desk (take_in c.in-Event.event) failed.error (g.D.Disk.device.content failed.disk)
+    (g.D.Disk.device.outcome failed.disk))) c.requires.setting c.with_event.ensures.err)
 
 pub returns-in-Event-clause-setting : goal.returns-in-Event-clause-setting
 returns-in-Event-clause-setting g c = ok_weaker c.with_event.result _ _ (λ next same. same ∙ c.requires.setting) c.with_event.ensures.setting
 
 pub returns-in-Flush-clause-ok : goal.returns-in-Flush-clause-ok
 returns-in-Flush-clause-ok g c =
-    subst (λ (k : ScriptCommand). IfOk c.flushed.result (λ next. (desk : Desk) → IsOf (node_of g.S.Sign.scheme c.args.config.now) g.D.Disk.device desk c.args.desk.book c.args.desk.journal → IsOf (node_of g.S.Sign.scheme c.args.config.now) g.D.Disk.device (after (node_of g.S.Sign.scheme c.args.config.now) desk k) next.book next.journal)) (ap said (sym c.in-Flush.is))
-    (subst (λ (s : ConfigView g.row.S.Denot). IfOk c.flushed.result (λ next. (desk : Desk) → IsOf (node_of g.S.Sign.scheme s) g.D.Disk.device desk c.args.desk.book c.args.desk.journal → IsOf (node_of g.S.Sign.scheme s) g.D.Disk.device (after (node_of g.S.Sign.scheme s) desk flush) next.book next.journal)) c.requires.setting c.flushed.ensures.ok)
+    subst (λ (k : ScriptCommand). IfOk c.flushed.result
+    (λ next. (desk : Desk) → IsOf (node_of g.S.Sign.scheme c.args.config.now) g.D.Disk.device desk c.args.desk.book c.args.desk.journal
+    → IsOf (node_of g.S.Sign.scheme c.args.config.now) g.D.Disk.device (after (node_of g.S.Sign.scheme c.args.config.now) desk k) next.book
+    next.journal)) (ap said (sym c.in-Flush.is))
+    (subst (λ (s : ConfigView g.row.S.Denot). IfOk c.flushed.result
+    (λ next. (desk : Desk) → IsOf (node_of g.S.Sign.scheme s) g.D.Disk.device desk c.args.desk.book c.args.desk.journal
+    → IsOf (node_of g.S.Sign.scheme s) g.D.Disk.device (after (node_of g.S.Sign.scheme s) desk flush) next.book next.journal)) c.requires.setting
+    c.flushed.ensures.ok)
 
 pub returns-in-Flush-clause-err : goal.returns-in-Flush-clause-err
 returns-in-Flush-clause-err g c =
-    subst (λ (k : ScriptCommand). IfErr c.flushed.result (λ failed. (desk : Desk) → IsOf (node_of g.S.Sign.scheme c.args.config.now) g.D.Disk.device desk c.args.desk.book c.args.desk.journal → Breaks (node_of g.S.Sign.scheme c.args.config.now) desk k failed.error (g.D.Disk.device.content failed.disk) (g.D.Disk.device.outcome failed.disk))) (ap said (sym c.in-Flush.is))
-    (subst (λ (s : ConfigView g.row.S.Denot). IfErr c.flushed.result (λ failed. (desk : Desk) → IsOf (node_of g.S.Sign.scheme s) g.D.Disk.device desk c.args.desk.book c.args.desk.journal → Breaks (node_of g.S.Sign.scheme s) desk flush failed.error (g.D.Disk.device.content failed.disk) (g.D.Disk.device.outcome failed.disk))) c.requires.setting c.flushed.ensures.err)
+    subst (λ (k : ScriptCommand). IfErr c.flushed.result
+    (λ failed. (desk : Desk) → IsOf (node_of g.S.Sign.scheme c.args.config.now) g.D.Disk.device desk c.args.desk.book c.args.desk.journal
+    → Breaks (node_of g.S.Sign.scheme c.args.config.now) desk k failed.error (g.D.Disk.device.content failed.disk)
+    (g.D.Disk.device.outcome failed.disk))) (ap said (sym c.in-Flush.is))
+    (subst (λ (s : ConfigView g.row.S.Denot). IfErr c.flushed.result
+    (λ failed. (desk : Desk) → IsOf (node_of g.S.Sign.scheme s) g.D.Disk.device desk c.args.desk.book c.args.desk.journal
+    → Breaks (node_of g.S.Sign.scheme s) desk flush failed.error (g.D.Disk.device.content failed.disk) (g.D.Disk.device.outcome failed.disk)))
+    c.requires.setting c.flushed.ensures.err)
 
 pub returns-in-Flush-clause-setting : goal.returns-in-Flush-clause-setting
 returns-in-Flush-clause-setting g c = ok_weaker c.flushed.result _ _ (λ next same. same ∙ c.requires.setting) c.flushed.ensures.setting
 
 pub returns-in-Stop-clause-ok : goal.returns-in-Stop-clause-ok
 returns-in-Stop-clause-ok g c =
-    subst (λ (k : ScriptCommand). IfOk c.stopped.result (λ next. (desk : Desk) → IsOf (node_of g.S.Sign.scheme c.args.config.now) g.D.Disk.device desk c.args.desk.book c.args.desk.journal → IsOf (node_of g.S.Sign.scheme c.args.config.now) g.D.Disk.device (after (node_of g.S.Sign.scheme c.args.config.now) desk k) next.book next.journal)) (ap said (sym c.in-Stop.is))
+    subst (λ (k : ScriptCommand). IfOk c.stopped.result
+    (λ next. (desk : Desk) → IsOf (node_of g.S.Sign.scheme c.args.config.now) g.D.Disk.device desk c.args.desk.book c.args.desk.journal
+    → IsOf (node_of g.S.Sign.scheme c.args.config.now) g.D.Disk.device (after (node_of g.S.Sign.scheme c.args.config.now) desk k) next.book
+    next.journal)) (ap said (sym c.in-Stop.is))
     c.stopped.ensures.ok
 
 pub returns-in-Stop-clause-err : goal.returns-in-Stop-clause-err
 returns-in-Stop-clause-err g c =
-    subst (λ (k : ScriptCommand). IfErr c.stopped.result (λ failed. (desk : Desk) → IsOf (node_of g.S.Sign.scheme c.args.config.now) g.D.Disk.device desk c.args.desk.book c.args.desk.journal → Breaks (node_of g.S.Sign.scheme c.args.config.now) desk k failed.error (g.D.Disk.device.content failed.disk) (g.D.Disk.device.outcome failed.disk))) (ap said (sym c.in-Stop.is))
+    subst (λ (k : ScriptCommand). IfErr c.stopped.result
+    (λ failed. (desk : Desk) → IsOf (node_of g.S.Sign.scheme c.args.config.now) g.D.Disk.device desk c.args.desk.book c.args.desk.journal
+    → Breaks (node_of g.S.Sign.scheme c.args.config.now) desk k failed.error (g.D.Disk.device.content failed.disk)
+    (g.D.Disk.device.outcome failed.disk))) (ap said (sym c.in-Stop.is))
     c.stopped.ensures.err
 
 err_by_both : {T E : Type 0} (result : Result T E) (P Q R : E → Type 0) → ((error : E) → P error → Q error → R error) → IfErr result P → IfErr result Q → IfErr result R

@@ -26,7 +26,8 @@ returns-in-Ok-clause-ok g c = λ desk is.
     let node = node_of g.S.Sign.scheme c.args.config.now in
     let next = c.in_ok-desk.desk in
     let command = said c.args.command in
-    subst (λ (s : ConfigView g.row.S.Denot). (d : Desk) → IsOf (node_of g.S.Sign.scheme s) g.D.Disk.device d next.book next.journal → IsOf (node_of g.S.Sign.scheme s) g.D.Disk.device (without_due d) c.write_due.new.desk.book c.write_due.new.desk.journal)
+    subst (λ (s : ConfigView g.row.S.Denot). (d : Desk) → IsOf (node_of g.S.Sign.scheme s) g.D.Disk.device d next.book next.journal
+    → IsOf (node_of g.S.Sign.scheme s) g.D.Disk.device (without_due d) c.write_due.new.desk.book c.write_due.new.desk.journal)
     c.in_ok-desk.ensures.setting c.in-Ok.ensures.ok (after node desk command) (c.in_ok-desk.ensures.ok desk is)
 
 pub returns-in-Ok-clause-writes : goal.returns-in-Ok-clause-writes
@@ -34,7 +35,8 @@ returns-in-Ok-clause-writes g c = λ desk is.
     let node = node_of g.S.Sign.scheme c.args.config.now in
     let next = c.in_ok-desk.desk in
     let command = said c.args.command in
-    subst (λ (s : ConfigView g.row.S.Denot). (d : Desk) → IsOf (node_of g.S.Sign.scheme s) g.D.Disk.device d next.book next.journal → Appends (g.W.Write.contents c.args.writer.now) (g.W.Write.contents c.write_due.new.writer) (frames (due d)))
+    subst (λ (s : ConfigView g.row.S.Denot). (d : Desk) → IsOf (node_of g.S.Sign.scheme s) g.D.Disk.device d next.book next.journal
+    → Appends (g.W.Write.contents c.args.writer.now) (g.W.Write.contents c.write_due.new.writer) (frames (due d)))
     c.in_ok-desk.ensures.setting c.in-Ok.ensures.writes (after node desk command) (c.in_ok-desk.ensures.ok desk is)
 
 pub returns-in-Err-clause-err : goal.returns-in-Err-clause-err
@@ -42,7 +44,8 @@ returns-in-Err-clause-err g c = λ desk is.
     let node = node_of g.S.Sign.scheme c.args.config.now in
     let next = c.in_ok-desk.desk in
     let command = said c.args.command in
-    breaks_at node g.D.Disk.device desk command c.fail.result.error c.in-Err.error c.fail.result.disk (disk_of next.journal) c.fail.ensures.error (c.fail.ensures.disk ∙ ap disk_of c.write_due.ensures.same)
+    breaks_at node g.D.Disk.device desk command c.fail.result.error c.in-Err.error c.fail.result.disk (disk_of next.journal) c.fail.ensures.error
+    (c.fail.ensures.disk ∙ ap disk_of c.write_due.ensures.same)
     (behind_breaks node g.D.Disk.device desk command next.book next.journal (c.in_ok-desk.ensures.ok desk is) c.in-Err.error c.in-Err.ensures.errors)
 
 pub returns-in-Err-clause-writes_part : goal.returns-in-Err-clause-writes_part
@@ -50,7 +53,8 @@ returns-in-Err-clause-writes_part g c = λ desk is.
     let node = node_of g.S.Sign.scheme c.args.config.now in
     let next = c.in_ok-desk.desk in
     let command = said c.args.command in
-    let less = subst (λ (s : ConfigView g.row.S.Denot). (d : Desk) → IsOf (node_of g.S.Sign.scheme s) g.D.Disk.device d next.book next.journal → AppendsLess (g.W.Write.contents c.args.writer.now) (g.W.Write.contents c.write_due.new.writer) (frames (due d)))
+    let less = subst (λ (s : ConfigView g.row.S.Denot). (d : Desk) → IsOf (node_of g.S.Sign.scheme s) g.D.Disk.device d next.book next.journal
+    → AppendsLess (g.W.Write.contents c.args.writer.now) (g.W.Write.contents c.write_due.new.writer) (frames (due d)))
     c.in_ok-desk.ensures.setting c.in-Err.ensures.writes_part (after node desk command) (c.in_ok-desk.ensures.ok desk is) in
     part_less c.fail.result.error (g.W.Write.contents c.args.writer.now) (g.W.Write.contents c.write_due.new.writer) _
     (not_at_disk c.fail.result.error c.in-Err.error c.fail.ensures.error c.in-Err.ensures.errors) less

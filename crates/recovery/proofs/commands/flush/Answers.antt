@@ -19,7 +19,10 @@ returns-clause-err g c =
     let later = c.flush.new.self in
     err_with c.unless_failed.result _ _ (λ error here either script is.
     round_breaks (node_of g.S.Sign.scheme c.args.desk.now.book.validator.setting) g.D.Disk.device script before later is c.flush.result error either
-    (λ so. c.unless_failed.ensures.memory (here ∙ ap (λ e. Err e) so)) (λ so. c.unless_failed.ensures.device (here ∙ ap (λ e. Err e) so)) (λ so. c.unless_failed.ensures.full (here ∙ ap (λ e. Err e) so))
+    (λ so. c.unless_failed.ensures.memory (here ∙ ap (λ e. Err e) so)) (λ so. c.unless_failed.ensures.device (here ∙ ap (λ e. Err e) so))
+    (λ so. c.unless_failed.ensures.full (here ∙ ap (λ e. Err e) so))
     c.flush.ensures.unchanged c.flush.ensures.full c.flush.ensures.full_same
-    (λ bytes may. left_by g.D.Disk.device (disk_of before.journal) (disk_of later.journal) (IsWithOrWithout before.book.pending (g.D.Disk.device.content (disk_of before.journal))) bytes g.D.Disk.device (c.flush.ensures.any_moment is.up) g.met.D.Disk.counts_now may))
+    (λ bytes may. left_by g.D.Disk.device (disk_of before.journal) (disk_of later.journal)
+    (IsWithOrWithout before.book.pending (g.D.Disk.device.content (disk_of before.journal))) bytes
+    (c.flush.ensures.any_moment is.up) g.met.D.Disk.counts_now may))
     c.unless_failed.ensures.errors

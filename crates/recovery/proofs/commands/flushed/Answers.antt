@@ -8,7 +8,8 @@ use Rattle.recovery.proofs.commands.flushed.Goals as goal
 pub returns-in-Err-clause-err : goal.returns-in-Err-clause-err
 returns-in-Err-clause-err g c = λ desk is.
     let node = node_of g.S.Sign.scheme c.args.desk.book.validator.setting in
-    breaks_at node g.D.Disk.device desk flush c.fail.result.error c.in-Err.error c.fail.result.disk (disk_of c.flush.new.desk.journal) c.fail.ensures.error c.fail.ensures.disk (c.in-Err.ensures.err desk is)
+    breaks_at node g.D.Disk.device desk flush c.fail.result.error c.in-Err.error c.fail.result.disk (disk_of c.flush.new.desk.journal)
+    c.fail.ensures.error c.fail.ensures.disk (c.in-Err.ensures.err desk is)
 
 pub returns-in-Err-clause-cause : goal.returns-in-Err-clause-cause
 returns-in-Err-clause-cause g c =

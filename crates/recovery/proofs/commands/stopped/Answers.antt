@@ -20,6 +20,8 @@ returns-in-Err-clause-err g c = λ script is.
     let not_opened = c.in-Err.ensures.err in
     let failed = c.in-Err.failed in
     subst (λ (d : g.row.D.Denot). Breaks node script stop c.ended.result.error (g.D.Disk.device.content d) (g.D.Disk.device.outcome d)) (sym c.ended.ensures.disk)
-    (stop_breaks node script c.ended.result.error not_opened.0 (g.D.Disk.device.content failed.disk) (g.D.Disk.device.outcome (disk_of c.args.desk.journal)) (g.D.Disk.device.outcome failed.disk) not_opened.1
+    (stop_breaks node script c.ended.result.error not_opened.0 (g.D.Disk.device.content failed.disk)
+    (g.D.Disk.device.outcome (disk_of c.args.desk.journal)) (g.D.Disk.device.outcome failed.disk) not_opened.1
     (λ found may. left_firm node g.D.Disk.device script c.args.desk.book c.args.desk.journal is found may)
-    (not_opened_of node not_opened.0 (g.D.Disk.device.outcome (disk_of c.args.desk.journal)) (g.D.Disk.device.outcome failed.disk) failed.error c.ended.result.error c.ended.ensures.error not_opened.2))
+    (not_opened_of node not_opened.0 (g.D.Disk.device.outcome (disk_of c.args.desk.journal)) (g.D.Disk.device.outcome failed.disk) failed.error
+    c.ended.result.error c.ended.ensures.error not_opened.2))

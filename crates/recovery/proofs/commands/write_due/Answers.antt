@@ -33,7 +33,8 @@ writing-preserved g c =
     }
 
 pub writing-smaller : goal.writing-smaller
-writing-smaller g c = queue_falls c.writing.desk.book c.write_next.new.desk.book (g.W.Write.contents c.writing.writer) (g.W.Write.contents c.write_next.new.writer) (c.in_ok-write_next.ensures.next c.if-branch.true)
+writing-smaller g c = queue_falls c.writing.desk.book c.write_next.new.desk.book (g.W.Write.contents c.writing.writer)
+    (g.W.Write.contents c.write_next.new.writer) (c.in_ok-write_next.ensures.next c.if-branch.true)
 
 pub returns-in_err-write_next-clause-writes_part : goal.returns-in_err-write_next-clause-writes_part
 returns-in_err-write_next-clause-writes_part g c =

@@ -39,7 +39,8 @@ pub returns-in_err-write_output-clause-part : goal.returns-in_err-write_output-c
 returns-in_err-write_output-clause-part g c =
     let before : BookView g.row.S.Denot = c.args.desk.now.book in
     let later : BookView g.row.S.Denot = c.release.new.self.book in
-    on_err c.from_residual.result _ (writes_part before later c.release.result c.release.ensures.output c.release.ensures.queue c.in-Some.output (g.W.Write.contents c.args.writer.now) (g.W.Write.contents c.write_output.new.writer) c.in-Some.is c.in_err-write_output.ensures.err)
+    on_err c.from_residual.result _ (writes_part before later c.release.result c.release.ensures.output c.release.ensures.queue c.in-Some.output
+    (g.W.Write.contents c.args.writer.now) (g.W.Write.contents c.write_output.new.writer) c.in-Some.is c.in_err-write_output.ensures.err)
 
 pub returns : goal.returns
 returns g c =
@@ -49,7 +50,8 @@ returns g c =
     record {
       setting = ap (λ (b : BookView g.row.S.Denot). b.validator.setting) same;
       stands = c.release.ensures.stands;
-      next = λ so. writes_first before later c.release.result c.release.ensures.output c.release.ensures.queue c.in-Some.output (g.W.Write.contents c.args.writer.now) (g.W.Write.contents c.write_output.new.writer) c.in-Some.is c.in_ok-write_output.ensures.ok;
+      next = λ so. writes_first before later c.release.result c.release.ensures.output c.release.ensures.queue c.in-Some.output
+          (g.W.Write.contents c.args.writer.now) (g.W.Write.contents c.write_output.new.writer) c.in-Some.is c.in_ok-write_output.ensures.ok;
       none = λ so. absurd (true≢false so);
       count = ap (λ (b : BookView g.row.S.Denot). b.accepted) same;
       same = c.release.ensures.same;

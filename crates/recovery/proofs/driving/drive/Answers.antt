@@ -78,8 +78,11 @@ returns-in_err-desk-2-clause-err g c =
     let desk = script.desk_behind node (script.desk_on so_far.history) (script_of done) in
     let p = err_from_is_err_and c.from_residual-in_err-desk-2.result c.from_residual-in_err-desk-2.ensures.1 in
     rw (p.1, p.2)
-    (inr (cut_short node g.D.Disk.device before (script_of done) (said next) c.loop-command.desk.book c.loop-command.desk.journal (g.W.Write.contents c.args.writer.now) (g.W.Write.contents c.loop-command.writer) so_far
-    (script_of commands) (script_of (drop (length done + 1) commands)) c.in_err-desk-2.field-0.0.error (g.D.Disk.device.content c.in_err-desk-2.field-0.0.disk) (g.D.Disk.device.outcome c.in_err-desk-2.field-0.0.disk) (g.W.Write.contents c.carry_out.new.writer)
+    (inr (cut_short node g.D.Disk.device before (script_of done) (said next) c.loop-command.desk.book c.loop-command.desk.journal
+    (g.W.Write.contents c.args.writer.now) (g.W.Write.contents c.loop-command.writer) so_far
+    (script_of commands) (script_of (drop (length done + 1) commands)) c.in_err-desk-2.field-0.0.error
+    (g.D.Disk.device.content c.in_err-desk-2.field-0.0.disk) (g.D.Disk.device.outcome c.in_err-desk-2.field-0.0.disk)
+    (g.W.Write.contents c.carry_out.new.writer)
     (script_parts commands done next front turn.0 turn.1) (c.in_err-desk-2.ensures.err desk so_far.is_of) (c.in_err-desk-2.ensures.writes_part desk so_far.is_of)))
 
 pub returns-in_err-desk-2-clause-given_out_err : goal.returns-in_err-desk-2-clause-given_out_err
@@ -100,7 +103,8 @@ returns-in_err-desk-2-clause-given_out_err g c =
     rw p.1
     (cut_given node so_far.is_of.stands_at.legal.sound g.D.Disk.device before (script_of done) (said next) c.loop-command.desk.book c.loop-command.desk.journal
     (g.W.Write.contents c.args.writer.now) (g.W.Write.contents c.loop-command.writer) (g.W.Write.contents c.carry_out.new.writer) so_far
-    (script_of commands) (script_of (drop (length done + 1) commands)) c.in_err-desk-2.field-0.0.error (script_parts commands done next front turn.0 turn.1) (c.in_err-desk-2.ensures.writes_part desk so_far.is_of) taken)
+    (script_of commands) (script_of (drop (length done + 1) commands)) c.in_err-desk-2.field-0.0.error
+    (script_parts commands done next front turn.0 turn.1) (c.in_err-desk-2.ensures.writes_part desk so_far.is_of) taken)
 
 pub returns-in_err-desk-2-clause-cause : goal.returns-in_err-desk-2-clause-cause
 returns-in_err-desk-2-clause-cause g c =
@@ -128,8 +132,10 @@ loop-command-preserved g c =
     let carried = next_carried node g.D.Disk.device before (script_of done) (said next) c.loop-command.desk.book c.loop-command.desk.journal old (g.W.Write.contents c.loop-command.writer) so_far
     later.book later.journal (g.W.Write.contents c.carry_out.new.writer) (c.in_ok-desk-2.ensures.ok desk so_far.is_of) (c.in_ok-desk-2.ensures.writes desk so_far.is_of) in
     record {
-      so_far = subst (λ (l : List script.Command). IsCarriedOut node g.D.Disk.device before l later.book later.journal old (g.W.Write.contents c.carry_out.new.writer)) (sym (script_push done next)) carried;
-      taken = subst (All (IsTakenIn node)) (sym (script_push done next)) (All-push (IsTakenIn node) (script_of done) (said next) c.loop-command.invariant.taken (taken_in node next passed c.limits_hold.ensures));
+      so_far = subst (λ (l : List script.Command). IsCarriedOut node g.D.Disk.device before l later.book later.journal old
+          (g.W.Write.contents c.carry_out.new.writer)) (sym (script_push done next)) carried;
+      taken = subst (All (IsTakenIn node)) (sym (script_push done next))
+          (All-push (IsTakenIn node) (script_of done) (said next) c.loop-command.invariant.taken (taken_in node next passed c.limits_hold.ensures));
       setting = c.in_ok-desk-2.ensures.setting;
       count = let more = c.in_ok-desk-2.ensures.count in let count = c.loop-command.invariant.count in omega (arith, more, count, length_push done next);
       no_fault = c.in_ok-desk-2.ensures.cause.0 ∙ c.loop-command.invariant.no_fault;
@@ -141,7 +147,8 @@ returns-clause-ok g c =
     let before = g.D.Disk.device.content c.args.disk in
     let commands = c.args.commands.items in
     let done = c.loop-command.yielded in
-    let end = YieldsList-end (YieldsList-from_vec {s = c.into_iter-command-iterator.result} commands (search rules) (search rules)) done c.loop-command.command-iterator c.loop-command.yielded_by c.next.result c.next.new.self c.in-None.is c.next.ensures.steps in
+    let end = YieldsList-end (YieldsList-from_vec {s = c.into_iter-command-iterator.result} commands (search rules) (search rules)) done
+    c.loop-command.command-iterator c.loop-command.yielded_by c.next.result c.next.new.self c.in-None.is c.next.ensures.steps in
     let whole : script_of commands ≡ script_of done = ap script_of (sym end.0 ∙ map-id done) in
     let old = g.W.Write.contents c.args.writer.now in
     let new = g.W.Write.contents c.loop-command.writer in
@@ -154,7 +161,8 @@ returns-clause-given_out g c =
     let before = g.D.Disk.device.content c.args.disk in
     let commands = c.args.commands.items in
     let done = c.loop-command.yielded in
-    let end = YieldsList-end (YieldsList-from_vec {s = c.into_iter-command-iterator.result} commands (search rules) (search rules)) done c.loop-command.command-iterator c.loop-command.yielded_by c.next.result c.next.new.self c.in-None.is c.next.ensures.steps in
+    let end = YieldsList-end (YieldsList-from_vec {s = c.into_iter-command-iterator.result} commands (search rules) (search rules)) done
+    c.loop-command.command-iterator c.loop-command.yielded_by c.next.result c.next.new.self c.in-None.is c.next.ensures.steps in
     let whole : script_of commands ≡ script_of done = ap script_of (sym end.0 ∙ map-id done) in
     let old = g.W.Write.contents c.args.writer.now in
     let new = g.W.Write.contents c.loop-command.writer in

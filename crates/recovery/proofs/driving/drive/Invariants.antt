@@ -10,7 +10,8 @@ use Rattle.recovery.proofs.driving.drive.Given as goal
 -- the commands so far were carried out
 abbrev pub invariant-loop-command : goal.invariant-loop-command
 invariant-loop-command g l = record {
-  so_far : IsCarriedOut (node_of g.S.Sign.scheme l.config) g.D.Disk.device (g.D.Disk.device.content l.fn.disk) (script_of l.yielded) l.desk.book l.desk.journal (g.W.Write.contents l.initial.writer) (g.W.Write.contents l.writer);
+  so_far : IsCarriedOut (node_of g.S.Sign.scheme l.config) g.D.Disk.device (g.D.Disk.device.content l.fn.disk) (script_of l.yielded) l.desk.book
+      l.desk.journal (g.W.Write.contents l.initial.writer) (g.W.Write.contents l.writer);
   taken : All (IsTakenIn (node_of g.S.Sign.scheme l.config)) (script_of l.yielded);
   setting : l.desk.book.validator.setting ≡ l.config;
   count : l.desk.book.accepted ≤ length l.yielded;

@@ -49,7 +49,8 @@ returns-in-Some g c =
     let own : is_own node c.args.sender ≡ true = sym c.is_own.ensures ∙ c.if-not-is_own.false in
     let coins_are : c.deref.result.now ≡ state.coins = c.deref.ensures.value ∙ c.in_ok-coins.ensures in
     let here : slice_get c.deref.result.now (c.number-wave.result - 1) ≡ Some taken =
-    slice_get_read c.deref.result.now (length c.deref.result.now) (c.number-wave.result - 1) taken refl (ltb-true (c.number-wave.result - 1) (length c.deref.result.now) (sym c.in-Some.ensures.lookup.0)) c.in-Some.ensures.lookup.1 in
+    slice_get_read c.deref.result.now (length c.deref.result.now) (c.number-wave.result - 1) taken refl
+    (ltb-true (c.number-wave.result - 1) (length c.deref.result.now) (sym c.in-Some.ensures.lookup.0)) c.in-Some.ensures.lookup.1 in
     let there : slice_get c.deref.result.now (c.number-wave.result - 1) ≡ slice_get state.coins (coin.wave - 1) = λ i. slice_get (coins_are i) (c.number-wave.ensures.value i - 1) in
     let held : slice_get state.coins (coin.wave - 1) ≡ Some taken = sym there ∙ here in
     let differs : (taken == coin.value) ≡ false = ne_eqb taken coin.value c.if-taken-coin.false in
@@ -64,7 +65,8 @@ returns-then-taken-coin g c =
     let own : is_own node c.args.sender ≡ true = sym c.is_own.ensures ∙ c.if-not-is_own.false in
     let coins_are : c.deref.result.now ≡ state.coins = c.deref.ensures.value ∙ c.in_ok-coins.ensures in
     let here : slice_get c.deref.result.now (c.number-wave.result - 1) ≡ Some taken =
-    slice_get_read c.deref.result.now (length c.deref.result.now) (c.number-wave.result - 1) taken refl (ltb-true (c.number-wave.result - 1) (length c.deref.result.now) (sym c.in-Some.ensures.lookup.0)) c.in-Some.ensures.lookup.1 in
+    slice_get_read c.deref.result.now (length c.deref.result.now) (c.number-wave.result - 1) taken refl
+    (ltb-true (c.number-wave.result - 1) (length c.deref.result.now) (sym c.in-Some.ensures.lookup.0)) c.in-Some.ensures.lookup.1 in
     let there : slice_get c.deref.result.now (c.number-wave.result - 1) ≡ slice_get state.coins (coin.wave - 1) = λ i. slice_get (coins_are i) (c.number-wave.ensures.value i - 1) in
     let held : slice_get state.coins (coin.wave - 1) ≡ Some taken = sym there ∙ here in
     let same : (taken == coin.value) ≡ true = eq-eqb taken coin.value c.if-taken-coin.true in

@@ -2,7 +2,9 @@ use Rattle.std.proofs.Common.{inl, inr, ap, ◌∙◌}
 use Rattle.spec_model.specs.Nodes.{node_view}
 use Rattle.ref_admission.proofs.Answered.{one_answered}
 use Rattle.ref_admission.proofs.runs.answers.Goals as goal
-use Rattle.ref_admission.proofs.runs.answers.Goals.{then-not-is_new+in-Some+in-Batch-1, then-not-is_new+in-Some+in-Header-1, then-not-is_new+in-Some+in-Certificate-1, then-not-is_new+in-Some+in-BatchAck-1, then-not-is_new+in-None-1, else-not-is_new}
+use Rattle.ref_admission.proofs.runs.answers.Goals.{then-not-is_new+in-Some+in-Batch-1, then-not-is_new+in-Some+in-Header-1}
+use Rattle.ref_admission.proofs.runs.answers.Goals.{then-not-is_new+in-Some+in-Certificate-1, then-not-is_new+in-Some+in-BatchAck-1}
+use Rattle.ref_admission.proofs.runs.answers.Goals.{then-not-is_new+in-None-1, else-not-is_new}
 
 pub loop-event-preserved : goal.loop-event-preserved
 loop-event-preserved g c =

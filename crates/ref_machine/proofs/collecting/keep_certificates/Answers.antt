@@ -8,5 +8,6 @@ use Rattle.ref_machine.proofs.collecting.keep_certificates.Goals as goal
 
 pub returns : goal.returns
 returns c = λ round author.
-    let kept : c.retain.new.self.items ≡ filter (λ (x : Certificate). nat_le c.args.floor x.header.round) c.args.certificates.now.items = filter_same _ (λ (x : Certificate). nat_le c.args.floor x.header.round) _ (λ x b f' k. search rules) _ _ c.retain.ensures.filtered in
+    let kept : c.retain.new.self.items ≡ filter (λ (x : Certificate). nat_le c.args.floor x.header.round) c.args.certificates.now.items =
+    filter_same _ (λ (x : Certificate). nat_le c.args.floor x.header.round) _ (λ x b f' k. search rules) _ _ c.retain.ensures.filtered in
     ap (λ l. slots_of l round author) kept ∙ certificates_kept c.args.floor c.args.certificates.now.items round author

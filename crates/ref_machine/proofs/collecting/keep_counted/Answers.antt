@@ -9,5 +9,6 @@ use Rattle.ref_machine.proofs.collecting.keep_counted.Goals as goal
 
 pub returns : goal.returns
 returns c = λ round voter.
-    let kept : c.retain.new.self.items ≡ filter (λ (x : Vote). not (is_low c.args.floor x.round)) c.args.counted.now.items = filter_same _ (λ (x : Vote). not (is_low c.args.floor x.round)) _ (λ x b f' k. search rules) _ _ c.retain.ensures.filtered in
+    let kept : c.retain.new.self.items ≡ filter (λ (x : Vote). not (is_low c.args.floor x.round)) c.args.counted.now.items =
+    filter_same _ (λ (x : Vote). not (is_low c.args.floor x.round)) _ (λ x b f' k. search rules) _ _ c.retain.ensures.filtered in
     ap (λ l. counted_in l round voter) kept ∙ counted_kept c.args.floor c.args.counted.now.items round voter

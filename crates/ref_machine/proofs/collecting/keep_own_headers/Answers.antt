@@ -9,5 +9,6 @@ use Rattle.ref_machine.proofs.collecting.keep_own_headers.Goals as goal
 
 pub returns : goal.returns
 returns c = λ round.
-    let kept : c.retain.new.self.items ≡ filter (λ (x : Header). not (is_low c.args.floor x.body.round)) c.args.headers.now.items = filter_same _ (λ (x : Header). not (is_low c.args.floor x.body.round)) _ (λ x b f' k. search rules) _ _ c.retain.ensures.filtered in
+    let kept : c.retain.new.self.items ≡ filter (λ (x : Header). not (is_low c.args.floor x.body.round)) c.args.headers.now.items =
+    filter_same _ (λ (x : Header). not (is_low c.args.floor x.body.round)) _ (λ x b f' k. search rules) _ _ c.retain.ensures.filtered in
     ap (λ l. headers_in l round) kept ∙ headers_kept c.args.floor c.args.headers.now.items round

@@ -22,13 +22,15 @@ loop-certificate-preserved g c =
           let most : w.max-greatest.result ≡ max so_far this.header.round = grind (arith, w.max-greatest.ensures, c.number-round.ensures.value) in
           rw (w.greatest-is, most)
           (record {
-            all = greatest_more full (λ (d : Certificate). d.header.round) so_far all this place c.loop-certificate-test.true c.certificate-item.is (ap full number ∙ is ∙ w.if-is_full.true) ∙ c.loop-certificate.invariant.all;
+            all = greatest_more full (λ (d : Certificate). d.header.round) so_far all this place c.loop-certificate-test.true c.certificate-item.is
+                (ap full number ∙ is ∙ w.if-is_full.true) ∙ c.loop-certificate.invariant.all;
             within = grind (arith, c.loop-certificate.invariant.within, c.number-round.ensures.limit, c.number-round.ensures.value);
           })
       | else-is_full w ↦
           rw w.greatest-is
           (record {
-            all = greatest_same full (λ (d : Certificate). d.header.round) so_far all this place c.loop-certificate-test.true c.certificate-item.is (ap full number ∙ is ∙ w.if-is_full.false) ∙ c.loop-certificate.invariant.all;
+            all = greatest_same full (λ (d : Certificate). d.header.round) so_far all this place c.loop-certificate-test.true c.certificate-item.is
+                (ap full number ∙ is ∙ w.if-is_full.false) ∙ c.loop-certificate.invariant.all;
             within = c.loop-certificate.invariant.within;
           })
     ]

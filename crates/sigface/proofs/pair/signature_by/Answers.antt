@@ -8,4 +8,11 @@ second_half_put : (n : ℕ) (a z b : List ℕ) → length a ≡ n → length z �
 second_half_put n a z b la lz lb = grind (arith, common_steps)
 
 pub returns : goal.returns
-returns c = cc (second_half_put 32 c.copy_from_slice.new.self _ c.copy_from_slice-2.new.self c.copy_from_slice.auto.self refl c.copy_from_slice-2.auto.self, c.copy_from_slice.ensures.after, c.copy_from_slice-2.ensures.after, c.half.ensures, c.half-2.ensures)
+returns c = cc (
+  second_half_put 32 c.copy_from_slice.new.self _ c.copy_from_slice-2.new.self c.copy_from_slice.auto.self refl
+      c.copy_from_slice-2.auto.self,
+  c.copy_from_slice.ensures.after,
+  c.copy_from_slice-2.ensures.after,
+  c.half.ensures,
+  c.half-2.ensures,
+)

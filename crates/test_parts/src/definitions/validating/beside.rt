@@ -1,9 +1,9 @@
 //! The plain program beside a validator: both are given the same events.
 
 use crate::definitions::validating::same::{difference, same_answer};
+use header::{Admission, Event, Node, Refusal};
 use ref_machine::{Tables, after, answered, fresh};
 use sigface::HashSign;
-use header::{Admission, Event, Node, Refusal};
 use std::alloc::{AllocError, Global};
 use validator::{Step, Validator};
 use wire::Header;

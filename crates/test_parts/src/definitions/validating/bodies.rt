@@ -5,10 +5,9 @@ ghost use Rattle.std.specs.Prelude.{◌≡◌, None};
 ghost use Rattle.header.specs.Checks.{fault_of, accepts_all};
 
 use committee::Committee;
-use header::{Checked, check};
+use header::{Checked, Refusal, check};
 use sigface::{HashSign, HashVerify};
 use sim_script::{FormError, OWN, signer};
-use header::Refusal;
 use std::alloc::{AllocError, Global};
 use std::fs;
 use validator::{Config, Step, Validator};

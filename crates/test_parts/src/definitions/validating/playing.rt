@@ -13,12 +13,11 @@ use crate::definitions::validating::tally::{Tally, counts};
 use crate::definitions::weighing::label_genesis;
 use crate::parts::{list, parted};
 use committee::Committee;
-use header::{CheckError, Checked, check};
+use header::{CheckError, Checked, Event, Node, check};
 use sigface::{HashSign, HashVerify};
 use sim_script::{
     Command, FormError, Labels, OWN, define_batch, define_header, message_of, parse, signer,
 };
-use header::{Event, Node};
 use std::alloc::{AllocError, Global};
 use validator::{Config, Refusal, Step, Validator};
 use wire::{Author, Header, Message};

@@ -1,10 +1,10 @@
 //! What a validator answers and holds beside what the plain program of its tables does.
 
 use crate::definitions::validating::seen::seen_of;
+use header::{Admission, Node, Refusal};
 use ref_machine::{Tables, proposed, round_in};
 use ref_order::held::{Held, floor_in};
 use sigface::HashSign;
-use header::{Admission, Node, Refusal};
 use std::alloc::{AllocError, Global};
 use validator::{Step, Validator};
 use wire::{Author, Digest, Header, Message, Output, Round, encode, encode_output};

@@ -1,8 +1,8 @@
 //! A running sum over all that a validator answers, puts out, holds and proposes.
 
 use crate::definitions::validating::seen::seen_of;
-use sigface::HashSign;
 use header::Refusal;
+use sigface::HashSign;
 use validator::{Step, Validator};
 use wire::{
     Author, Certificate, Digest, Header, Output, Round, batch_digest, certificate_digest,

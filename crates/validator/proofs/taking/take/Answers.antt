@@ -46,7 +46,9 @@ returns-in-Header-clause-refused g c = λ node state meets signs.
 
 pub returns-in-Header-clause-at : goal.returns-in-Header-clause-at
 returns-in-Header-clause-at g c = λ new node state meets signs there.
-    c.take_header.ensures.at new node state c.args.event (met node state c.args.event c.args.tables.now (message.Header c.in-Header.header) meets (sym c.into_message.ensures ∙ c.in-Header.is)) signs there
+    c.take_header.ensures.at new node state c.args.event
+    (met node state c.args.event c.args.tables.now (message.Header c.in-Header.header) meets (sym c.into_message.ensures ∙ c.in-Header.is)) signs
+    there
 
 pub take_vote-requires : goal.take_vote-requires
 take_vote-requires g c = record { meets = meet_some c.args.tables.now c.args.event.message (message.Vote c.in-Vote.vote) (sym c.into_message.ensures ∙ c.in-Vote.is) c.requires.meets }
@@ -64,27 +66,38 @@ returns-in-Vote-clause-at g c = λ new node state meets signs there.
     c.take_vote.ensures.at new node state c.args.event (met node state c.args.event c.args.tables.now (message.Vote c.in-Vote.vote) meets (sym c.into_message.ensures ∙ c.in-Vote.is)) there
 
 pub take_certificate-requires-clause-meets : goal.take_certificate-requires-clause-meets
-take_certificate-requires-clause-meets g c = meet_some c.args.tables.now c.args.event.message (message.Certificate c.in-Certificate.certificate) (sym c.into_message.ensures ∙ c.in-Certificate.is) c.requires.meets
+take_certificate-requires-clause-meets g c = meet_some c.args.tables.now c.args.event.message (message.Certificate c.in-Certificate.certificate)
+    (sym c.into_message.ensures ∙ c.in-Certificate.is) c.requires.meets
 
 pub returns-in-Certificate-clause-answer : goal.returns-in-Certificate-clause-answer
 returns-in-Certificate-clause-answer g c = λ node state meets signs.
-    c.take_certificate.ensures.answer node state c.args.event (met node state c.args.event c.args.tables.now (message.Certificate c.in-Certificate.certificate) meets (sym c.into_message.ensures ∙ c.in-Certificate.is))
+    c.take_certificate.ensures.answer node state c.args.event
+    (met node state c.args.event c.args.tables.now (message.Certificate c.in-Certificate.certificate) meets
+    (sym c.into_message.ensures ∙ c.in-Certificate.is))
 
 pub returns-in-Certificate-clause-refused : goal.returns-in-Certificate-clause-refused
 returns-in-Certificate-clause-refused g c = λ node state meets signs.
-    c.take_certificate.ensures.refused node state c.args.event (met node state c.args.event c.args.tables.now (message.Certificate c.in-Certificate.certificate) meets (sym c.into_message.ensures ∙ c.in-Certificate.is))
+    c.take_certificate.ensures.refused node state c.args.event
+    (met node state c.args.event c.args.tables.now (message.Certificate c.in-Certificate.certificate) meets
+    (sym c.into_message.ensures ∙ c.in-Certificate.is))
 
 pub returns-in-Certificate-clause-at : goal.returns-in-Certificate-clause-at
 returns-in-Certificate-clause-at g c = λ new node state meets signs there.
-    c.take_certificate.ensures.at new node state c.args.event (met node state c.args.event c.args.tables.now (message.Certificate c.in-Certificate.certificate) meets (sym c.into_message.ensures ∙ c.in-Certificate.is)) there
+    c.take_certificate.ensures.at new node state c.args.event
+    (met node state c.args.event c.args.tables.now (message.Certificate c.in-Certificate.certificate) meets
+    (sym c.into_message.ensures ∙ c.in-Certificate.is)) there
 
 pub returns-in-Coin-clause-answer : goal.returns-in-Coin-clause-answer
 returns-in-Coin-clause-answer g c = λ node state meets signs.
-    c.take_coin.ensures.answer node state c.args.event (met node state c.args.event c.args.tables.now (message.Coin c.in-Coin.coin) meets (sym c.into_message.ensures ∙ c.in-Coin.is)) (sym c.sender-sender.ensures)
+    c.take_coin.ensures.answer node state c.args.event
+    (met node state c.args.event c.args.tables.now (message.Coin c.in-Coin.coin) meets (sym c.into_message.ensures ∙ c.in-Coin.is))
+    (sym c.sender-sender.ensures)
 
 pub returns-in-Coin-clause-refused : goal.returns-in-Coin-clause-refused
 returns-in-Coin-clause-refused g c = λ node state meets signs.
-    c.take_coin.ensures.refused node state c.args.event (met node state c.args.event c.args.tables.now (message.Coin c.in-Coin.coin) meets (sym c.into_message.ensures ∙ c.in-Coin.is)) (sym c.sender-sender.ensures)
+    c.take_coin.ensures.refused node state c.args.event
+    (met node state c.args.event c.args.tables.now (message.Coin c.in-Coin.coin) meets (sym c.into_message.ensures ∙ c.in-Coin.is))
+    (sym c.sender-sender.ensures)
 
 pub returns-in-Coin-clause-at : goal.returns-in-Coin-clause-at
 returns-in-Coin-clause-at g c = λ new node state meets signs there.

@@ -10,12 +10,14 @@ loop-vote-preserved c =
     let until = c.loop-vote.invariant in
     let put = c.in_ok-put_vote_entry.ensures in
     record {
-      bytes = one_more vote_entry_bytes c.args.out.now.items (to_be_bytes w16 (length c.as_slice-list.result.now)) c.loop-vote.out.items c.put_vote_entry.new.out.items c.as_slice-list.result.now c.loop-vote.vote-index _ c.loop-vote-test.true until.bytes put.bytes;
+      bytes = one_more vote_entry_bytes c.args.out.now.items (to_be_bytes w16 (length c.as_slice-list.result.now)) c.loop-vote.out.items c.put_vote_entry.new.out.items
+          c.as_slice-list.result.now c.loop-vote.vote-index _ c.loop-vote-test.true until.bytes put.bytes;
       len = omega (arith, until.len, put.len);
       kept = λ start begins. put.kept start (until.kept start begins);
     }
 
 pub returns-clause-bytes : goal.returns-clause-bytes
 returns-clause-bytes c =
-    all_put vote_entry_bytes c.args.out.now.items (to_be_bytes w16 (length c.as_slice-list.result.now)) c.loop-vote.out.items c.as_slice-list.result.now c.loop-vote.vote-index c.loop-vote-test.false c.loop-vote.invariant.bytes
+    all_put vote_entry_bytes c.args.out.now.items (to_be_bytes w16 (length c.as_slice-list.result.now)) c.loop-vote.out.items c.as_slice-list.result.now c.loop-vote.vote-index
+    c.loop-vote-test.false c.loop-vote.invariant.bytes
     ∙ ap (λ l. c.args.out.now.items ++ (to_be_bytes w16 (length l) ++ flat_map vote_entry_bytes l)) c.as_slice-list.ensures.value

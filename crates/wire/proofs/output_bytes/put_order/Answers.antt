@@ -8,4 +8,5 @@ pub returns-clause-bytes : goal.returns-clause-bytes
 returns-clause-bytes c =
     let digests = c.args.digests.now in
     let start = rw c.eight_bytes.ensures.bytes at c.in_ok-extend_from_slice.ensures.items in
-    put_rest c.put_digests.result _ (digests_bytes digests) _ (c.args.out.now.items ++ order_bytes c.args.start digests) c.put_digests.ensures.bytes (tagged_pieces c.args.out.now.items 7 (to_be_bytes w64 c.args.start) (digests_bytes digests) _ _ c.in_ok-push.ensures.items start)
+    put_rest c.put_digests.result _ (digests_bytes digests) _ (c.args.out.now.items ++ order_bytes c.args.start digests) c.put_digests.ensures.bytes
+    (tagged_pieces c.args.out.now.items 7 (to_be_bytes w64 c.args.start) (digests_bytes digests) _ _ c.in_ok-push.ensures.items start)

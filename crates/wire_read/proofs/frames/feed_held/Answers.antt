@@ -34,7 +34,8 @@ pub returns-clause-splits : goal.returns-clause-splits
 returns-clause-splits c =
     let held = c.deref-2.ensures.value ∙ c.in_ok-extend_from_slice.ensures.items in
     let parts = c.split_at.ensures.by_index.0 in
-    subst (λ (rest : List ℕ). Splits (c.args.held.now.items ++ c.args.piece.now) (bodies_bytes c.append.new.self.items) rest) (sym (c.in_ok-held.ensures ∙ left c.split_at.result.1.now c.in_ok-more.taken c.in_ok-more.ensures.within))
+    subst (λ (rest : List ℕ). Splits (c.args.held.now.items ++ c.args.piece.now) (bodies_bytes c.append.new.self.items) rest)
+    (sym (c.in_ok-held.ensures ∙ left c.split_at.result.1.now c.in_ok-more.taken c.in_ok-more.ensures.within))
     (both_split c.args.held.now.items c.split_at.result.0.now c.split_at.result.1.now c.deref-2.result.now c.args.piece.now held parts
     c.in_ok-bodies.bodies.items c.in_ok-bodies.taken (omega (arith, c.if-taken-len.false, c.len.ensures, c.deref-2.ensures.len)) c.in_ok-bodies.ensures.splits
     c.in_ok-more.more.items c.append.new.self.items _ c.in_ok-append.ensures.items c.in_ok-more.ensures.splits)

@@ -7,13 +7,15 @@ use Rattle.wire_read.proofs.lists.parents_of.Goals as goal
 pub returns-in_err-parent : goal.returns-in_err-parent
 returns-in_err-parent c =
     let p = err_from_is_err_and c.from_residual-in_err-parent.result c.from_residual-in_err-parent.ensures.1 in
-    rw (p.1, p.2) (ends parent_reference_at c.in_err-parent.field-0.0 c.in_ok-count.count c.loop.counter c.loop.parents c.loop.reader (parents_at c.args.reader.now) c.loop-test.true c.in_err-parent.ensures.reads c.loop.invariant.so_far)
+    rw (p.1, p.2) (ends parent_reference_at c.in_err-parent.field-0.0 c.in_ok-count.count c.loop.counter c.loop.parents c.loop.reader (parents_at c.args.reader.now) c.loop-test.true
+    c.in_err-parent.ensures.reads c.loop.invariant.so_far)
 
 pub loop-preserved : goal.loop-preserved
 loop-preserved c = record {
   limit = c.loop.invariant.limit;
   so_many = rw c.in_ok-push.ensures.ok (simp length-append (omega arith));
-  so_far = rw c.in_ok-push.ensures.ok (goes_on parent_reference_at c.in_ok-count.count c.loop.counter c.loop.parents c.loop.reader c.in_ok-parent.parent c.parent_of.new.reader (parents_at c.args.reader.now) c.loop-test.true c.in_ok-parent.ensures.reads c.loop.invariant.so_far);
+  so_far = rw c.in_ok-push.ensures.ok (goes_on parent_reference_at c.in_ok-count.count c.loop.counter c.loop.parents c.loop.reader c.in_ok-parent.parent c.parent_of.new.reader
+      (parents_at c.args.reader.now) c.loop-test.true c.in_ok-parent.ensures.reads c.loop.invariant.so_far);
 }
 
 pub returns : goal.returns

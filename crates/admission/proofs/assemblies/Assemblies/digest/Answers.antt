@@ -9,9 +9,13 @@ use Rattle.admission.proofs.assemblies.Assemblies.digest.Goals as goal
 pub returns-in-Some : goal.returns-in-Some
 returns-in-Some c =
     let inside : AssembliesView = record { charter = c.self.inside.committee.now; own = c.self.inside.own.0; rounds = c.self.inside.rounds.entries } in
-    ap (λ (bytes : List ℕ). Some (record { 0 = bytes })) c.digest.ensures ∙ sym (ap (λ o. option_map (λ h. header_digest h.body) (option_map (λ (a : AssemblyView). a.header) o)) (looked inside c.args.self.now c.number.result c.args.round (Some c.in-Some.assembly.now) c.in-Some.ensures.value c.number.ensures.value c.self.view_is))
+    ap (λ (bytes : List ℕ). Some (record { 0 = bytes })) c.digest.ensures
+    ∙ sym (ap (λ o. option_map (λ h. header_digest h.body) (option_map (λ (a : AssemblyView). a.header) o))
+    (looked inside c.args.self.now c.number.result c.args.round (Some c.in-Some.assembly.now) c.in-Some.ensures.value c.number.ensures.value
+    c.self.view_is))
 
 pub returns-in-None : goal.returns-in-None
 returns-in-None c =
     let inside : AssembliesView = record { charter = c.self.inside.committee.now; own = c.self.inside.own.0; rounds = c.self.inside.rounds.entries } in
-    sym (ap (λ o. option_map (λ h. header_digest h.body) (option_map (λ (a : AssemblyView). a.header) o)) (looked inside c.args.self.now c.number.result c.args.round None c.in-None.ensures.value c.number.ensures.value c.self.view_is))
+    sym (ap (λ o. option_map (λ h. header_digest h.body) (option_map (λ (a : AssemblyView). a.header) o))
+    (looked inside c.args.self.now c.number.result c.args.round None c.in-None.ensures.value c.number.ensures.value c.self.view_is))

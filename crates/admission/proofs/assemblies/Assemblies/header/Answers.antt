@@ -8,7 +8,10 @@ use Rattle.admission.proofs.assemblies.Assemblies.header.Goals as goal
 pub returns-in-Some : goal.returns-in-Some
 returns-in-Some c =
     let inside : AssembliesView = record { charter = c.self.inside.committee.now; own = c.self.inside.own.0; rounds = c.self.inside.rounds.entries } in
-    ap Some c.header.ensures ∙ sym (ap (option_map (λ (a : AssemblyView). a.header)) (looked inside c.args.self.now c.number.result c.args.round (Some c.in-Some.assembly.now) c.in-Some.ensures.value c.number.ensures.value c.self.view_is))
+    ap Some c.header.ensures
+    ∙ sym (ap (option_map (λ (a : AssemblyView). a.header))
+    (looked inside c.args.self.now c.number.result c.args.round (Some c.in-Some.assembly.now) c.in-Some.ensures.value c.number.ensures.value
+    c.self.view_is))
 
 pub returns-in-None : goal.returns-in-None
 returns-in-None c =

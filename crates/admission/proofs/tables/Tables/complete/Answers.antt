@@ -69,7 +69,8 @@ returns-clause-at c = λ node state event meets new.
     let comes = comes_of node state event tables (message.Vote vote) meets new in
     let is = c.vote_comes.ensures node state event vote tables.headers comes c.limits_hold.ensures meets.at.headers meets.message in
     let low = others.low node state event tables comes meets.at in
-    let at = c.in_ok-hold_certificate.ensures.at node state event (comes_to node state event tables comes meets.at) (is.complete certificate (sym c.requires.added) ∙ ap (λ x. Some x) (sym c.in_ok-held.ensures)) in
+    let at = c.in_ok-hold_certificate.ensures.at node state event (comes_to node state event tables comes meets.at)
+    (is.complete certificate (sym c.requires.added) ∙ ap (λ x. Some x) (sym c.in_ok-held.ensures)) in
     let with : IsWith tables.headers counted vote.round (counted_in _ tables.headers vote) =
     subst (λ (a : Added). IsWith tables.headers counted vote.round (counted_in a tables.headers vote)) c.requires.added c.count.ensures in
     let forgotten = with_high tables.headers counted _ vote.round _ low.headers with (vote_high others.high node state event tables vote meets new) in

@@ -13,5 +13,6 @@ returns c = λ node state event meets.
     let tables = c.args.self.now in
     let vote = c.args.vote.now in
     c.is_new.ensures ∙ ap is_new_decision c.vote_decision.ensures
-    ∙ newness_is_told _ (vote_outputs node state (grown node state (message.Vote vote)) vote.round) (known_outputs (slots_in tables.sequencer.graph vote.round tables.own.0)) (vote_decision tables vote)
+    ∙ newness_is_told _ (vote_outputs node state (grown node state (message.Vote vote)) vote.round)
+    (known_outputs (slots_in tables.sequencer.graph vote.round tables.own.0)) (vote_decision tables vote)
     (vote_answered c.votes_agree.ensures node state event tables vote meets)

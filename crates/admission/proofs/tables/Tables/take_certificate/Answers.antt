@@ -55,7 +55,8 @@ returns-in-Ok-New-clause-answer c = λ node state event meets.
     let certificate = c.args.certificate in
     let is = certificate_answered node state event tables certificate meets
     ∙ ap (told (order_outputs state (grown node state (message.Certificate certificate))) []) (sym c.in-Ok-New.ensures ∙ ap (λ a. Ok a) c.in-Ok-New.field-0-is) in
-    put_out tables (message.Certificate certificate) c.new_certificate.result c.new_step.result node state event c.new_step.ensures.ok c.new_step.ensures.err c.new_certificate.ensures.outputs meets (ap is_new is)
+    put_out tables (message.Certificate certificate) c.new_certificate.result c.new_step.result node state event c.new_step.ensures.ok
+    c.new_step.ensures.err c.new_certificate.ensures.outputs meets (ap is_new is)
 
 pub returns-in-Ok-New-clause-refused : goal.returns-in-Ok-New-clause-refused
 returns-in-Ok-New-clause-refused c = λ node state event meets.

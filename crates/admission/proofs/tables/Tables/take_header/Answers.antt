@@ -12,14 +12,16 @@ returns-in-Err-clause-answer g c = λ node state event meets signs.
     let tables = c.args.self.now in
     let header = c.args.header in
     let sign : Digest → Signature = g.S.Sign.scheme.signature_of c.args.signer.now in
-    refused_answer _ (new_header_outputs tables sign header) (known_header_outputs tables sign header) (header_decision tables header) c.in-Err.refusal (header_answered node state event tables sign header meets signs) (sym c.in-Err.ensures)
+    refused_answer _ (new_header_outputs tables sign header) (known_header_outputs tables sign header) (header_decision tables header)
+    c.in-Err.refusal (header_answered node state event tables sign header meets signs) (sym c.in-Err.ensures)
 
 pub returns-in-Err-clause-refused : goal.returns-in-Err-clause-refused
 returns-in-Err-clause-refused g c = λ node state event meets signs.
     let tables = c.args.self.now in
     let header = c.args.header in
     let sign : Digest → Signature = g.S.Sign.scheme.signature_of c.args.signer.now in
-    refused_refuses _ (new_header_outputs tables sign header) (known_header_outputs tables sign header) (header_decision tables header) c.in-Err.refusal (header_answered node state event tables sign header meets signs) (sym c.in-Err.ensures)
+    refused_refuses _ (new_header_outputs tables sign header) (known_header_outputs tables sign header) (header_decision tables header)
+    c.in-Err.refusal (header_answered node state event tables sign header meets signs) (sym c.in-Err.ensures)
 
 pub new_header-requires-clause-free : goal.new_header-requires-clause-free
 new_header-requires-clause-free g c = is_free c.args.self.now c.args.header (sym c.in-Ok-New.ensures ∙ ap (λ a. Ok a) c.in-Ok-New.field-0-is)
@@ -46,7 +48,9 @@ returns-in-Ok-New-clause-answer g c = λ node state event meets signs.
     let tables = c.args.self.now in
     let header = c.args.header in
     let sign : Digest → Signature = g.S.Sign.scheme.signature_of c.args.signer.now in
-    let is = header_answered node state event tables sign header meets signs ∙ ap (told (new_header_outputs tables sign header) (known_header_outputs tables sign header)) (sym c.in-Ok-New.ensures ∙ ap (λ a. Ok a) c.in-Ok-New.field-0-is) in
+    let is = header_answered node state event tables sign header meets signs
+    ∙ ap (told (new_header_outputs tables sign header) (known_header_outputs tables sign header))
+    (sym c.in-Ok-New.ensures ∙ ap (λ a. Ok a) c.in-Ok-New.field-0-is) in
     new_answer _ (new_header_outputs tables sign header) c.new_header.result c.new_step.result is c.new_step.ensures.ok c.new_step.ensures.err c.new_header.ensures.outputs
 
 pub returns-in-Ok-New-clause-refused : goal.returns-in-Ok-New-clause-refused

@@ -25,13 +25,15 @@ pub returns-in-Err-clause-answer : goal.returns-in-Err-clause-answer
 returns-in-Err-clause-answer c = λ node state event meets.
     let tables = c.args.self.now in
     let vote = c.args.vote in
-    refused_answer _ (new_by node state vote) (known_by tables vote) (vote_decision tables vote) c.in-Err.refusal (vote_answered c.votes_agree.ensures node state event tables vote meets) (sym c.in-Err.ensures)
+    refused_answer _ (new_by node state vote) (known_by tables vote) (vote_decision tables vote) c.in-Err.refusal
+    (vote_answered c.votes_agree.ensures node state event tables vote meets) (sym c.in-Err.ensures)
 
 pub returns-in-Err-clause-refused : goal.returns-in-Err-clause-refused
 returns-in-Err-clause-refused c = λ node state event meets.
     let tables = c.args.self.now in
     let vote = c.args.vote in
-    refused_refuses _ (new_by node state vote) (known_by tables vote) (vote_decision tables vote) c.in-Err.refusal (vote_answered c.votes_agree.ensures node state event tables vote meets) (sym c.in-Err.ensures)
+    refused_refuses _ (new_by node state vote) (known_by tables vote) (vote_decision tables vote) c.in-Err.refusal
+    (vote_answered c.votes_agree.ensures node state event tables vote meets) (sym c.in-Err.ensures)
 
 pub returns-in-Ok-Known-clause-answer : goal.returns-in-Ok-Known-clause-answer
 returns-in-Ok-Known-clause-answer c = λ node state event meets.

@@ -15,7 +15,8 @@ invariant_of-self c =
     let there = stands_at (values_of entries) c.args.place low in
     let new : Held = record there.0 { acknowledged = c.args.members } in
     rw (c.write_members.ensures there.0 there.1)
-    (All-from_recursion IsUnderItsDigest (set_value_at entries c.args.place new) (keyed-set entries c.args.place there.0 new there.1 refl (recursion_from_All IsUnderItsDigest entries c.self.invariant)))
+    (All-from_recursion IsUnderItsDigest (set_value_at entries c.args.place new)
+    (keyed-set entries c.args.place there.0 new there.1 refl (recursion_from_All IsUnderItsDigest entries c.self.invariant)))
 
 pub returns : goal.returns
 returns c = λ before is.

@@ -22,6 +22,7 @@ use Rattle.validator.specs.Standing.{AreAtSound}
 use Rattle.book.specs.declared.queue.Queued.{Queued}
 use Rattle.book.specs.declared.reached.Reached.{Reached}
 use Rattle.book.specs.Queue.{queue_of}
+use Rattle.book.specs.Showing.{shown_of}
 use Rattle.book.specs.Book.{BookView, Run, Stands, history_in, TakesNew, TakesKnown, MayRefuse, HasPlace}
 use Rattle.book.proofs.Accepting.{IsNoted}
 use Rattle.book.proofs.Accepted.{takes_new, takes_known, queue_alone, may_refuse, one_more}
@@ -32,9 +33,11 @@ invariant_of-self-in-Ok-New g c =
     let b = c.self.inside in
     let event : Event = c.args.event in
     let node : Node = node_of g.S.Sign.scheme b.validator.setting in
-    let before : BookView g.row.S.Denot = record { validator = b.validator; pending = b.pending; queue = queue_of b.queue.items; accepted = b.accepted; taken = b.taken; settled = b.settled; ordered = b.ordered; reached = b.reached.items; down = b.down } in
+    let before : BookView g.row.S.Denot = shown_of b in
     let place = subst (λ (s : BookView g.row.S.Denot). HasPlace (node_of g.S.Sign.scheme s.validator.setting) s event) (sym c.self.view_is) (c.has_no_place.ensures.room c.if-has_no_place.false) in (
-      one_more node before event c.in-Ok-New.outputs.items place c.self.invariant.0 (λ state at. subst (λ (st : Step). IsAnswer (answered node state event) (Ok st)) c.in-Ok-New.field-0-is (c.in-Ok-New.ensures.answer state at)),
+      one_more node before event c.in-Ok-New.outputs.items place c.self.invariant.0
+          (λ state at. subst (λ (st : Step). IsAnswer (answered node state event) (Ok st)) c.in-Ok-New.field-0-is
+          (c.in-Ok-New.ensures.answer state at)),
       omega (arith, ap length c.in_ok-make_room.ensures.ok, length-append b.pending (record_of event ∷ []), c.self.invariant.1),
       c.enqueue.ensures.each,
     )
@@ -44,17 +47,20 @@ returns-in-Ok-New-clause-limit g c =
     let b = c.self.inside in
     let event : Event = c.args.event in
     let node : Node = node_of g.S.Sign.scheme b.validator.setting in
-    let before : BookView g.row.S.Denot = record { validator = b.validator; pending = b.pending; queue = queue_of b.queue.items; accepted = b.accepted; taken = b.taken; settled = b.settled; ordered = b.ordered; reached = b.reached.items; down = b.down } in
+    let before : BookView g.row.S.Denot = shown_of b in
     let place = subst (λ (s : BookView g.row.S.Denot). HasPlace (node_of g.S.Sign.scheme s.validator.setting) s event) (sym c.self.view_is) (c.has_no_place.ensures.room c.if-has_no_place.false) in
-    one_more node before event c.in-Ok-New.outputs.items place c.self.invariant.0 (λ state at. subst (λ (st : Step). IsAnswer (answered node state event) (Ok st)) c.in-Ok-New.field-0-is (c.in-Ok-New.ensures.answer state at))
+    one_more node before event c.in-Ok-New.outputs.items place c.self.invariant.0
+    (λ state at. subst (λ (st : Step). IsAnswer (answered node state event) (Ok st)) c.in-Ok-New.field-0-is (c.in-Ok-New.ensures.answer state at))
 
 pub returns-in-Ok-New-clause-new : goal.returns-in-Ok-New-clause-new
 returns-in-Ok-New-clause-new g c = λ yes.
     let b = c.self.inside in
     let event : Event = c.args.event in
     let node : Node = node_of g.S.Sign.scheme b.validator.setting in
-    let before : BookView g.row.S.Denot = record { validator = b.validator; pending = b.pending; queue = queue_of b.queue.items; accepted = b.accepted; taken = b.taken; settled = b.settled; ordered = b.ordered; reached = b.reached.items; down = b.down } in
-    let passed : fault_of node.charter accepts_all event ≡ None = subst (λ (s : BookView g.row.S.Denot). fault_of s.validator.setting.charter accepts_all event ≡ None) (sym c.self.view_is) c.requires.passed in
+    let before : BookView g.row.S.Denot = shown_of b in
+    let passed : fault_of node.charter accepts_all event
+    ≡ None = subst (λ (s : BookView g.row.S.Denot). fault_of s.validator.setting.charter accepts_all event ≡ None) (sym c.self.view_is)
+    c.requires.passed in
     let within : IsMessage event.message = subst (λ (m : Message). IsMessage m) c.message.ensures c.limits_hold.ensures in
     let taken_by : IsTaken node event = record { message = within; passed = passed } in
     let outputs : List Output = c.in-Ok-New.outputs.items in
@@ -79,7 +85,10 @@ returns-in-Ok-New-clause-new g c = λ yes.
     let tos = subst (λ (s : ConfigView g.row.S.Denot). (history : History) → AreAtSound (node_of g.S.Sign.scheme s) c.step.new.self.tables (kept (node_of g.S.Sign.scheme s) history)
     → to ≡ order (node_of g.S.Sign.scheme s) history) c.step.ensures.setting c.order.ensures.scratch in
     subst (λ (s : BookView g.row.S.Denot). TakesNew (node_of g.S.Sign.scheme s.validator.setting) s later event) c.self.view_is
-    (takes_new node before later event outputs c.outputs_given.ensures taken_by (λ history legal at. subst (λ (st : Step). IsAnswer (admit node history event) (Ok st)) c.in-Ok-New.field-0-is (c.in-Ok-New.ensures.admits history legal at)) (λ history legal at. c.in-Ok-New.ensures.longer (ap (λ (st : Step). is_new_step (Ok st)) c.in-Ok-New.field-0-is) history legal at)
+    (takes_new node before later event outputs c.outputs_given.ensures taken_by
+    (λ history legal at. subst (λ (st : Step). IsAnswer (admit node history event) (Ok st)) c.in-Ok-New.field-0-is
+    (c.in-Ok-New.ensures.admits history legal at))
+    (λ history legal at. c.in-Ok-New.ensures.longer (ap (λ (st : Step). is_new_step (Ok st)) c.in-Ok-New.field-0-is) history legal at)
     c.in_ok-make_room.ensures.ok queue refl refl refl refl refl (length from) (length to) noted (λ history at. ap (λ (l : List Digest). length l) (c.order-ordered.ensures.scratch history at))
     (λ history at. ap (λ (l : List Digest). length l) (tos history at)))
 
@@ -88,8 +97,10 @@ returns-in-Ok-Known-clause-known g c = λ no.
     let b = c.self.inside in
     let event : Event = c.args.event in
     let node : Node = node_of g.S.Sign.scheme b.validator.setting in
-    let before : BookView g.row.S.Denot = record { validator = b.validator; pending = b.pending; queue = queue_of b.queue.items; accepted = b.accepted; taken = b.taken; settled = b.settled; ordered = b.ordered; reached = b.reached.items; down = b.down } in
-    let passed : fault_of node.charter accepts_all event ≡ None = subst (λ (s : BookView g.row.S.Denot). fault_of s.validator.setting.charter accepts_all event ≡ None) (sym c.self.view_is) c.requires.passed in
+    let before : BookView g.row.S.Denot = shown_of b in
+    let passed : fault_of node.charter accepts_all event
+    ≡ None = subst (λ (s : BookView g.row.S.Denot). fault_of s.validator.setting.charter accepts_all event ≡ None) (sym c.self.view_is)
+    c.requires.passed in
     let within : IsMessage event.message = subst (λ (m : Message). IsMessage m) c.message.ensures c.limits_hold.ensures in
     let taken_by : IsTaken node event = record { message = within; passed = passed } in
     let outputs : List Output = c.in-Ok-Known.outputs.items in
@@ -107,16 +118,20 @@ returns-in-Ok-Known-clause-known g c = λ no.
     } in
     let queue_is = c.enqueue-in-Ok-Known.ensures.queue ∙ ap (λ (l : List Queued). queue_of l ++ ticketed b.accepted outputs) c.make_room.ensures.queue in
     subst (λ (s : BookView g.row.S.Denot). TakesKnown (node_of g.S.Sign.scheme s.validator.setting) s later event) c.self.view_is
-    (takes_known node before later event outputs c.outputs_given.ensures taken_by (λ history legal at. subst (λ (st : Step). IsAnswer (admit node history event) (Ok st)) c.in-Ok-Known.field-0-is (c.in-Ok-Known.ensures.admits history legal at))
-    (queue_alone before later queue (c.in-Ok-Known.ensures.same (ap (λ (st : Step). is_new_step (Ok st)) c.in-Ok-Known.field-0-is)) (c.take_back.ensures b.pending (record_of event) c.in_ok-make_room.ensures.ok) queue_is c.make_room.ensures.reached refl refl refl refl refl))
+    (takes_known node before later event outputs c.outputs_given.ensures taken_by
+    (λ history legal at. subst (λ (st : Step). IsAnswer (admit node history event) (Ok st)) c.in-Ok-Known.field-0-is
+    (c.in-Ok-Known.ensures.admits history legal at))
+    (queue_alone before later queue (c.in-Ok-Known.ensures.same (ap (λ (st : Step). is_new_step (Ok st)) c.in-Ok-Known.field-0-is))
+    (c.take_back.ensures b.pending (record_of event) c.in_ok-make_room.ensures.ok) queue_is c.make_room.ensures.reached refl refl refl refl refl))
 
 pub returns-in-Err-clause-refused : goal.returns-in-Err-clause-refused
 returns-in-Err-clause-refused g c =
     let b = c.self.inside in
     let event : Event = c.args.event in
     let node : Node = node_of g.S.Sign.scheme b.validator.setting in
-    let before : BookView g.row.S.Denot = record { validator = b.validator; pending = b.pending; queue = queue_of b.queue.items; accepted = b.accepted; taken = b.taken; settled = b.settled; ordered = b.ordered; reached = b.reached.items; down = b.down } in
-    subst (λ (s : BookView g.row.S.Denot). (run : Run) → Stands (node_of g.S.Sign.scheme s.validator.setting) run s → MayRefuse (node_of g.S.Sign.scheme s.validator.setting) run s event c.in-Err.refusal) c.self.view_is
+    let before : BookView g.row.S.Denot = shown_of b in
+    subst (λ (s : BookView g.row.S.Denot). (run : Run) → Stands (node_of g.S.Sign.scheme s.validator.setting) run s
+    → MayRefuse (node_of g.S.Sign.scheme s.validator.setting) run s event c.in-Err.refusal) c.self.view_is
     (λ run at. may_refuse node run before event c.in-Err.refusal (c.in-Err.ensures.admits (history_in run) at.legal at.at) c.in-Err.ensures.never_down)
 
 pub returns-in-Ok-New-clause-setting : goal.returns-in-Ok-New-clause-setting
@@ -177,6 +192,15 @@ take_back-requires-in-Err g c = (c.self.inside.pending, record_of c.args.event, 
 pub returns-in-Err-clause-err : goal.returns-in-Err-clause-err
 returns-in-Err-clause-err g c =
     let b = c.self.inside in
-    let before : BookView g.row.S.Denot = record { validator = b.validator; pending = b.pending; queue = queue_of b.queue.items; accepted = b.accepted; taken = b.taken; settled = b.settled; ordered = b.ordered; reached = b.reached.items; down = b.down } in
-    let later : BookView g.row.S.Denot = record before { validator = c.step.new.self; pending = c.take_back-in-Err.new.self; queue = queue_of c.make_room.new.queue.items; reached = c.make_room.new.reached.items } in
-    queue_alone before later before.queue (c.in-Err.ensures.same refl) (c.take_back-in-Err.ensures b.pending (record_of c.args.event) c.in_ok-make_room.ensures.ok) (ap queue_of c.make_room.ensures.queue) c.make_room.ensures.reached refl refl refl refl refl ∙ c.self.view_is
+    let before : BookView g.row.S.Denot = shown_of b in
+    let later : BookView g.row.S.Denot =
+    record before {
+      validator = c.step.new.self;
+      pending = c.take_back-in-Err.new.self;
+      queue = queue_of c.make_room.new.queue.items;
+      reached =
+          c.make_room.new.reached.items;
+    } in
+    queue_alone before later before.queue (c.in-Err.ensures.same refl)
+    (c.take_back-in-Err.ensures b.pending (record_of c.args.event) c.in_ok-make_room.ensures.ok) (ap queue_of c.make_room.ensures.queue)
+    c.make_room.ensures.reached refl refl refl refl refl ∙ c.self.view_is

@@ -9,10 +9,12 @@ use Rattle.book.proofs.book.Book.has_no_place.Goals as goal
 pub returns-then-self-eq-MAX_ACCEPTED-clause-full : goal.returns-then-self-eq-MAX_ACCEPTED-clause-full
 returns-then-self-eq-MAX_ACCEPTED-clause-full g c = λ new.
     let event = c.args.event.now in
-    subst (λ (s : BookView g.row.S.Denot). (run : Run) → Stands (node_of g.S.Sign.scheme s.validator.setting) run s → IsTrue (is_new (admit (node_of g.S.Sign.scheme s.validator.setting) (history_in run) event)) × (s.accepted ≡ MAX_ACCEPTED)) c.self.view_is
+    subst (λ (s : BookView g.row.S.Denot). (run : Run) → Stands (node_of g.S.Sign.scheme s.validator.setting) run s
+    → IsTrue (is_new (admit (node_of g.S.Sign.scheme s.validator.setting) (history_in run) event)) × (s.accepted ≡ MAX_ACCEPTED)) c.self.view_is
     (λ run at. (sym (c.is_new.ensures.history (history_in run) at.legal at.at) ∙ new, c.if-self-eq-MAX_ACCEPTED.true))
 
 pub returns-then-self-eq-MAX_ACCEPTED-clause-room : goal.returns-then-self-eq-MAX_ACCEPTED-clause-room
 returns-then-self-eq-MAX_ACCEPTED-clause-room g c = λ old.
     let state = c.limits_hold.ensures.sound in
-    subst (λ (s : BookView g.row.S.Denot). HasPlace (node_of g.S.Sign.scheme s.validator.setting) s c.args.event.now) c.self.view_is (inr (state.0, state.1, sym (c.is_new.ensures.at state.0 state.1) ∙ old))
+    subst (λ (s : BookView g.row.S.Denot). HasPlace (node_of g.S.Sign.scheme s.validator.setting) s c.args.event.now) c.self.view_is
+    (inr (state.0, state.1, sym (c.is_new.ensures.at state.0 state.1) ∙ old))

@@ -13,5 +13,18 @@ pub returns-clause-stands : goal.returns-clause-stands
 returns-clause-stands g c = λ began legal at.
     let node : Node = node_of g.S.Sign.scheme c.args.validator.setting in
     let whole : List Digest = c.order.result.now in
-    let book : BookView g.row.S.Denot = record { validator = c.args.validator; pending = c.new.result; queue = queue_of c.new-2.result.items; accepted = 0; taken = 0; settled = 0; ordered = length whole; reached = c.new-3.result.items; down = false } in
-    stands_first node began book legal at c.new.ensures (ap (λ (l : List Queued). queue_of l) c.new-2.ensures.items) refl refl refl c.new-3.ensures.items (ap (λ (l : List Digest). length l) (c.order.ensures.scratch began at))
+    let book : BookView g.row.S.Denot =
+    record {
+      validator = c.args.validator;
+      pending = c.new.result;
+      queue = queue_of c.new-2.result.items;
+      accepted = 0;
+      taken = 0;
+      settled =
+          0;
+      ordered = length whole;
+      reached = c.new-3.result.items;
+      down = false;
+    } in
+    stands_first node began book legal at c.new.ensures (ap (λ (l : List Queued). queue_of l) c.new-2.ensures.items) refl refl refl
+    c.new-3.ensures.items (ap (λ (l : List Digest). length l) (c.order.ensures.scratch began at))

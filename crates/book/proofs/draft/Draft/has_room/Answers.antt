@@ -12,7 +12,8 @@ returns c = λ bytes is.
     let long = length_draft c.self.inside.bytes.items c.self.inside.count d in
     let records : length d.records ≡ length c.args.self.now = ap length c.self.view_is in
     let few : length d.records < 1024 = omega (arith, c.if-self.false, d.counts, d.not_many) in
-    subst (λ r. (IsTrue (nat_le (c.len.result + c.args.len) 4194304) → FitsGroup (r ++ bytes ∷ [])) × (FitsGroup (r ++ bytes ∷ []) → IsTrue (nat_le (c.len.result + c.args.len) 4194304))) c.self.view_is (
+    subst (λ r. (IsTrue (nat_le (c.len.result + c.args.len) 4194304) → FitsGroup (r ++ bytes ∷ []))
+    × (FitsGroup (r ++ bytes ∷ []) → IsTrue (nat_le (c.len.result + c.args.len) 4194304))) c.self.view_is (
       λ room. put_fits d.records bytes few (omega (arith, leb-true (c.len.result + c.args.len) 4194304 room, c.len.ensures, long, is)),
       λ fits. le-leb (c.len.result + c.args.len) 4194304 (omega (arith, (fits_put d.records bytes fits).1, c.len.ensures, long, is)),
     )

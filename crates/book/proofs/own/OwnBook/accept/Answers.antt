@@ -20,5 +20,6 @@ returns-clause-way g c =
     let before : BookView g.row.S.Denot = c.self.inside.book in
     let later : BookView g.row.S.Denot = c.accept.new.self in
     let node : Node = node_of g.S.Sign.scheme before.validator.setting in
-    subst (λ (s : BookView g.row.S.Denot). (groups : List (List (List ℕ))) → AreOnTheWay (node_of g.S.Sign.scheme s.validator.setting) s groups → AreOnTheWay (node_of g.S.Sign.scheme s.validator.setting) later groups) c.self.view_is
+    subst (λ (s : BookView g.row.S.Denot). (groups : List (List (List ℕ))) → AreOnTheWay (node_of g.S.Sign.scheme s.validator.setting) s groups
+    → AreOnTheWay (node_of g.S.Sign.scheme s.validator.setting) later groups) c.self.view_is
     (λ groups way. way_accepted node before later groups c.args.event c.accept.result c.accept.ensures.new c.accept.ensures.known c.accept.ensures.err way)

@@ -23,7 +23,8 @@ settle-requires g c =
     let group : List (List ℕ) = c.in-Some.group in
     let node : ConfigView g.row.S.Denot → Node = node_of g.S.Sign.scheme in
     let way : AreOnTheWay (node before.validator.setting) middle (group ∷ []) =
-    of_some (λ group. (groups : List (List (List ℕ))) → AreOnTheWay (node before.validator.setting) before groups → AreOnTheWay (node before.validator.setting) middle (groups ++ group ∷ [])) _ group c.in-Some.is c.in_ok-group.ensures.way []
+    of_some (λ group. (groups : List (List (List ℕ))) → AreOnTheWay (node before.validator.setting) before groups
+    → AreOnTheWay (node before.validator.setting) middle (groups ++ group ∷ [])) _ group c.in-Some.is c.in_ok-group.ensures.way []
     (c.is_settled.ensures.way (search rules)) in
     subst (λ (s : ConfigView g.row.S.Denot). SettlesNext (node s) middle c.in-Ok.synced) (sym c.take.ensures.setting)
     (subst (SettlesNext (node before.validator.setting) middle) (sym c.in-Ok.ensures.synced) (way_settles (node before.validator.setting) middle group [] way))
@@ -35,7 +36,8 @@ returns-in-Ok-clause-way g c =
     let group : List (List ℕ) = c.in-Some.group in
     let node : ConfigView g.row.S.Denot → Node = node_of g.S.Sign.scheme in
     let way : AreOnTheWay (node before.validator.setting) middle (group ∷ []) =
-    of_some (λ group. (groups : List (List (List ℕ))) → AreOnTheWay (node before.validator.setting) before groups → AreOnTheWay (node before.validator.setting) middle (groups ++ group ∷ [])) _ group c.in-Some.is c.in_ok-group.ensures.way []
+    of_some (λ group. (groups : List (List (List ℕ))) → AreOnTheWay (node before.validator.setting) before groups
+    → AreOnTheWay (node before.validator.setting) middle (groups ++ group ∷ [])) _ group c.in-Some.is c.in_ok-group.ensures.way []
     (c.is_settled.ensures.way (search rules)) in
     subst (λ (s : ConfigView g.row.S.Denot). AreOnTheWay (node s) c.settle.new.self []) c.take.ensures.setting
     (c.settle.ensures.way [] (subst (λ (s : ConfigView g.row.S.Denot). AreOnTheWay (node s) middle (c.in-Ok.synced ∷ [])) (sym c.take.ensures.setting)
@@ -52,8 +54,12 @@ returns-in-Ok-clause-flushed g c some =
     let longest = of_some (λ group. IsLongestBeginning before.pending group middle.pending) _ group c.in-Some.is c.in_ok-group.ensures.group in
     let taken = of_some (λ group. middle ≡ record before { pending = middle.pending; taken = before.taken + length group }) _ group c.in-Some.is c.in_ok-group.ensures.taken in
     let settles =
-    subst (λ (s : ConfigView g.row.S.Denot). (run : Run) → Stands (node s) run middle → Begins group (map record_of (drop (length run.settled) run.taken)) → Stands (node s) (with_settled run (length group)) later) c.take.ensures.setting
-    (subst (λ (records : List (List ℕ)). (run : Run) → Stands (node middle.validator.setting) run middle → Begins records (map record_of (drop (length run.settled) run.taken)) → Stands (node middle.validator.setting) (with_settled run (length records)) later)
+    subst (λ (s : ConfigView g.row.S.Denot). (run : Run) → Stands (node s) run middle
+    → Begins group (map record_of (drop (length run.settled) run.taken)) → Stands (node s) (with_settled run (length group)) later)
+    c.take.ensures.setting
+    (subst (λ (records : List (List ℕ)). (run : Run) → Stands (node middle.validator.setting) run middle
+    → Begins records (map record_of (drop (length run.settled) run.taken))
+    → Stands (node middle.validator.setting) (with_settled run (length records)) later)
     c.in-Ok.ensures.synced c.settle.ensures.stands) in
     let settled : later.settled ≡ middle.settled + length group = c.settle.ensures.settled ∙ ap (λ (records : List (List ℕ)). middle.settled + length records) c.in-Ok.ensures.synced in
     let room : HasRoomFor group file = omega (arith, lt_of_not-le {n = suc MAX_JOURNAL_BYTES} (λ over. let bad = c.in-Ok.ensures.full.1 over in absurd cc)) in
@@ -77,7 +83,8 @@ returns-in-Err-Full-clause-full g c is =
     let group : List (List ℕ) = c.in-Some.group in
     let node : ConfigView g.row.S.Denot → Node = node_of g.S.Sign.scheme in
     let way : AreOnTheWay (node before.validator.setting) middle (group ∷ []) =
-    of_some (λ group. (groups : List (List (List ℕ))) → AreOnTheWay (node before.validator.setting) before groups → AreOnTheWay (node before.validator.setting) middle (groups ++ group ∷ [])) _ group c.in-Some.is c.in_ok-group.ensures.way []
+    of_some (λ group. (groups : List (List (List ℕ))) → AreOnTheWay (node before.validator.setting) before groups
+    → AreOnTheWay (node before.validator.setting) middle (groups ++ group ∷ [])) _ group c.in-Some.is c.in_ok-group.ensures.way []
     (c.is_settled.ensures.way (search rules)) in
     let longest = of_some (λ group. IsLongestBeginning before.pending group middle.pending) _ group c.in-Some.is c.in_ok-group.ensures.group in
     let taken = of_some (λ group. middle ≡ record before { pending = middle.pending; taken = before.taken + length group }) _ group c.in-Some.is c.in_ok-group.ensures.taken in
@@ -105,7 +112,8 @@ returns-in-Err g c =
     let group : List (List ℕ) = c.in-Some.group in
     let node : ConfigView g.row.S.Denot → Node = node_of g.S.Sign.scheme in
     let way : AreOnTheWay (node before.validator.setting) middle (group ∷ []) =
-    of_some (λ group. (groups : List (List (List ℕ))) → AreOnTheWay (node before.validator.setting) before groups → AreOnTheWay (node before.validator.setting) middle (groups ++ group ∷ [])) _ group c.in-Some.is c.in_ok-group.ensures.way []
+    of_some (λ group. (groups : List (List (List ℕ))) → AreOnTheWay (node before.validator.setting) before groups
+    → AreOnTheWay (node before.validator.setting) middle (groups ++ group ∷ [])) _ group c.in-Some.is c.in_ok-group.ensures.way []
     (c.is_settled.ensures.way (search rules)) in
     let file = g.D.Disk.device.content (disk_of c.args.journal.now) in
     let longest = of_some (λ group. IsLongestBeginning before.pending group middle.pending) _ group c.in-Some.is c.in_ok-group.ensures.group in
@@ -113,7 +121,12 @@ returns-in-Err g c =
     let fell : AreOnTheWay (node before.validator.setting) c.fail-in-Err.new.self (group ∷ []) =
     subst (λ (s : ConfigView g.row.S.Denot). AreOnTheWay (node s) c.fail-in-Err.new.self (group ∷ [])) c.take.ensures.setting
     (c.fail-in-Err.ensures.way (group ∷ []) (subst (λ (s : ConfigView g.row.S.Denot). AreOnTheWay (node s) middle (group ∷ [])) (sym c.take.ensures.setting) way)) in
-    let room : HasRoomFor group file = omega (arith, lt_of_not-le {n = suc MAX_JOURNAL_BYTES} {m = length file + length (group_bytes group)} (λ over. let full : c.append.result ≡ Err JournalError.Full = c.append.ensures.full.1 over in absurd (search rules))) in
+    let room : HasRoomFor group file =
+    omega (
+      arith,
+      lt_of_not-le {n = suc MAX_JOURNAL_BYTES} {m = length file + length (group_bytes group)}
+          (λ over. let full : c.append.result ≡ Err JournalError.Full = c.append.ensures.full.1 over in absurd (search rules)),
+    ) in
     record {
       idle = search rules;
       flushed = search rules;

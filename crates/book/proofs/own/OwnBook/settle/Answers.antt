@@ -10,12 +10,15 @@ pub invariant_of-self : goal.invariant_of-self
 invariant_of-self g c =
     let later : BookView g.row.S.Denot = c.settle.new.self in
     let next = subst (λ (s : BookView g.row.S.Denot). SettlesNext (node_of g.S.Sign.scheme s.validator.setting) s c.args.synced) (sym c.self.view_is) c.requires in
-    subst (λ (s : ConfigView g.row.S.Denot). StandsSomewhere (node_of g.S.Sign.scheme s) later) (sym (ap (λ (s : BookView g.row.S.Denot). s.validator.setting) c.settle.ensures.rest)) (with_settled next.0 (length c.args.synced), c.settle.ensures.stands next.0 next.1 next.2)
+    subst (λ (s : ConfigView g.row.S.Denot). StandsSomewhere (node_of g.S.Sign.scheme s) later)
+    (sym (ap (λ (s : BookView g.row.S.Denot). s.validator.setting) c.settle.ensures.rest))
+    (with_settled next.0 (length c.args.synced), c.settle.ensures.stands next.0 next.1 next.2)
 
 pub returns-clause-way : goal.returns-clause-way
 returns-clause-way g c =
     let before : BookView g.row.S.Denot = c.self.inside.book in
     let later : BookView g.row.S.Denot = c.settle.new.self in
     let node : Node = node_of g.S.Sign.scheme before.validator.setting in
-    subst (λ (s : BookView g.row.S.Denot). (groups : List (List (List ℕ))) → AreOnTheWay (node_of g.S.Sign.scheme s.validator.setting) s (c.args.synced ∷ groups) → AreOnTheWay (node_of g.S.Sign.scheme s.validator.setting) later groups) c.self.view_is
+    subst (λ (s : BookView g.row.S.Denot). (groups : List (List (List ℕ))) → AreOnTheWay (node_of g.S.Sign.scheme s.validator.setting) s
+    (c.args.synced ∷ groups) → AreOnTheWay (node_of g.S.Sign.scheme s.validator.setting) later groups) c.self.view_is
     (λ groups way. way_settled node before later c.args.synced groups c.settle.ensures.stands way)

@@ -21,5 +21,7 @@ returns-clause-way g c =
     let before : BookView g.row.S.Denot = c.self.inside.book in
     let later : BookView g.row.S.Denot = c.take.new.self in
     let node : Node = node_of g.S.Sign.scheme before.validator.setting in
-    subst (λ (s : BookView g.row.S.Denot). IfOk c.take.result (λ taken. IfSome taken (λ group. (groups : List (List (List ℕ))) → AreOnTheWay (node_of g.S.Sign.scheme s.validator.setting) s groups → AreOnTheWay (node_of g.S.Sign.scheme s.validator.setting) later (groups ++ group ∷ [])))) c.self.view_is
+    subst (λ (s : BookView g.row.S.Denot). IfOk c.take.result
+    (λ taken. IfSome taken (λ group. (groups : List (List (List ℕ))) → AreOnTheWay (node_of g.S.Sign.scheme s.validator.setting) s groups
+    → AreOnTheWay (node_of g.S.Sign.scheme s.validator.setting) later (groups ++ group ∷ [])))) c.self.view_is
     (way_took node before later c.take.result c.take.ensures.stands c.take.ensures.records)

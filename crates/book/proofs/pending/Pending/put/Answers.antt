@@ -14,4 +14,6 @@ pub invariant_of-self-else-last_has_room : goal.invariant_of-self-else-last_has_
 invariant_of-self-else-last_has_room c =
     let items = c.self.inside.drafts.items in
     let none = subst (HasNoRoom items) c.requires.len (c.last_has_room.ensures.none c.if-last_has_room.false) in
-    packed_behind c.put_behind.result items c.put_behind.new.drafts.items (record_of c.args.event.now) none (one_fits (record_of c.args.event.now) (omega (arith, c.requires.short, c.requires.len))) c.put_behind.ensures.ok c.put_behind.ensures.err c.self.invariant
+    packed_behind c.put_behind.result items c.put_behind.new.drafts.items (record_of c.args.event.now) none
+    (one_fits (record_of c.args.event.now) (omega (arith, c.requires.short, c.requires.len))) c.put_behind.ensures.ok c.put_behind.ensures.err
+    c.self.invariant

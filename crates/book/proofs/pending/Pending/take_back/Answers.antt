@@ -17,7 +17,8 @@ invariant_of-self c =
     let ends = ends_in_last c.self.inside.drafts.items front c.in-Some.last known.0 known.1 c.in-Some.ensures.items c.self.invariant (c.self.view_is ∙ known.2) in
     let left : c.take_back.new.self ≡ ends.0 = c.take_back.ensures ends.0 known.1 ends.1 in
     let some : ends.0 ≢ [] = λ none. absurd (true≢false (sym (c.is_empty.ensures.1 (left ∙ none)) ∙ c.if-not-is_empty.true)) in
-    subst ArePacked (sym (c.push_back_reserved.ensures.items ∙ ap (λ (l : List (List ℕ)). front ++ l ∷ []) left)) (back_packed c.self.inside.drafts.items front c.in-Some.last ends.0 known.1 c.in-Some.ensures.items ends.1 some c.self.invariant)
+    subst ArePacked (sym (c.push_back_reserved.ensures.items ∙ ap (λ (l : List (List ℕ)). front ++ l ∷ []) left))
+    (back_packed c.self.inside.drafts.items front c.in-Some.last ends.0 known.1 c.in-Some.ensures.items ends.1 some c.self.invariant)
 
 pub invariant_of-self-else-not-is_empty : goal.invariant_of-self-else-not-is_empty
 invariant_of-self-else-not-is_empty c =

@@ -14,7 +14,8 @@ returns-then-weight-quorum c =
     let on = ours_on old c.args.vote.now ours in
     let absent = sym c.contains.ensures ∙ c.if-contains.false in
     rw (← c.self.view_is)
-    (sym (counts old c.args.vote.now inside.digest inside.voters c.insert.new.self c.self.invariant member c.insert.ensures on c.if-self.false absent (omega (arith, c.if-weight-quorum.true, c.weight.ensures.value, c.quorum.ensures))))
+    (sym (counts old c.args.vote.now inside.digest inside.voters c.insert.new.self c.self.invariant member c.insert.ensures on c.if-self.false absent
+    (omega (arith, c.if-weight-quorum.true, c.weight.ensures.value, c.quorum.ensures))))
 
 pub returns : goal.returns
 returns c =
@@ -26,4 +27,5 @@ returns c =
     let absent = sym c.contains.ensures ∙ c.if-contains.false in
     rw (← c.self.view_is)
     (ap Complete (c.in_ok-certificate.ensures ∙ ap (λ places. certificate_of inside.header.body (with_vote places c.args.vote.now)) c.deref.ensures.value)
-    ∙ sym (completes old c.args.vote.now inside.digest inside.voters c.insert.new.self c.self.invariant member c.insert.ensures on c.if-self.false absent (omega (arith, c.if-weight-quorum.false, c.weight.ensures.value, c.quorum.ensures))))
+    ∙ sym (completes old c.args.vote.now inside.digest inside.voters c.insert.new.self c.self.invariant member c.insert.ensures on c.if-self.false
+    absent (omega (arith, c.if-weight-quorum.false, c.weight.ensures.value, c.quorum.ensures))))

@@ -20,8 +20,11 @@ returns-in_err-message-clause-memory g c = λ _.
 
 pub returns-clause-moves : goal.returns-clause-moves
 returns-clause-moves g c =
-    ok_weaker c.give.result _ _ (λ applied moved. delivered g.S.Sign.scheme g.D.Disk.device (g.V.Verify.accepts c.args.self.now.verifier) c.args.self.now.members c.args.node c.args.output c.args.to c.in_ok-message.message c.in_ok-message.ensures.ok applied c.give.new.self.members moved) c.give.ensures.moves
+    ok_weaker c.give.result _ _
+    (λ applied moved. delivered g.S.Sign.scheme g.D.Disk.device (g.V.Verify.accepts c.args.self.now.verifier) c.args.self.now.members c.args.node
+    c.args.output c.args.to c.in_ok-message.message c.in_ok-message.ensures.ok applied c.give.new.self.members moved) c.give.ensures.moves
 
 pub returns-clause-memory : goal.returns-clause-memory
 returns-clause-memory g c = λ is.
-    delivered_some g.S.Sign.scheme g.D.Disk.device (g.V.Verify.accepts c.args.self.now.verifier) c.args.self.now.members c.args.node c.args.output c.args.to c.in_ok-message.message c.in_ok-message.ensures.ok c.give.new.self.members (c.give.ensures.memory is)
+    delivered_some g.S.Sign.scheme g.D.Disk.device (g.V.Verify.accepts c.args.self.now.verifier) c.args.self.now.members c.args.node c.args.output
+    c.args.to c.in_ok-message.message c.in_ok-message.ensures.ok c.give.new.self.members (c.give.ensures.memory is)

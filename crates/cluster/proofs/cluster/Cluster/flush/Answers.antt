@@ -3,7 +3,6 @@ use Rattle.std.specs.Prelude.{IfOk, IsErrOf, ◌↔◌}
 use Rattle.std.specs.List.{position}
 use Rattle.opening.proofs.Telling.{ok_weaker}
 use Rattle.spec_model.specs.Words.{Author}
-use Rattle.validator.specs.Setting.{node_of}
 use Rattle.cluster.specs.Answers.{MakesRound, IsDeviceFault, HasFailed}
 use Rattle.cluster.specs.Cluster.{ClusterView, named, at, IsThere, MovesOne, Moved, MovedSome}
 use Rattle.cluster.specs.declared.error.ClusterError.TheVariants.{NoSuchNode, Memory}
@@ -17,7 +16,9 @@ returns-in-Some-clause-moves g c =
     let later = c.flush.new.self in
     let first = ap (λ (s : ClusterView g.row.S.Denot g.row.D.Denot g.row.V.Denot). position (λ member. named c.args.node member) s.members) c.self.view_is ∙ sym c.place_of.ensures ∙ c.in-Some.is in
     let there = there_of (λ member. named c.args.node member) members c.in-Some.place one first c.index_mut.ensures.value in
-    subst (λ (s : ClusterView g.row.S.Denot g.row.D.Denot g.row.V.Denot). IfOk c.flush.result (λ applied. Moved g.S.Sign.scheme g.D.Disk.device (λ own world. MakesRound own g.D.Disk.device world applied) c.args.node s.members (set members c.in-Some.place later))) c.self.view_is
+    subst (λ (s : ClusterView g.row.S.Denot g.row.D.Denot g.row.V.Denot). IfOk c.flush.result
+    (λ applied. Moved g.S.Sign.scheme g.D.Disk.device (λ own world. MakesRound own g.D.Disk.device world applied) c.args.node s.members
+    (set members c.in-Some.place later))) c.self.view_is
     (ok_weaker c.flush.result _ _ (λ applied is. moves_one members c.args.node c.in-Some.place one later first there c.flush.ensures.setting _ is) c.flush.ensures.ok)
 
 pub returns-in-Some-clause-memory : goal.returns-in-Some-clause-memory
@@ -27,7 +28,8 @@ returns-in-Some-clause-memory g c =
     let later = c.flush.new.self in
     let first = ap (λ (s : ClusterView g.row.S.Denot g.row.D.Denot g.row.V.Denot). position (λ member. named c.args.node member) s.members) c.self.view_is ∙ sym c.place_of.ensures ∙ c.in-Some.is in
     let there = there_of (λ member. named c.args.node member) members c.in-Some.place one first c.index_mut.ensures.value in
-    subst (λ (s : ClusterView g.row.S.Denot g.row.D.Denot g.row.V.Denot). IsErrOf c.flush.result Memory → MovedSome g.S.Sign.scheme g.D.Disk.device (λ applied own world. MakesRound own g.D.Disk.device world applied) c.args.node s.members (set members c.in-Some.place later)) c.self.view_is
+    subst (λ (s : ClusterView g.row.S.Denot g.row.D.Denot g.row.V.Denot). IsErrOf c.flush.result Memory → MovedSome g.S.Sign.scheme g.D.Disk.device
+    (λ applied own world. MakesRound own g.D.Disk.device world applied) c.args.node s.members (set members c.in-Some.place later)) c.self.view_is
     (λ is. moves_one members c.args.node c.in-Some.place one later first there c.flush.ensures.setting _ (c.flush.ensures.memory is))
 
 pub returns-in-Some-clause-others : goal.returns-in-Some-clause-others
@@ -71,5 +73,7 @@ returns-in-Some-clause-device g c =
     let later = c.flush.new.self in
     let first = ap (λ (s : ClusterView g.row.S.Denot g.row.D.Denot g.row.V.Denot). position (λ member. named c.args.node member) s.members) c.self.view_is ∙ sym c.place_of.ensures ∙ c.in-Some.is in
     let there = there_of (λ member. named c.args.node member) members c.in-Some.place one first c.index_mut.ensures.value in
-    subst (λ (s : ClusterView g.row.S.Denot g.row.D.Denot g.row.V.Denot). IfOk c.flush.result (λ applied. IsDeviceFault applied → MovesOne (HasFailed g.D.Disk.device) c.args.node s.members (set members c.in-Some.place later))) c.self.view_is
+    subst (λ (s : ClusterView g.row.S.Denot g.row.D.Denot g.row.V.Denot). IfOk c.flush.result
+    (λ applied. IsDeviceFault applied → MovesOne (HasFailed g.D.Disk.device) c.args.node s.members (set members c.in-Some.place later)))
+    c.self.view_is
     (ok_weaker c.flush.result _ _ (λ applied fails is. moves_one members c.args.node c.in-Some.place one later first there c.flush.ensures.setting _ (fails is)) c.flush.ensures.device)

@@ -3,7 +3,6 @@ use Rattle.std.specs.Prelude.{IfOk, IsErrOf, ◌↔◌}
 use Rattle.std.specs.List.{position}
 use Rattle.opening.proofs.Telling.{ok_weaker}
 use Rattle.spec_model.specs.Words.{Author}
-use Rattle.validator.specs.Setting.{node_of}
 use Rattle.cluster.specs.Answers.{TakesIn}
 use Rattle.cluster.specs.Cluster.{ClusterView, named, at, IsThere, Moved, MovedSome}
 use Rattle.cluster.specs.declared.error.ClusterError.TheVariants.{NoSuchNode, Memory}
@@ -17,7 +16,10 @@ returns-in-Some-clause-moves g c =
     let later = c.take_in.new.self in
     let first = ap (λ (s : ClusterView g.row.S.Denot g.row.D.Denot g.row.V.Denot). position (λ member. named c.args.to member) s.members) c.self.view_is ∙ sym c.place_of.ensures ∙ c.in-Some.is in
     let there = there_of (λ member. named c.args.to member) members c.in-Some.place one first c.index_mut.ensures.value in
-    subst (λ (s : ClusterView g.row.S.Denot g.row.D.Denot g.row.V.Denot). IfOk c.take_in.result (λ applied. Moved g.S.Sign.scheme g.D.Disk.device (λ own world. TakesIn own (g.V.Verify.accepts s.verifier) (record { sender = c.args.sender; message = c.args.message }) applied) c.args.to s.members (set members c.in-Some.place later))) c.self.view_is
+    subst (λ (s : ClusterView g.row.S.Denot g.row.D.Denot g.row.V.Denot). IfOk c.take_in.result
+    (λ applied. Moved g.S.Sign.scheme g.D.Disk.device
+    (λ own world. TakesIn own (g.V.Verify.accepts s.verifier) (record { sender = c.args.sender; message = c.args.message }) applied) c.args.to
+    s.members (set members c.in-Some.place later))) c.self.view_is
     (ok_weaker c.take_in.result _ _ (λ applied is. moves_one members c.args.to c.in-Some.place one later first there c.take_in.ensures.setting _ is) c.take_in.ensures.ok)
 
 pub returns-in-Some-clause-memory : goal.returns-in-Some-clause-memory
@@ -27,7 +29,9 @@ returns-in-Some-clause-memory g c =
     let later = c.take_in.new.self in
     let first = ap (λ (s : ClusterView g.row.S.Denot g.row.D.Denot g.row.V.Denot). position (λ member. named c.args.to member) s.members) c.self.view_is ∙ sym c.place_of.ensures ∙ c.in-Some.is in
     let there = there_of (λ member. named c.args.to member) members c.in-Some.place one first c.index_mut.ensures.value in
-    subst (λ (s : ClusterView g.row.S.Denot g.row.D.Denot g.row.V.Denot). IsErrOf c.take_in.result Memory → MovedSome g.S.Sign.scheme g.D.Disk.device (λ applied own world. TakesIn own (g.V.Verify.accepts s.verifier) (record { sender = c.args.sender; message = c.args.message }) applied) c.args.to s.members (set members c.in-Some.place later)) c.self.view_is
+    subst (λ (s : ClusterView g.row.S.Denot g.row.D.Denot g.row.V.Denot). IsErrOf c.take_in.result Memory → MovedSome g.S.Sign.scheme g.D.Disk.device
+    (λ applied own world. TakesIn own (g.V.Verify.accepts s.verifier) (record { sender = c.args.sender; message = c.args.message }) applied)
+    c.args.to s.members (set members c.in-Some.place later)) c.self.view_is
     (λ is. moves_one members c.args.to c.in-Some.place one later first there c.take_in.ensures.setting _ (c.take_in.ensures.memory is))
 
 pub returns-in-Some-clause-others : goal.returns-in-Some-clause-others

@@ -1,4 +1,5 @@
-use Rattle.std.proofs.Common.{Result, Err, ◌≡◌, ◌≢◌, ◌+◌, ◌<◌, suc, inr, None, List, [], ◌∷◌, ◌++◌, length, map, take, drop, get_or, sym, ap, ◌∙◌, subst, arith, take-suc, drop-drop, get_or-drop, length-drop}
+use Rattle.std.proofs.Common.{Result, Err, ◌≡◌, ◌≢◌, ◌+◌, ◌<◌, suc, inr, None, List, [], ◌∷◌, ◌++◌, length, map, take, drop, get_or, sym, ap, ◌∙◌}
+use Rattle.std.proofs.Common.{subst, arith, take-suc, drop-drop, get_or-drop, length-drop}
 use Rattle.std.specs.Prelude.{All}
 use Rattle.std.specs.List.{AllZip}
 use Rattle.std.proofs.lemmas.List.{map-append}
@@ -32,7 +33,8 @@ returns-in_err-open-clause-device g c =
     let all = c.args.disks.items in
     let place = c.loop-config.config-index in
     let within : place < length all = omega (arith, some, ap length so_far.left, length-drop place all) in
-    let here : c.remove.result ≡ get_or all (place + 0) c.remove.result = c.remove.ensures.value ∙ ap (λ (l : List g.row.D.Denot). get_or l 0 c.remove.result) so_far.left ∙ get_or-drop place all 0 c.remove.result in
+    let here : c.remove.result ≡ get_or all (place + 0) c.remove.result = c.remove.ensures.value
+    ∙ ap (λ (l : List g.row.D.Denot). get_or l 0 c.remove.result) so_far.left ∙ get_or-drop place all 0 c.remove.result in
     let there : c.remove.result ≡ get_or all place c.remove.result = here ∙ ap (λ n. get_or all n c.remove.result) (omega arith) in
     rw (p.1, p.2)
     (λ is. (c.remove.result, (place, within, sym there), c.in_err-open.ensures.device (ap (λ e. Err e) (err_is is))))
@@ -48,23 +50,35 @@ loop-config-preserved g c =
     let number : suc c.loop-config.config-index ≡ c.loop-config.config-index + 1 = omega arith in
     let some : 0 < length disks = omega (arith, so_far.rest, c.loop-config.disks.ok.0) in
     let empty = ap g.D.Disk.device.content c.remove.ensures.value ∙ so_far.empty 0 c.remove.result some in
-    let begins = subst (λ (s : ConfigView g.row.S.Denot). StandsAt (node_of g.S.Sign.scheme s) g.D.Disk.device (run_on (first_bytes (node_of g.S.Sign.scheme s)) [] []) member) (sym c.in_ok-open.ensures.setting) (c.in_ok-open.ensures.begins empty) in
+    let begins = subst (λ (s : ConfigView g.row.S.Denot). StandsAt (node_of g.S.Sign.scheme s) g.D.Disk.device
+    (run_on (first_bytes (node_of g.S.Sign.scheme s)) [] []) member) (sym c.in_ok-open.ensures.setting) (c.in_ok-open.ensures.begins empty) in
     let all = c.args.disks.items in
     let place = c.loop-config.config-index in
     let within : place < length all = omega (arith, some, ap length so_far.left, length-drop place all) in
-    let here : c.remove.result ≡ get_or all (place + 0) c.remove.result = c.remove.ensures.value ∙ ap (λ (l : List g.row.D.Denot). get_or l 0 c.remove.result) so_far.left ∙ get_or-drop place all 0 c.remove.result in
+    let here : c.remove.result ≡ get_or all (place + 0) c.remove.result = c.remove.ensures.value
+    ∙ ap (λ (l : List g.row.D.Denot). get_or l 0 c.remove.result) so_far.left ∙ get_or-drop place all 0 c.remove.result in
     let there : c.remove.result ≡ get_or all place c.remove.result = here ∙ ap (λ n. get_or all n c.remove.result) (omega arith) in
-    let one_more : take (place + 1) all ≡ take place all ++ c.remove.result ∷ [] = ap (λ n. take n all) (sym number) ∙ take-suc all place c.remove.result within ∙ ap (λ (d : g.row.D.Denot). take place all ++ d ∷ []) (sym there) in
+    let one_more : take (place + 1) all ≡ take place all ++ c.remove.result ∷ [] = ap (λ n. take n all) (sym number)
+    ∙ take-suc all place c.remove.result within ∙ ap (λ (d : g.row.D.Denot). take place all ++ d ∷ []) (sym there) in
     record {
       disks = subst (λ (l : List g.row.D.Denot). AllZip (IsOn g.D.Disk.device) l c.push_reserved.new.self.items) (sym one_more)
           (subst (λ (l : List (MemberView g.row.S.Denot g.row.D.Denot)). AllZip (IsOn g.D.Disk.device) (take place all ++ c.remove.result ∷ []) l) (sym items)
           (zip_more (IsOn g.D.Disk.device) (take place all) c.loop-config.members.items c.remove.result member so_far.disks c.in_ok-open.ensures.disk));
       left = c.remove.ensures.items ∙ ap (drop 1) so_far.left ∙ drop-drop 1 place all;
-      settings = ap (map (λ (m : MemberView g.row.S.Denot g.row.D.Denot). m.setting)) items ∙ map-append (λ (m : MemberView g.row.S.Denot g.row.D.Denot). m.setting) c.loop-config.members.items (member ∷ [])
+      settings = ap (map (λ (m : MemberView g.row.S.Denot g.row.D.Denot). m.setting)) items
+          ∙ map-append (λ (m : MemberView g.row.S.Denot g.row.D.Denot). m.setting) c.loop-config.members.items (member ∷ [])
           ∙ (λ i. so_far.settings i ++ own i ∷ []) ∙ sym more ∙ ap (λ n. take n c.args.configs.now) number;
-      runs = subst (All (λ (m : MemberView g.row.S.Denot g.row.D.Denot). IsRun (node_of g.S.Sign.scheme m.setting) [] (run_on (first_bytes (node_of g.S.Sign.scheme m.setting)) [] []))) (sym items) (All-push (λ (m : MemberView g.row.S.Denot g.row.D.Denot). IsRun (node_of g.S.Sign.scheme m.setting) [] (run_on (first_bytes (node_of g.S.Sign.scheme m.setting)) [] [])) c.loop-config.members.items member so_far.runs c.in_ok-open.ensures.runs);
-      begins = subst (All (λ (m : MemberView g.row.S.Denot g.row.D.Denot). StandsAt (node_of g.S.Sign.scheme m.setting) g.D.Disk.device (run_on (first_bytes (node_of g.S.Sign.scheme m.setting)) [] []) m)) (sym items) (All-push (λ (m : MemberView g.row.S.Denot g.row.D.Denot). StandsAt (node_of g.S.Sign.scheme m.setting) g.D.Disk.device (run_on (first_bytes (node_of g.S.Sign.scheme m.setting)) [] []) m) c.loop-config.members.items member so_far.begins begins);
-      up = subst (All (λ (m : MemberView g.row.S.Denot g.row.D.Denot). m.desk ≢ None)) (sym items) (All-push (λ (m : MemberView g.row.S.Denot g.row.D.Denot). m.desk ≢ None) c.loop-config.members.items member so_far.up c.in_ok-open.ensures.up);
+      runs = subst (All (λ (m : MemberView g.row.S.Denot g.row.D.Denot). IsRun (node_of g.S.Sign.scheme m.setting) []
+          (run_on (first_bytes (node_of g.S.Sign.scheme m.setting)) [] []))) (sym items)
+          (All-push (λ (m : MemberView g.row.S.Denot g.row.D.Denot). IsRun (node_of g.S.Sign.scheme m.setting) []
+          (run_on (first_bytes (node_of g.S.Sign.scheme m.setting)) [] [])) c.loop-config.members.items member so_far.runs c.in_ok-open.ensures.runs);
+      begins = subst (All (λ (m : MemberView g.row.S.Denot g.row.D.Denot). StandsAt (node_of g.S.Sign.scheme m.setting) g.D.Disk.device
+          (run_on (first_bytes (node_of g.S.Sign.scheme m.setting)) [] []) m)) (sym items)
+          (All-push (λ (m : MemberView g.row.S.Denot g.row.D.Denot). StandsAt (node_of g.S.Sign.scheme m.setting) g.D.Disk.device
+          (run_on (first_bytes (node_of g.S.Sign.scheme m.setting)) [] []) m) c.loop-config.members.items member so_far.begins begins);
+      up = subst (All (λ (m : MemberView g.row.S.Denot g.row.D.Denot). m.desk ≢ None)) (sym items)
+          (All-push (λ (m : MemberView g.row.S.Denot g.row.D.Denot). m.desk ≢ None) c.loop-config.members.items member so_far.up
+          c.in_ok-open.ensures.up);
       rest = omega (arith, so_far.rest, c.remove.ensures.len);
       empty = subst (All (λ (d : g.row.D.Denot). g.D.Disk.device.content d ≡ [])) (sym c.remove.ensures.items) (All-drop (λ (d : g.row.D.Denot). g.D.Disk.device.content d ≡ []) 1 disks so_far.empty);
     }

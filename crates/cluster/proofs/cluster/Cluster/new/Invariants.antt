@@ -13,7 +13,8 @@ abbrev pub invariant-loop-config : goal.invariant-loop-config
 invariant-loop-config g l = record {
   settings : map (λ (m : MemberView g.row.S.Denot g.row.D.Denot). m.setting) l.members.items ≡ take l.config-index l.configs;
   runs : All (λ (m : MemberView g.row.S.Denot g.row.D.Denot). IsRun (node_of g.S.Sign.scheme m.setting) [] (run_on (first_bytes (node_of g.S.Sign.scheme m.setting)) [] [])) l.members.items;
-  begins : All (λ (m : MemberView g.row.S.Denot g.row.D.Denot). StandsAt (node_of g.S.Sign.scheme m.setting) g.D.Disk.device (run_on (first_bytes (node_of g.S.Sign.scheme m.setting)) [] []) m) l.members.items;
+  begins : All (λ (m : MemberView g.row.S.Denot g.row.D.Denot). StandsAt (node_of g.S.Sign.scheme m.setting) g.D.Disk.device
+      (run_on (first_bytes (node_of g.S.Sign.scheme m.setting)) [] []) m) l.members.items;
   up : All (λ (m : MemberView g.row.S.Denot g.row.D.Denot). m.desk ≢ None) l.members.items;
   disks : AllZip (IsOn g.D.Disk.device) (take l.config-index l.fn.disks.items) l.members.items;
   left : l.disks.items ≡ drop l.config-index l.fn.disks.items;

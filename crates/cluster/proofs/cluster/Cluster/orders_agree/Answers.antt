@@ -1,5 +1,4 @@
 use Rattle.std.proofs.Common.{refl}
-use Rattle.validator.specs.Setting.{node_of}
 use Rattle.cluster.proofs.Following.{given_orders_agree}
 use Rattle.cluster.proofs.cluster.Cluster.orders_agree.Goals as goal
 

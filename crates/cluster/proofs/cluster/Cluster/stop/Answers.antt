@@ -18,7 +18,9 @@ returns-in-Some-clause-moves g c =
     let later = c.stop.new.self in
     let first = ap (λ (s : ClusterView g.row.S.Denot g.row.D.Denot g.row.V.Denot). position (λ member. named c.args.node member) s.members) c.self.view_is ∙ sym c.place_of.ensures ∙ c.in-Some.is in
     let there = there_of (λ member. named c.args.node member) members c.in-Some.place one first c.index_mut.ensures.value in
-    subst (λ (s : ClusterView g.row.S.Denot g.row.D.Denot g.row.V.Denot). IfOk c.stop.result (λ applied. Moved g.S.Sign.scheme g.D.Disk.device (λ own world. Stops own g.D.Disk.device world applied) c.args.node s.members (set members c.in-Some.place later))) c.self.view_is
+    subst (λ (s : ClusterView g.row.S.Denot g.row.D.Denot g.row.V.Denot). IfOk c.stop.result
+    (λ applied. Moved g.S.Sign.scheme g.D.Disk.device (λ own world. Stops own g.D.Disk.device world applied) c.args.node s.members
+    (set members c.in-Some.place later))) c.self.view_is
     (ok_weaker c.stop.result _ _ (λ applied is. moves_one members c.args.node c.in-Some.place one later first there c.stop.ensures.setting _ is) c.stop.ensures.ok)
 
 pub returns-in-Some-clause-memory : goal.returns-in-Some-clause-memory
@@ -28,7 +30,8 @@ returns-in-Some-clause-memory g c =
     let later = c.stop.new.self in
     let first = ap (λ (s : ClusterView g.row.S.Denot g.row.D.Denot g.row.V.Denot). position (λ member. named c.args.node member) s.members) c.self.view_is ∙ sym c.place_of.ensures ∙ c.in-Some.is in
     let there = there_of (λ member. named c.args.node member) members c.in-Some.place one first c.index_mut.ensures.value in
-    subst (λ (s : ClusterView g.row.S.Denot g.row.D.Denot g.row.V.Denot). IsErrOf c.stop.result Memory → MovedSome g.S.Sign.scheme g.D.Disk.device (λ applied own world. Stops own g.D.Disk.device world applied) c.args.node s.members (set members c.in-Some.place later)) c.self.view_is
+    subst (λ (s : ClusterView g.row.S.Denot g.row.D.Denot g.row.V.Denot). IsErrOf c.stop.result Memory → MovedSome g.S.Sign.scheme g.D.Disk.device
+    (λ applied own world. Stops own g.D.Disk.device world applied) c.args.node s.members (set members c.in-Some.place later)) c.self.view_is
     (λ is. moves_one members c.args.node c.in-Some.place one later first there c.stop.ensures.setting _ (c.stop.ensures.memory is))
 
 pub returns-in-Some-clause-others : goal.returns-in-Some-clause-others
@@ -62,8 +65,24 @@ returns-in-Some-clause-errors g c =
     let later = c.stop.new.self in
     let first = ap (λ (s : ClusterView g.row.S.Denot g.row.D.Denot g.row.V.Denot). position (λ member. named c.args.node member) s.members) c.self.view_is ∙ sym c.place_of.ensures ∙ c.in-Some.is in
     let there = there_of (λ member. named c.args.node member) members c.in-Some.place one first c.index_mut.ensures.value in
-    subst (λ (s : ClusterView g.row.S.Denot g.row.D.Denot g.row.V.Denot). IfErr c.stop.result (λ error. (error ≡ NoSuchNode) ⊎ ((error ≡ Memory) ⊎ (IsJournal error × MovesOne (λ (member : MemberView g.row.S.Denot g.row.D.Denot). IsLost (node_of g.S.Sign.scheme member.setting) g.D.Disk.device error member) c.args.node s.members (set members c.in-Some.place later))))) c.self.view_is
-    (err_weaker c.stop.result _ _ (λ error either. elim either [ inl none ↦ inl none | inr (inl memory) ↦ inr (inl memory) | inr (inr gone) ↦ inr (inr (gone.0, moves_one members c.args.node c.in-Some.place one later first there c.stop.ensures.setting (λ (member : MemberView g.row.S.Denot g.row.D.Denot). IsLost (node_of g.S.Sign.scheme member.setting) g.D.Disk.device error member) gone.1)) ]) c.stop.ensures.journal)
+    subst (λ (s : ClusterView g.row.S.Denot g.row.D.Denot g.row.V.Denot). IfErr c.stop.result
+    (λ error. (error ≡ NoSuchNode)
+    ⊎ ((error ≡ Memory) ⊎
+    (IsJournal error × MovesOne
+    (λ (member : MemberView g.row.S.Denot g.row.D.Denot). IsLost (node_of g.S.Sign.scheme member.setting) g.D.Disk.device error member)
+    c.args.node s.members (set members c.in-Some.place later))))) c.self.view_is
+    (err_weaker c.stop.result _ _
+    (λ error either. elim either [
+      | inl none ↦ inl none
+      | inr (inl memory) ↦ inr (inl memory)
+      | inr (inr gone) ↦ inr
+          (inr (
+            gone.0,
+            moves_one members c.args.node c.in-Some.place one later first there c.stop.ensures.setting
+                (λ (member : MemberView g.row.S.Denot g.row.D.Denot). IsLost (node_of g.S.Sign.scheme member.setting) g.D.Disk.device error member)
+                gone.1,
+          ))
+    ]) c.stop.ensures.journal)
 
 pub returns-in-Some-clause-settings : goal.returns-in-Some-clause-settings
 returns-in-Some-clause-settings g c =

@@ -5,9 +5,6 @@ use Rattle.opening.specs.Told.{told}
 use Rattle.opening.proofs.Opened.{no_refusal}
 use Rattle.spec_world.proofs.Beginning.{runs_begin}
 use Rattle.validator.specs.Setting.{node_of}
-use Rattle.committee.specs.Charter.{Charter}
-use Rattle.std.specs.Prelude.{All}
-use Rattle.wire.specs.Fields.{HasBytes}
 use Rattle.cluster.specs.Member.{MemberView}
 use Rattle.cluster.proofs.Counting.{told_nothing}
 use Rattle.cluster.proofs.Members.{begins_at, journal_err}
@@ -34,4 +31,4 @@ returns-in-Ok-clause-runs g c =
     runs_begin (node_of g.S.Sign.scheme c.args.config.now) c.limits_hold.ensures keys
 
 pub returns-in-Err-clause-device : goal.returns-in-Err-clause-device
-returns-in-Err-clause-device g c = λ is. (c.in-Err.failed.disk, c.in-Err.ensures.cause.1.0 (journal_err c.in-Err.failed.error Device is))
+returns-in-Err-clause-device g c = λ is. (c.in-Err.failed.disk, c.in-Err.ensures.opening.cause.1.0 (journal_err c.in-Err.failed.error Device is))

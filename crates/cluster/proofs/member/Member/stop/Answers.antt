@@ -17,13 +17,23 @@ returns-in_err-collected-clause-memory g c = λ _.
     let before : MemberView g.row.S.Denot g.row.D.Denot = record { setting = c.self.inside.config.now; desk = c.self.inside.desk; out = c.self.inside.given } in
     let later : MemberView g.row.S.Denot g.row.D.Denot = record { setting = c.self.inside.config.now; desk = Some c.collect-collected.new.desk; out = c.collect-collected.new.given } in
     let same = c.in-Ok.ensures.setting in
-    subst (λ (m : MemberView g.row.S.Denot g.row.D.Denot). (world : World) → StandsAt (node_of g.S.Sign.scheme m.setting) g.D.Disk.device world m → (applied : Applied) × MakesSome (node_of g.S.Sign.scheme m.setting) g.D.Disk.device (Stops (node_of g.S.Sign.scheme m.setting) g.D.Disk.device world applied) world m later) c.self.view_is
+    subst (λ (m : MemberView g.row.S.Denot g.row.D.Denot). (world : World) → StandsAt (node_of g.S.Sign.scheme m.setting) g.D.Disk.device world m
+    → (applied : Applied) × MakesSome (node_of g.S.Sign.scheme m.setting) g.D.Disk.device
+    (Stops (node_of g.S.Sign.scheme m.setting) g.D.Disk.device world applied) world m later) c.self.view_is
     (λ world stands. (
       (Reopened c.in-Ok.opened.1),
-      makes_some (node_of g.S.Sign.scheme c.self.inside.config.now) g.D.Disk.device world before later c.in-Some.desk c.collect-collected.new.desk (sym c.take.ensures.value ∙ c.in-Some.is) refl refl stands (Stops (node_of g.S.Sign.scheme c.self.inside.config.now) g.D.Disk.device world (Reopened c.in-Ok.opened.1)) c.in-Ok.opened.0
-          (moved_or_not (node_of g.S.Sign.scheme c.self.inside.config.now) g.D.Disk.device (Stops (node_of g.S.Sign.scheme c.self.inside.config.now) g.D.Disk.device world (Reopened c.in-Ok.opened.1)) world c.in-Some.desk c.in-Ok.opened.0 ((let at = stands.at c.in-Some.desk (sym c.take.ensures.value ∙ c.in-Some.is) in let opened = c.in-Ok.ensures.opened in let to = stops (node_of g.S.Sign.scheme c.self.inside.config.now) g.D.Disk.device world c.in-Some.desk at opened.0 opened.1 c.in-Ok.opened.0 opened.2 in stopped (node_of g.S.Sign.scheme c.self.inside.config.now) g.D.Disk.device world c.in-Some.desk c.in-Ok.opened.0 opened.0 c.in-Ok.opened.1 opened.1 opened.2 opened.3 to.0 to.1 to.2)))
+      makes_some (node_of g.S.Sign.scheme c.self.inside.config.now) g.D.Disk.device world before later c.in-Some.desk c.collect-collected.new.desk
+          (sym c.take.ensures.value ∙ c.in-Some.is) refl refl stands
+          (Stops (node_of g.S.Sign.scheme c.self.inside.config.now) g.D.Disk.device world (Reopened c.in-Ok.opened.1)) c.in-Ok.opened.0
+          (moved_or_not (node_of g.S.Sign.scheme c.self.inside.config.now) g.D.Disk.device
+          (Stops (node_of g.S.Sign.scheme c.self.inside.config.now) g.D.Disk.device world (Reopened c.in-Ok.opened.1)) world c.in-Some.desk
+          c.in-Ok.opened.0 ((let at = stands.at c.in-Some.desk (sym c.take.ensures.value ∙ c.in-Some.is) in let opened = c.in-Ok.ensures.opened in
+          let to = stops (node_of g.S.Sign.scheme c.self.inside.config.now) g.D.Disk.device world c.in-Some.desk at opened.0 opened.1
+          c.in-Ok.opened.0 opened.2 in stopped (node_of g.S.Sign.scheme c.self.inside.config.now) g.D.Disk.device world c.in-Some.desk
+          c.in-Ok.opened.0 opened.0 c.in-Ok.opened.1 opened.1 opened.2 opened.3 to.0 to.1 to.2)))
           (subst (λ (s : ConfigView g.row.S.Denot). (w : World) → IsAt (node_of g.S.Sign.scheme s) g.D.Disk.device w c.in-Ok.opened.0 → HasPutOut (node_of g.S.Sign.scheme s) w c.self.inside.given
-          → HasCollectedSome (node_of g.S.Sign.scheme s) g.D.Disk.device w c.in-Ok.opened.0 c.collect-collected.new.desk c.self.inside.given c.collect-collected.new.given) same c.in_err-collected.ensures.err),
+          → HasCollectedSome (node_of g.S.Sign.scheme s) g.D.Disk.device w c.in-Ok.opened.0 c.collect-collected.new.desk c.self.inside.given
+          c.collect-collected.new.given) same c.in_err-collected.ensures.err),
     ))
 
 pub returns-clause-ok : goal.returns-clause-ok
@@ -31,9 +41,16 @@ returns-clause-ok g c =
     let before : MemberView g.row.S.Denot g.row.D.Denot = record { setting = c.self.inside.config.now; desk = c.self.inside.desk; out = c.self.inside.given } in
     let later : MemberView g.row.S.Denot g.row.D.Denot = record { setting = c.self.inside.config.now; desk = Some c.collect-collected.new.desk; out = c.collect-collected.new.given } in
     let same = c.in-Ok.ensures.setting in
-    subst (λ (m : MemberView g.row.S.Denot g.row.D.Denot). (world : World) → StandsAt (node_of g.S.Sign.scheme m.setting) g.D.Disk.device world m → Makes (node_of g.S.Sign.scheme m.setting) g.D.Disk.device (Stops (node_of g.S.Sign.scheme m.setting) g.D.Disk.device world (Reopened c.in-Ok.opened.1)) world m later) c.self.view_is
-    (λ world stands. makes (node_of g.S.Sign.scheme c.self.inside.config.now) g.D.Disk.device world before later c.in-Some.desk c.collect-collected.new.desk (sym c.take.ensures.value ∙ c.in-Some.is) refl refl stands (Stops (node_of g.S.Sign.scheme c.self.inside.config.now) g.D.Disk.device world (Reopened c.in-Ok.opened.1)) c.in-Ok.opened.0
-    ((let at = stands.at c.in-Some.desk (sym c.take.ensures.value ∙ c.in-Some.is) in let opened = c.in-Ok.ensures.opened in let to = stops (node_of g.S.Sign.scheme c.self.inside.config.now) g.D.Disk.device world c.in-Some.desk at opened.0 opened.1 c.in-Ok.opened.0 opened.2 in stopped (node_of g.S.Sign.scheme c.self.inside.config.now) g.D.Disk.device world c.in-Some.desk c.in-Ok.opened.0 opened.0 c.in-Ok.opened.1 opened.1 opened.2 opened.3 to.0 to.1 to.2))
+    subst (λ (m : MemberView g.row.S.Denot g.row.D.Denot). (world : World) → StandsAt (node_of g.S.Sign.scheme m.setting) g.D.Disk.device world m
+    → Makes (node_of g.S.Sign.scheme m.setting) g.D.Disk.device
+    (Stops (node_of g.S.Sign.scheme m.setting) g.D.Disk.device world (Reopened c.in-Ok.opened.1)) world m later) c.self.view_is
+    (λ world stands. makes (node_of g.S.Sign.scheme c.self.inside.config.now) g.D.Disk.device world before later c.in-Some.desk
+    c.collect-collected.new.desk (sym c.take.ensures.value ∙ c.in-Some.is) refl refl stands
+    (Stops (node_of g.S.Sign.scheme c.self.inside.config.now) g.D.Disk.device world (Reopened c.in-Ok.opened.1)) c.in-Ok.opened.0
+    ((let at = stands.at c.in-Some.desk (sym c.take.ensures.value ∙ c.in-Some.is) in let opened = c.in-Ok.ensures.opened in
+    let to = stops (node_of g.S.Sign.scheme c.self.inside.config.now) g.D.Disk.device world c.in-Some.desk at opened.0 opened.1 c.in-Ok.opened.0
+    opened.2 in stopped (node_of g.S.Sign.scheme c.self.inside.config.now) g.D.Disk.device world c.in-Some.desk c.in-Ok.opened.0 opened.0
+    c.in-Ok.opened.1 opened.1 opened.2 opened.3 to.0 to.1 to.2))
     (subst (λ (s : ConfigView g.row.S.Denot). (w : World) → IsAt (node_of g.S.Sign.scheme s) g.D.Disk.device w c.in-Ok.opened.0 → HasPutOut (node_of g.S.Sign.scheme s) w c.self.inside.given
     → HasCollected (node_of g.S.Sign.scheme s) g.D.Disk.device w c.in-Ok.opened.0 c.collect-collected.new.desk c.self.inside.given c.collect-collected.new.given) same c.in_ok-collected.ensures.ok))
 
@@ -42,7 +59,10 @@ returns-in-Err-clause-journal g c =
     let before : MemberView g.row.S.Denot g.row.D.Denot = record { setting = c.self.inside.config.now; desk = c.self.inside.desk; out = c.self.inside.given } in
     let later : MemberView g.row.S.Denot g.row.D.Denot = record { setting = c.self.inside.config.now; desk = c.take.new.self; out = c.self.inside.given } in
     let at_desk = sym c.take.ensures.value ∙ c.in-Some.is in
-    subst (λ (m : MemberView g.row.S.Denot g.row.D.Denot). (Journal c.in-Err.error ≡ NoSuchNode) ⊎ ((Journal c.in-Err.error ≡ Memory) ⊎ (IsJournal (Journal c.in-Err.error) × IsLost (node_of g.S.Sign.scheme m.setting) g.D.Disk.device (Journal c.in-Err.error) m later))) c.self.view_is
+    subst (λ (m : MemberView g.row.S.Denot g.row.D.Denot). (Journal c.in-Err.error ≡ NoSuchNode)
+    ⊎ ((Journal c.in-Err.error ≡ Memory)
+    ⊎ (IsJournal (Journal c.in-Err.error) × IsLost (node_of g.S.Sign.scheme m.setting) g.D.Disk.device (Journal c.in-Err.error) m later)))
+    c.self.view_is
     (inr (inr (
       tt,
       record {

@@ -7,7 +7,8 @@ use Rattle.committee.proofs.committee.Committee.weight.Goals as goal
 use Rattle.committee.proofs.committee.Committee.weight.Goals.{then-contains, else-contains}
 
 -- one more member, who is in the set or not
-counted : (stakes : List ℕ) (p : ℕ → Bool) (n weight next : ℕ) (held : Bool) → weight ≡ weight_below stakes p n → held ≡ p n → next ≡ weight + cond held (get_or stakes n 0) 0 → next ≡ weight_below stakes p (n + 1)
+counted : (stakes : List ℕ) (p : ℕ → Bool) (n weight next : ℕ) (held : Bool) → weight ≡ weight_below stakes p n → held ≡ p n → next
+    ≡ weight + cond held (get_or stakes n 0) 0 → next ≡ weight_below stakes p (n + 1)
 counted stakes p n weight next held before is more =
     let next-is = weight_below-more stakes p n in
     let term = ap (λ b. cond b (get_or stakes n 0) 0) is in
@@ -32,7 +33,8 @@ loop-i-preserved c =
     ]
 
 -- all members were gone through
-whole : (charter : Charter) (p : ℕ → Bool) (weight n : ℕ) → IsCharter charter → weight ≡ weight_below charter.stakes p n → n ≤ length charter.stakes → length charter.stakes ≤ n → weight ≡ weight_of charter p
+whole : (charter : Charter) (p : ℕ → Bool) (weight n : ℕ) → IsCharter charter → weight ≡ weight_below charter.stakes p n → n ≤ length charter.stakes
+    → length charter.stakes ≤ n → weight ≡ weight_of charter p
 whole charter p weight n is before low high =
     let all : n ≡ length charter.keys = omega (arith, is.staked) in
     before ∙ ap (weight_below charter.stakes p) all
@@ -40,7 +42,8 @@ whole charter p weight n is before low high =
 pub returns-clause-value : goal.returns-clause-value
 returns-clause-value c =
     let stakes : c.deref-stake-items.result.now ≡ c.args.self.now.stakes = c.deref-stake-items.ensures.value ∙ ap (λ (charter : Charter). charter.stakes) c.self.view_is in
-    whole c.args.self.now (has c.args.members.now) c.loop-i.weight c.loop-i.i (rw (← c.self.view_is) c.self.invariant) c.loop-i.invariant (omega (arith, ap length stakes)) (omega (arith, ap length stakes))
+    whole c.args.self.now (has c.args.members.now) c.loop-i.weight c.loop-i.i (rw (← c.self.view_is) c.self.invariant) c.loop-i.invariant
+    (omega (arith, ap length stakes)) (omega (arith, ap length stakes))
 
 pub returns-clause-most : goal.returns-clause-most
 returns-clause-most c =

@@ -6,4 +6,6 @@ pub invariant_of-self : goal.invariant_of-self
 invariant_of-self c =
     let inside = c.self.inside in
     let round = c.args.round in
-    rebased inside.committee.now inside.floor inside.base round inside.rows.items c.self.invariant (omega (arith, c.if-number.true, c.number.ensures.value, c.number-2.ensures.value)) (omega (arith, c.number-2.ensures.value, c.number-2.ensures.limit))
+    rebased inside.committee.now inside.floor inside.base round inside.rows.items c.self.invariant
+    (omega (arith, c.if-number.true, c.number.ensures.value, c.number-2.ensures.value))
+    (omega (arith, c.number-2.ensures.value, c.number-2.ensures.limit))

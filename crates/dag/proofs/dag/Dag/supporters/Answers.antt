@@ -37,7 +37,8 @@ returns c other =
     let test : ℕ → Bool = λ m. has_parent_in c.args.self.now (round + 1) m round author in
     let members : test other ≡ true → other < size =
     λ passes. elim (given_or_none (slots_in c.args.self.now (round + 1) other)) [
-      | inl held ↦ of_members inside.committee.now inside.floor inside.base inside.rows.items c.self.invariant (round + 1) other held.0 (ap (λ (g : DagView). slots_in g (round + 1) other) c.self.view_is ∙ held.1)
+      | inl held ↦ of_members inside.committee.now inside.floor inside.base inside.rows.items c.self.invariant (round + 1) other held.0
+          (ap (λ (g : DagView). slots_in g (round + 1) other) c.self.view_is ∙ held.1)
       | inr none ↦ let bad = rw none at passes in absurd cc
     ] in
     let end : c.loop-member.member ≡ size = omega (arith, c.loop-member-test.false, c.loop-member.auto.member-end, c.size-member-end.ensures.value) in

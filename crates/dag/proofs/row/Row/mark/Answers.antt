@@ -40,6 +40,7 @@ invariant_of-self c =
     let long = ap length c.loop-i.invariant.slots ∙ as_long_marked authors old c.loop-i.i in
     let all = ap length c.self.view_is in
     let whole = c.loop-i.invariant.slots ∙ marked_whole authors old c.loop-i.i (omega (arith, c.loop-i-test.false, c.len-i-end.ensures, long, all)) in
-    let changed : (other : ℕ) → has c.remove_all.new.self other ≡ (has set other && not (authors other)) = λ other. c.remove_all.ensures other ∙ ap (λ (s : MemberSet). has s other && not (authors other)) c.loop-i.invariant.unmarked in
+    let changed : (other : ℕ) → has c.remove_all.new.self other ≡ (has set other && not (authors other)) = λ other. c.remove_all.ensures other
+    ∙ ap (λ (s : MemberSet). has s other && not (authors other)) c.loop-i.invariant.unmarked in
     let before : IsRow old set = rw c.self.view_is at c.self.invariant in
     λ author. of_marked old set c.remove_all.new.self authors before changed author ∙ ap (λ row. is_unmarked row author) (sym whole)

@@ -14,12 +14,15 @@ use Rattle.desk.proofs.desk.Desk.flush.Goals as goal
 
 pub returns-clause-full : goal.returns-clause-full
 returns-clause-full g c =
-    subst (λ (d : DeskView g.row.S.Denot g.row.D.Denot). IsErrOf c.flush.result Full → FindsNoRoom (node_of g.S.Sign.scheme d.book.validator.setting) d.book c.flush.new.self (g.D.Disk.device.content (disk_of d.journal))) c.self.view_is
+    subst (λ (d : DeskView g.row.S.Denot g.row.D.Denot). IsErrOf c.flush.result Full → FindsNoRoom (node_of g.S.Sign.scheme d.book.validator.setting)
+    d.book c.flush.new.self (g.D.Disk.device.content (disk_of d.journal))) c.self.view_is
     c.flush.ensures.full
 
 pub returns-clause-fails : goal.returns-clause-fails
 returns-clause-fails g c =
-    subst (λ (d : DeskView g.row.S.Denot g.row.D.Denot). IsErrOf c.flush.result Device → FailsWithRoom (node_of g.S.Sign.scheme d.book.validator.setting) d.book c.flush.new.self (g.D.Disk.device.content (disk_of d.journal))) c.self.view_is
+    subst (λ (d : DeskView g.row.S.Denot g.row.D.Denot). IsErrOf c.flush.result Device
+    → FailsWithRoom (node_of g.S.Sign.scheme d.book.validator.setting) d.book c.flush.new.self (g.D.Disk.device.content (disk_of d.journal)))
+    c.self.view_is
     c.flush.ensures.fails
 
 pub returns-clause-steps : goal.returns-clause-steps
@@ -27,8 +30,10 @@ returns-clause-steps g c =
     let before : DeskView g.row.S.Denot g.row.D.Denot = record { book = c.self.inside.book; journal = c.self.inside.journal } in
     let later : DeskView g.row.S.Denot g.row.D.Denot = record { book = c.flush.new.self; journal = c.flush.new.journal } in
     let up = sym c.is_down.ensures ∙ c.if-is_down.false in
-    subst (λ (d : DeskView g.row.S.Denot g.row.D.Denot). IfOk c.flush.result (λ count. d.book.pending ≢ [] → (world : World) → IsAt (node_of g.S.Sign.scheme d.book.validator.setting) g.D.Disk.device world d
-    → LeadsTo (node_of g.S.Sign.scheme d.book.validator.setting) g.D.Disk.device world (take_to (length world.settled + count) ∷ device_call ∷ device_call ∷ device_call ∷ device_call ∷ settle ∷ []) later)) c.self.view_is
+    subst (λ (d : DeskView g.row.S.Denot g.row.D.Denot). IfOk c.flush.result
+    (λ count. d.book.pending ≢ [] → (world : World) → IsAt (node_of g.S.Sign.scheme d.book.validator.setting) g.D.Disk.device world d
+    → LeadsTo (node_of g.S.Sign.scheme d.book.validator.setting) g.D.Disk.device world
+    (take_to (length world.settled + count) ∷ device_call ∷ device_call ∷ device_call ∷ device_call ∷ settle ∷ []) later)) c.self.view_is
     (flush_steps (node_of g.S.Sign.scheme before.book.validator.setting) g.D.Disk.device before later c.flush_is_steps.ensures up c.flush.result c.flush.ensures.flushed
     (alive_at_ok g.D.Disk.device later.journal c.flush.result c.flush.ensures.alive))
 
@@ -37,8 +42,11 @@ returns-clause-fails_step g c =
     let before : DeskView g.row.S.Denot g.row.D.Denot = record { book = c.self.inside.book; journal = c.self.inside.journal } in
     let later : DeskView g.row.S.Denot g.row.D.Denot = record { book = c.flush.new.self; journal = c.flush.new.journal } in
     let up = sym c.is_down.ensures ∙ c.if-is_down.false in
-    subst (λ (d : DeskView g.row.S.Denot g.row.D.Denot). IfErr c.flush.result (λ error. (error ≡ Full) ⊎ (error ≡ Device) → (world : World) → IsAt (node_of g.S.Sign.scheme d.book.validator.setting) g.D.Disk.device world d
+    subst (λ (d : DeskView g.row.S.Denot g.row.D.Denot). IfErr c.flush.result (λ error. (error ≡ Full) ⊎ (error ≡ Device) → (world : World)
+    → IsAt (node_of g.S.Sign.scheme d.book.validator.setting) g.D.Disk.device world d
     → (count : ℕ) × LeadsTo (node_of g.S.Sign.scheme d.book.validator.setting) g.D.Disk.device world (take_to count ∷ []) later)) c.self.view_is
     (flush_fails (node_of g.S.Sign.scheme before.book.validator.setting) g.D.Disk.device before later c.fail_is_a_step.ensures up c.flush.result c.flush.ensures.full c.flush.ensures.full_same
     (c.self.invariant.alive up) c.flush.ensures.fails
-    (λ bytes may. left_by g.D.Disk.device (disk_of before.journal) (disk_of later.journal) (IsWithOrWithout before.book.pending (g.D.Disk.device.content (disk_of before.journal))) bytes g.D.Disk.device c.flush.ensures.any_moment g.met.D.Disk.counts_now may))
+    (λ bytes may. left_by g.D.Disk.device (disk_of before.journal) (disk_of later.journal)
+    (IsWithOrWithout before.book.pending (g.D.Disk.device.content (disk_of before.journal))) bytes c.flush.ensures.any_moment
+    g.met.D.Disk.counts_now may))

@@ -6,6 +6,7 @@ use Rattle.validator.specs.Setting.{ConfigView, node_of}
 use Rattle.validator.specs.Standing.{AreAtSound}
 use Rattle.book.specs.Book.{Stands, run_on}
 use Rattle.book.specs.OnTheWay.{StandsAtLegal}
+use Rattle.journal.specs.Journal.{disk_of}
 use Rattle.desk.proofs.Openings.{opened_of, not_opened_of, legal_of, nothing_taken}
 use Rattle.desk.proofs.desk.Desk.open.Goals as goal
 
@@ -29,11 +30,37 @@ returns-in-Ok-clause-ok g c =
     let node = node_of g.S.Sign.scheme c.args.config.now in
     let validator = c.in-Ok.validator in
     let book = c.new.result in
-    let stands = subst (λ (s : ConfigView g.row.S.Denot). (began : History) → IsLegal (node_of g.S.Sign.scheme s) began → AreAtSound (node_of g.S.Sign.scheme s) validator.tables (kept (node_of g.S.Sign.scheme s) began)
+    let stands = subst (λ (s : ConfigView g.row.S.Denot). (began : History) → IsLegal (node_of g.S.Sign.scheme s) began
+    → AreAtSound (node_of g.S.Sign.scheme s) validator.tables (kept (node_of g.S.Sign.scheme s) began)
     → Stands (node_of g.S.Sign.scheme s) (run_on began) book) c.in-Ok.ensures.setting c.new.ensures.stands in
-    opened_of node g.D.Disk.device (g.D.Disk.device.content c.args.disk) validator.tables book c.in-Ok.journal c.in-Ok.ensures.stands stands c.new.ensures.queue c.new.ensures.up c.in-Ok.ensures.alive c.in-Ok.ensures.configured c.in-Ok.ensures.same
+    opened_of node g.D.Disk.device (g.D.Disk.device.content c.args.disk) validator.tables book c.in-Ok.journal c.in-Ok.ensures.stands stands
+    c.new.ensures.queue c.new.ensures.up c.in-Ok.ensures.alive c.in-Ok.ensures.configured c.in-Ok.ensures.same
+
+pub returns-in-Ok-clause-opening : goal.returns-in-Ok-clause-opening
+returns-in-Ok-clause-opening g c =
+    let opened = c.in-Ok.ensures.opening in
+    record {
+      tells = tt;
+      never_full = tt;
+      cause = (opened.cause.0, tt);
+      any_moment = opened.any_moment;
+      keeps = opened.keeps;
+      never_refused = tt;
+    }
 
 pub returns-in-Err-clause-err : goal.returns-in-Err-clause-err
 returns-in-Err-clause-err g c =
-    not_opened_of (node_of g.S.Sign.scheme c.args.config.now) g.D.Disk.device c.args.disk c.in-Err.failed.disk (g.D.Disk.device.content c.args.disk) c.in-Err.failed.error
-    c.in-Err.ensures.err c.in-Err.ensures.never_full c.in-Err.ensures.any_moment_err c.in-Err.ensures.keeps_err g.met.D.Disk.counts_now
+    not_opened_of (node_of g.S.Sign.scheme c.args.config.now) g.D.Disk.device (λ opened. disk_of opened.1) c.args.disk c.in-Err.failed c.in-Err.ensures.opening
+    g.met.D.Disk.counts_now
+
+pub returns-in-Err-clause-opening : goal.returns-in-Err-clause-opening
+returns-in-Err-clause-opening g c =
+    let opened = c.in-Err.ensures.opening in
+    record {
+      tells = opened.tells;
+      never_full = opened.never_full;
+      cause = (tt, opened.cause.1);
+      any_moment = opened.any_moment;
+      keeps = opened.keeps;
+      never_refused = opened.never_refused;
+    }

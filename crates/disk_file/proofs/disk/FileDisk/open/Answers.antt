@@ -1,10 +1,10 @@
 use Rattle.std.proofs.Common.{sym, subst}
 use Rattle.diskmodel.specs.Disk.{LeavesOnly}
-use Rattle.disk_file.specs.declared.story.Story.{Story}
+use Rattle.disk_file.specs.declared.story.TapeView.{TapeView}
 use Rattle.disk_file.specs.Stories.{held, MayLeave}
 use Rattle.disk_file.proofs.Steps.{firm_begun}
 use Rattle.disk_file.proofs.disk.FileDisk.open.Goals as goal
 
 pub returns-clause-firm : goal.returns-clause-firm
 returns-clause-firm g c =
-    subst (λ (story : Story). LeavesOnly (held story) (MayLeave story)) (sym c.in_ok-begin.ensures.story) (firm_begun c.in_ok-bytes.bytes.items)
+    subst (λ (story : TapeView). LeavesOnly (held story) (MayLeave story)) (sym c.in_ok-begin.ensures.story) (firm_begun c.in_ok-bytes.bytes.items)

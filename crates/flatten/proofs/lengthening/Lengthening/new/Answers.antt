@@ -15,7 +15,8 @@ pub loop-place-init : goal.loop-place-init
 loop-place-init c = (
   omega arith,
   λ previous linked marked.
-      none_taken c.args.dag.now c.limits_hold.ensures previous c.args.chain.now c.index-chain-chain.result (is_free c.args.dag.now c.index-chain-chain.result.0 c.new-ordered.result.items) c.new-digests.result.items c.requires.some linked marked
+      none_taken c.args.dag.now c.limits_hold.ensures previous c.args.chain.now c.index-chain-chain.result
+      (is_free c.args.dag.now c.index-chain-chain.result.0 c.new-ordered.result.items) c.new-digests.result.items c.requires.some linked marked
       (slice_get_read c.args.chain.now (length c.args.chain.now) (length c.args.chain.now - 1) c.index-chain-chain.result refl (omega (arith, c.requires.some)) c.index-chain-chain.is)
       (bare c.args.dag.now c.index-chain-chain.result.0 c.new-ordered.result.items c.new-ordered.ensures.items) c.new-digests.ensures.items,
 )
@@ -37,8 +38,10 @@ loop-place-preserved c = (
       let free : ℕ → ℕ → Bool = is_free graph high c.loop-place.ordered.items in
       let free' : ℕ → ℕ → Bool = is_free graph high c.order.new.taken.items in
       let was : IsBehind graph total most high (before_at previous chain place) (leader ∷ drop (suc place) chain) free c.loop-place.digests.items reads =
-      subst (λ l. IsBehind graph total most high (before_at previous chain place) l free c.loop-place.digests.items reads) (drop_one chain place leader at) (c.loop-place.invariant.1 previous linked marked) in
-      let now = one_taken graph c.limits_hold.ensures total most high (before_at previous chain place) leader (drop (suc place) chain) free free' c.loop-place.digests.items c.order.new.digests.items reads c.in_ok-more.more reads' was c.saturating_add-reads.ensures
+      subst (λ l. IsBehind graph total most high (before_at previous chain place) l free c.loop-place.digests.items reads)
+      (drop_one chain place leader at) (c.loop-place.invariant.1 previous linked marked) in
+      let now = one_taken graph c.limits_hold.ensures total most high (before_at previous chain place) leader (drop (suc place) chain) free free'
+      c.loop-place.digests.items c.order.new.digests.items reads c.in_ok-more.more reads' was c.saturating_add-reads.ensures
       (λ d leads. c.in_ok-more.ensures.digests (leader_held graph (before_at previous chain place)) d leads)
       (λ d leads all. c.in_ok-more.ensures.unordered (leader_held graph (before_at previous chain place)) d leads all)
       (λ d leads. c.in_ok-more.ensures.reads (leader_held graph (before_at previous chain place)) d leads) in
@@ -63,7 +66,9 @@ all_done c previous linked marked =
     let some = c.requires.some in
     let most = c.loop-place.auto.place-end in
     let end : place - 1 ≡ length chain - 1 = omega (arith, past, most, some) in
-    all_taken graph (digests_of (segments (ledger_in graph []) (leader_held graph previous) (leaders_in graph chain))) (read_references_by graph (leader_held graph previous) (leaders_in graph chain)) (before_at previous chain place) (drop place chain) c.index-chain-chain.result c.loop-place.ordered.items c.loop-place.digests.items c.loop-place.reads
+    all_taken graph (digests_of (segments (ledger_in graph []) (leader_held graph previous) (leaders_in graph chain)))
+    (read_references_by graph (leader_held graph previous) (leaders_in graph chain)) (before_at previous chain place) (drop place chain)
+    c.index-chain-chain.result c.loop-place.ordered.items c.loop-place.digests.items c.loop-place.reads
     (c.loop-place.invariant.1 previous linked marked) c.loop-place.invariant.0 (dropped_all chain place past)
     (at_end previous chain place (omega (arith, past, some)) ∙ ap (slice_get chain) end ∙ last_at c)
 

@@ -75,17 +75,18 @@ pub returns-clause-flusher : goal.returns-clause-flusher
 returns-clause-flusher g c =
     let of = node_of g.S.Sign.scheme in
     let had = c.requires.flusher in
-    let is : IsFlusherOf of g.D.Disk.device c.args.node.now c.match-found.self = elim c.match-found.branch [
-      | in-Some+in_ok-count-in-Some w ↦ subst (λ f. IsFlusherOf of g.D.Disk.device c.args.node.now f) (sym w.self-is) w.in_ok-count-in-Some.ensures.flusher
+    let is : IsFlusherOf g.S.Sign.scheme g.D.Disk.device c.args.node.now c.match-found.self = elim c.match-found.branch [
+      | in-Some+in_ok-count-in-Some w ↦ subst (λ f. IsFlusherOf g.S.Sign.scheme g.D.Disk.device c.args.node.now f) (sym w.self-is) w.in_ok-count-in-Some.ensures.flusher
       | in-None w ↦
-          subst (λ f. IsFlusherOf of g.D.Disk.device c.args.node.now f) (sym w.self-is) (record {
+          subst (λ f. IsFlusherOf g.S.Sign.scheme g.D.Disk.device c.args.node.now f) (sym w.self-is) (record {
             seat = c.in-Ok.ensures.flush;
             rests = λ up. (c.in-Ok.ensures.takes.none (is_none _ w.in-None.is)).0 ∙ had.rests up ∙ sym c.in-Ok.ensures.flush_settled;
             alive = had.alive;
-            holds = λ up. subst (λ f. Holds (of c.args.node.now.setting) (g.D.Disk.device.content c.args.self.now.journal.disk) (from_start c.args.node.now f)) (sym c.in-Ok.ensures.flush_firm) (had.holds up);
+            holds = λ up. subst (λ f. Holds (of c.args.node.now.setting) (g.D.Disk.device.content c.args.self.now.journal.disk)
+                (from_start c.args.node.now f)) (sym c.in-Ok.ensures.flush_firm) (had.holds up);
           })
     ] in
-    subst (λ f. IsFlusherOf of g.D.Disk.device c.args.node.now (record { journal = c.match-found.self.journal; seat = f; down = c.match-found.self.down })) (sym c.tell_settled.ensures.flush) is
+    subst (λ f. IsFlusherOf g.S.Sign.scheme g.D.Disk.device c.args.node.now (record { journal = c.match-found.self.journal; seat = f; down = c.match-found.self.down })) (sym c.tell_settled.ensures.flush) is
 
 pub returns-clause-told : goal.returns-clause-told
 returns-clause-told g c =

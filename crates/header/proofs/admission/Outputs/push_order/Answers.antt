@@ -1,6 +1,6 @@
 use Rattle.std.proofs.Common.{◌+◌, ◌/◌, length, ◌∙◌}
 use Rattle.header.proofs.Ranges.{mapped_more}
-use Rattle.spec_model.specs.Admitting.{piece_at}
+use Rattle.header.specs.Answers.{piece_at}
 use Rattle.header.proofs.admission.Outputs.push_order.Goals as goal
 
 pub loop-piece-preserved : goal.loop-piece-preserved

@@ -1,6 +1,6 @@
 use Rattle.std.proofs.Common.{◌≡◌, ◌+◌, ◌-◌, ◌/◌, ◌++◌, length, map}
 use Rattle.std.specs.List.{range_with_len}
-use Rattle.spec_model.specs.Admitting.{piece_at, pieces}
+use Rattle.header.specs.Answers.{piece_at, pieces}
 use Rattle.header.proofs.admission.Outputs.push_order.Given as goal
 
 -- the pieces so far and those that are left are all

@@ -29,5 +29,6 @@ returns c =
     let some : 1 ≤ c.len.result = omega (arith, eqb-false (vec_len c.args.records) 0 (sym c.if-is_empty.ensures), c.len.ensures) in
     let fits : FitsGroup (contents records) = fits_from records c.deref.result.now c.len.result c.in-Some.len c.deref.ensures.value counts some (omega arith) c.in-Some.ensures in
     let bytes_are : c.in_ok-bytes.bytes.items ≡ group_bytes (contents records) = c.in_ok-bytes.ensures ∙ ap (λ (rs : List (Vec ℕ Global)). group_bytes (contents rs)) c.deref-2.ensures.value in
-    let named : (group : IsGroup c.in_ok-bytes.bytes.items c.len-count.result) → group.records ≡ contents records = λ group. records_are c.in_ok-bytes.bytes.items c.len-count.result group (contents records) fits bytes_are in
+    let named : (group : IsGroup c.in_ok-bytes.bytes.items c.len-count.result) → group.records
+    ≡ contents records = λ group. records_are c.in_ok-bytes.bytes.items c.len-count.result group (contents records) fits bytes_are in
     (fits, named (assumption c))

@@ -17,7 +17,8 @@ returns-in_default-clause-proposed g c =
     let mid = c.propose.new.self in
     let node = node_of g.S.Sign.scheme before.node.setting in
     let found = subst (λ it. c.in_ok-header.field-0 ≡ propose (node_of g.S.Sign.scheme it.node.setting) (seen_by mid.seat)) c.self.view_is c.in_ok-header.ensures.header in
-    none_proposed node before mid (c.propose.ensures.looked.same.mine ∙ ap (λ it. it.seat.view.mine) c.self.view_is) (c.propose.ensures.looked.same.start ∙ ap (λ it. it.seat.view.start) c.self.view_is)
+    none_proposed node before mid (c.propose.ensures.looked.same.mine ∙ ap (λ it. it.seat.view.mine) c.self.view_is)
+    (c.propose.ensures.looked.same.start ∙ ap (λ it. it.seat.view.start) c.self.view_is)
     (subst (λ it. Begins it.seat.view.seen mid.seat.view.seen) c.self.view_is c.propose.ensures.looked.more)
     c.in_ok-header.field-0 found c.in_default.is
 
@@ -53,7 +54,8 @@ returns-clause-proposed g c =
     let passed = subst (λ it. fault_of it accepts_all c.in-Ok.event ≡ None) (c.committee-committee.ensures ∙ ap (λ it. it.charter) setting) c.in-Ok.ensures.passed in
     let own = c.in-Ok.ensures.checked ∙ ap (λ (it : Author). record { sender = it; message = message.Header c.in-Some.header }) (c.own-own.ensures ∙ ap (λ it. it.own) setting-2) in
     let done = subst (λ it. IsSubmitted (node_of g.S.Sign.scheme it) c.in-Ok.event mid later c.submit.result) at_node c.submit.ensures.submitted in
-    was_proposed node before mid mine start more later c.in_ok-header.field-0 c.in-Some.header c.in-Ok.event c.submit.result c.newness.result found c.in-Some.is own passed (submits_more node c.in-Ok.event mid.seat.view later.seat.view done.answer done.submits)
+    was_proposed node before mid mine start more later c.in_ok-header.field-0 c.in-Some.header c.in-Ok.event c.submit.result c.newness.result found
+    c.in-Some.is own passed (submits_more node c.in-Ok.event mid.seat.view later.seat.view done.answer done.submits)
     (submitted_since node c.in-Ok.event before mid later c.submit.result start number mine more done) c.newness.ensures.ok
 
 pub returns-clause-memory : goal.returns-clause-memory

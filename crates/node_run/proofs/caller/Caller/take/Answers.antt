@@ -36,5 +36,6 @@ returns-clause-handles g c =
     subst (λ (event : Event). Handles node (fault_of c.args.self.now.setting.charter is_pair_signature event) event c.args.self.now c.submit.new.node c.submit.result)
     c.in-Ok.ensures.checked
     (submitted node c.in-Ok.event c.args.self.now c.submit.new.node _ c.submit.result passed
-    (goes_yet node c.in-Ok.event c.args.self.now mid c.submit.new.node (c.may_go.ensures.goes c.if-not-may_go.false) (submits_more node c.in-Ok.event mid.seat.view c.submit.new.node.seat.view here.answer here.submits))
+    (goes_yet node c.in-Ok.event c.args.self.now mid c.submit.new.node (c.may_go.ensures.goes c.if-not-may_go.false)
+    (submits_more node c.in-Ok.event mid.seat.view c.submit.new.node.seat.view here.answer here.submits))
     (submitted_since node c.in-Ok.event c.args.self.now mid c.submit.new.node c.submit.result same.start same.number same.mine c.may_go.ensures.more here))

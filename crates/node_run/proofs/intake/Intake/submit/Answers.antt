@@ -12,7 +12,8 @@ returns-in-Ok-Known-clause-brings g c =
 
 pub returns-in-Ok-Waits-clause-brings : goal.returns-in-Ok-Waits-clause-brings
 returns-in-Ok-Waits-clause-brings g c =
-    brings_waiting _ _ _ _ c.take.new.self _ _ c.take.result c.take.ensures.handles c.offer.new.self.caller c.in-Ok-Waits.event c.offer.result c.offer.ensures.looks (c.in-Ok-Waits.is ∙ ap Ok c.in-Ok-Waits.field-0-is)
+    brings_waiting _ _ _ _ c.take.new.self _ _ c.take.result c.take.ensures.handles c.offer.new.self.caller c.in-Ok-Waits.event c.offer.result
+    c.offer.ensures.looks (c.in-Ok-Waits.is ∙ ap Ok c.in-Ok-Waits.field-0-is)
     c.offer.ensures.never_new c.offer.ensures.ok c.offer.ensures.err c.offer.ensures.why
 
 pub returns-in-Err-clause-brings : goal.returns-in-Err-clause-brings

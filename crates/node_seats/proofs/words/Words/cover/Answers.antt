@@ -19,5 +19,6 @@ loop-preserved g c =
       same_then c.args.seat.now c.loop.seat c.read.new.seat until.3 turn,
       begins_trans c.args.seat.now.view.firm c.loop.seat.view.firm c.read.new.seat.view.firm until.4 firm,
       begins_trans c.args.seat.now.view.seen c.loop.seat.view.seen c.read.new.seat.view.seen until.5 (subst (λ l. Begins l c.read.new.seat.view.seen) seen reads.seen),
-      still_seen c.args.seat.now.view c.loop.seat.view c.read.new.seat.view until.5 firm until.6 (subst (λ l. length c.read.new.seat.view.firm ≤ length l → c.read.new.seat.view.seen ≡ l) seen reads.same),
+      still_seen c.args.seat.now.view c.loop.seat.view c.read.new.seat.view until.5 firm until.6
+          (subst (λ l. length c.read.new.seat.view.firm ≤ length l → c.read.new.seat.view.seen ≡ l) seen reads.same),
     )

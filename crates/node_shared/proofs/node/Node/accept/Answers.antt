@@ -46,7 +46,8 @@ returns-then-receipt-clause-home g c =
     let seen = told.stays.seen ∙ first.seen ∙ ap (λ l. l.seat.view.seen) (sym first.locked) ∙ sym told.stays_locked.seen in
     home_with c.args.self.now g.S.Sign.scheme c.know_down.new.locked.seat c.know_down.new.locked.book c.accept.new.self c.args.event told.home (c.in-Ok.ensures.new c.if-receipt.true)
     c.catch_up.new.seat c.know_down.new.seat.view.number c.in-Ok.ensures.setting (search rules)
-    (last.seen ∙ raised.seen ∙ ap (λ l. l ++ mark c.know_down.new.seat.view.number g.C.Call.event ∷ []) seen ∙ ap (λ e. c.know_down.new.locked.seat.view.seen ++ mark c.know_down.new.seat.view.number e ∷ []) c.requires.call)
+    (last.seen ∙ raised.seen ∙ ap (λ l. l ++ mark c.know_down.new.seat.view.number g.C.Call.event ∷ []) seen
+    ∙ ap (λ e. c.know_down.new.locked.seat.view.seen ++ mark c.know_down.new.seat.view.number e ∷ []) c.requires.call)
     (search rules)
     (is_up c.accept.result c.in-Ok.receipt c.in-Ok.is c.know_down.new.locked.book c.accept.new.self (c.in-Ok.ensures.new c.if-receipt.true).down c.accept.ensures.down)
 
@@ -64,7 +65,8 @@ returns-then-receipt-clause-submits g c =
     (subst (λ l. Begins c.args.seat.now.view.seen l) (sym told.stays.seen ∙ seen) first.looked.more) c.if-receipt.true c.in-Ok.ensures.ticket c.in-Ok.ensures.limit
     (ap (λ s. s.view.seen) last.other ∙ raised.seen ∙ ap (λ l. l ++ mark mid.view.number g.C.Call.event ∷ []) seen ∙ ap (λ e. behind.view.seen ++ mark mid.view.number e ∷ []) c.requires.call
     ∙ ap (λ n. behind.view.seen ++ mark n c.args.event ∷ []) (told.stays.same.number ∙ first.looked.same.number))
-    (ap (λ s. s.view.mine) last.other ∙ raised.mine ∙ ap (λ l. l ++ g.C.Call.event ∷ []) (told.stays.same.mine ∙ first.looked.same.mine) ∙ ap (λ e. c.args.seat.now.view.mine ++ e ∷ []) c.requires.call)
+    (ap (λ s. s.view.mine) last.other ∙ raised.mine ∙ ap (λ l. l ++ g.C.Call.event ∷ []) (told.stays.same.mine ∙ first.looked.same.mine)
+    ∙ ap (λ e. c.args.seat.now.view.mine ++ e ∷ []) c.requires.call)
 
 pub returns-then-receipt-clause-brought : goal.returns-then-receipt-clause-brought
 returns-then-receipt-clause-brought g c =
@@ -83,7 +85,8 @@ returns-then-receipt-clause-brought g c =
 
 pub returns-else-receipt-clause-home : goal.returns-else-receipt-clause-home
 returns-else-receipt-clause-home g c =
-    home_known c.args.self.now g.S.Sign.scheme c.know_down.new.locked.seat c.know_down.new.locked.book c.accept.new.self c.args.event c.know_down.ensures.home (c.in-Ok.ensures.known c.if-receipt.false)
+    home_known c.args.self.now g.S.Sign.scheme c.know_down.new.locked.seat c.know_down.new.locked.book c.accept.new.self c.args.event
+    c.know_down.ensures.home (c.in-Ok.ensures.known c.if-receipt.false)
 
 pub returns-else-receipt-clause-submits : goal.returns-else-receipt-clause-submits
 returns-else-receipt-clause-submits g c =

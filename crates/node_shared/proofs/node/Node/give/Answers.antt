@@ -1,6 +1,5 @@
 use Rattle.std.proofs.Common.{ap, sym, ◌∙◌}
 use Rattle.std.specs.Prelude.{drop, is_some, if◌then◌else◌}
-use Rattle.validator.specs.Setting.{node_of}
 use Rattle.node_shared.proofs.Called.{learned_stays, gives_both}
 use Rattle.node_shared.proofs.Readings.{given, put_out_by, gives_next, none_given}
 use Rattle.node_shared.proofs.Standing.{home_where, queue_setting, queue_down, queue_left}
@@ -10,7 +9,8 @@ pub returns-clause-home : goal.returns-clause-home
 returns-clause-home g c =
     home_where c.args.self.now g.S.Sign.scheme c.know_down.new.locked.seat c.know_down.new.locked.book c.release.new.self c.know_down.ensures.home
     (queue_setting c.know_down.new.locked.book c.release.new.self (drop 1 c.know_down.new.locked.book.queue) (is_some c.release.result) c.release.ensures.queue)
-    (λ down. sym (queue_down c.know_down.new.locked.book c.release.new.self (drop 1 c.know_down.new.locked.book.queue) (is_some c.release.result) c.release.ensures.queue) ∙ down) c.release.ensures.stands
+    (λ down. sym (queue_down c.know_down.new.locked.book c.release.new.self (drop 1 c.know_down.new.locked.book.queue) (is_some c.release.result)
+    c.release.ensures.queue) ∙ down) c.release.ensures.stands
 
 pub returns-clause-learned : goal.returns-clause-learned
 returns-clause-learned g c =
@@ -26,7 +26,8 @@ returns-clause-gives g c =
     (put_out_by c.args.self.now g.S.Sign.scheme c.know_down.new.locked.seat c.know_down.new.seat c.know_down.new.locked.book told.home began firm c.release.result c.release.ensures.goes_out)
 
 pub returns-clause-next : goal.returns-clause-next
-returns-clause-next g c = gives_next c.args.locked.now.book c.know_all.new.locked.book c.know_down.new.locked.book _ c.release.result (ap (λ l. l.book) c.know_all.ensures.locked) c.know_down.ensures.book c.release.ensures.output
+returns-clause-next g c = gives_next c.args.locked.now.book c.know_all.new.locked.book c.know_down.new.locked.book _ c.release.result
+    (ap (λ l. l.book) c.know_all.ensures.locked) c.know_down.ensures.book c.release.ensures.output
 
 pub returns-clause-down : goal.returns-clause-down
 returns-clause-down g c = none_given c.know_all.new.locked.book c.know_down.new.locked.book _ c.release.result c.know_down.ensures.book c.release.ensures.output

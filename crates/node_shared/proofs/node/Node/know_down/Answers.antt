@@ -1,5 +1,4 @@
 use Rattle.std.proofs.Common.{◌≡◌, true, false, sym, ap, ◌∙◌, subst}
-use Rattle.validator.specs.Setting.{node_of}
 use Rattle.node_seats.proofs.Same.{or_second}
 use Rattle.node_shared.specs.Calls.{Stays}
 use Rattle.node_shared.specs.Home.{IsAtHome}

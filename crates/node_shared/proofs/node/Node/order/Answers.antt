@@ -1,6 +1,5 @@
 use Rattle.std.proofs.Common.{rules, ap, sym, ◌∙◌}
 use borrow.Author.Rules.{in_lives}
-use Rattle.validator.specs.Setting.{node_of}
 use Rattle.node_shared.proofs.Called.{learned_stays}
 use Rattle.node_shared.proofs.Readings.{ordered}
 use Rattle.node_shared.proofs.node.Node.order.Goals as goal

@@ -16,7 +16,8 @@ returns-clause-voted g c =
     let now : IsAtHome g.S.Sign.scheme c.args.self.now c.see_all.new.locked.seat c.see_all.new.locked.book = search rules in
     let seen : c.see_all.new.seat.view.seen ≡ c.see_all.new.locked.seat.view.seen = search rules in
     let told = subst (λ (v : ValidatorView g.row.S.Denot). (history : History) → AreAtSound (node_of g.S.Sign.scheme v.setting) v.tables (kept (node_of g.S.Sign.scheme v.setting) history)
-    → c.voted-voted.result ≡ unless_low (floor_of (node_of g.S.Sign.scheme v.setting) history) c.args.round (voted_digest history c.args.round c.args.author.0)) c.validator.ensures c.voted-voted.ensures.history in
+    → c.voted-voted.result ≡ unless_low (floor_of (node_of g.S.Sign.scheme v.setting) history) c.args.round
+    (voted_digest history c.args.round c.args.author.0)) c.validator.ensures c.voted-voted.ensures.history in
     seen_of c.args.self.now g.S.Sign.scheme c.see_all.new.locked.seat c.see_all.new.seat c.see_all.new.locked.book now c.see_all.ensures.looked.of_node.start
     (λ node history. c.voted-voted.result ≡ unless_low (floor_of node history) c.args.round (voted_digest history c.args.round c.args.author.0)) seen (λ run stands. told (history_in run) stands.at)
 

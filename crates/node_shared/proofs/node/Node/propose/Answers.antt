@@ -1,6 +1,5 @@
 use Rattle.std.proofs.Common.{rules, ◌≡◌}
 use borrow.Author.Rules.{in_lives}
-use Rattle.validator.specs.Setting.{node_of}
 use Rattle.node_shared.specs.Home.{IsAtHome}
 use Rattle.node_shared.proofs.Readings.{proposed}
 use Rattle.node_shared.proofs.node.Node.propose.Goals as goal

@@ -1,6 +1,5 @@
 use Rattle.std.proofs.Common.{rules, ◌≡◌}
 use borrow.Author.Rules.{in_lives}
-use Rattle.validator.specs.Setting.{node_of}
 use Rattle.node_shared.specs.Home.{IsAtHome}
 use Rattle.spec_model.specs.Holdings.{round as round_of}
 use Rattle.node_shared.proofs.Readings.{seen_of}

@@ -1,5 +1,4 @@
 use Rattle.std.proofs.Common.{rules, ap}
-use Rattle.validator.specs.Setting.{node_of}
 use Rattle.node_shared.proofs.Groups.{settles_next, home_settled}
 use Rattle.node_shared.proofs.node.Node.settle_tied.Goals as goal
 

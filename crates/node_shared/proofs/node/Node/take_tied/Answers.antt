@@ -1,5 +1,4 @@
 use Rattle.std.proofs.Common.{rules}
-use Rattle.validator.specs.Setting.{node_of}
 use Rattle.book.proofs.Options.{of_some}
 use Rattle.node_shared.proofs.Groups.{home_taken, takes_next}
 use Rattle.node_shared.proofs.node.Node.take_tied.Goals as goal

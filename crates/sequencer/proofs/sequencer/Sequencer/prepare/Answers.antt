@@ -15,7 +15,8 @@ returns c =
     IfOk-weaker c.new.result _ _
     (λ prepared made node state event comes adds.
     subst (λ (s : SequencerView). IsPrepared node state event s prepared) c.self.view_is
-    (ready_for node state event v x c.wave_of-last.result c.in_ok-chain.chain.items prepared (subst (ComesTo node state event) (sym c.self.view_is) comes) adds c.limits_hold.ensures member c.wave_of-last.ensures
+    (ready_for node state event v x c.wave_of-last.result c.in_ok-chain.chain.items prepared
+    (subst (ComesTo node state event) (sym c.self.view_is) comes) adds c.limits_hold.ensures member c.wave_of-last.ensures
     (λ at new later more. c.in_ok-chain.ensures {u = tt} at new later more)
     (subst (λ (l : List (ℕ × Author)). IsMadeOf inside.dag inside.last l prepared.committed) c.deref.ensures.value (made inside.last))))
     c.new.ensures

@@ -10,6 +10,9 @@ returns-clause-at c node state event comes adds ready =
     let v : SequencerView = record { graph = inside.dag; coins = inside.coins; last = inside.last; order = inside.order.items } in
     let prepared = c.args.prepared.now in
     let order : c.commit.new.self.order ≡ inside.order.items ++ prepared_digests prepared =
-    c.commit.ensures.order ∙ c.add_all.ensures ∙ ap (λ (l : List Digest). l ++ c.digests-2.result.now) c.in_ok-reserve.ensures.items ∙ ap (λ (l : List Digest). inside.order.items ++ l) c.digests-2.ensures in
-    pushed_on c.states_go_on.ensures node state event v c.args.value prepared c.commit.new.self (subst (ComesTo node state event) (sym c.self.view_is) comes) adds (subst (λ (s : SequencerView). IsPrepared node state event s prepared) (sym c.self.view_is) ready)
+    c.commit.ensures.order ∙ c.add_all.ensures ∙ ap (λ (l : List Digest). l ++ c.digests-2.result.now) c.in_ok-reserve.ensures.items
+    ∙ ap (λ (l : List Digest). inside.order.items ++ l) c.digests-2.ensures in
+    pushed_on c.states_go_on.ensures node state event v c.args.value prepared c.commit.new.self
+    (subst (ComesTo node state event) (sym c.self.view_is) comes) adds
+    (subst (λ (s : SequencerView). IsPrepared node state event s prepared) (sym c.self.view_is) ready)
     c.limits_hold.ensures c.commit.ensures.graph (c.commit.ensures.coins ∙ c.in_ok-push.ensures.ok) order

@@ -23,7 +23,8 @@ pub returns-in-Some-clause-chain : goal.returns-in-Some-clause-chain
 returns-in-Some-clause-chain c =
     let graph = c.args.dag.now in
     IfOk-weaker c.newer_at.result _ _
-    (λ chain is sure. chain_all (ledger_in graph c.args.self.now) c.args.last chain.items (size_some graph.charter c.limits_hold.ensures.charter) c.limits_hold.ensures.placed sure (newer_of c chain.items is))
+    (λ chain is sure. chain_all (ledger_in graph c.args.self.now) c.args.last chain.items (size_some graph.charter c.limits_hold.ensures.charter)
+    c.limits_hold.ensures.placed sure (newer_of c chain.items is))
     c.newer_at.ensures
 
 pub returns-in-None-clause-newer : goal.returns-in-None-clause-newer

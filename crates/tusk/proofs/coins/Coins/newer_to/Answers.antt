@@ -47,7 +47,8 @@ loop-past-preserved c =
             all = ap (λ (r : ℕ). newer_slots ledger last next r c.match-leader.author.0 ++ reverse c.match-leader.chain.items) w.round-is
                 ∙ ap (λ (a : Author). newer_slots ledger last next slot.0 a.0 ++ reverse c.match-leader.chain.items) w.author-is
                 ∙ ap (λ (l : List (ℕ × Author)). newer_slots ledger last next slot.0 slot.1.0 ++ reverse l) (ap (λ v. v.items) w.chain-is ∙ w.in_ok-push.ensures.items)
-                ∙ step_taken graph coins last left next c.loop-past.round c.loop-past.author slot c.loop-past.chain.items all placed is low led (sym (below slot.0 slot.1.0 w.in-Some.ensures.round) ∙ sym w.contains.ensures ∙ w.if-contains.true) c.loop-past.invariant.all;
+                ∙ step_taken graph coins last left next c.loop-past.round c.loop-past.author slot c.loop-past.chain.items all placed is low led
+                (sym (below slot.0 slot.1.0 w.in-Some.ensures.round) ∙ sym w.contains.ensures ∙ w.if-contains.true) c.loop-past.invariant.all;
           }
       | in-Some+else-contains w ↦
           let slot = w.in-Some.earlier in
@@ -57,11 +58,13 @@ loop-past-preserved c =
             reached = λ member. ap (λ s. has s member) w.reached-is ∙ passed member
                 ∙ ap (λ (r : ℕ). reaches_in graph r c.loop-past.author.0 (2 * next + 1) member) (sym w.round-is)
                 ∙ ap (λ (a : Author). reaches_in graph c.match-leader.round a.0 (2 * next + 1) member) (sym w.author-is);
-            held = λ there. ap (λ (r : ℕ). is_some (slots_in graph r c.match-leader.author.0)) w.round-is ∙ ap (λ (a : Author). is_some (slots_in graph c.loop-past.round a.0)) w.author-is ∙ c.loop-past.invariant.held there;
+            held = λ there. ap (λ (r : ℕ). is_some (slots_in graph r c.match-leader.author.0)) w.round-is
+                ∙ ap (λ (a : Author). is_some (slots_in graph c.loop-past.round a.0)) w.author-is ∙ c.loop-past.invariant.held there;
             all = ap (λ (r : ℕ). newer_slots ledger last next r c.match-leader.author.0 ++ reverse c.match-leader.chain.items) w.round-is
                 ∙ ap (λ (a : Author). newer_slots ledger last next c.loop-past.round a.0 ++ reverse c.match-leader.chain.items) w.author-is
                 ∙ ap (λ v. newer_slots ledger last next c.loop-past.round c.loop-past.author.0 ++ reverse v.items) w.chain-is
-                ∙ step_missed graph coins last left next c.loop-past.round c.loop-past.author.0 slot c.loop-past.chain.items all is low led (sym (below slot.0 slot.1.0 w.in-Some.ensures.round) ∙ sym w.contains.ensures ∙ w.if-contains.false) c.loop-past.invariant.all;
+                ∙ step_missed graph coins last left next c.loop-past.round c.loop-past.author.0 slot c.loop-past.chain.items all is low led
+                (sym (below slot.0 slot.1.0 w.in-Some.ensures.round) ∙ sym w.contains.ensures ∙ w.if-contains.false) c.loop-past.invariant.all;
           }
       | in_default w ↦
           let none = led_by_none ledger left w.in_default.ensures.value in
@@ -70,7 +73,8 @@ loop-past-preserved c =
             reached = λ member. ap (λ s. has s member) w.reached-is ∙ passed member
                 ∙ ap (λ (r : ℕ). reaches_in graph r c.loop-past.author.0 (2 * next + 1) member) (sym w.round-is)
                 ∙ ap (λ (a : Author). reaches_in graph c.match-leader.round a.0 (2 * next + 1) member) (sym w.author-is);
-            held = λ there. ap (λ (r : ℕ). is_some (slots_in graph r c.match-leader.author.0)) w.round-is ∙ ap (λ (a : Author). is_some (slots_in graph c.loop-past.round a.0)) w.author-is ∙ c.loop-past.invariant.held there;
+            held = λ there. ap (λ (r : ℕ). is_some (slots_in graph r c.match-leader.author.0)) w.round-is
+                ∙ ap (λ (a : Author). is_some (slots_in graph c.loop-past.round a.0)) w.author-is ∙ c.loop-past.invariant.held there;
             all = ap (λ (r : ℕ). newer_slots ledger last next r c.match-leader.author.0 ++ reverse c.match-leader.chain.items) w.round-is
                 ∙ ap (λ (a : Author). newer_slots ledger last next c.loop-past.round a.0 ++ reverse c.match-leader.chain.items) w.author-is
                 ∙ ap (λ v. newer_slots ledger last next c.loop-past.round c.loop-past.author.0 ++ reverse v.items) w.chain-is
@@ -85,7 +89,8 @@ returns c held is =
     let last = c.args.last in
     let low : c.args.wave - c.loop-past.past ≤ last = omega (arith, c.loop-past-test.false) in
     let there = c.loop-past.invariant.held (ap is_some is) in
-    let all = step_last ledger last (c.args.wave - c.loop-past.past) c.loop-past.round c.loop-past.author c.loop-past.chain.items (newer_slots ledger last (c.args.wave - 1) c.args.leader.0 c.args.leader.1.0) c.limits_hold.ensures.placed low there c.loop-past.invariant.all
+    let all = step_last ledger last (c.args.wave - c.loop-past.past) c.loop-past.round c.loop-past.author c.loop-past.chain.items
+    (newer_slots ledger last (c.args.wave - 1) c.args.leader.0 c.args.leader.1.0) c.limits_hold.ensures.placed low there c.loop-past.invariant.all
     ∙ ap (λ o. option_map_or (λ d. map slot_of (newer_to ledger last (c.args.wave - 1) d)) o []) is in
     cc c.in_ok-push-2.ensures.items
 

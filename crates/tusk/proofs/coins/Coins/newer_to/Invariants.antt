@@ -12,5 +12,6 @@ invariant-loop-past l = record {
   above : 2 * (l.wave - l.past) + 1 ≤ l.round;
   reached : (member : ℕ) → has l.reached member ≡ reaches_in l.dag l.round l.author.0 (2 * (l.wave - l.past) + 1) member;
   held : is_some (slots_in l.dag l.fn.leader.0 l.fn.leader.1.0) ≡ true → is_some (slots_in l.dag l.round l.author.0) ≡ true;
-  all : newer_slots (ledger_in l.dag l.self) l.last (l.wave - l.past) l.round l.author.0 ++ reverse l.chain.items ≡ newer_slots (ledger_in l.dag l.self) l.last (l.wave - 1) l.fn.leader.0 l.fn.leader.1.0;
+  all : newer_slots (ledger_in l.dag l.self) l.last (l.wave - l.past) l.round l.author.0 ++ reverse l.chain.items
+      ≡ newer_slots (ledger_in l.dag l.self) l.last (l.wave - 1) l.fn.leader.0 l.fn.leader.1.0;
 }

@@ -57,7 +57,8 @@ returns-clause-at g c = λ new.
     let within : IsMessage event.message = subst (λ (m : Message). IsMessage m) c.message.ensures c.limits_hold-2.ensures in
     let meets : (state : State) → AreAtSound node tables state → Meets node state event tables event.message =
     λ state is. meets_at node state event tables c.limits_hold.ensures within passed is in
-    subst (λ v. (state : State) → AreAtSound (node_of g.S.Sign.scheme v.setting) v.tables state → AreAtSound (node_of g.S.Sign.scheme v.setting) c.take.new.tables (after (node_of g.S.Sign.scheme v.setting) state event)) c.self.view_is
+    subst (λ v. (state : State) → AreAtSound (node_of g.S.Sign.scheme v.setting) v.tables state
+    → AreAtSound (node_of g.S.Sign.scheme v.setting) c.take.new.tables (after (node_of g.S.Sign.scheme v.setting) state event)) c.self.view_is
     (λ state is. behind c.sound_stays.ensures node state event tables c.take.new.tables sign c.take.result (meets state is) signs c.take.ensures.answer (c.take.ensures.at new) new)
 
 pub returns-clause-same : goal.returns-clause-same
@@ -100,7 +101,9 @@ returns-clause-admits g c =
     let within : IsMessage event.message = subst (λ (m : Message). IsMessage m) c.message.ensures c.limits_hold-2.ensures in
     let meets : (state : State) → AreAtSound node tables state → Meets node state event tables event.message =
     λ state is. meets_at node state event tables c.limits_hold.ensures within passed is in
-    subst (λ v. (history : History) → IsLegal (node_of g.S.Sign.scheme v.setting) history → AreAtSound (node_of g.S.Sign.scheme v.setting) v.tables (kept (node_of g.S.Sign.scheme v.setting) history) → IsAnswer (admit (node_of g.S.Sign.scheme v.setting) history event) c.take.result) c.self.view_is
+    subst (λ v. (history : History) → IsLegal (node_of g.S.Sign.scheme v.setting) history → AreAtSound (node_of g.S.Sign.scheme v.setting) v.tables
+    (kept (node_of g.S.Sign.scheme v.setting) history) → IsAnswer (admit (node_of g.S.Sign.scheme v.setting) history event) c.take.result)
+    c.self.view_is
     (λ history legal is. subst (λ (a : Admission). IsAnswer a c.take.result) (sym (c.state_answers.ensures node history event legal (record { message = within; passed = passed })))
     (c.take.ensures.answer node (kept node history) (meets (kept node history) is) signs))
 
@@ -115,7 +118,9 @@ returns-clause-longer g c = λ new.
     let within : IsMessage event.message = subst (λ (m : Message). IsMessage m) c.message.ensures c.limits_hold-2.ensures in
     let meets : (state : State) → AreAtSound node tables state → Meets node state event tables event.message =
     λ state is. meets_at node state event tables c.limits_hold.ensures within passed is in
-    subst (λ v. (history : History) → IsLegal (node_of g.S.Sign.scheme v.setting) history → AreAtSound (node_of g.S.Sign.scheme v.setting) v.tables (kept (node_of g.S.Sign.scheme v.setting) history) → GoesOn (node_of g.S.Sign.scheme v.setting) history event c.take.new.tables) c.self.view_is
+    subst (λ v. (history : History) → IsLegal (node_of g.S.Sign.scheme v.setting) history → AreAtSound (node_of g.S.Sign.scheme v.setting) v.tables
+    (kept (node_of g.S.Sign.scheme v.setting) history) → GoesOn (node_of g.S.Sign.scheme v.setting) history event c.take.new.tables)
+    c.self.view_is
     (λ history legal is.
     goes_on c.state_answers.ensures c.state_follows.ensures c.sound_stays.ensures c.order_grows.ensures node history event c.take.new.tables legal (record { message = within; passed = passed })
     (answered_new (answered node (kept node history) event) c.take.result (c.take.ensures.answer node (kept node history) (meets (kept node history) is) signs) new)

@@ -12,8 +12,11 @@ use Rattle.waiter.proofs.waiter.Waiter.next_ready.Goals as goal
 
 pub invariant_of-self-2 : goal.invariant_of-self-2
 invariant_of-self-2 g c =
-    let entries = c.self.inside.waiting.entries in
-    (rw c.shift_remove_index.ensures.entries (All-from_recursion IsUnderItsDigest _ (keyed_without entries _ (recursion_from_All IsUnderItsDigest entries c.self.invariant.0))), omega (arith, c.shift_remove_index.ensures.len, c.self.invariant.1))
+    let entries = c.self.inside.waiting.entries in (
+      rw c.shift_remove_index.ensures.entries
+          (All-from_recursion IsUnderItsDigest _ (keyed_without entries _ (recursion_from_All IsUnderItsDigest entries c.self.invariant.0))),
+      omega (arith, c.shift_remove_index.ensures.len, c.self.invariant.1),
+    )
 
 pub returns-clause-first : goal.returns-clause-first
 returns-clause-first g c =
@@ -28,7 +31,8 @@ returns-clause-first g c =
       front = take place c.args.self.now;
       back = drop (suc place) c.args.self.now;
       stood = parted c.args.self.now place checked at;
-      left = ap (λ (es : List (Digest × Event)). values_of es) c.shift_remove_index.ensures.entries ∙ map-remove (λ (e : Digest × Event). e.1) c.self.inside.waiting.entries place ∙ ap (λ (l : List Event). remove l place) c.self.view_is;
+      left = ap (λ (es : List (Digest × Event)). values_of es) c.shift_remove_index.ensures.entries
+          ∙ map-remove (λ (e : Digest × Event). e.1) c.self.inside.waiting.entries place ∙ ap (λ (l : List Event). remove l place) c.self.view_is;
       asked = said.1;
       last = said.2;
       passed_over = said.4;

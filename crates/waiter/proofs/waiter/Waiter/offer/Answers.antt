@@ -24,14 +24,18 @@ pub returns-then-contains_key-clause-full : goal.returns-then-contains_key-claus
 returns-then-contains_key-clause-full c =
     let entries = c.self.inside.waiting.entries in
     let is : certificate_digest_in c.args.checked.message ≡ Some c.in-Some.digest = cc in
-    let waits : Waits c.args.self.now c.args.checked = rw (← c.self.view_is) (found c.in-Some.digest c.args.checked is entries (recursion_from_All IsUnderItsDigest entries c.self.invariant.0) (sym c.contains_key.ensures ∙ c.if-contains_key.true)) in
+    let waits : Waits c.args.self.now c.args.checked = rw (← c.self.view_is)
+    (found c.in-Some.digest c.args.checked is entries (recursion_from_All IsUnderItsDigest entries c.self.invariant.0)
+    (sym c.contains_key.ensures ∙ c.if-contains_key.true)) in
     (λ e. absurd cc, λ h. absurd (h.1 waits))
 
 pub returns-then-contains_key-clause-added : goal.returns-then-contains_key-clause-added
 returns-then-contains_key-clause-added c =
     let entries = c.self.inside.waiting.entries in
     let is : certificate_digest_in c.args.checked.message ≡ Some c.in-Some.digest = cc in
-    let waits : Waits c.args.self.now c.args.checked = rw (← c.self.view_is) (found c.in-Some.digest c.args.checked is entries (recursion_from_All IsUnderItsDigest entries c.self.invariant.0) (sym c.contains_key.ensures ∙ c.if-contains_key.true)) in
+    let waits : Waits c.args.self.now c.args.checked = rw (← c.self.view_is)
+    (found c.in-Some.digest c.args.checked is entries (recursion_from_All IsUnderItsDigest entries c.self.invariant.0)
+    (sym c.contains_key.ensures ∙ c.if-contains_key.true)) in
     λ h. absurd (h waits)
 
 pub returns-then-count-ge-MAX_WAITING-clause-full : goal.returns-then-count-ge-MAX_WAITING-clause-full
@@ -46,13 +50,15 @@ pub returns-then-count-ge-MAX_WAITING-clause-again : goal.returns-then-count-ge-
 returns-then-count-ge-MAX_WAITING-clause-again c = λ waits.
     let entries = c.self.inside.waiting.entries in
     let is : certificate_digest_in c.args.checked.message ≡ Some c.in-Some.digest = cc in
-    absurd (absent c.in-Some.digest c.args.checked is entries (recursion_from_All IsUnderItsDigest entries c.self.invariant.0) (sym c.contains_key.ensures ∙ c.if-contains_key.false) (rw (← c.self.view_is) at waits))
+    absurd (absent c.in-Some.digest c.args.checked is entries (recursion_from_All IsUnderItsDigest entries c.self.invariant.0)
+    (sym c.contains_key.ensures ∙ c.if-contains_key.false) (rw (← c.self.view_is) at waits))
 
 pub returns-in_err-insert-clause-again : goal.returns-in_err-insert-clause-again
 returns-in_err-insert-clause-again c = λ waits.
     let entries = c.self.inside.waiting.entries in
     let is : certificate_digest_in c.args.checked.message ≡ Some c.in-Some.digest = cc in
-    absurd (absent c.in-Some.digest c.args.checked is entries (recursion_from_All IsUnderItsDigest entries c.self.invariant.0) (sym c.contains_key.ensures ∙ c.if-contains_key.false) (rw (← c.self.view_is) at waits))
+    absurd (absent c.in-Some.digest c.args.checked is entries (recursion_from_All IsUnderItsDigest entries c.self.invariant.0)
+    (sym c.contains_key.ensures ∙ c.if-contains_key.false) (rw (← c.self.view_is) at waits))
 
 pub invariant_of-self-2 : goal.invariant_of-self-2
 invariant_of-self-2 c =
@@ -60,17 +66,23 @@ invariant_of-self-2 c =
     let one : Digest × Event = (c.in-Some.digest, c.args.checked) in
     let is : certificate_digest_in c.args.checked.message ≡ Some c.in-Some.digest = cc in
     let none : get (λ (x y : Digest). bytes_eq x.0 y.0) c.self.inside.waiting c.in-Some.digest ≡ None = none_from _ (sym c.contains_key.ensures ∙ c.if-contains_key.false) in
-    let grown : c.insert.new.self.entries ≡ entries ++ (c.in-Some.digest, c.args.checked) ∷ [] = c.in_ok-insert.ensures.entries ∙ insert_entry-new (λ (x y : Digest). bytes_eq x.0 y.0) c.self.inside.waiting c.in-Some.digest c.args.checked none in
-    rw grown (All-push IsUnderItsDigest entries (c.in-Some.digest, c.args.checked) c.self.invariant.0 is, omega (arith, length-append entries ((c.in-Some.digest, c.args.checked) ∷ []), c.len-count.ensures.len))
+    let grown : c.insert.new.self.entries ≡ entries ++ (c.in-Some.digest, c.args.checked) ∷ [] = c.in_ok-insert.ensures.entries
+    ∙ insert_entry-new (λ (x y : Digest). bytes_eq x.0 y.0) c.self.inside.waiting c.in-Some.digest c.args.checked none in
+    rw grown (
+      All-push IsUnderItsDigest entries (c.in-Some.digest, c.args.checked) c.self.invariant.0 is,
+      omega (arith, length-append entries ((c.in-Some.digest, c.args.checked) ∷ []), c.len-count.ensures.len),
+    )
 
 pub returns-clause-same : goal.returns-clause-same
 returns-clause-same c = λ waits.
     let entries = c.self.inside.waiting.entries in
     let is : certificate_digest_in c.args.checked.message ≡ Some c.in-Some.digest = cc in
-    absurd (absent c.in-Some.digest c.args.checked is entries (recursion_from_All IsUnderItsDigest entries c.self.invariant.0) (sym c.contains_key.ensures ∙ c.if-contains_key.false) (rw (← c.self.view_is) at waits))
+    absurd (absent c.in-Some.digest c.args.checked is entries (recursion_from_All IsUnderItsDigest entries c.self.invariant.0)
+    (sym c.contains_key.ensures ∙ c.if-contains_key.false) (rw (← c.self.view_is) at waits))
 
 pub returns-clause-added : goal.returns-clause-added
 returns-clause-added c = λ h.
     let none : get (λ (x y : Digest). bytes_eq x.0 y.0) c.self.inside.waiting c.in-Some.digest ≡ None = none_from _ (sym c.contains_key.ensures ∙ c.if-contains_key.false) in
-    let grown : c.insert.new.self.entries ≡ c.self.inside.waiting.entries ++ (c.in-Some.digest, c.args.checked) ∷ [] = c.in_ok-insert.ensures.entries ∙ insert_entry-new (λ (x y : Digest). bytes_eq x.0 y.0) c.self.inside.waiting c.in-Some.digest c.args.checked none in
+    let grown : c.insert.new.self.entries ≡ c.self.inside.waiting.entries ++ (c.in-Some.digest, c.args.checked) ∷ [] = c.in_ok-insert.ensures.entries
+    ∙ insert_entry-new (λ (x y : Digest). bytes_eq x.0 y.0) c.self.inside.waiting c.in-Some.digest c.args.checked none in
     ap (λ (es : List (Digest × Event)). values_of es) grown ∙ one_more c.self.inside.waiting.entries c.in-Some.digest c.args.checked ∙ ap (λ (l : List Event). l ++ c.args.checked ∷ []) c.self.view_is

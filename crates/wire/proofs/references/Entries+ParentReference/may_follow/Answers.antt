@@ -1,7 +1,7 @@
 use Rattle.std.proofs.Common.{sym}
 use Rattle.std.specs.Prelude.{nat_lt}
 use Rattle.wire.proofs.RisingLemmas.{follows-last}
-use Rattle.wire.proofs.references.ParentReferences.may_follow.Goals as goal
+use Rattle.wire.proofs.references.«Entries+ParentReference».may_follow.Goals as goal
 
 pub returns-in-Some : goal.returns-in-Some
 returns-in-Some c = sym (follows-last (λ a. nat_lt a.author.0 c.args.author.0) c.args.self.now c.in-Some.last.now (cc (c.in-Some.ensures.value)))

@@ -1,5 +1,5 @@
-use Rattle.node_cluster.specs.Settings.{AreOfFile}
-use Rattle.node_cluster.proofs.settings.configs_of.Given as goal
+use Rattle.sim_members.specs.Settings.{AreOfFile}
+use Rattle.sim_members.proofs.settings.configs_of.Given as goal
 
 -- those of the members before this one
 abbrev pub invariant-loop-own : goal.invariant-loop-own

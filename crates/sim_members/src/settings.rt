@@ -1,14 +1,14 @@
-//! How the nodes are set up.
+//! How the members are set up.
 
 ghost use Rattle.std.specs.Prelude.{◌≡◌, ◌+◌, length, Ok, OnOk, IfOk, IfSome};
 ghost use Rattle.cluster.specs.Cluster.{AreOfOne, AreDistinct};
 ghost use Rattle.committee.specs.Answer.{answer_to};
 ghost use Rattle.toml.specs.Parse.{parse_document};
-ghost use Rattle.test_cluster.specs.Settings.{AreOfFile, AreSettings};
+ghost use Rattle.sim_members.specs.Settings.{AreOfFile, AreSettings};
 
 use committee::Committee;
 use sigface::HashSign;
-use sim_script::{DEPTH, committee_file, signer};
+use sim_script::{committee_file, signer};
 use std::alloc::{AllocError, Global};
 use validator::Config;
 use wire::Author;
@@ -16,28 +16,33 @@ use wire::Author;
 /// Members of the committee.
 pub const MEMBERS: u16 = 4;
 
-/// Batches that a node holds at most: so few that a case can come to one more.
-const BATCHES: u64 = 2;
-
 /// The settings of the members of a committee, in the order of their numbers. They sign with the test pair.
-#[derive(Drop)]
 pub struct Settings {
     configs: Vec<Config<HashSign>>,
     ghost one: { AreOfOne configs.items },
     ghost distinct: { AreDistinct configs.items },
 }
 
-impl Settings {
-    /// The settings of all members.
-    pub fn new(alloc: Global) -> Result<Settings, AllocError> {
-        Settings::of_depth(alloc, DEPTH)
+impl Drop for Settings {
+    fn drop(self) {
+        let Settings { configs: _ } = self;
     }
+}
 
-    /// Those of a committee of this depth.
-    pub fn of_depth(alloc: Global, depth: u64) -> Result<Settings, AllocError> {
-        let file = committee_file(alloc, depth, BATCHES)?;
+impl Settings {
+    /// Those of a committee of this depth, in which a member holds at most so many batches. `AllocError` where an allocation
+    /// failed.
+    pub fn new(alloc: Global, depth: u64, batches: u64) -> Result<Settings, AllocError> {
+        let file = committee_file(alloc, depth, batches)?;
         let configs = configs_of(alloc, file.as_str())?;
         Ok(Settings { configs })
+    }
+
+    /// One for each member.
+    pub fn all(&self) -> &[Config<HashSign>]
+        ensures { AreSettings result.now }
+    {
+        &self.configs
     }
 
     /// Those of the first so many members, if there are so many.

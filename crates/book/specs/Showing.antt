@@ -1,0 +1,18 @@
+-- What contracts see of a book, from its fields.
+use Rattle.book.specs.Book.{BookView}
+use Rattle.book.specs.Queue.{queue_of}
+use Rattle.book.specs.declared.book.Book.TheInside.{Inside}
+
+-- the one place where a field of a book is shown
+abbrev pub shown_of : {S : Type 0} → Inside S → BookView S
+shown_of book = record {
+  validator = book.validator;
+  pending = book.pending;
+  queue = queue_of book.queue.items;
+  accepted = book.accepted;
+  taken = book.taken;
+  settled = book.settled;
+  ordered = book.ordered;
+  reached = book.reached.items;
+  down = book.down;
+}

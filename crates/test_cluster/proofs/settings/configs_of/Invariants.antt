@@ -1,6 +1,0 @@
-use Rattle.test_cluster.specs.Settings.{AreOfFile}
-use Rattle.test_cluster.proofs.settings.configs_of.Given as goal
-
--- those of the members before this one
-abbrev pub invariant-loop-own : goal.invariant-loop-own
-invariant-loop-own l = AreOfFile l.file l.own l.configs.items

@@ -1,0 +1,105 @@
+//! Lists with a limit and an order.
+
+ghost use Rattle.std.specs.Prelude.{◌≡◌, ◌<◌, ◌≤◌, ◌++◌, [], ◌∷◌, ℕ, Bool, length, IsTrue, ◌↔◌, OnOk, OnErr};
+ghost use Rattle.wire.specs.Rising.{rises, follows, AreEntries};
+
+use std::alloc::{AllocError, Global};
+use std::marker::Model;
+
+/// What a list holds.
+pub trait Entry: Copy {
+    // How many entries a list has, at most.
+    ghost limit: { ℕ };
+
+    // What holds of each entry.
+    ghost fits: { Self → Type 0 };
+
+    // Whether the left entry may come right before the right one.
+    ghost before: { Self → Self → Bool };
+
+    /// What holds of each entry. The call does nothing.
+    fn entry_holds(&self)
+        ensures { fits self.now };
+}
+
+/// Entries that rise strictly, at most as many as the limit. Each list of headers and certificates is one of these.
+#[derive(Debug)]
+pub struct Entries<E: Entry> {
+    list: Vec<E>,
+}
+
+impl<E: Entry> Drop for Entries<E> {
+    fn drop(self) {
+        let Entries { list: _ } = self;
+    }
+}
+
+impl<E: Entry> Clone for Entries<E> {
+    ghost is_clone = { λ entries copy. copy ≡ entries };
+
+    fn clone(&self) -> Result<Entries<E>, AllocError> {
+        let mut list = Vec::with_capacity(*self.list.allocator(), self.list.len())?;
+        list.extend_from_slice(&self.list)?;
+        Ok(Entries { list })
+    }
+}
+
+impl<E: Entry> Model for Entries<E> {
+    ghost use Rattle.std.specs.Prelude.{List};
+    ghost use Rattle.wire.specs.Rising.{AreEntries};
+
+    ghost Value = { List E };
+
+    ghost view = { λ e. e.list.items };
+
+    ghost invariant = { λ e. AreEntries E.limit E.fits E.before e.list.items };
+}
+
+impl<E: Entry> Entries<E> {
+    /// No entries.
+    pub fn new(alloc: Global) -> Entries<E>
+        ensures { result ≡ [] }
+    {
+        Entries {
+            list: Vec::new(alloc),
+        }
+    }
+
+    /// How many there are.
+    pub fn len(&self) -> usize
+        ensures value { result ≡ length self.now }
+        ensures limit { result ≤ E.limit }
+    {
+        self.list.len()
+    }
+
+    /// Whether there is none.
+    pub fn is_empty(&self) -> bool
+        ensures { IsTrue result ↔ (self.now ≡ []) }
+    {
+        self.list.is_empty()
+    }
+
+    /// Adds an entry at the end, where there is room and `may_follow` says that it may.
+    /// `AllocError` where an allocation failed.
+    pub fn push(&mut self, entry: E) -> Result<(), AllocError>
+        requires room { length self.old < E.limit }
+        requires follows { IsTrue (follows (λ last. E.before last entry) self.old) }
+        ensures ok { OnOk result (self.new ≡ self.old ++ entry ∷ []) }
+        ensures err { OnErr result (self.new ≡ self.old) }
+    {
+        entry.entry_holds();
+        self.list.push(entry)?;
+        Ok(())
+    }
+
+    /// The entries, in their order.
+    pub fn as_slice(&self) -> &[E]
+        ensures value { result.now ≡ self.now }
+        ensures limit { length self.now ≤ E.limit }
+        ensures order { IsTrue (rises E.before self.now) }
+        ensures fits { AreEntries E.limit E.fits E.before self.now }
+    {
+        &self.list
+    }
+}
