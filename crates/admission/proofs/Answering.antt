@@ -1,5 +1,5 @@
 -- What a state that a store has the batches of answers, by what the store has.
-use Rattle.std.proofs.Common.{◌≡◌, ℕ, Bool, true, false, List, [], length, Option, Some, None, inl, inr, refl, ap, sym, subst, arith, ◌∙◌}
+use Rattle.std.proofs.Common.{◌≡◌, ℕ, Bool, true, false, List, [], length, Option, Some, None, Ok, Err, Result, inl, inr, refl, ap, sym, subst, arith, ◌∙◌}
 use Rattle.std.proofs.Math.Path.{fun_ext}
 use Rattle.std.specs.Prelude.{◌==◌, ◌&&◌, ◌||◌, not, nat_le, option_map, if◌then◌else◌}
 use Rattle.std.specs.List.{list_all, list_any}
@@ -9,12 +9,14 @@ use Rattle.std.proofs.lemmas.Bool.{and_parts, true≢false}
 use Rattle.std.proofs.lemmas.Grind.{common_steps}
 use Rattle.std.proofs.lemmas.List.{length-map}
 use Rattle.wire.specs.Batches.{batch_body}
+use Rattle.wire.specs.declared.message.Message.TheVariants as message
 use Rattle.spec_model.specs.Admitting.{when◌gives◌else◌, is_new, is_own, batch_outputs, held_batch_answer, batch_answer, ack_answer, may_name, header_answer}
 use Rattle.spec_model.specs.Nodes.{Node}
 use Rattle.spec_model.specs.Slots.{same_digest}
 use Rattle.spec_model.specs.States as states
 use Rattle.spec_model.specs.States.{State, has_own_batch}
 use Rattle.spec_model.specs.Words.{Author, BatchAck, BatchReference, BatchView, Digest, Event, Header, Message}
+use Rattle.header.specs.declared.admission.Admission.{Admission}
 use Rattle.header.specs.declared.admission.Admission.TheVariants.{New, Known, Refused}
 use Rattle.header.specs.declared.refusal.Refusal.TheVariants.{NotOurs, StoreFull, DigestClash}
 use Rattle.header.specs.declared.refusal.Refusal.{Refusal}
@@ -23,10 +25,13 @@ use Rattle.spec_laws.proofs.Lists.{given_or_none}
 use Rattle.spec_laws.proofs.Closed.{all_to}
 use Rattle.spec_laws.proofs.Meeting.{any_to}
 use Rattle.spec_machine.specs.Machine.{answered, after}
-use Rattle.batchstore.specs.Answer.{is_full}
+use Rattle.batchstore.specs.Answer.{is_full, held_answer, free_answer}
+use Rattle.batchstore.specs.Answer.{answer as store_answer}
+use Rattle.batchstore.specs.declared.refusal.StoreRefusal.{StoreRefusal}
+use Rattle.batchstore.specs.declared.refusal.StoreRefusal.TheVariants as store
 use Rattle.batchstore.specs.Stock.{BatchStoreView, digest_of, held_at, batch_in, has_own, holds, is_available}
 use Rattle.batchstore.proofs.Among.{one_digest, found_is}
-use Rattle.admission.specs.Batches.{HasBatches, may_name_by}
+use Rattle.admission.specs.Batches.{HasBatches, as_refusal, may_name_by}
 use Rattle.admission.proofs.Reading.{batch_of, batch_read, own_read, holds_read, available_read, with_read}
 
 -- the event with a message is answered as the message
@@ -44,11 +49,17 @@ the_own node state stock own has is = ap (λ (n : ℕ). record { 0 = n }) (sym (
 
 -- ---- batches
 
+-- by the one that has the digest already
+abbrev answer_from : Node → State → BatchView → Option BatchView → Admission
+answer_from node state batch held =
+    when held gives (λ h. held_batch_answer node h batch)
+    else if nat_le node.charter.batches (length state.batches) then Refused StoreFull
+    else New (batch_outputs node batch)
+
 pub answer_held : (node : Node) (state : State) (stock : BatchStoreView) (batch : BatchView) (held : BatchView) → HasBatches node state stock
     → option_map batch_of (held_at stock (digest_of batch)) ≡ Some held → batch_answer node state batch ≡ held_batch_answer node held batch
 answer_held node state stock batch held has is =
-    ap (λ (o : Option BatchView). when o gives (λ h. held_batch_answer node h batch) else if nat_le node.charter.batches (length state.batches)
-    then Refused StoreFull else New (batch_outputs node batch))
+    ap (answer_from node state batch)
     (batch_read node state stock has (digest_of batch) ∙ is)
 
 -- what is found under a digest has it
@@ -76,10 +87,60 @@ same_room node state stock has =
 pub answer_free : (node : Node) (state : State) (stock : BatchStoreView) (batch : BatchView) → HasBatches node state stock → held_at stock (digest_of batch) ≡ None
     → batch_answer node state batch ≡ (if is_full stock then Refused StoreFull else New (batch_outputs node batch))
 answer_free node state stock batch has is =
-    ap (λ (o : Option BatchView). when o gives (λ h. held_batch_answer node h batch) else if nat_le node.charter.batches (length state.batches)
-    then Refused StoreFull else New (batch_outputs node batch))
+    ap (answer_from node state batch)
     (batch_read node state stock has (digest_of batch) ∙ ap (option_map batch_of) is)
     ∙ ap (λ b. if b then Refused StoreFull else New (batch_outputs node batch)) (same_room node state stock has)
+
+-- what a state answers a batch, by what the store answers it
+abbrev pub answered_by : Node → BatchView → Result (Option BatchView) StoreRefusal → Admission
+answered_by node batch (Ok (Some held)) = Known (batch_outputs node held)
+answered_by node batch (Ok None) = New (batch_outputs node batch)
+answered_by node batch (Err refusal) = Refused (as_refusal refusal)
+
+held_by : (node : Node) (batch held : BatchView) (same : Bool)
+    → (if same then Known (batch_outputs node held) else Refused DigestClash) ≡ answered_by node batch (if same then Ok (Some held) else Err store.DigestClash)
+held_by node batch held true = refl
+held_by node batch held false = refl
+
+free_by : (node : Node) (batch : BatchView) (full : Bool)
+    → (if full then Refused StoreFull else New (batch_outputs node batch)) ≡ answered_by node batch (if full then Err store.Full else Ok None)
+free_by node batch true = refl
+free_by node batch false = refl
+
+pub batch_answered : (node : Node) (state : State) (stock : BatchStoreView) (event : Event) (batch : BatchView) → event.message ≡ message.Batch batch
+    → HasBatches node state stock → answered node state event ≡ answered_by node batch (store_answer stock batch)
+batch_answered node state stock event batch came has =
+    answered_as node state event (message.Batch batch) came
+    ∙ elim (given_or_none (batch_in stock (digest_of batch))) [
+      | inl found ↦
+          answer_held node state stock batch found.0 has found.1
+          ∙ held_by node batch found.0 (bytes_eq (batch_body found.0) (batch_body batch))
+          ∙ sym (ap (λ o. answered_by node batch (option_map_or (λ held. held_answer held batch) o (free_answer stock))) found.1)
+      | inr none ↦
+          answer_free node state stock batch has (none_under stock (digest_of batch) (sym none))
+          ∙ free_by node batch (is_full stock)
+          ∙ sym (ap (λ o. answered_by node batch (option_map_or (λ held. held_answer held batch) o (free_answer stock))) none)
+    ]
+
+-- what the store answers that is held has the digest
+pub held_digest : (stock : BatchStoreView) (digest : Digest) (batch held : BatchView) → digest ≡ digest_of batch → store_answer stock batch ≡ Ok (Some held) → digest ≡ digest_of held
+held_digest stock digest batch held digested is =
+    elim (given_or_none (batch_in stock digest)) [
+      | inl found ↦
+          let answered = ap (λ o. option_map_or (λ held. held_answer held batch) o (free_answer stock)) (sym found.1 ∙ ap (batch_in stock) digested) ∙ is in
+          digest_found stock digest found.0 (sym found.1) ∙ ap digest_of (only (bytes_eq (batch_body found.0) (batch_body batch)) found.0 answered)
+      | inr none ↦
+          let answered = ap (λ o. option_map_or (λ held. held_answer held batch) o (free_answer stock)) (sym none ∙ ap (batch_in stock) digested) ∙ is in
+          absurd (never (is_full stock) answered)
+    ]
+  where
+    only : (same : Bool) (found : BatchView) → (if same then Ok (Some found) else Err store.DigestClash) ≡ Ok (Some held) → found ≡ held
+    only true found e = cc
+    only false found e = absurd cc
+
+    never : (full : Bool) → (if full then Err store.Full else Ok None) ≡ Ok (Some held) → ⊥
+    never true e = cc
+    never false e = cc
 
 -- ---- acknowledgements
 
@@ -153,9 +214,9 @@ may_name_all_alike node state stock header has =
 header_named : (node : Node) (state : State) (header : Header) → is_new (header_answer node state header) ≡ true → list_all (may_name node state header) header.body.batches ≡ true
 header_named node state header new = grind (arith, new, common_steps)
 
-but_for : (one other : Bool) → one ≡ true → (not one || other) ≡ true → other ≡ true
-but_for true other holds is = is
-but_for false other holds is = absurd (true≢false (sym holds))
+but_for : (left right : Bool) → left ≡ true → (not left || right) ≡ true → right ≡ true
+but_for true right holds is = is
+but_for false right holds is = absurd (true≢false (sym holds))
 
 -- what a new own header names is an own batch
 pub named_own : (node : Node) (state : State) (stock : BatchStoreView) (header : Header) → HasBatches node state stock → is_own node header.body.author ≡ true

@@ -44,7 +44,7 @@ abbrev pub IsNewFrom : BatchStoreView → Message → Bool → Type 0
 IsNewFrom stock came result = (node : Node) (state : State) (event : Event) → event.message ≡ came → HasBatches node state stock
     → result ≡ is_new (answered node state event)
 
--- the later store has the batches of the state behind an event with the message, where the earlier one had those of the state
+-- the later store has the batches of the state after an event with the message, where the earlier one had those of the state
 abbrev pub GoesOn : BatchStoreView → BatchStoreView → Message → Type 0
 GoesOn before later came = (node : Node) (state : State) (event : Event) → event.message ≡ came → HasBatches node state before
     → HasBatches node (after node state event) later

@@ -28,14 +28,14 @@ pub record VotesAgreeAt (node : Node) (state : State) (headers : AssembliesView)
 abbrev pub VotesAgree : Type 0
 VotesAgree = (node : Node) (state : State) (headers : AssembliesView) → IsSound node state → IsAt node state headers → VotesAgreeAt node state headers
 
--- ---- behind an event
+-- ---- after an event
 
--- a table is that at the state behind an event once the rounds up to its floor are forgotten
+-- a table is that at the state after an event once the rounds up to its floor are forgotten
 abbrev pub IsBehind : Node → State → Event → AssembliesView → Type 0
 IsBehind node state event headers =
     (later : AssembliesView) → IsForgotten headers later (floor_in node (after node state event)) → IsAt node (after node state event) later
 
--- a new own header: it and the node's own vote on it may be held, since its round has none, and with both the table is that behind
+-- a new own header: it and the node's own vote on it may be held, since its round has none, and with both the table is that after
 -- the event
 pub record HeaderComesTo (node : Node) (state : State) (event : Event) (header : Header) (before : AssembliesView) : Type 0 where
   pub author : header.body.author.0 ≡ before.own
@@ -55,7 +55,7 @@ added_by None = Counted
 added_by (Some certificate) = Complete certificate
 
 -- a new vote: it is counted, and completes a certificate exactly where the node's state has that with it;
--- with the vote the table is that behind the event
+-- with the vote the table is that after the event
 pub record VoteComesTo (node : Node) (state : State) (event : Event) (vote : Vote) (before : AssembliesView) : Type 0 where
   pub answer : answer_in before vote ≡ added_by (certificate_of node state event.message)
   pub counted : answer_in before vote ≡ Counted → certificate_of node state event.message ≡ None

@@ -79,7 +79,7 @@ pub record IsHeaders (headers : AssembliesView) : Type 0 where
 abbrev pub answer_in : AssembliesView → Vote → Added
 answer_in headers vote = option_map_or (λ assembled. answer assembled vote) (assembly_at headers vote.round) NotOurs
 
--- what the vote's round has behind an answer
+-- what the vote's round has after an answer
 abbrev pub counted_in : Added → AssembliesView → Vote → Option AssemblyView
 counted_in added headers vote = option_map (λ assembled. after added assembled vote) (assembly_at headers vote.round)
 

@@ -32,14 +32,14 @@ BatchesRead = (node : Node) (state : State) (stock : BatchStoreView) → HasBatc
 abbrev pub NameableAgrees : Type 0
 NameableAgrees = (node : Node) (state : State) (stock : BatchStoreView) → IsStock stock → HasBatches node state stock → nameable stock ≡ proposing.nameable node state
 
--- a message that changes nothing of batches leaves the store at the state behind the event
+-- a message that changes nothing of batches leaves the store at the state after the event
 abbrev pub BatchesStay : Type 0
 BatchesStay = (node : Node) (state : State) (event : Event) (stock : BatchStoreView) → HasBatches node state stock → changes_batches node event.message ≡ false
     → HasBatches node (after node state event) stock
 
 -- ---- votes
 
--- where a new event is no header of another member, the book without what fell low has the votes of the state behind it
+-- where a new event is no header of another member, the book without what fell low has the votes of the state after it
 abbrev pub VotesStay : Type 0
 VotesStay = (node : Node) (state : State) (event : Event) (votes later : Votes) → Comes node state event → HasVotes node state votes
     → is_peers_header node event.message ≡ false → ForgetsTo (floor_in node (after node state event)) votes later

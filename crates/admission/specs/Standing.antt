@@ -44,59 +44,52 @@ abbrev pub MeetNew : Tables → Message → Type 0
 MeetNew tables came =
     (node : Node) × (state : State) × (event : Event) × Meets node state event tables came × IsTrue (is_new (answered node state event))
 
--- what comes of a message is what each such state answers each such event
-abbrev pub Answers : Tables → Message → Result Step Refusal → Type 0
-Answers tables came result = (node : Node) (state : State) (event : Event) → Meets node state event tables came → IsAnswer (answered node state event) result
+-- under which premise something is said of a node and an event
+abbrev pub Premise : Type 1
+Premise = Node → Event → Type 0 → Type 0
 
--- where such a state refuses the event, so does what comes of the message, by the same refusal, whatever memory there is
-abbrev pub Refuses : Tables → Message → Result Step Refusal → Type 0
-Refuses tables came result = (node : Node) (state : State) (event : Event) → Meets node state event tables came → RefusesAs (answered node state event) result
+-- under none
+abbrev pub always : Premise
+always node event fact = fact
+
+-- that the event is from this sender
+abbrev pub from_sender : Author → Premise
+from_sender sender node event fact = event.sender ≡ sender → fact
+
+-- that the node gives these signatures
+abbrev pub with_signatures : (Digest → Signature) → Premise
+with_signatures sign node event fact = node.sign ≡ sign → fact
+
+-- a fact holds of each such node, state and event, under a premise
+abbrev pub ForEach : Premise → Tables → Message → (Node → State → Event → Type 0) → Type 0
+ForEach premise tables came fact =
+    (node : Node) (state : State) (event : Event) → Meets node state event tables came → premise node event (fact node state event)
+
+-- what comes of a message is what the state answers the event
+abbrev pub Answers : Premise → Tables → Message → Result Step Refusal → Type 0
+Answers premise tables came result = ForEach premise tables came (λ node state event. IsAnswer (answered node state event) result)
+
+-- where the state refuses the event, so does what comes of the message, by the same refusal, whatever memory there is
+abbrev pub Refuses : Premise → Tables → Message → Result Step Refusal → Type 0
+Refuses premise tables came result = ForEach premise tables came (λ node state event. RefusesAs (answered node state event) result)
 
 -- where the event is new, this is what it puts out
 abbrev pub PutsOut : Tables → Message → Vec Output → Type 0
-PutsOut tables came outputs = (node : Node) (state : State) (event : Event) → Meets node state event tables came
-    → IsTrue (is_new (answered node state event)) → answered node state event ≡ New outputs.items
+PutsOut tables came outputs =
+    ForEach always tables came (λ node state event. IsTrue (is_new (answered node state event)) → answered node state event ≡ New outputs.items)
 
--- and the later tables have what the state behind it has
-abbrev pub GoOn : Tables → Tables → Message → Type 0
-GoOn before later came = (node : Node) (state : State) (event : Event) → Meets node state event before came
-    → IsTrue (is_new (answered node state event)) → AreAt node (after node state event) later
+-- and the later tables have what the state after it has
+abbrev pub GoOn : Premise → Tables → Tables → Message → Type 0
+GoOn premise before later came =
+    ForEach premise before came (λ node state event. IsTrue (is_new (answered node state event)) → AreAt node (after node state event) later)
 
--- this is whether each such event is ready
+-- this is whether the event is ready
 abbrev pub IsReady : Tables → Message → Bool → Type 0
-IsReady tables came result = (node : Node) (state : State) (event : Event) → Meets node state event tables came → result ≡ is_ready node state event
+IsReady tables came result = ForEach always tables came (λ node state event. result ≡ is_ready node state event)
 
--- this is whether each such event is new
-abbrev pub IsNew : Tables → Message → Bool → Type 0
-IsNew tables came result = (node : Node) (state : State) (event : Event) → Meets node state event tables came → result ≡ is_new (answered node state event)
-
--- ---- said of events from one sender
-
-abbrev pub AnswersFrom : Tables → Author → Message → Result Step Refusal → Type 0
-AnswersFrom tables sender came result = (node : Node) (state : State) (event : Event) → Meets node state event tables came → event.sender ≡ sender
-    → IsAnswer (answered node state event) result
-
-abbrev pub RefusesFrom : Tables → Author → Message → Result Step Refusal → Type 0
-RefusesFrom tables sender came result = (node : Node) (state : State) (event : Event) → Meets node state event tables came → event.sender ≡ sender
-    → RefusesAs (answered node state event) result
-
-abbrev pub IsNewFrom : Tables → Author → Message → Bool → Type 0
-IsNewFrom tables sender came result = (node : Node) (state : State) (event : Event) → Meets node state event tables came → event.sender ≡ sender
-    → result ≡ is_new (answered node state event)
-
--- ---- said of nodes that give these signatures
-
-abbrev pub AnswersBy : Tables → (Digest → Signature) → Message → Result Step Refusal → Type 0
-AnswersBy tables sign came result = (node : Node) (state : State) (event : Event) → Meets node state event tables came → node.sign ≡ sign
-    → IsAnswer (answered node state event) result
-
-abbrev pub RefusesBy : Tables → (Digest → Signature) → Message → Result Step Refusal → Type 0
-RefusesBy tables sign came result = (node : Node) (state : State) (event : Event) → Meets node state event tables came → node.sign ≡ sign
-    → RefusesAs (answered node state event) result
-
-abbrev pub GoOnBy : Tables → Tables → (Digest → Signature) → Message → Type 0
-GoOnBy before later sign came = (node : Node) (state : State) (event : Event) → Meets node state event before came → node.sign ≡ sign
-    → IsTrue (is_new (answered node state event)) → AreAt node (after node state event) later
+-- this is whether the event is new
+abbrev pub IsNew : Premise → Tables → Message → Bool → Type 0
+IsNew premise tables came result = ForEach premise tables came (λ node state event. result ≡ is_new (answered node state event))
 
 -- ---- laws
 

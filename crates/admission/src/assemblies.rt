@@ -3,6 +3,7 @@
 mod facts;
 
 ghost use Rattle.std.specs.Prelude.{◌≡◌, ◌<◌, length, Some, None, IsTrue, IfOk, OnOk, OnErr, option_copied};
+ghost use Rattle.certify.specs.Answer.{completion_of};
 ghost use Rattle.certify.specs.Assembled.{is_on, started};
 ghost use Rattle.admission.specs.Headers.{empty, assembly_at, header_in, digest_in, has_voted_in, IsHeaders, answer_in, counted_in, IsWith, IsForgotten};
 
@@ -116,13 +117,14 @@ impl<'a> Assemblies<'a> {
         }
     }
 
-    /// Counts a vote of which this comes. It takes no memory.
-    pub fn count(&mut self, added: &Added, vote: Vote)
-        requires { added.now ≡ answer_in self.old vote }
-        ensures { IsWith self.old self.new vote.round (counted_in added.now self.old vote) }
+    /// Counts a vote whose answer counts it. It takes no memory.
+    pub fn count(&mut self, vote: Vote, complete: bool)
+        // The votes make the certificate with it, or they don't yet.
+        requires { completion_of (answer_in self.old vote) ≡ Some complete }
+        ensures { IsWith self.old self.new vote.round (counted_in (answer_in self.old vote) self.old vote) }
     {
         if let Some(assembly) = self.rounds.get_mut(&vote.round.number()) {
-            assembly.count(added, vote);
+            assembly.count(vote, complete);
             assembly.limits_hold();
         }
     }

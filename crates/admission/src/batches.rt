@@ -1,14 +1,14 @@
 //! What batches, acknowledgements and own headers come to.
 
-ghost use Rattle.std.specs.Prelude.{◌≡◌, ◌<◌, true, false, length, None, IfOk};
+ghost use Rattle.std.specs.Prelude.{◌≡◌, ◌<◌, true, false, length, None, Ok, IfOk};
 ghost use Rattle.std.specs.List.{list_all};
-ghost use Rattle.spec_model.specs.Admitting.{batch_outputs as outputs_of, held_batch_answer};
+ghost use Rattle.spec_model.specs.Admitting.{batch_outputs as outputs_of};
 ghost use Rattle.spec_model.specs.Nodes.{Node};
 ghost use Rattle.spec_model.specs.Words.{BatchView};
-ghost use Rattle.header.specs.declared.admission.Admission.TheVariants.{New};
+ghost use Rattle.header.specs.declared.admission.Admission.TheVariants.{New, Known};
 ghost use Rattle.wire.specs.declared.message.Message.TheVariants as message;
-ghost use Rattle.batchstore.specs.Stock.{digest_of, held_at};
-ghost use Rattle.batchstore.specs.Answer.{is_full as spec_full, with_batch, with_names};
+ghost use Rattle.batchstore.specs.Stock.{digest_of};
+ghost use Rattle.batchstore.specs.Answer.{answer as store_answer, with_batch, with_names};
 ghost use Rattle.admission.specs.Answers.{IsAnswer, RefusesAs, is_new_step};
 ghost use Rattle.admission.specs.Batches.{as_refusal, AnswersFrom, RefusesFrom, IsNewFrom, GoesOn, GoesOnWithOwn, may_name_by};
 
@@ -44,29 +44,19 @@ fn batch_outputs(
     Ok(outputs)
 }
 
-// What a batch comes to where this one is held under its digest.
-fn known_batch(
-    alloc: Global,
-    own: Author,
-    digest: &Digest,
-    held: &Batch,
-    batch: &Batch,
-) -> Result<Step, Refusal>
+// What a batch comes to that is held already.
+fn known_batch(alloc: Global, own: Author, digest: &Digest, held: &Batch) -> Result<Step, Refusal>
     requires { digest.now ≡ digest_of held.now }
-    ensures answer { (node : Node) → node.own ≡ own → IsAnswer (held_batch_answer node held.now batch.now) result }
-    ensures refused { (node : Node) → RefusesAs (held_batch_answer node held.now batch.now) result }
+    ensures answer { (node : Node) → node.own ≡ own → IsAnswer (Known (outputs_of node held.now)) result }
     ensures known { is_new_step result ≡ false }
 {
-    if held.body() != batch.body() {
-        return Err(Refusal::DigestClash);
-    }
     match batch_outputs(alloc, own, digest, held) {
         Ok(outputs) => Ok(Step::Known(outputs)),
         Err(_) => Err(Refusal::Memory),
     }
 }
 
-// Holds a new batch for which there is room.
+// Holds a new batch.
 fn new_batch(
     alloc: Global,
     own: Author,
@@ -75,8 +65,7 @@ fn new_batch(
     batch: Batch,
 ) -> Result<Step, Refusal>
     requires digested { digest.now ≡ digest_of batch }
-    requires free { held_at batches.old digest.now ≡ None }
-    requires room { spec_full batches.old ≡ false }
+    requires fresh { store_answer batches.old batch ≡ Ok None }
     ensures answer { (node : Node) → node.own ≡ own → IsAnswer (New (outputs_of node batch)) result }
     ensures new { is_new_step result ≡ true → batches.new ≡ with_batch batches.old batch }
     ensures same { is_new_step result ≡ false → batches.new ≡ batches.old }
@@ -85,17 +74,10 @@ fn new_batch(
         Ok(outputs) => outputs,
         Err(_) => return Err(Refusal::Memory),
     };
-    match batches.put_digested(*digest, batch) {
+    match batches.hold(*digest, batch) {
         Ok(_) => Ok(Step::New(outputs)),
         Err(_) => Err(Refusal::Memory),
     }
-}
-
-// Whether as many batches are held as the committee allows.
-fn is_full(batches: &BatchStore) -> bool
-    ensures { result ≡ spec_full batches.now }
-{
-    batches.len() >= batches.committee().batches() as usize
 }
 
 /// Takes a batch of this digest into the store of the member of this number. A known one puts out what the held one did.
@@ -117,13 +99,11 @@ pub fn take_batch(
     ensures new { is_new_step result ≡ true → GoesOn batches.old batches.new (message.Batch batch) }
     ensures same { is_new_step result ≡ false → batches.new ≡ batches.old }
 {
-    if let Some(held) = batches.get(digest) {
-        return known_batch(alloc, own, digest, held, &batch);
+    match batches.answer(digest, &batch) {
+        Ok(Some(held)) => known_batch(alloc, own, digest, held),
+        Ok(None) => new_batch(alloc, own, batches, digest, batch),
+        Err(refusal) => Err(refusal_of(refusal)),
     }
-    if is_full(batches) {
-        return Err(Refusal::StoreFull);
-    }
-    new_batch(alloc, own, batches, digest, batch)
 }
 
 /// Whether a batch of this digest would be new: none is held under it, and there is room. It takes no memory.
@@ -132,7 +112,7 @@ pub fn is_new_batch(batches: &BatchStore, digest: &Digest) -> bool
 {
     match batches.get(digest) {
         Some(_) => false,
-        None => !is_full(batches),
+        None => !batches.is_full(),
     }
 }
 
@@ -207,7 +187,7 @@ pub fn may_name_all(batches: &BatchStore, own: Author, header: &Header) -> bool
     may_name_each(batches, own, header.body.author, named)
 }
 
-/// Marks the batches that a header names. For a new own header the store is then at the state behind it. It takes no memory.
+/// Marks the batches that a header names. For a new own header the store is then at the state after it. It takes no memory.
 pub fn name_all(batches: &mut BatchStore, header: &Header)
     ensures named { batches.new ≡ with_names batches.old header.now.body.batches }
     ensures behind { GoesOnWithOwn batches.old batches.new header.now }

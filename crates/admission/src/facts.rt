@@ -14,19 +14,19 @@ pub fn nameable_agrees()
     ensures { NameableAgrees }
 {}
 
-/// An event that is neither a batch, an acknowledgement nor an own header leaves a store of batches at the state behind it.
+/// An event that is neither a batch, an acknowledgement nor an own header leaves a store of batches at the state after it.
 pub fn batches_stay()
     ensures { BatchesStay }
 {}
 
-/// A new event that is no header of another member leaves the votes that aren't low at the state behind it.
+/// A new event that is no header of another member leaves the votes that aren't low at the state after it.
 pub fn votes_stay()
     ensures { VotesStay }
 {
     floors_agree();
 }
 
-/// The votes with that for a new header of another member, as far as they aren't low, are those of the state behind it.
+/// The votes with that for a new header of another member, as far as they aren't low, are those of the state after it.
 pub fn vote_is_kept()
     ensures { VoteIsKept }
 {

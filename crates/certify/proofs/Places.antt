@@ -1,6 +1,6 @@
 -- The votes in places, one after another, and what they weigh with one more.
 use Rattle.std.proofs.Common.{◌≡◌, ◌≢◌, ℕ, zero, suc, ◌+◌, ◌<◌, ◌≤◌, Bool, true, false, List, [], ◌∷◌, ◌++◌, length, get_or, Option, Some, None, refl, sym, ap, ◌∙◌, inl, inr, arith}
-use Rattle.std.specs.Prelude.{◌||◌, ◌&&◌, ◌==◌, nat_lt, replicate, is_some, option_map}
+use Rattle.std.specs.Prelude.{◌||◌, ◌&&◌, ◌==◌, not, nat_lt, replicate, is_some, option_map, if◌then◌else◌}
 use Rattle.std.specs.Str.{bytes_eq}
 use Rattle.std.proofs.lemmas.Slice.Eq.{bytes_eq-Decides}
 use Rattle.std.specs.List.{filter_map, range_with_len, cons_option}
@@ -22,9 +22,8 @@ use Rattle.committee.specs.Charter.{Charter, IsCharter, weight, quorum_of}
 use Rattle.committee.specs.Sets.{has}
 use Rattle.committee.specs.declared.sets.MemberSet.{MemberSet}
 use Rattle.committee.proofs.Weights.{weight-same, weight-one}
-use Rattle.certify.specs.declared.added.Added.{Added}
 use Rattle.certify.specs.declared.added.Added.TheVariants.{Counted, Complete, Again, NotOurs}
-use Rattle.certify.specs.Answer.{answer, certificate_of, is_ours, is_again, is_too_few}
+use Rattle.certify.specs.Answer.{answer, certificate_of, completion_of, is_ours, is_again, is_too_few}
 use Rattle.certify.specs.Assembled.{Places, AssemblyView, IsKept, is_on, has_voted, with_vote, entry_of, votes_weight}
 
 -- ---- the votes of the first members
@@ -79,7 +78,7 @@ follows-range places voter a zero high = refl
 follows-range places voter a (suc n) high =
     follows-place a voter (get_or places a None) (filter_map (entry_of places) (range_with_len (a + 1) n)) (omega arith) (follows-range places voter (a + 1) n (omega arith))
 
--- a vote of the next member may come behind them
+-- a vote of the next member may come after them
 pub follows-votes_below : (places : Places) (n : ℕ) → follows (λ e. nat_lt e.voter.0 n) (votes_below places n) ≡ true
 follows-votes_below places n = follows-range places n 0 n (omega arith)
 
@@ -194,52 +193,31 @@ completes old vote digest before voters kept within more on going absent many =
     let member = lt-ltb vote.voter.0 (length old.charter.keys) within in
     rw (member, on, again, high)
 
--- behind the answer the vote is counted
-abbrev pub is_counted : Added → Bool
-is_counted NotOurs = false
-is_counted Again = false
-is_counted Counted = true
-is_counted (Complete certificate) = true
-
--- with a vote that is counted they weigh too little
-pub counted-low : (old : AssemblyView) (vote : Vote) → answer old vote ≡ Counted → votes_weight old.charter (with_vote old.places vote) < quorum_of old.charter
-counted-low old vote is =
-    elim (cases_Bool (is_ours old vote)) [
-      | inr off ↦ let never = rw off at is in absurd cc
-      | inl on ↦
-          elim (cases_Bool (is_again old vote)) [
-            | inl again ↦ let never = rw (on, again) at is in absurd cc
-            | inr first ↦
-                elim (cases_Bool (is_too_few old vote)) [
-                  | inl few ↦ ltb-true (votes_weight old.charter (with_vote old.places vote)) (quorum_of old.charter) few
-                  | inr many ↦ let never = rw (on, first, many) at is in absurd cc
-                ]
-          ]
-    ]
-
--- with one that makes the certificate they weigh a quorum
-pub complete-high : (old : AssemblyView) (vote : Vote) (certificate : Certificate) → answer old vote ≡ Complete certificate
-    → quorum_of old.charter ≤ votes_weight old.charter (with_vote old.places vote)
-complete-high old vote certificate is =
-    elim (cases_Bool (is_ours old vote)) [
-      | inr off ↦ let never = rw off at is in absurd cc
-      | inl on ↦
-          elim (cases_Bool (is_again old vote)) [
-            | inl again ↦ let never = rw (on, again) at is in absurd cc
-            | inr first ↦
-                elim (cases_Bool (is_too_few old vote)) [
-                  | inl few ↦ let never = rw (on, first, few) at is in absurd cc
-                  | inr many ↦ ltb-false (votes_weight old.charter (with_vote old.places vote)) (quorum_of old.charter) many
-                ]
-          ]
-    ]
+-- an answer by these tests counts a vote that is ours and comes first, and completes the certificate with enough votes
+completion_by : (ours again few complete : Bool) (made : Certificate)
+    → completion_of (if not ours then NotOurs else if again then Again else if few then Counted else Complete made) ≡ Some complete
+    → (ours ≡ true) × (again ≡ false) × (few ≡ not complete)
+completion_by false again few complete made is = absurd cc
+completion_by true true few complete made is = absurd cc
+completion_by true false true true made is = absurd cc
+completion_by true false true false made is = (refl, refl, refl)
+completion_by true false false true made is = (refl, refl, refl)
+completion_by true false false false made is = absurd cc
 
 -- a vote that is counted is a member's
-pub of_member : (old : AssemblyView) (vote : Vote) (added : Added) → answer old vote ≡ added → is_counted added ≡ true → vote.voter.0 < length old.charter.keys
-of_member old vote added is counted =
-    elim (cases_Bool (is_ours old vote)) [
-      | inl ours ↦ ours_member old vote ours
-      | inr off ↦
-          let none : answer old vote ≡ NotOurs = rw off refl in
-          let never : is_counted NotOurs ≡ true = ap is_counted (sym none ∙ is) ∙ counted in absurd cc
-    ]
+pub counted_member : (old : AssemblyView) (vote : Vote) (complete : Bool) → completion_of (answer old vote) ≡ Some complete → vote.voter.0 < length old.charter.keys
+counted_member old vote complete is =
+    ours_member old vote (completion_by (is_ours old vote) (is_again old vote) (is_too_few old vote) complete _ is).0
+
+-- with it they weigh too little, or a quorum
+pub counted_few : (old : AssemblyView) (vote : Vote) (complete : Bool) → completion_of (answer old vote) ≡ Some complete → complete ≡ false
+    → votes_weight old.charter (with_vote old.places vote) < quorum_of old.charter
+counted_few old vote complete is few =
+    ltb-true (votes_weight old.charter (with_vote old.places vote)) (quorum_of old.charter)
+    ((completion_by (is_ours old vote) (is_again old vote) (is_too_few old vote) complete _ is).2 ∙ ap not few)
+
+pub counted_many : (old : AssemblyView) (vote : Vote) (complete : Bool) → completion_of (answer old vote) ≡ Some complete → complete ≡ true
+    → quorum_of old.charter ≤ votes_weight old.charter (with_vote old.places vote)
+counted_many old vote complete is many =
+    ltb-false (votes_weight old.charter (with_vote old.places vote)) (quorum_of old.charter)
+    ((completion_by (is_ours old vote) (is_again old vote) (is_too_few old vote) complete _ is).2 ∙ ap not many)

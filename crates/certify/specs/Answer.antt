@@ -1,5 +1,5 @@
 -- What an assembly answers a vote, and what it is then.
-use Rattle.std.specs.Prelude.{Bool, true, not, ◌&&◌, ◌||◌, nat_lt, length, if◌then◌else◌}
+use Rattle.std.specs.Prelude.{Bool, true, false, not, ◌&&◌, ◌||◌, nat_lt, length, Option, Some, None, if◌then◌else◌}
 use Rattle.wire.specs.declared.header.Certificate.{Certificate}
 use Rattle.wire.specs.declared.header.HeaderBody.{HeaderBody}
 use Rattle.wire.specs.declared.header.Vote.{Vote}
@@ -33,21 +33,28 @@ answer assembled vote =
     else if is_too_few assembled vote then Counted
     else Complete (certificate_of assembled.header.body (with_vote assembled.places vote))
 
--- the votes that are counted behind an answer
+-- of an answer that counts the vote, whether the votes make the certificate with it
+abbrev pub completion_of : Added → Option Bool
+completion_of NotOurs = None
+completion_of Again = None
+completion_of Counted = Some false
+completion_of (Complete certificate) = Some true
+
+-- the votes that are counted after an answer
 abbrev pub places_after : Added → Places → Vote → Places
 places_after NotOurs places vote = places
 places_after Again places vote = places
 places_after Counted places vote = with_vote places vote
 places_after (Complete certificate) places vote = with_vote places vote
 
--- whether the certificate is made behind an answer
+-- whether the certificate is made after an answer
 abbrev pub complete_after : Added → Bool → Bool
 complete_after NotOurs complete = complete
 complete_after Again complete = complete
 complete_after Counted complete = complete
 complete_after (Complete certificate) complete = true
 
--- the assembly behind an answer: of the same committee and header
+-- the assembly after an answer: of the same committee and header
 abbrev pub after : Added → AssemblyView → Vote → AssemblyView
 after added assembled vote = record assembled {
   places = places_after added assembled.places vote;

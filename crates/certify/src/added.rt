@@ -1,5 +1,8 @@
 //! What comes of a vote.
 
+ghost use Rattle.std.specs.Prelude.{◌≡◌};
+ghost use Rattle.certify.specs.Answer.{completion_of};
+
 use wire::Certificate;
 
 /// What an assembly answers a vote that it is given.
@@ -13,4 +16,17 @@ pub enum Added {
     Again,
     /// The vote is on another header, or its voter is no member.
     NotOurs,
+}
+
+impl Added {
+    /// Whether the votes make the certificate with the vote, if that is counted.
+    pub fn completion(&self) -> Option<bool>
+        ensures { result ≡ completion_of self.now }
+    {
+        match self {
+            Added::Counted => Some(false),
+            Added::Complete(_) => Some(true),
+            Added::Again | Added::NotOurs => None,
+        }
+    }
 }

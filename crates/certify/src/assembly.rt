@@ -1,8 +1,8 @@
 //! The votes on one header.
 
-ghost use Rattle.std.specs.Prelude.{◌≡◌, ◌<◌, length, IsTrue, IfOk, OnErr};
+ghost use Rattle.std.specs.Prelude.{◌≡◌, ◌<◌, length, Some, IsTrue, IfOk, OnErr};
 ghost use Rattle.certify.specs.Assembled.{IsAssembled, is_on, has_voted, started};
-ghost use Rattle.certify.specs.Answer.{is_ours, answer, after};
+ghost use Rattle.certify.specs.Answer.{is_ours, answer, after, completion_of};
 ghost use Rattle.wire.specs.Digests.{header_digest_of};
 
 use crate::added::Added;
@@ -92,7 +92,9 @@ impl<'a> Assembly<'a> {
         ensures err { OnErr result (self.new ≡ self.old) }
     {
         let added = self.answer(&vote)?;
-        self.count(&added, vote);
+        if let Some(complete) = added.completion() {
+            self.count(vote, complete);
+        }
         Ok(added)
     }
 
@@ -122,16 +124,12 @@ impl<'a> Assembly<'a> {
         vote.voter.0 < self.committee.size() && is_on(&self.header.body, &self.digest, vote)
     }
 
-    /// Counts a vote of which this comes. It takes no memory.
-    pub fn count(&mut self, added: &Added, vote: Vote)
-        requires { added.now ≡ answer self.old vote }
-        ensures { self.new ≡ after added.now self.old vote }
+    /// Counts a vote whose answer counts it. It takes no memory.
+    pub fn count(&mut self, vote: Vote, complete: bool)
+        // The votes make the certificate with it, or they don't yet.
+        requires { completion_of (answer self.old vote) ≡ Some complete }
+        ensures { self.new ≡ after (answer self.old vote) self.old vote }
     {
-        let complete = match added {
-            Added::NotOurs | Added::Again => return,
-            Added::Counted => false,
-            Added::Complete(_) => true,
-        };
         self.places[vote.voter.0 as usize] = Some(vote.signature);
         self.voters.insert(vote.voter);
         self.complete = complete;

@@ -15,7 +15,7 @@ pub fn votes_agree()
 {}
 
 /// A new own header may be held with the node's vote, since its round is free; so held, and with the rounds up to the floor
-/// forgotten, it makes the table that is at the state behind.
+/// forgotten, it makes the table that is at the state after it.
 pub fn header_comes()
     ensures { HeaderComes }
 {
@@ -23,14 +23,14 @@ pub fn header_comes()
 }
 
 /// A new vote is counted, and completes the certificate that it completes at the state, if it does; counted, and with the
-/// rounds up to the floor forgotten, it makes the table that is at the state behind.
+/// rounds up to the floor forgotten, it makes the table that is at the state after it.
 pub fn vote_comes()
     ensures { VoteComes }
 {
     floors_agree();
 }
 
-/// With any other new event, and with the rounds up to the floor forgotten, a table is at the state behind.
+/// With any other new event, and with the rounds up to the floor forgotten, a table is at the state after it.
 pub fn others_come()
     ensures { OthersCome }
 {

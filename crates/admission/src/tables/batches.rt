@@ -5,7 +5,7 @@ ghost use Rattle.wire.specs.declared.message.Message.TheVariants as message;
 ghost use Rattle.spec_model.specs.Words.{BatchView};
 ghost use Rattle.batchstore.specs.Stock.{digest_of};
 ghost use Rattle.admission.specs.Answers.{is_new_step};
-ghost use Rattle.admission.specs.Standing.{IsNew, MeetSome, Answers, Refuses, GoOn};
+ghost use Rattle.admission.specs.Standing.{IsNew, MeetSome, Answers, Refuses, GoOn, always};
 
 use crate::batches::{is_new_ack, is_new_batch, take_ack, take_batch};
 use crate::step::Step;
@@ -28,9 +28,9 @@ impl<'a> Tables<'a> {
     ) -> Result<Step, Refusal>
         requires meets { MeetSome self.old (message.Batch batch) }
         requires digested { digest.now ≡ digest_of batch }
-        ensures answer { Answers self.old (message.Batch batch) result }
-        ensures refused { Refuses self.old (message.Batch batch) result }
-        ensures at { is_new_step result ≡ true → GoOn self.old self.new (message.Batch batch) }
+        ensures answer { Answers always self.old (message.Batch batch) result }
+        ensures refused { Refuses always self.old (message.Batch batch) result }
+        ensures at { is_new_step result ≡ true → GoOn always self.old self.new (message.Batch batch) }
         ensures same { is_new_step result ≡ false → self.new ≡ self.old }
     {
         others_stay();
@@ -39,7 +39,7 @@ impl<'a> Tables<'a> {
 
     /// Whether a batch of this digest would be new. It takes no memory.
     pub fn is_batch_new(&self, digest: &Digest) -> bool
-        ensures { (batch : BatchView) → digest.now ≡ digest_of batch → IsNew self.now (message.Batch batch) result }
+        ensures { (batch : BatchView) → digest.now ≡ digest_of batch → IsNew always self.now (message.Batch batch) result }
     {
         is_new_batch(&self.batches, digest)
     }
@@ -50,9 +50,9 @@ impl<'a> Tables<'a> {
     /// What admission answers, or `Memory` where an allocation failed. They change nothing.
     pub fn take_ack(&mut self, alloc: Global, ack: &BatchAck) -> Result<Step, Refusal>
         requires meets { MeetSome self.old (message.BatchAck ack.now) }
-        ensures answer { Answers self.old (message.BatchAck ack.now) result }
-        ensures refused { Refuses self.old (message.BatchAck ack.now) result }
-        ensures at { is_new_step result ≡ true → GoOn self.old self.new (message.BatchAck ack.now) }
+        ensures answer { Answers always self.old (message.BatchAck ack.now) result }
+        ensures refused { Refuses always self.old (message.BatchAck ack.now) result }
+        ensures at { is_new_step result ≡ true → GoOn always self.old self.new (message.BatchAck ack.now) }
         ensures same { is_new_step result ≡ false → self.new ≡ self.old }
     {
         others_stay();
@@ -61,7 +61,7 @@ impl<'a> Tables<'a> {
 
     /// Whether an acknowledgement would be new. It takes no memory.
     pub fn is_ack_new(&self, ack: &BatchAck) -> bool
-        ensures { IsNew self.now (message.BatchAck ack.now) result }
+        ensures { IsNew always self.now (message.BatchAck ack.now) result }
     {
         is_new_ack(&self.batches, ack)
     }

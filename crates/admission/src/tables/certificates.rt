@@ -12,7 +12,7 @@ ghost use Rattle.sequencer.specs.Laws.{IsNewTo};
 ghost use Rattle.sequencer.specs.Sequence.{ComesTo, IsAt};
 ghost use Rattle.admission.specs.Answers.{is_new_step};
 ghost use Rattle.admission.specs.Decisions.{as_refusal, certificate_decision};
-ghost use Rattle.admission.specs.Standing.{IsReady, IsNew, MeetSome, MeetNew, Answers, Refuses, GoOn, PutsOut};
+ghost use Rattle.admission.specs.Standing.{IsReady, IsNew, MeetSome, MeetNew, Answers, Refuses, GoOn, PutsOut, always};
 
 use crate::step::Step;
 use crate::tables::Tables;
@@ -24,7 +24,7 @@ use sequencer::Sequencer;
 use std::alloc::{AllocError, Global};
 use wire::{Certificate, Digest, Output};
 
-// Holds a new certificate of this digest, and puts out what it adds to the order behind other outputs. `AllocError` where an
+// Holds a new certificate of this digest, and puts out what it adds to the order after other outputs. `AllocError` where an
 // allocation failed: the certificates, the coins and the order haven't changed then.
 pub(crate) fn hold_certificate(
     sequencer: &mut Sequencer,
@@ -87,7 +87,7 @@ impl<'a> Tables<'a> {
         requires meets { MeetNew self.old (message.Certificate certificate) }
         requires digested { digest ≡ certificate_digest certificate.header }
         ensures outputs { IfOk result (PutsOut self.old (message.Certificate certificate)) }
-        ensures at { OnOk result (GoOn self.old self.new (message.Certificate certificate)) }
+        ensures at { OnOk result (GoOn always self.old self.new (message.Certificate certificate)) }
         ensures err { OnErr result (self.new ≡ self.old) }
     {
         others_stay();
@@ -117,9 +117,9 @@ impl<'a> Tables<'a> {
     ) -> Result<Step, Refusal>
         requires meets { MeetSome self.old (message.Certificate certificate) }
         requires digested { digest ≡ certificate_digest certificate.header }
-        ensures answer { Answers self.old (message.Certificate certificate) result }
-        ensures refused { Refuses self.old (message.Certificate certificate) result }
-        ensures at { is_new_step result ≡ true → GoOn self.old self.new (message.Certificate certificate) }
+        ensures answer { Answers always self.old (message.Certificate certificate) result }
+        ensures refused { Refuses always self.old (message.Certificate certificate) result }
+        ensures at { is_new_step result ≡ true → GoOn always self.old self.new (message.Certificate certificate) }
         ensures same { is_new_step result ≡ false → self.new ≡ self.old }
     {
         match self.certificate_decision(&certificate, &digest) {
@@ -140,7 +140,7 @@ impl<'a> Tables<'a> {
     /// Whether a certificate of this digest would be new. It takes no memory.
     pub fn is_certificate_new(&self, certificate: &Certificate, digest: &Digest) -> bool
         requires { digest.now ≡ certificate_digest certificate.now.header }
-        ensures { IsNew self.now (message.Certificate certificate.now) result }
+        ensures { IsNew always self.now (message.Certificate certificate.now) result }
     {
         is_new(&self.certificate_decision(certificate, digest))
     }

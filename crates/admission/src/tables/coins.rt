@@ -11,7 +11,7 @@ ghost use Rattle.spec_machine.specs.Machine.{grown, after};
 ghost use Rattle.sequencer.specs.Sequence.{ComesTo, IsAt};
 ghost use Rattle.admission.specs.Answers.{is_new_step};
 ghost use Rattle.admission.specs.Decisions.{is_full_in, next_decision, coin_decision};
-ghost use Rattle.admission.specs.Standing.{AnswersFrom, RefusesFrom, IsNewFrom, GoOn, PutsOut};
+ghost use Rattle.admission.specs.Standing.{IsNew, Answers, Refuses, GoOn, PutsOut, always, from_sender};
 
 use crate::step::Step;
 use crate::tables::Tables;
@@ -22,8 +22,8 @@ use sequencer::Sequencer;
 use std::alloc::{AllocError, Global};
 use wire::{Author, Coin, Output, Round};
 
-// Takes the coin of the next wave, and puts out what it adds to the order behind other outputs. `AllocError` where an allocation
-// failed: the certificates, the coins and the order haven't changed then.
+// Takes the coin of the next wave, and puts out what it adds to the order after other outputs. `AllocError` where an
+// allocation failed: the certificates, the coins and the order haven't changed then.
 fn push_coin(
     sequencer: &mut Sequencer,
     alloc: Global,
@@ -86,7 +86,7 @@ impl<'a> Tables<'a> {
     // Takes a new coin.
     fn new_coin(&mut self, alloc: Global, coin: &Coin) -> Result<Vec<Output>, AllocError>
         ensures outputs { IfOk result (PutsOut self.old (message.Coin coin.now)) }
-        ensures at { OnOk result (GoOn self.old self.new (message.Coin coin.now)) }
+        ensures at { OnOk result (GoOn always self.old self.new (message.Coin coin.now)) }
         ensures err { OnErr result (self.new ≡ self.old) }
     {
         others_stay();
@@ -102,9 +102,9 @@ impl<'a> Tables<'a> {
     /// # Errors
     /// What admission answers, or `Memory` where an allocation failed. They change nothing.
     pub fn take_coin(&mut self, alloc: Global, sender: Author, coin: &Coin) -> Result<Step, Refusal>
-        ensures answer { AnswersFrom self.old sender (message.Coin coin.now) result }
-        ensures refused { RefusesFrom self.old sender (message.Coin coin.now) result }
-        ensures at { is_new_step result ≡ true → GoOn self.old self.new (message.Coin coin.now) }
+        ensures answer { Answers (from_sender sender) self.old (message.Coin coin.now) result }
+        ensures refused { Refuses (from_sender sender) self.old (message.Coin coin.now) result }
+        ensures at { is_new_step result ≡ true → GoOn always self.old self.new (message.Coin coin.now) }
         ensures same { is_new_step result ≡ false → self.new ≡ self.old }
     {
         match self.coin_decision(sender, coin) {
@@ -116,7 +116,7 @@ impl<'a> Tables<'a> {
 
     /// Whether a coin from a sender would be new. It takes no memory.
     pub fn is_coin_new(&self, sender: Author, coin: &Coin) -> bool
-        ensures { IsNewFrom self.now sender (message.Coin coin.now) result }
+        ensures { IsNew (from_sender sender) self.now (message.Coin coin.now) result }
     {
         is_new(&self.coin_decision(sender, coin))
     }

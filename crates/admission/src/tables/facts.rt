@@ -11,7 +11,7 @@ pub fn others_are_ready()
     ensures { OthersAreReady }
 {}
 
-// An event that adds neither a certificate nor a coin leaves the tables at the state behind it, but for what it is.
+// An event that adds neither a certificate nor a coin leaves the tables at the state after it, but for what it is.
 pub(crate) fn others_stay()
     ensures { OthersStay }
 {

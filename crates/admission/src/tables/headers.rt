@@ -5,7 +5,7 @@ ghost use Rattle.wire.specs.declared.message.Message.TheVariants as message;
 ghost use Rattle.spec_model.specs.Slots.{header_digest};
 ghost use Rattle.admission.specs.Answers.{is_new_step};
 ghost use Rattle.admission.specs.Decisions.{is_own_of, voted_by, voted_decision, free_decision, header_decision, vote_by, new_header_outputs, known_header_outputs};
-ghost use Rattle.admission.specs.Standing.{IsReady, IsNew, MeetSome, AnswersBy, RefusesBy, GoOnBy};
+ghost use Rattle.admission.specs.Standing.{IsReady, IsNew, MeetSome, Answers, Refuses, GoOn, always, with_signatures};
 
 use crate::assemblies::header_comes;
 use crate::batches::{may_name_all, name_all};
@@ -138,7 +138,7 @@ impl<'a> Tables<'a> {
         requires free { voted_by self.old header.now.body.author header.now.body.round ≡ None }
         requires digested { digest.now ≡ header_digest header.now.body }
         ensures outputs { IfOk result (λ outputs. outputs.items ≡ new_header_outputs self.old (S.scheme.signature_of signer.now) header.now) }
-        ensures at { OnOk result (GoOnBy self.old self.new (S.scheme.signature_of signer.now) (message.Header header.now)) }
+        ensures at { OnOk result (GoOn (with_signatures (S.scheme.signature_of signer.now)) self.old self.new (message.Header header.now)) }
         ensures err { OnErr result (self.new ≡ self.old) }
     {
         others_stay();
@@ -162,7 +162,7 @@ impl<'a> Tables<'a> {
         requires free { voted_by self.old header.body.author header.body.round ≡ None }
         requires digested { digest.now ≡ header_digest header.body }
         ensures outputs { IfOk result (λ outputs. outputs.items ≡ new_header_outputs self.old (S.scheme.signature_of signer.now) header) }
-        ensures at { OnOk result (GoOnBy self.old self.new (S.scheme.signature_of signer.now) (message.Header header)) }
+        ensures at { OnOk result (GoOn (with_signatures (S.scheme.signature_of signer.now)) self.old self.new (message.Header header)) }
         ensures err { OnErr result (self.new ≡ self.old) }
     {
         others_stay();
@@ -189,7 +189,7 @@ impl<'a> Tables<'a> {
         requires free { voted_by self.old header.body.author header.body.round ≡ None }
         requires digested { digest.now ≡ header_digest header.body }
         ensures outputs { IfOk result (λ outputs. outputs.items ≡ new_header_outputs self.old (S.scheme.signature_of signer.now) header) }
-        ensures at { OnOk result (GoOnBy self.old self.new (S.scheme.signature_of signer.now) (message.Header header)) }
+        ensures at { OnOk result (GoOn (with_signatures (S.scheme.signature_of signer.now)) self.old self.new (message.Header header)) }
         ensures err { OnErr result (self.new ≡ self.old) }
     {
         if self.is_own(header.body.author) {
@@ -211,9 +211,9 @@ impl<'a> Tables<'a> {
     ) -> Result<Step, Refusal>
         requires meets { MeetSome self.old (message.Header header) }
         requires digested { digest.now ≡ header_digest header.body }
-        ensures answer { AnswersBy self.old (S.scheme.signature_of signer.now) (message.Header header) result }
-        ensures refused { RefusesBy self.old (S.scheme.signature_of signer.now) (message.Header header) result }
-        ensures at { is_new_step result ≡ true → GoOnBy self.old self.new (S.scheme.signature_of signer.now) (message.Header header) }
+        ensures answer { Answers (with_signatures (S.scheme.signature_of signer.now)) self.old (message.Header header) result }
+        ensures refused { Refuses (with_signatures (S.scheme.signature_of signer.now)) self.old (message.Header header) result }
+        ensures at { is_new_step result ≡ true → GoOn (with_signatures (S.scheme.signature_of signer.now)) self.old self.new (message.Header header) }
         ensures same { is_new_step result ≡ false → self.new ≡ self.old }
     {
         match self.header_decision(&header, digest) {
@@ -236,7 +236,7 @@ impl<'a> Tables<'a> {
     pub fn is_header_new(&self, header: &Header, digest: &Digest) -> bool
         requires meets { MeetSome self.now (message.Header header.now) }
         requires digested { digest.now ≡ header_digest header.now.body }
-        ensures { IsNew self.now (message.Header header.now) result }
+        ensures { IsNew always self.now (message.Header header.now) result }
     {
         is_new(&self.header_decision(header, digest))
     }

@@ -7,7 +7,7 @@ ghost use Rattle.admission.specs.Headers.{answer_in};
 ghost use Rattle.certify.specs.declared.added.Added.TheVariants as added;
 ghost use Rattle.admission.specs.Answers.{is_new_step};
 ghost use Rattle.admission.specs.Decisions.{certified_decision, open_decision, is_on_own, vote_decision, known_outputs};
-ghost use Rattle.admission.specs.Standing.{IsNew, MeetSome, MeetNew, Answers, Refuses, GoOn, PutsOut};
+ghost use Rattle.admission.specs.Standing.{IsNew, MeetSome, MeetNew, Answers, Refuses, GoOn, PutsOut, always};
 
 use crate::assemblies::{vote_comes, votes_agree};
 use crate::step::Step;
@@ -85,12 +85,12 @@ impl<'a> Tables<'a> {
     fn count_vote(&mut self, vote: Vote)
         requires meets { MeetNew self.old (message.Vote vote) }
         requires added { added.Counted ≡ answer_in self.old.headers vote }
-        ensures { GoOn self.old self.new (message.Vote vote) }
+        ensures { GoOn always self.old self.new (message.Vote vote) }
     {
         others_stay();
         vote_comes();
         self.headers.limits_hold();
-        self.headers.count(&Added::Counted, vote);
+        self.headers.count(vote, false);
     }
 
     // Takes a new vote that completes a certificate: it goes out, and what it adds to the order.
@@ -103,7 +103,7 @@ impl<'a> Tables<'a> {
         requires meets { MeetNew self.old (message.Vote vote) }
         requires added { added.Complete certificate ≡ answer_in self.old.headers vote }
         ensures outputs { IfOk result (PutsOut self.old (message.Vote vote)) }
-        ensures at { OnOk result (GoOn self.old self.new (message.Vote vote)) }
+        ensures at { OnOk result (GoOn always self.old self.new (message.Vote vote)) }
         ensures err { OnErr result (self.new ≡ self.old) }
     {
         others_stay();
@@ -115,9 +115,14 @@ impl<'a> Tables<'a> {
         let digest = certificate_digest(&vote.header, vote.round, vote.author);
         let mut outputs = Outputs::new(alloc);
         outputs.push(Output::Certificate(certificate.try_clone()?))?;
-        let held = certificate.try_clone()?;
-        hold_certificate(&mut self.sequencer, alloc, held, digest, &mut outputs)?;
-        self.headers.count(&Added::Complete(certificate), vote);
+        hold_certificate(
+            &mut self.sequencer,
+            alloc,
+            certificate,
+            digest,
+            &mut outputs,
+        )?;
+        self.headers.count(vote, true);
         self.trim(before);
         Ok(outputs.into_vec())
     }
@@ -126,7 +131,7 @@ impl<'a> Tables<'a> {
     fn new_vote(&mut self, alloc: Global, vote: Vote) -> Result<Vec<Output>, AllocError>
         requires meets { MeetNew self.old (message.Vote vote) }
         ensures outputs { IfOk result (PutsOut self.old (message.Vote vote)) }
-        ensures at { OnOk result (GoOn self.old self.new (message.Vote vote)) }
+        ensures at { OnOk result (GoOn always self.old self.new (message.Vote vote)) }
         ensures err { OnErr result (self.new ≡ self.old) }
     {
         others_stay();
@@ -149,9 +154,9 @@ impl<'a> Tables<'a> {
     /// What admission answers, or `Memory` where an allocation failed. They change nothing.
     pub fn take_vote(&mut self, alloc: Global, vote: Vote) -> Result<Step, Refusal>
         requires meets { MeetSome self.old (message.Vote vote) }
-        ensures answer { Answers self.old (message.Vote vote) result }
-        ensures refused { Refuses self.old (message.Vote vote) result }
-        ensures at { is_new_step result ≡ true → GoOn self.old self.new (message.Vote vote) }
+        ensures answer { Answers always self.old (message.Vote vote) result }
+        ensures refused { Refuses always self.old (message.Vote vote) result }
+        ensures at { is_new_step result ≡ true → GoOn always self.old self.new (message.Vote vote) }
         ensures same { is_new_step result ≡ false → self.new ≡ self.old }
     {
         votes_agree();
@@ -164,7 +169,7 @@ impl<'a> Tables<'a> {
 
     /// Whether a vote would be new. It takes no memory.
     pub fn is_vote_new(&self, vote: &Vote) -> bool
-        ensures { IsNew self.now (message.Vote vote.now) result }
+        ensures { IsNew always self.now (message.Vote vote.now) result }
     {
         votes_agree();
         is_new(&self.vote_decision(vote))

@@ -98,7 +98,9 @@ fn give(assembly: &mut Assembly, vote: Vote, at_once: bool, answer: &mut String)
         true => assembly.add(vote)?,
         false => {
             let added = assembly.answer(&vote)?;
-            assembly.count(&added, vote);
+            if let Some(complete) = added.completion() {
+                assembly.count(vote, complete);
+            }
             added
         }
     };

@@ -1,9 +1,10 @@
 use Rattle.std.proofs.Common.{◌∙◌, ap, sym, subst, refl, ℕ, Option, Some, None}
 use Rattle.std.specs.Prelude.{option_map}
 use Rattle.std.proofs.lemmas.Option.{same_Some}
-use Rattle.certify.specs.Answer.{after}
+use Rattle.certify.specs.Answer.{after, completion_of}
 use Rattle.certify.specs.Assembled.{AssemblyView}
-use Rattle.admission.specs.Headers.{AssembliesView, IsEntry, IsWith}
+use Rattle.certify.specs.declared.added.Added.{Added}
+use Rattle.admission.specs.Headers.{AssembliesView, IsEntry, IsWith, answer_in}
 use Rattle.admission.proofs.Looking.{looked, answer_of, written, unchanged, holds_with}
 use Rattle.admission.proofs.assemblies.Assemblies.count.Goals as goal
 use Rattle.admission.proofs.assemblies.Assemblies.count.Goals.{in-Some, in_default}
@@ -11,9 +12,10 @@ use Rattle.admission.proofs.assemblies.Assemblies.count.Goals.{in-Some, in_defau
 pub count-requires : goal.count-requires
 count-requires c =
     let inside : AssembliesView = record { charter = c.self.inside.committee.now; own = c.self.inside.own.0; rounds = c.self.inside.rounds.entries } in
-    c.requires
-    ∙ answer_of c.args.self.now c.args.vote (Some c.in-Some.assembly.now)
-    (looked inside c.args.self.now c.number.result c.args.vote.round (Some c.in-Some.assembly.now) c.in-Some.ensures.value c.number.ensures.value c.self.view_is)
+    ap completion_of (sym (answer_of c.args.self.now c.args.vote (Some c.in-Some.assembly.now)
+    (looked inside c.args.self.now c.number.result c.args.vote.round (Some c.in-Some.assembly.now)
+    c.in-Some.ensures.value c.number.ensures.value c.self.view_is)))
+    ∙ c.requires
 
 pub invariant_of-self : goal.invariant_of-self
 invariant_of-self c =
@@ -47,15 +49,18 @@ returns c =
     let old : AssembliesView = record { charter = charter; own = own; rounds = inside.rounds.entries } in
     let key = c.number.result in
     let round = c.args.vote.round in
-    let added = c.args.added.now in
-    let counted : Option AssemblyView → Option AssemblyView = option_map (λ a. after added a c.args.vote) in
+    let vote = c.args.vote in
+    let counted : Option AssemblyView → Option AssemblyView = option_map (λ a. after (answer_in old vote) a vote) in
     elim c.match-get_mut.branch [
       | in-Some w ↦
           let before = w.in-Some.assembly.now in
           let later = w.count.new.self in
           let new : AssembliesView = record { charter = charter; own = own; rounds = (c.get_mut.follows.lender later).entries } in
           let with = written inside.rounds (c.get_mut.follows.lender later) key before later w.in-Some.ensures.value (c.get_mut.follows.holds later) charter own in
-          let is = ap Some w.count.ensures ∙ sym (ap counted (looked old old key round (Some before) w.in-Some.ensures.value c.number.ensures.value refl)) in
+          let held = looked old old key round (Some before) w.in-Some.ensures.value c.number.ensures.value refl in
+          let is = ap Some w.count.ensures
+          ∙ ap (λ (a : Added). Some (after a before vote)) (sym (answer_of old vote (Some before) held))
+          ∙ sym (ap counted held) in
           rw (w.self-inside-is, ← c.self.view_is)
           (subst (IsWith old new round) is (subst (λ (r : ℕ). IsWith old new r (Some later)) c.number.ensures.value with.0))
       | in_default w ↦
