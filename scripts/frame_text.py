@@ -11,6 +11,19 @@ import frames
 # How the numbers FFFF and FFFE are written: of a frame that goes in, and of one that came out.
 SENDERS = {"host": frames.TRANSACTIONS}
 RECEIVERS = {"all": frames.ALL, "host": frames.HOST}
+# The form of a line by its first word.
+LINES = {
+    "pack": "pack LABEL AUTHOR WORKER TRANSACTION ..", "form": "form LABEL AUTHOR ROUND PARENTS BATCHES",
+    "from": "from SENDER WHAT", "to": "to RECEIVER WHAT",
+}
+# The form of what goes in or came out.
+WHATS = {
+    "transaction": "from host transaction WORKER TRANSACTION", "seal": "from host seal WORKER",
+    "batch": "batch LABEL", "header": "header LABEL [SIGNATURE]", "ack": "ack LABEL MEMBER", "vote": "vote LABEL MEMBER [SIGNATURE]",
+    "cert": "cert LABEL MEMBER,MEMBER,..", "coin": "coin WAVE VALUE", "order": "order START LABEL ..", "bytes": "bytes DIGITS",
+}
+# How many members have a key of the test pair.
+KEYS = 255
 
 
 class Unread(Exception):
@@ -31,7 +44,18 @@ def hexadecimal(word, length=None):
 
 def content_of(word):
     """Bytes: a text within quotes, or hexadecimal."""
-    return word[1:-1].encode() if word.startswith('"') else hexadecimal(word)
+    if re.fullmatch(r'"[^"]*"', word):
+        return word[1:-1].encode()
+    if not re.fullmatch(r"(?:[0-9a-f]{2})*", word):
+        raise Unread(f'{word} is neither a text within two " nor pairs of digits 0-9, a-f')
+    return bytes.fromhex(word)
+
+
+def signed(member, digest):
+    """The test pair's signature of a member."""
+    if member >= KEYS:
+        raise Unread(f"member {member} has no key of the test pair: write its signature's 128 digits, as docs/FORMATS.md says")
+    return frames.sign(member, digest)
 
 
 def content_text(content):
@@ -63,8 +87,10 @@ class Names:
         self.batches, self.headers = {}, {f"g{author}": Header(author, 0, [], []) for author in range(31)}
 
     def define(self, table, label, made):
-        if not re.fullmatch(r"[a-z][a-z0-9]{0,15}", label) or label in self.batches or label in self.headers:
-            raise Unread(f"{label} can't be a label, or is one already")
+        if not re.fullmatch(r"[a-z][a-z0-9]{0,15}", label):
+            raise Unread(f"{label} is no label: a small letter and then at most 15 small letters or digits")
+        if label in self.batches or label in self.headers:
+            raise Unread(f"the label {label} is defined already: take another one")
         table[label] = made
 
     def new_label(self, table, letter, made):
@@ -74,12 +100,12 @@ class Names:
 
     def batch(self, label):
         if label not in self.batches:
-            raise Unread(f"there is no batch {label}")
+            raise Unread(f"there is no batch {label}: a line before this one has to define it, as {LINES['pack'].replace('LABEL', label)}")
         return self.batches[label]
 
     def header(self, label):
         if label not in self.headers:
-            raise Unread(f"there is no header {label}")
+            raise Unread(f"there is no header {label}: a line before this one has to define it, as {LINES['form'].replace('LABEL', label)}")
         return self.headers[label]
 
 
@@ -96,21 +122,25 @@ class Writer:
     def __init__(self, names=None):
         self.names = names or Names()
 
-    def frames_of(self, text):
-        """The frames of all lines; what isn't right is told with its line's number."""
+    def frames_of(self, text, name=None):
+        """The frames of all lines. What isn't right is told with its line's number, after the name of the text, if it has one."""
         made = []
         for count, line in enumerate(text.splitlines(), 1):
             try:
                 made.append(self.frame_of(line))
             except Unread as unread:
-                raise Unread(f"line {count}: {unread}") from None
+                raise Unread(f"{name + ', ' if name else ''}line {count}: {unread}") from None
         return b"".join(made)
 
     def frame_of(self, line):
         """The frame of a line; no bytes of one that defines something or says nothing."""
-        words = re.findall(r'"[^"]*"|\S+', line.partition("#")[0] if '"' not in line else line)
-        if not words or words[0] == "#":
+        words = re.findall(r'"[^"]*"|\S+', line)
+        words = words[:next((at for at, word in enumerate(words) if word.startswith("#")), len(words))]
+        if not words:
             return b""
+        if words[0] not in LINES:
+            raise Unread(f"a line begins with one of the words {', '.join(LINES)}, and this one with {words[0]}")
+        form = LINES[words[0]]
         try:
             if words[0] == "pack":
                 label, author, worker, *rest = words[1:]
@@ -121,13 +151,12 @@ class Writer:
                 label, author, round_number, parents, batches = words[1:]
                 self.names.define(self.names.headers, label, self.header_of(author, round_number, parents, batches))
                 return b""
-            if words[0] in ("from", "to"):
-                numbers = SENDERS if words[0] == "from" else RECEIVERS
-                number_of = numbers[words[1]] if words[1] in numbers else number(words[1], 65535)
-                return self.frame_with(number_of, words[2], words[3:])
+            numbers = SENDERS if words[0] == "from" else RECEIVERS
+            number_of = numbers[words[1]] if words[1] in numbers else number(words[1], 65535)
+            form = f"{words[0]} {words[1]} {WHATS.get(words[2], 'WHAT')}" if words[2] not in ("transaction", "seal") else WHATS[words[2]]
+            return self.frame_with(number_of, words[2], words[3:])
         except (ValueError, IndexError):
-            pass
-        raise Unread(f"no line of the language: {line}")
+            raise Unread(f"the form of such a line is: {form}; docs/FORMATS.md has all under \"Frames as text\"") from None
 
     def header_of(self, author, round_number, parents, batches):
         return Header(
@@ -150,7 +179,11 @@ class Writer:
         return batch.worker, batch.digest
 
     def frame_with(self, number_of, word, rest):
-        if word == "transaction" and number_of == frames.TRANSACTIONS:
+        if word not in WHATS:
+            raise Unread(f"what goes in or comes out is one of {', '.join(WHATS)}, and not {word}")
+        if word in ("transaction", "seal") and number_of != frames.TRANSACTIONS:
+            raise Unread(f"it comes from the host: {WHATS[word]}")
+        if word == "transaction":
             worker, content = rest
             return frames.transaction(number(worker, 65535), content_of(content))
         if word == "seal":
@@ -168,10 +201,10 @@ class Writer:
             return struct.pack(">BH", frames.ACK, number(member, 65535)) + digest
         if word == "header":
             header = self.names.header(rest[0])
-            (signature,) = rest[1:] or [frames.sign(header.author, header.digest).hex()]
+            (signature,) = rest[1:] or [signed(header.author, header.digest).hex()]
             return bytes([frames.HEADER]) + header.body + hexadecimal(signature, 64)
         if word == "vote":
-            return self.vote_of(*rest)
+            return self.vote_of(rest)
         if word == "cert":
             label, voters = rest
             header = self.names.header(label)
@@ -184,13 +217,13 @@ class Writer:
             start, *labels = rest
             digests = [hexadecimal(label, 32) if len(label) == 64 else self.names.header(label).certificate for label in labels]
             return struct.pack(">BQI", frames.ORDER, number(start), len(digests)) + b"".join(digests)
-        if word == "bytes":
-            (content,) = rest or [""]
-            return hexadecimal(content)
-        raise Unread(f"no kind of frame: {word}")
+        (content,) = rest or [""]
+        return hexadecimal(content)
 
-    def vote_of(self, named, voter, signature=None):
+    def vote_of(self, rest):
         """A vote on a header of a label, or on DIGEST:ROUND:AUTHOR."""
+        named, voter, *written = rest
+        (signature,) = written or [None]
         if ":" in named:
             digest, round_number, author = named.split(":")
             digest, round_number, author = hexadecimal(digest, 32), number(round_number), number(author, 65535)
@@ -199,14 +232,14 @@ class Writer:
             digest, round_number, author = header.digest, header.round, header.author
         member = number(voter, 65535)
         certificate = frames.sha256(b"C", digest, struct.pack(">QH", round_number, author))
-        signed = hexadecimal(signature, 64) if signature else frames.sign(member, certificate)
-        return bytes([frames.VOTE]) + digest + struct.pack(">QHH", round_number, author, member) + signed
+        signature = hexadecimal(signature, 64) if signature else signed(member, certificate)
+        return bytes([frames.VOTE]) + digest + struct.pack(">QHH", round_number, author, member) + signature
 
     def entry_of(self, header, item):
         """A vote of a certificate: a member, or MEMBER:SIGNATURE."""
         member, colon, signature = item.partition(":")
         voter = number(member, 65535)
-        return struct.pack(">H", voter) + (hexadecimal(signature, 64) if colon else frames.sign(voter, header.certificate))
+        return struct.pack(">H", voter) + (hexadecimal(signature, 64) if colon else signed(voter, header.certificate))
 
 
 # ---- to text
@@ -308,7 +341,7 @@ class Reader:
 
     def signature_text(self, member, digest, signature, before):
         """Nothing where it is the test pair's signature of the member, else its digits."""
-        return "" if member < 255 and frames.sign(member, digest) == signature else before + signature.hex()
+        return "" if member < KEYS and frames.sign(member, digest) == signature else before + signature.hex()
 
     def label_of_batch(self, batch, defined):
         for label, known in self.names.batches.items():
