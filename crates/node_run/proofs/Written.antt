@@ -1,5 +1,7 @@
 -- What goes to a node's writer, output by output.
 use Rattle.std.proofs.Common.{take, ◌≡◌, ℕ, Bool, true, false, List, [], ◌∷◌, ◌++◌, Option, refl, sym, ap, subst, ◌∙◌, append-nil, append_assoc, inl, inr}
+use Rattle.std.specs.Prelude.{◌||◌}
+use Rattle.std.proofs.lemmas.Bool.{or_left, or_right, or_parts}
 use Rattle.std.specs.List.{flat_map}
 use Rattle.std.specs.Io.KnownBytes.{Keeps, Appends}
 use Rattle.std.proofs.KnownBytes.{Keeps-refl, Keeps-trans, Appends-trans, Appends-kept}
@@ -19,7 +21,7 @@ use Rattle.node_shared.specs.Answers.{IsPutOutBy}
 use Rattle.spec_world.specs.Promise.{GoesOut}
 use Rattle.wire.specs.Outputs.{frame_of}
 use Rattle.spec_world.specs.World.{put_out}
-use Rattle.node_run.specs.Writing.{AppendsSome, Puts, MayGo, WritesOnly}
+use Rattle.node_run.specs.Writing.{AppendsSome, is_over, Puts, MayGo, WritesOnly}
 use Rattle.wire_write.proofs.Appending.{keeps_appends}
 use Rattle.wire_write.specs.Frames.{AppendsLess}
 
@@ -28,9 +30,18 @@ others_yet : (before mid later : Faults) → mid ≡ record before { output = mi
     → later ≡ record before { output = later.output; memory = later.memory }
 others_yet before mid later first second = second ∙ ap (λ (faults : Faults). record faults { output = later.output; memory = later.memory }) first
 
+-- what is over stays over
+over_yet : (before later : Faults) → (before.output ≡ true → later.output ≡ true) → (before.memory ≡ true → later.memory ≡ true) → is_over before ≡ true → is_over later ≡ true
+over_yet before later broken memory is = by before.output refl
+  where
+    by : (b : Bool) → before.output ≡ b → is_over later ≡ true
+    by true e = or_left later.output later.memory (broken e)
+    by false e = or_right later.output later.memory (memory (subst (λ (t : Bool). (t || before.memory) ≡ true) e is))
+
 pub weaker : (May Wider : Output → Type 0) (before later : Faults) (old new : Option (List ℕ)) → ((output : Output) → May output → Wider output)
     → WritesOnly May before later old new → WritesOnly Wider before later old new
 weaker May Wider before later old new wider so_far = record {
+  over = so_far.over;
   broken = so_far.broken;
   memory = so_far.memory;
   outputs = so_far.outputs;
@@ -77,7 +88,8 @@ some_behind old mid new first second one some = record {
 -- nothing yet
 pub none_yet : (May : Output → Type 0) (faults : Faults) (at : Option (List ℕ)) → WritesOnly May faults faults at at
 none_yet May faults at = record {
-  broken = λ is. (is, Keeps-refl at);
+  over = λ is. Keeps-refl at;
+  broken = λ is. is;
   memory = λ is. is;
   outputs = [];
   each = All-nil May;
@@ -86,12 +98,13 @@ none_yet May faults at = record {
   others = refl;
 }
 
--- more went to a writer that had not failed
+-- more went to a writer while it was not over
 more_of : (May : Output → Type 0) (before mid later : Faults) (old cur new : Option (List ℕ)) (more : List Output) → WritesOnly May before mid old cur → All May more
-    → mid.output ≡ false → (before.memory ≡ true → later.memory ≡ true) → later ≡ record before { output = later.output; memory = later.memory }
+    → is_over mid ≡ false → (before.memory ≡ true → later.memory ≡ true) → later ≡ record before { output = later.output; memory = later.memory }
     → (later.output ≡ false → Appends cur new (flat_map frame_of more)) → AppendsSome cur new (flat_map frame_of more) → WritesOnly May before later old new
-more_of May before mid later old cur new more so_far each fine memory others written some = record {
-  broken = λ is. absurd (let bad : true ≡ false = sym ((so_far.broken is).0) ∙ fine in cc);
+more_of May before mid later old cur new more so_far each up memory others written some = record {
+  over = λ is. absurd (let bad : true ≡ false = sym (over_yet before mid so_far.broken so_far.memory is) ∙ up in cc);
+  broken = λ is. absurd (let bad : true ≡ false = sym (so_far.broken is) ∙ fine in cc);
   memory = memory;
   outputs = so_far.outputs ++ more;
   each = All-append May so_far.outputs more so_far.each each;
@@ -101,6 +114,9 @@ more_of May before mid later old cur new more so_far each fine memory others wri
   others = others;
 }
   where
+    fine : mid.output ≡ false
+    fine = (or_parts mid.output mid.memory up).0
+
     whole : flat_map frame_of so_far.outputs ++ flat_map frame_of more ≡ flat_map frame_of (so_far.outputs ++ more)
     whole = sym (flat_map-append frame_of so_far.outputs more)
 
@@ -109,7 +125,8 @@ none_more_of : (May : Output → Type 0) (before mid later : Faults) (old cur ne
     → (mid.output ≡ true → later.output ≡ true) → (before.memory ≡ true → later.memory ≡ true) → later ≡ record before { output = later.output; memory = later.memory }
     → Keeps cur new → WritesOnly May before later old new
 none_more_of May before mid later old cur new so_far stays memory others keeps = record {
-  broken = λ is. let first = so_far.broken is in (stays first.0, Keeps-trans old cur new first.1 keeps);
+  over = λ is. Keeps-trans old cur new (so_far.over is) keeps;
+  broken = λ is. stays (so_far.broken is);
   memory = memory;
   outputs = so_far.outputs;
   each = so_far.each;
@@ -125,7 +142,7 @@ none_more_of May before mid later old cur new so_far stays memory others keeps =
 -- one output more
 pub one_more : (May : Output → Type 0) (output : Output) (before mid later : Faults) (old cur new : Option (List ℕ))
     → WritesOnly May before mid old cur → May output → Puts (frame_of output) mid later cur new → WritesOnly May before later old new
-one_more May output before mid later old cur new so_far may puts = behind mid.output later.output refl refl
+one_more May output before mid later old cur new so_far may puts = by (is_over mid) later.output refl refl
   where
     one : List Output
     one = output ∷ []
@@ -137,7 +154,12 @@ one_more May output before mid later old cur new so_far may puts = behind mid.ou
     one_may = All-push May [] output (All-nil May) may
 
     memory : before.memory ≡ true → later.memory ≡ true
-    memory is = puts.memory (so_far.memory is)
+    memory is =
+        let was : mid.memory ≡ true = so_far.memory is in
+        ap (λ (faults : Faults). faults.memory) (puts.over (or_right mid.output mid.memory was)).0 ∙ was
+
+    stays : mid.output ≡ true → later.output ≡ true
+    stays was = ap (λ (faults : Faults). faults.output) (puts.over (or_left mid.output mid.memory was)).0 ∙ was
 
     others : later ≡ record before { output = later.output; memory = later.memory }
     others = others_yet before mid later so_far.others puts.others
@@ -145,20 +167,20 @@ one_more May output before mid later old cur new so_far may puts = behind mid.ou
     some : AppendsSome cur new (flat_map frame_of one)
     some = subst (AppendsSome cur new) whole puts.some
 
-    -- the writer had failed; it fails now; it doesn't
-    behind : (was now : Bool) → mid.output ≡ was → later.output ≡ now → WritesOnly May before later old new
-    behind true now is then = none_more_of May before mid later old cur new so_far (λ broken. (puts.broken broken).0) memory others (puts.broken is).1
-    behind false true is then =
+    -- it was over; the writer fails now; it doesn't
+    by : (was now : Bool) → is_over mid ≡ was → later.output ≡ now → WritesOnly May before later old new
+    by true now is then = none_more_of May before mid later old cur new so_far stays memory others (puts.over is).1
+    by false true is then =
         more_of May before mid later old cur new one so_far one_may is memory others (λ fine. absurd (let bad : true ≡ false = sym then ∙ fine in cc)) some
-    behind false false is then = elim (puts.fine then) [
+    by false false is then = elim (puts.fine then) [
       | inl all ↦ more_of May before mid later old cur new one so_far one_may is memory others (λ fine. subst (Appends cur new) whole all.1) some
-      | inr none ↦ none_more_of May before mid later old cur new so_far (λ broken. absurd (let bad : true ≡ false = sym broken ∙ is in cc)) memory others none.1
+      | inr none ↦ none_more_of May before mid later old cur new so_far stays memory others none.1
     ]
 
 -- what went before, and what went then
 pub both_written : (May : Output → Type 0) (before mid later : Faults) (old cur new : Option (List ℕ))
     → WritesOnly May before mid old cur → WritesOnly May mid later cur new → WritesOnly May before later old new
-both_written May before mid later old cur new first second = behind mid.output refl
+both_written May before mid later old cur new first second = by (is_over mid) refl
   where
     memory : before.memory ≡ true → later.memory ≡ true
     memory is = second.memory (first.memory is)
@@ -166,9 +188,9 @@ both_written May before mid later old cur new first second = behind mid.output r
     others : later ≡ record before { output = later.output; memory = later.memory }
     others = others_yet before mid later first.others second.others
 
-    behind : (was : Bool) → mid.output ≡ was → WritesOnly May before later old new
-    behind true is = none_more_of May before mid later old cur new first (λ broken. (second.broken broken).0) memory others (second.broken is).1
-    behind false is = more_of May before mid later old cur new second.outputs first second.each is memory others second.written second.some
+    by : (was : Bool) → is_over mid ≡ was → WritesOnly May before later old new
+    by true is = none_more_of May before mid later old cur new first second.broken memory others (second.over is)
+    by false is = more_of May before mid later old cur new second.outputs first second.each is memory others second.written second.some
 
 -- nothing more, but that the writer may have failed
 pub no_more : (May : Output → Type 0) (before mid later : Faults) (old cur new : Option (List ℕ))
@@ -183,40 +205,36 @@ no_more May before mid later old cur new so_far stays same keeps = none_more_of 
 
 -- ---- a frame that was to be put
 
--- the writer had failed
-pub puts_none : (bytes : List ℕ) (faults : Faults) (old : Option (List ℕ)) → faults.output ≡ true → Puts bytes faults faults old old
-puts_none bytes faults old broken = record {
-  broken = λ is. (is, Keeps-refl old);
-  memory = λ is. is;
-  fine = λ fine. absurd (let bad : true ≡ false = sym broken ∙ fine in cc);
+-- it was over
+pub puts_none : (bytes : List ℕ) (faults : Faults) (old : Option (List ℕ)) → is_over faults ≡ true → Puts bytes faults faults old old
+puts_none bytes faults old over = record {
+  over = λ is. (refl, Keeps-refl old);
+  fine = λ fine. inr (ap (λ (it : Bool). record faults { memory = it }) (subst (λ (t : Bool). (t || faults.memory) ≡ true) fine over), Keeps-refl old);
   some = none_some old old bytes (Keeps-refl old);
   others = refl;
 }
 
-pub puts_all : (bytes : List ℕ) (faults : Faults) (old new : Option (List ℕ)) → faults.output ≡ false → Appends old new bytes → Puts bytes faults faults old new
+pub puts_all : (bytes : List ℕ) (faults : Faults) (old new : Option (List ℕ)) → is_over faults ≡ false → Appends old new bytes → Puts bytes faults faults old new
 puts_all bytes faults old new up appends = record {
-  broken = λ is. absurd (let bad : true ≡ false = sym is ∙ up in cc);
-  memory = λ is. is;
+  over = λ is. absurd (let bad : true ≡ false = sym is ∙ up in cc);
   fine = λ fine. inl (refl, appends);
   some = all_some old new bytes appends;
   others = refl;
 }
 
--- memory was refused
-pub puts_no_memory : (bytes : List ℕ) (faults : Faults) (old new : Option (List ℕ)) → faults.output ≡ false → Keeps old new → Puts bytes faults (record faults { memory = true }) old new
+-- an allocation failed
+pub puts_no_memory : (bytes : List ℕ) (faults : Faults) (old new : Option (List ℕ)) → is_over faults ≡ false → Keeps old new → Puts bytes faults (record faults { memory = true }) old new
 puts_no_memory bytes faults old new up keeps = record {
-  broken = λ is. absurd (let bad : true ≡ false = sym is ∙ up in cc);
-  memory = λ is. refl;
+  over = λ is. absurd (let bad : true ≡ false = sym is ∙ up in cc);
   fine = λ fine. inr (refl, keeps);
   some = none_some old new bytes keeps;
   others = refl;
 }
 
 -- the writer fails
-pub puts_some : (bytes : List ℕ) (faults : Faults) (old new : Option (List ℕ)) → faults.output ≡ false → AppendsLess old new bytes → Puts bytes faults (record faults { output = true }) old new
+pub puts_some : (bytes : List ℕ) (faults : Faults) (old new : Option (List ℕ)) → is_over faults ≡ false → AppendsLess old new bytes → Puts bytes faults (record faults { output = true }) old new
 puts_some bytes faults old new up less = record {
-  broken = λ is. absurd (let bad : true ≡ false = sym is ∙ up in cc);
-  memory = λ is. is;
+  over = λ is. absurd (let bad : true ≡ false = sym is ∙ up in cc);
   fine = λ fine. absurd (cc);
   some = some_of_less old new bytes less;
   others = refl;

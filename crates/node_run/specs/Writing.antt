@@ -1,5 +1,5 @@
 -- What goes to a node's writer.
-use Rattle.std.specs.Prelude.{◌≤◌, length, take, ◌≡◌, ◌⊎◌, ℕ, true, false, List, ◌++◌, Option, None, All}
+use Rattle.std.specs.Prelude.{◌≤◌, length, take, ◌≡◌, ◌⊎◌, ◌||◌, ℕ, Bool, true, false, List, ◌++◌, Option, None, All}
 use Rattle.std.specs.List.{flat_map}
 use Rattle.std.specs.Io.KnownBytes.{Keeps, Appends}
 use Rattle.wire.specs.Lists.{Begins}
@@ -28,11 +28,14 @@ pub record AppendsSome (old new : Option (List ℕ)) (bytes : List ℕ) : Type 0
   pub begins : Begins part bytes
   pub appends : Appends old new part
 
--- Bytes were to go to a writer. Once it has failed nothing goes to it; else they stand behind what it has, unless it fails, or memory was
--- refused for them. Where it fails some of them may. No other fault is told.
+-- a writer is over: it failed, or an allocation failed for what was to go to it
+abbrev pub is_over : Faults → Bool
+is_over faults = faults.output || faults.memory
+
+-- What comes of the bytes of one output. While the writer isn't over, they all stand after what it has; or it fails, and some of them may; or
+-- an allocation failed for them, and none do. After either it is over, and no bytes go to it any more. No other fault is told.
 pub record Puts (bytes : List ℕ) (before later : Faults) (old new : Option (List ℕ)) : Type 0 where
-  pub broken : before.output ≡ true → (later.output ≡ true) × Keeps old new
-  pub memory : before.memory ≡ true → later.memory ≡ true
+  pub over : is_over before ≡ true → (later ≡ before) × Keeps old new
   pub fine : later.output ≡ false
       → ((later ≡ before) × Appends old new bytes) ⊎ ((later ≡ record before { memory = true }) × Keeps old new)
   pub some : AppendsSome old new bytes
@@ -53,10 +56,11 @@ pub record WritesNext (May : Output → Type 0) (before later : Faults) (old new
   pub may : May output
   pub puts : Puts (frame_of output) before later old new
 
--- All that went to the writer are frames of outputs that might go. Only where it failed they may be cut short. No fault is told but the
--- writer's and want of memory.
+-- All that went to the writer are frames of outputs that might go. Only where it failed they may be cut short. Nothing went to one that was
+-- over. No fault is told but the writer's and that an allocation failed.
 pub record WritesOnly (May : Output → Type 0) (before later : Faults) (old new : Option (List ℕ)) : Type 0 where
-  pub broken : before.output ≡ true → (later.output ≡ true) × Keeps old new
+  pub over : is_over before ≡ true → Keeps old new
+  pub broken : before.output ≡ true → later.output ≡ true
   pub memory : before.memory ≡ true → later.memory ≡ true
   pub outputs : List Output
   pub each : All May outputs

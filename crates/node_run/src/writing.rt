@@ -20,7 +20,7 @@ use std::sync::Wait;
 use wire::Output;
 use wire_write::{WriteError, write_output};
 
-/// Where outputs go. Where one can't be written none is from then on.
+/// Where outputs go. Where one can't be written, or an allocation failed for it, none is from then on: what was written has no gap.
 #[derive(Drop)]
 pub(crate) struct Sink<W: Write + Drop> {
     alloc: Global,
@@ -120,7 +120,7 @@ impl<W: Write + Drop> Sink<W> {
     fn put_output(&mut self, output: &Output)
         ensures { Puts (frame_of output.now) self.old.faults self.new.faults (writer_contents W.contents self.old.writer) (writer_contents W.contents self.new.writer) }
     {
-        if self.faults.output {
+        if self.faults.output || self.faults.memory {
             return;
         }
         match write_output(self.alloc, output, &mut self.writer) {
