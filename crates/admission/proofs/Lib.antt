@@ -10,6 +10,7 @@ pub mod HeaderVotes
 pub mod HeadersBehind
 pub mod HeaderComing
 pub mod VoteComing
+pub mod OneState
 mod Beside
 mod Deciding
 mod Closing

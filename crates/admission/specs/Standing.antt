@@ -102,3 +102,8 @@ has_parents _ = false
 -- what has no parents lacks none
 abbrev pub OthersAreReady : Type 0
 OthersAreReady = (node : Node) (state : State) (event : Event) → has_parents event.message ≡ false → is_ready node state event ≡ true
+
+-- tables have what one sound state has, and of no other
+abbrev pub OneState : Type 0
+OneState = (node : Node) (tables : Tables) (one other : State) → IsSound node one → AreAt node one tables → IsSound node other → AreAt node other tables
+    → one ≡ other

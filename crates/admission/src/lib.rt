@@ -14,4 +14,4 @@ pub use assemblies::{Assemblies, votes_agree};
 pub use facts::nameable_agrees;
 pub use header::Refusal;
 pub use step::Step;
-pub use tables::{Tables, others_are_ready};
+pub use tables::{Tables, one_state, others_are_ready};

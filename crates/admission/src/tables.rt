@@ -20,7 +20,7 @@ use crate::assemblies::{Assemblies, starts_fresh};
 use crate::facts::starts_empty;
 use batchstore::BatchStore;
 use committee::Committee;
-pub use facts::others_are_ready;
+pub use facts::{one_state, others_are_ready};
 use sequencer::Sequencer;
 use sigface::TableSeed;
 use std::alloc::{AllocError, Global};

@@ -43,7 +43,7 @@ is_behind known node state event sequence comes ext =
     let low = floor_in node behind in
     let sound = known.sound_stays node state event comes.comes.node_is comes.comes.sound comes.comes.taken comes.comes.new in
     let whole : HoldsFrom 0 later.slots later.slots = record { placed = ext.placed_after; same = λ round author above. refl } in
-    let from = (known.enough_behind node state event 0 later.slots comes.comes.node_is comes.comes.sound comes.comes.taken comes.comes.new (omega arith) whole).behind in
+    let from = (known.enough_after node state event 0 later.slots comes.comes.node_is comes.comes.sound comes.comes.taken comes.comes.new (omega arith) whole).afterwards in
     let same = known.enough_now node behind low later.slots comes.comes.node_is sound (omega arith) from in
     let stands = (known.state_stands node state event comes.comes.node_is comes.comes.sound comes.comes.taken comes.comes.new).floor in
     let floors = same.same_floor in

@@ -1,7 +1,7 @@
 -- What stays as it is, and what ties a DAG to histories.
 use Rattle.std.specs.Prelude.{◌≡◌, ◌≤◌, ◌++◌, ℕ, List, None, ◌<◌, length, Ok, Some}
 use Rattle.spec_laws.specs.Laws.{HoldsFrom, IsEnough}
-use Rattle.spec_machine.specs.Laws.{SoundStays, StateStands, HeldIsEnoughNow, HeldIsEnoughBehind}
+use Rattle.spec_machine.specs.Laws.{SoundStays, StateStands, HeldIsEnoughNow, HeldIsEnoughAfter}
 use Rattle.spec_machine.specs.Machine.{after, certificate_of}
 use Rattle.spec_model.specs.Admitting.{IsLegal}
 use Rattle.spec_model.specs.Histories.{History, as_coin}
@@ -41,9 +41,9 @@ abbrev pub DagIsEnough : Type 0
 DagIsEnough = (node : Node) (before more : History) (low : ℕ) (graph : DagView) → IsLegal node (before ++ more) → low ≤ floor node before
     → HoldsFrom low (slots_in graph) (slots node (before ++ more)) → IsEnough node before (before ++ more) low (slots_in graph)
 
--- what a state is behind an event, by the laws of the machine
+-- what a state is after an event, by the laws of the machine
 pub record AreKnown : Type 0 where
   pub sound_stays : SoundStays
   pub state_stands : StateStands
   pub enough_now : HeldIsEnoughNow
-  pub enough_behind : HeldIsEnoughBehind
+  pub enough_after : HeldIsEnoughAfter

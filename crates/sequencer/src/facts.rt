@@ -37,12 +37,12 @@ pub fn orders_by_history()
     flatten::each_follows();
 }
 
-// What a state is behind an event.
+// What a state is after an event.
 pub(crate) fn states_go_on()
     ensures { AreKnown }
 {
     spec_machine::sound_stays();
     spec_machine::state_stands();
     spec_machine::held_is_enough_now();
-    spec_machine::held_is_enough_behind();
+    spec_machine::held_is_enough_after();
 }

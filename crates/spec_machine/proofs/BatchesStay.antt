@@ -1,4 +1,4 @@
--- Behind a step from a sound state the batches are as they have to be.
+-- After a step from a sound state the batches are as they have to be.
 use Rattle.std.proofs.Common.{◌≡◌, ◌≢◌, ℕ, zero, suc, ◌<◌, ◌≤◌, Bool, true, false, List, [], ◌∷◌, ◌++◌, length, Option, Some, None, ◌⊎◌, inl, inr, refl, ap, sym, ◌∙◌, subst, arith}
 use Rattle.std.specs.Prelude.{◌==◌, ◌&&◌, ◌||◌, not, find, All, AllPairs}
 use Rattle.std.specs.List.{list_any}
@@ -23,7 +23,7 @@ use Rattle.spec_laws.proofs.Lists.{given_or_none}
 use Rattle.spec_laws.proofs.Meeting.{any_to}
 use Rattle.spec_machine.specs.Machine.{acknowledges, names}
 use Rattle.spec_machine.specs.Sound.{AreBatches}
-use Rattle.spec_machine.proofs.Behind.{behind}
+use Rattle.spec_machine.proofs.AfterStep.{after_step}
 use Rattle.spec_machine.proofs.NewThere.{new_batch, new_ack, new_header}
 use Rattle.spec_machine.proofs.Passing.{batch_sender, ack_member}
 use Rattle.spec_machine.proofs.Step.{IsStep, or_left}
@@ -56,7 +56,7 @@ same_digests : (one other : Digest) → same_digest one other ≡ true → one �
 same_digests one other same = ap (λ (bytes : List ℕ). record { 0 = bytes }) ((bytes_eq-Decides one.0 other.0).0 same)
 
 -- an own batch stays one
-own_stays : (node : Node) (state : State) (m : Message) (digest : Digest) → has_own_batch node state digest ≡ true → has_own_batch node (behind node state m) digest ≡ true
+own_stays : (node : Node) (state : State) (m : Message) (digest : Digest) → has_own_batch node state digest ≡ true → has_own_batch node (after_step node state m) digest ≡ true
 own_stays node state m digest own =
     let test : BatchView → Bool = λ batch. same_digest (batch_digest batch) digest in
     let new = option_to_list (as_batch m) in
@@ -180,7 +180,7 @@ few_stay node state sender (message.Vote vote) step = few_same node state.batche
 few_stay node state sender (message.Certificate certificate) step = few_same node state.batches (record { distinct = step.sound.batches.distinct; few = step.sound.batches.few })
 few_stay node state sender (message.Coin coin) step = few_same node state.batches (record { distinct = step.sound.batches.distinct; few = step.sound.batches.few })
 
-pub batches_stay : (node : Node) (state : State) (sender : Author) (m : Message) → IsStep node state sender m → AreBatches node (behind node state m)
+pub batches_stay : (node : Node) (state : State) (sender : Author) (m : Message) → IsStep node state sender m → AreBatches node (after_step node state m)
 batches_stay node state sender m step =
     let was = step.sound.batches in
     let few = few_stay node state sender m step in

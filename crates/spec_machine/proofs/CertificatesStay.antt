@@ -1,4 +1,4 @@
--- Behind a step from a sound state the certificates are as they have to be.
+-- After a step from a sound state the certificates are as they have to be.
 use Rattle.std.proofs.Common.{◌≡◌, ℕ, suc, ◌-◌, ◌*◌, ◌<◌, ◌≤◌, max, false, [], ◌∷◌, Option, Some, None, ◌⊎◌, inl, inr, ap, ◌∙◌, subst, arith}
 use Rattle.std.specs.Prelude.{if◌then◌else◌}
 use Rattle.std.specs.Option.{option_to_list}
@@ -18,7 +18,7 @@ use Rattle.spec_laws.proofs.OrderLonger.{top_leader, leader_place}
 use Rattle.spec_laws.proofs.Votes.{slot_is, of_its_slot}
 use Rattle.spec_machine.specs.Machine.{certificate_of, highest_with, grown}
 use Rattle.spec_machine.specs.Sound.{AreCertificates, IsReceived}
-use Rattle.spec_machine.proofs.Behind.{IsBehind, behind, added_well, slot_cases, slot_kept, slot_found, slot_stays}
+use Rattle.spec_machine.proofs.AfterStep.{IsAfterStep, after_step, added_well, slot_cases, slot_kept, slot_found, slot_stays}
 use Rattle.spec_machine.proofs.Collected.{IsNext}
 use Rattle.spec_machine.proofs.Step.{IsStep, or_right}
 
@@ -27,9 +27,9 @@ use Rattle.spec_machine.proofs.Step.{IsStep, or_right}
 above_genesis : (floor round : ℕ) → is_low floor round ≡ false → 0 < round
 above_genesis floor round high = grind (arith, high, common_steps)
 
-passed_stays : (node : Node) (state : State) (sender : Author) (m : Message) → IsStep node state sender m → IsBehind node state m
+passed_stays : (node : Node) (state : State) (sender : Author) (m : Message) → IsStep node state sender m → IsAfterStep node state m
     → (round author : ℕ) (c : Certificate) → (grown node state m).slots round author ≡ Some c
-    → (c ≡ genesis author) ⊎ IsReceived node (behind node state m) c
+    → (c ≡ genesis author) ⊎ IsReceived node (after_step node state m) c
 passed_stays node state sender m step back round author c held =
     elim (slot_cases node state m round author c held) [
       | inl old ↦ elim (step.sound.certificates.passed round author c old) [
@@ -121,30 +121,30 @@ floor_within node state sender m step next =
 
 -- ---- all of it
 
-genesis_stays : (node : Node) (state : State) (sender : Author) (m : Message) → IsStep node state sender m → IsBehind node state m
-    → floor_in node (behind node state m) ≡ 0 → (author : ℕ) → author < size_of node
-    → (behind node state m).slots 0 author ≡ Some (genesis author)
+genesis_stays : (node : Node) (state : State) (sender : Author) (m : Message) → IsStep node state sender m → IsAfterStep node state m
+    → floor_in node (after_step node state m) ≡ 0 → (author : ℕ) → author < size_of node
+    → (after_step node state m).slots 0 author ≡ Some (genesis author)
 genesis_stays node state sender m step back least author member =
     let rises = back.rises in
     let was = step.sound.certificates.genesis (omega (arith, rises, least)) author member in
-    slot_stays (floor_in node (grown node state m)) (floor_in node (behind node state m)) 0 ((grown node state m).slots 0 author) (genesis author) back.floors (omega (arith, least))
+    slot_stays (floor_in node (grown node state m)) (floor_in node (after_step node state m)) 0 ((grown node state m).slots 0 author) (genesis author) back.floors (omega (arith, least))
     (slot_kept node state m 0 author (genesis author) was)
 
-reached_stays : (node : Node) (state : State) (sender : Author) (m : Message) → IsStep node state sender m → IsNext node state m → IsBehind node state m
-    → (author : ℕ) × (c : Certificate) × ((behind node state m).slots (behind node state m).highest author ≡ Some c)
+reached_stays : (node : Node) (state : State) (sender : Author) (m : Message) → IsStep node state sender m → IsNext node state m → IsAfterStep node state m
+    → (author : ℕ) × (c : Certificate) × ((after_step node state m).slots (after_step node state m).highest author ≡ Some c)
 reached_stays node state sender m step next back =
     let later = grown node state m in
     let floors = back.floors in
     let within = floor_within node state sender m step next in
     let it = reached_grown node state sender m step in
-    (it.0, it.1, slot_stays (floor_in node later) (floor_in node (behind node state m)) later.highest (later.slots later.highest it.0) it.1 floors (omega (arith, floors, within)) it.2)
+    (it.0, it.1, slot_stays (floor_in node later) (floor_in node (after_step node state m)) later.highest (later.slots later.highest it.0) it.1 floors (omega (arith, floors, within)) it.2)
 
 pub certificates_stay : (node : Node) (state : State) (sender : Author) (m : Message) → IsStep node state sender m → IsNext node state m
-    → IsBehind node state m → AreCertificates node (behind node state m)
+    → IsAfterStep node state m → AreCertificates node (after_step node state m)
 certificates_stay node state sender m step next back =
     let later = grown node state m in
-    let was : (round author : ℕ) (c : Certificate) → (behind node state m).slots round author ≡ Some c → (floor_in node (behind node state m) ≤ round) × (later.slots round author ≡ Some c) =
-    λ round author c held. slot_found (floor_in node later) (floor_in node (behind node state m)) round (later.slots round author) c back.floors held in
+    let was : (round author : ℕ) (c : Certificate) → (after_step node state m).slots round author ≡ Some c → (floor_in node (after_step node state m) ≤ round) × (later.slots round author ≡ Some c) =
+    λ round author c held. slot_found (floor_in node later) (floor_in node (after_step node state m)) round (later.slots round author) c back.floors held in
     record {
       placed = λ round author c held. next.extends.placed_after round author c (was round author c held).1;
       above = λ round author c held. (was round author c held).0;

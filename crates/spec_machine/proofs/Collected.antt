@@ -124,7 +124,7 @@ placed_with slots certificate placed round author c held =
       | inr none ↦ let is = rw none at held in (found_passes (λ d. is_of_slot round author d.header) (option_to_list certificate) c is).0
     ]
 
--- the slots behind a new event agree from the floor on
+-- the slots after a new event agree from the floor on
 later_agree : (node : Node) (state : State) (m : Message) → AreInPlace state.slots → IsHigh (floor_in node state) m
     → AgreeFrom (floor_in node state) (grown node state m).slots (grown node (collected node state) m).slots
 later_agree node state m placed high =

@@ -1,4 +1,4 @@
--- What two histories keep decides what they answer, and what they keep behind a new event.
+-- What two histories keep decides what they answer, and what they keep after a new event.
 use Rattle.std.proofs.Common.{◌≡◌, ℕ, ◌-◌, ◌≤◌, arith, true, false, Option, refl, ap, sym, ◌∙◌}
 use Rattle.std.proofs.Math.Path.{fun_ext}
 use Rattle.std.specs.Prelude.{nat_le, is_some}

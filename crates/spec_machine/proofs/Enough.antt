@@ -14,9 +14,9 @@ use Rattle.spec_laws.proofs.FromFloor.{Stays, say_the_same}
 use Rattle.spec_laws.proofs.Growing.{leader_kept, directly_committed_kept}
 use Rattle.spec_laws.proofs.Lengthening.{last_is}
 use Rattle.spec_laws.proofs.OrderGrows.{members_some}
-use Rattle.spec_machine.specs.Laws.{HeldGoesOn, HeldIsEnoughNow, HeldIsEnoughBehind}
+use Rattle.spec_machine.specs.Laws.{HeldGoesOn, HeldIsEnoughNow, HeldIsEnoughAfter}
 use Rattle.spec_machine.specs.Machine.{last_leader, grown}
-use Rattle.spec_machine.proofs.Behind.{step_next, is_behind}
+use Rattle.spec_machine.proofs.AfterStep.{step_next, is_after_step}
 use Rattle.spec_machine.proofs.Collected.{IsNext, agree, kept_was, not_below, placed_with}
 
 pub held_goes_on : HeldGoesOn
@@ -36,9 +36,9 @@ held_is_enough_now node state low held node_is sound within from =
     say_the_same node low (ledger_in node state) state.coins held state.slots (members_some node node_is) sound.certificates.placed within from
     (record { charter = refl; leaders = λ wave c is. is; committed = λ wave is. is; longer = omega arith })
 
-stays_behind : (node : Node) (state : State) (event : Event) → IsNext node state event.message
+stays_after : (node : Node) (state : State) (event : Event) → IsNext node state event.message
     → Stays node (ledger_in node state) (grown node state event.message).coins (grown node state event.message).slots
-stays_behind node state event next =
+stays_after node state event next =
     let more = option_to_list (as_coin event.message) in
     let size = length-append state.coins more in
     record {
@@ -48,8 +48,8 @@ stays_behind node state event next =
       longer = omega (arith, size);
     }
 
-pub held_is_enough_behind : HeldIsEnoughBehind
-held_is_enough_behind node state event low held node_is sound taken new within from =
+pub held_is_enough_after : HeldIsEnoughAfter
+held_is_enough_after node state event low held node_is sound taken new within from =
     let m = event.message in
     let before = ledger_in node state in
     let later = grown node state m in
@@ -58,15 +58,15 @@ held_is_enough_behind node state event low held node_is sound taken new within f
     let digests : List Certificate → List Digest = map (λ c. certificate_digest c.header) in
     let next = step_next node state event.sender m (record { node_is = node_is; sound = sound; taken = taken; new = new }) in
     let placed = next.extends.placed_after in
-    let same = say_the_same node low before later.coins held later.slots next.members placed within from (stays_behind node state event next) in
-    let behind = is_behind node state m next in
-    let floors = behind.floors in
-    let rises = behind.rises in
+    let same = say_the_same node low before later.coins held later.slots next.members placed within from (stays_after node state event next) in
+    let back = is_after_step node state m next in
+    let floors = back.floors in
+    let rises = back.rises in
     record {
       same = same;
       order = ap (λ l. state.order ++ digests l) (sym (same.same_segments (last_leader before)))
           ∙ ap (λ previous. state.order ++ digests (segments now previous (newer now base))) (sym (last_is before) ∙ sym same.same_last);
-      behind = record {
+      afterwards = record {
         placed = from.placed;
         same = λ round author above.
             from.same round author (omega (arith, within, rises, above)) ∙ (agree node later placed).same round author (omega (arith, floors, above));

@@ -1,4 +1,4 @@
--- What is kept of a legal history with one more event is the state behind that event.
+-- What is kept of a legal history with one more event is the state after that event.
 use Rattle.std.proofs.Common.{[], ◌∷◌, ◌++◌, ap, sym, ◌∙◌, subst}
 use Rattle.wire.specs.declared.message.Message.TheVariants as message
 use Rattle.spec_model.specs.Giving.{collected}

@@ -177,7 +177,7 @@ counted_new node history sender vote adds round voter =
           ∙ ap (λ b. if b && (vote.voter.0 == voter) then Some vote else None) other)
     ]
 
--- behind a new event the votes that count are those from before and what it is
+-- after a new event the votes that count are those from before and what it is
 counted_by : (node : Node) (history : History) (sender : Author) (m : Message) → Adds node history (record { sender = sender; message = m }) → (round voter : ℕ)
     → counted_at node (history ++ record { sender = sender; message = m } ∷ []) round voter ≡ option_or (counted_at node history round voter) (vote_at node m round voter)
 counted_by node history sender (message.Header header) adds round voter = counted_header node history sender header adds round voter
@@ -241,7 +241,7 @@ all_within most bound (first ∷ rest) less each =
     let here = each first (Contains-first rest first) in
     all_within (max most first.header.round) bound rest (grind (arith, less, here)) (λ c inside. each c (Contains-later first rest c inside))
 
--- a certificate that an event adds is there behind it
+-- a certificate that an event adds is there after it
 added_in : (node : Node) (history : History) (event : Event) → Adds node history event → (c : Certificate)
     → slots node history c.header.round c.header.author.0 ≡ None → added node history event ≡ Some c
     → Contains (certificates node (history ++ event ∷ [])) c

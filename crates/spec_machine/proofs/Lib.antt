@@ -1,5 +1,5 @@
 mod BatchesStay
-mod Behind
+mod AfterStep
 mod CertificatesStay
 mod Collected
 mod Completing
@@ -18,6 +18,7 @@ mod Starting
 mod Staying
 mod Step
 mod VotesStay
+pub mod AfterAll
 pub mod Answering
 pub mod Floors
 pub mod Grown

@@ -1,4 +1,4 @@
--- Behind a step from a sound state the order is empty exactly where no leader is committed.
+-- After a step from a sound state the order is empty exactly where no leader is committed.
 use Rattle.std.proofs.Common.{◌≡◌, ℕ, zero, suc, ◌-◌, ◌<◌, ◌↔◌, true, List, [], ◌∷◌, ◌++◌, map, Option, Some, None, inl, inr, refl, ap, sym, ◌∙◌, subst, arith}
 use Rattle.std.specs.Prelude.{Contains, flat_map, nat_le, option_and_then}
 use Rattle.std.specs.List.{range_with_len}
@@ -20,7 +20,7 @@ use Rattle.spec_laws.proofs.Meeting.{number_in}
 use Rattle.spec_laws.proofs.OrderLonger.{top_grows, top_leader, leader_place, newer_ends, committed_is}
 use Rattle.spec_laws.proofs.Votes.{of_its_slot}
 use Rattle.spec_machine.specs.Machine.{last_leader, newly_ordered, grown}
-use Rattle.spec_machine.proofs.Behind.{behind}
+use Rattle.spec_machine.proofs.AfterStep.{after_step}
 use Rattle.spec_machine.proofs.Collected.{IsNext, kept_top}
 use Rattle.spec_machine.proofs.Step.{IsStep}
 
@@ -121,7 +121,7 @@ committed_order ledger some placed wave found none =
     let none' : segment ledger None first.0 ++ segments ledger (Some first.0) first.1 ≡ [] = ap (segments ledger None) (sym is) ∙ none in
     orders_some ledger first.0 above (none_left (segment ledger None first.0) (segments ledger (Some first.0) first.1) none')
 
--- ---- the order behind the step
+-- ---- the order after the step
 
 abbrev digests : List Certificate → List Digest
 digests = map (λ c. certificate_digest c.header)
@@ -163,7 +163,7 @@ order_grown node state sender m step next =
     ]
 
 pub order_stays : (node : Node) (state : State) (sender : Author) (m : Message) → IsStep node state sender m → IsNext node state m
-    → ((behind node state m).order ≡ []) ↔ (top (ledger_in node (behind node state m)) ≡ None)
+    → ((after_step node state m).order ≡ []) ↔ (top (ledger_in node (after_step node state m)) ≡ None)
 order_stays node state sender m step next =
     let tops = kept_top node (grown node state m) next.members next.extends.placed_after in
     let was = order_grown node state sender m step next in

@@ -1,4 +1,4 @@
--- Behind an event a state keeps its order at the beginning, and what doesn't fall below the floor.
+-- After an event a state keeps its order at the beginning, and what doesn't fall below the floor.
 use Rattle.std.proofs.Common.{◌≡◌, ◌⊎◌, ℕ, arith, Bool, true, Option, Some, None, inl, inr, refl, ap, sym, ◌∙◌}
 use Rattle.std.specs.Prelude.{◌||◌, nat_lt, option_map, if◌then◌else◌}
 use Rattle.std.specs.Option.{option_or, option_to_list}
@@ -10,16 +10,16 @@ use Rattle.spec_model.specs.Slots.{header_digest, slots_of}
 use Rattle.spec_model.specs.States.{ledger_in, floor_in}
 use Rattle.spec_machine.specs.Laws.{StateStands}
 use Rattle.spec_machine.specs.Machine.{header_at, vote_at, acknowledges, names, certificate_of, newly_ordered, grown, after}
-use Rattle.spec_machine.proofs.Behind.{step_next, is_behind}
+use Rattle.spec_machine.proofs.AfterStep.{step_next, is_after_step}
 use Rattle.spec_machine.proofs.Collected.{unless}
 
 first_stays : {X : Type 0} (one other : Option X) (x : X) → one ≡ Some x → option_or one other ≡ Some x
 first_stays one other x is = ap (λ o. option_or o other) is
 
 -- what was there for a round stays, or the round is low
-stays_unless : {X : Type 0} (floor floor_behind round : ℕ) (one other : Option X) (x : X) → floor ≡ floor_behind → one ≡ Some x
-    → (unless_low floor round (option_or one other) ≡ Some x) ⊎ (is_low floor_behind round ≡ true)
-stays_unless floor floor_behind round one other x floors is =
+stays_unless : {X : Type 0} (floor floor_after round : ℕ) (one other : Option X) (x : X) → floor ≡ floor_after → one ≡ Some x
+    → (unless_low floor round (option_or one other) ≡ Some x) ⊎ (is_low floor_after round ≡ true)
+stays_unless floor floor_after round one other x floors is =
     elim (cases_Bool (is_low floor round)) [
       | inl low ↦ inr (ap (λ f. is_low f round) (sym floors) ∙ low)
       | inr high ↦ inl (unless floor round (option_or one other) high ∙ first_stays one other x is)
@@ -34,10 +34,10 @@ state_stands node state event sound is taken new =
     let later = grown node state m in
     let floor = floor_in node later in
     let next = step_next node state event.sender m (record { node_is = sound; sound = is; taken = taken; new = new }) in
-    let behind = is_behind node state m next in
-    let floors = behind.floors in
+    let afterwards = is_after_step node state m next in
+    let floors = afterwards.floors in
     record {
-      floor = behind.rises;
+      floor = afterwards.rises;
       batches = record { rest = option_to_list (as_batch m); parts = refl };
       coins = record { rest = option_to_list (as_coin m); parts = refl };
       order = record { rest = newly_ordered (ledger_in node state) (ledger_in node later); parts = refl };

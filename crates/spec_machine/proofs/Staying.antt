@@ -1,4 +1,4 @@
--- The state behind an event that is new at a sound state is sound, and so is what is kept of a legal history.
+-- The state after an event that is new at a sound state is sound, and so is what is kept of a legal history.
 use Rattle.std.proofs.Common.{ℕ, ◌^◌, ◌<◌, ◌++◌, List, [], ◌∷◌, map, sym, ap, ◌∙◌, subst}
 use Rattle.std.specs.Prelude.{All}
 use Rattle.std.specs.Option.{option_to_list}
@@ -20,7 +20,7 @@ use Rattle.spec_machine.specs.Machine.{newly_ordered, grown}
 use Rattle.spec_machine.specs.Sound.{IsSound}
 use Rattle.spec_machine.proofs.Answering.{state_answers}
 use Rattle.spec_machine.proofs.BatchesStay.{batches_stay}
-use Rattle.spec_machine.proofs.Behind.{behind, step_next, is_behind}
+use Rattle.spec_machine.proofs.AfterStep.{after_step, step_next, is_after_step}
 use Rattle.spec_machine.proofs.CertificatesStay.{certificates_stay}
 use Rattle.spec_machine.proofs.Following.{state_follows}
 use Rattle.spec_machine.proofs.OrderStays.{order_stays}
@@ -44,10 +44,10 @@ coin_wide (message.Header header) keeps = All-nil IsWide
 coin_wide (message.Vote vote) keeps = All-nil IsWide
 coin_wide (message.Certificate certificate) keeps = All-nil IsWide
 
-sound_behind : (node : Node) (state : State) (sender : Author) (m : Message) → IsStep node state sender m → IsSound node (behind node state m)
-sound_behind node state sender m step =
+sound_after : (node : Node) (state : State) (sender : Author) (m : Message) → IsStep node state sender m → IsSound node (after_step node state m)
+sound_after node state sender m step =
     let next = step_next node state sender m step in
-    let back = is_behind node state m next in
+    let back = is_after_step node state m next in
     record {
       batches = batches_stay node state sender m step;
       votes = votes_stay node state sender m step back;
@@ -59,7 +59,7 @@ sound_behind node state sender m step =
 
 pub sound_stays : SoundStays
 sound_stays node state event node_is sound taken new =
-    sound_behind node state event.sender event.message (record { node_is = node_is; sound = sound; taken = taken; new = new })
+    sound_after node state event.sender event.message (record { node_is = node_is; sound = sound; taken = taken; new = new })
 
 -- with that the fresh state is sound
 pub kept_from : FreshIsSound → KeptIsSound

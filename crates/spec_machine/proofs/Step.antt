@@ -1,4 +1,4 @@
--- One step of the machine from a sound state: an event that is taken and new there, and what of the state behind it is new.
+-- One step of the machine from a sound state: an event that is taken and new there, and what of the state after it is new.
 use Rattle.std.proofs.Common.{◌≡◌, ℕ, ◌<◌, Bool, true, false, Option, Some, None, ◌⊎◌, inl, inr, refl, ap, sym, ◌∙◌, subst}
 use Rattle.std.specs.Prelude.{◌==◌, ◌&&◌, option_and_then, if◌then◌else◌}
 use Rattle.std.specs.Option.{option_or}
@@ -156,7 +156,7 @@ same_digest-sym one other same = (bytes_eq-Decides other.0 one.0).1 (sym ((bytes
 same_itself : (digest : Digest) → same_digest digest digest ≡ true
 same_itself digest = (bytes_eq-Decides digest.0 digest.0).1 refl
 
--- each vote that counts behind the event is a member's on the own header of the round
+-- each vote that counts after the event is a member's on the own header of the round
 pub counted_grown : (node : Node) (state : State) (sender : Author) (m : Message) → IsStep node state sender m → (round voter : ℕ) (vote : Vote) → (grown node state m).counted round voter ≡ Some vote
     → IsCounted node (grown node state m) round voter vote
 counted_grown node state sender m step round voter vote is =

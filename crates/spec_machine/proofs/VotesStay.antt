@@ -1,4 +1,4 @@
--- Behind a step from a sound state the votes, own headers and votes on them are as they have to be.
+-- After a step from a sound state the votes, own headers and votes on them are as they have to be.
 use Rattle.std.proofs.Common.{◌≡◌, ℕ, ◌<◌, ◌≤◌, Bool, true, false, [], ◌∷◌, Option, Some, None, ◌⊎◌, inl, inr, refl, ap, sym, ◌∙◌, subst, arith}
 use Rattle.std.specs.Prelude.{◌==◌, ◌&&◌, not, is_some, option_map, option_and_then, if◌then◌else◌}
 use Rattle.std.specs.Option.{option_or, option_to_list}
@@ -22,7 +22,7 @@ use Rattle.spec_laws.proofs.Votes.{slot_is}
 use Rattle.spec_laws.proofs.Weighing.{alone_below}
 use Rattle.spec_machine.specs.Machine.{header_at, vote_at, certificate_of, grown}
 use Rattle.spec_machine.specs.Sound.{AreVotes, IsOwnHeader, IsCounted, IsCompleted, counts}
-use Rattle.spec_machine.proofs.Behind.{IsBehind, behind, found_high, still_found, slot_kept, slot_stays}
+use Rattle.spec_machine.proofs.AfterStep.{IsAfterStep, after_step, found_high, still_found, slot_kept, slot_stays}
 use Rattle.spec_machine.proofs.Collected.{high_above, unless}
 use Rattle.spec_machine.proofs.Completing.{certificate_with}
 use Rattle.spec_machine.proofs.NewThere.{new_vote}
@@ -63,13 +63,13 @@ vote_is node state sender m step round author voted is =
 
 -- ---- own headers
 
-own_header_stays : (node : Node) (state : State) (sender : Author) (m : Message) → IsStep node state sender m → IsBehind node state m → (round : ℕ) (header : Header)
-    → (behind node state m).own_headers round ≡ Some header → IsOwnHeader node (behind node state m) round header
+own_header_stays : (node : Node) (state : State) (sender : Author) (m : Message) → IsStep node state sender m → IsAfterStep node state m → (round : ℕ) (header : Header)
+    → (after_step node state m).own_headers round ≡ Some header → IsOwnHeader node (after_step node state m) round header
 own_header_stays node state sender m step back round header is =
     let own = node.own.0 in
     let later = grown node state m in
     let low = floor_in node later in
-    let other = floor_in node (behind node state m) in
+    let other = floor_in node (after_step node state m) in
     let here = found_high low other round (later.own_headers round) header back.floors is in
     let vote = own_vote node header.body in
     elim (own_header node state sender m round header here.1) [
@@ -96,12 +96,12 @@ own_header_stays node state sender m step back round header is =
           }
     ]
 
-counted_stays : (node : Node) (state : State) (sender : Author) (m : Message) → IsStep node state sender m → IsBehind node state m → (round voter : ℕ) (vote : Vote)
-    → (behind node state m).counted round voter ≡ Some vote → IsCounted node (behind node state m) round voter vote
+counted_stays : (node : Node) (state : State) (sender : Author) (m : Message) → IsStep node state sender m → IsAfterStep node state m → (round voter : ℕ) (vote : Vote)
+    → (after_step node state m).counted round voter ≡ Some vote → IsCounted node (after_step node state m) round voter vote
 counted_stays node state sender m step back round voter vote is =
     let later = grown node state m in
     let low = floor_in node later in
-    let other = floor_in node (behind node state m) in
+    let other = floor_in node (after_step node state m) in
     let here = found_high low other round (later.counted round voter) vote back.floors is in
     let it = counted_grown node state sender m step round voter vote here.1 in
     record {
@@ -159,7 +159,7 @@ still_complete node state m round header none was =
       short = omega (arith, weighs, short);
     }
 
--- who counts behind a vote counted before it, but for the voter
+-- who counts after a vote counted before it, but for the voter
 counted_before : (node : Node) (state : State) (vote : Vote) (voter : ℕ)
     → (counts (grown node state (message.Vote vote)) vote.round voter && not (voter == vote.voter.0)) ≡ true → counts state vote.round voter ≡ true
 counted_before node state vote voter is =
@@ -257,19 +257,19 @@ complete_grown node state sender m step round header held enough =
       ]
     ]
 
-complete_stays : (node : Node) (state : State) (sender : Author) (m : Message) → IsStep node state sender m → IsBehind node state m
-    → (round : ℕ) (header : Header) → (behind node state m).own_headers round ≡ Some header
-    → quorum node ≤ weight node.charter (counts (behind node state m) round) → IsCompleted node (behind node state m) round header
+complete_stays : (node : Node) (state : State) (sender : Author) (m : Message) → IsStep node state sender m → IsAfterStep node state m
+    → (round : ℕ) (header : Header) → (after_step node state m).own_headers round ≡ Some header
+    → quorum node ≤ weight node.charter (counts (after_step node state m) round) → IsCompleted node (after_step node state m) round header
 complete_stays node state sender m step back round header is enough =
     let later = grown node state m in
     let low = floor_in node later in
-    let other = floor_in node (behind node state m) in
+    let other = floor_in node (after_step node state m) in
     let here = found_high low other round (later.own_headers round) header back.floors is in
     let high : is_low low round ≡ false = ap (λ f. is_low f round) back.floors ∙ here.0 in
-    let same : (voter : ℕ) → counts (behind node state m) round voter ≡ counts later round voter = λ voter. ap is_some (unless low round (later.counted round voter) high) in
-    let weighs = weight-same node.charter (counts (behind node state m) round) (counts later round) (λ voter within. same voter) in
+    let same : (voter : ℕ) → counts (after_step node state m) round voter ≡ counts later round voter = λ voter. ap is_some (unless low round (later.counted round voter) high) in
+    let weighs = weight-same node.charter (counts (after_step node state m) round) (counts later round) (λ voter within. same voter) in
     let it = complete_grown node state sender m step round header here.1 (omega (arith, weighs, enough)) in
-    let less = weight-same node.charter (λ voter. counts (behind node state m) round voter && not (voter == it.last)) (λ voter. counts later round voter && not (voter == it.last))
+    let less = weight-same node.charter (λ voter. counts (after_step node state m) round voter && not (voter == it.last)) (λ voter. counts later round voter && not (voter == it.last))
     (λ voter within. ap (λ b. b && not (voter == it.last)) (same voter)) in
     let short = it.short in
     record {
@@ -284,11 +284,11 @@ complete_stays node state sender m step back round header is enough =
 
 -- ---- all of it
 
-pub votes_stay : (node : Node) (state : State) (sender : Author) (m : Message) → IsStep node state sender m → IsBehind node state m → AreVotes node (behind node state m)
+pub votes_stay : (node : Node) (state : State) (sender : Author) (m : Message) → IsStep node state sender m → IsAfterStep node state m → AreVotes node (after_step node state m)
 votes_stay node state sender m step back =
     let later = grown node state m in
     let low = floor_in node later in
-    let other = floor_in node (behind node state m) in
+    let other = floor_in node (after_step node state m) in
     record {
       high = λ round author digest is. (found_high low other round (later.votes round author) digest back.floors is).0;
       for_members = λ round author digest is. (vote_is node state sender m step round author digest (found_high low other round (later.votes round author) digest back.floors is).1).0;

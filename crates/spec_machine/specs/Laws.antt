@@ -22,7 +22,7 @@ use Rattle.spec_machine.specs.Sound.{IsSound}
 abbrev pub StartsFresh : Type 0
 StartsFresh = (node : Node) → kept node [] ≡ fresh node
 
--- what is kept of a legal history with one more event is the state behind that event
+-- what is kept of a legal history with one more event is the state after that event
 abbrev pub StateFollows : Type 0
 StateFollows = (node : Node) (history : History) (event : Event) → IsLegal node (history ++ event ∷ [])
     → kept node (history ++ event ∷ []) ≡ after node (kept node history) event
@@ -73,7 +73,7 @@ abbrev pub KeptDecides : Type 0
 KeptDecides = (node : Node) (one other : History) (event : Event) → IsLegal node one → IsLegal node other → IsTaken node event
     → KeepSame node one other → admit node one event ≡ admit node other event
 
--- two legal histories that keep the same keep the same again behind an event that is new at both
+-- two legal histories that keep the same keep the same again after an event that is new at both
 abbrev pub KeptFollows : Type 0
 KeptFollows = (node : Node) (one other : History) (event : Event) → IsLegal node (one ++ event ∷ []) → IsLegal node (other ++ event ∷ [])
     → KeepSame node one other → KeepSame node (one ++ event ∷ []) (other ++ event ∷ [])
@@ -102,7 +102,7 @@ StandInTurn place (output.Order start digests ∷ []) = (start ≡ place) × (le
 StandInTurn place (output.Order start digests ∷ next ∷ rest) = (start ≡ place) × (length digests ≡ MAX_ORDER_DIGESTS) × StandInTurn (place + length digests) (next ∷ rest)
 StandInTurn place (other ∷ rest) = ⊥
 
--- what is put out of the order is all that the state behind the event has more, in pieces that stand in turn
+-- what is put out of the order is all that the state after the event has more, in pieces that stand in turn
 pub record IsPutOut (node : Node) (state : State) (event : Event) (outputs : List Output) : Type 0 where
   pub pieces : filter is_order outputs ≡ order_outputs state (after node state event)
   pub joined : flat_map digests_in outputs ≡ drop (length state.order) (after node state event).order
@@ -113,10 +113,10 @@ abbrev pub OrderIsPutOut : Type 0
 OrderIsPutOut = (node : Node) (state : State) (event : Event) (outputs : List Output) → answered node state event ≡ New outputs
     → IsPutOut node state event outputs
 
--- behind an event nothing is taken back: the floor doesn't go down, batches, coins and order begin with those from before, who
+-- after an event nothing is taken back: the floor doesn't go down, batches, coins and order begin with those from before, who
 -- acknowledged and what was named stays so; a vote, an own header and a vote on one stays or its round is low, and a certificate
 -- stays or lies below the floor
-pub record IsKeptBehind (node : Node) (state : State) (event : Event) : Type 0 where
+pub record IsKeptAfter (node : Node) (state : State) (event : Event) : Type 0 where
   pub floor : floor_in node state ≤ floor_in node (after node state event)
   pub batches : Begins state.batches (after node state event).batches
   pub coins : Begins state.coins (after node state event).coins
@@ -134,7 +134,7 @@ pub record IsKeptBehind (node : Node) (state : State) (event : Event) : Type 0 w
 
 abbrev pub StateStands : Type 0
 StateStands = (node : Node) (state : State) (event : Event) → IsNode node → IsSound node state → IsTaken node event
-    → IsTrue (is_new (answered node state event)) → IsKeptBehind node state event
+    → IsTrue (is_new (answered node state event)) → IsKeptAfter node state event
 
 -- ---- sound states
 
@@ -142,7 +142,7 @@ StateStands = (node : Node) (state : State) (event : Event) → IsNode node → 
 abbrev pub FreshIsSound : Type 0
 FreshIsSound = (node : Node) → IsNode node → IsSound node (fresh node)
 
--- so is the state behind an event that is new at a sound one
+-- so is the state after an event that is new at a sound one
 abbrev pub SoundStays : Type 0
 SoundStays = (node : Node) (state : State) (event : Event) → IsNode node → IsSound node state → IsTaken node event
     → IsTrue (is_new (answered node state event)) → IsSound node (after node state event)
@@ -156,7 +156,7 @@ abbrev pub SoundProposes : Type 0
 SoundProposes = (node : Node) (state : State) (header : Header) → IsNode node → IsSound node state → proposed node state ≡ Some header
     → IsTaken node (own_event node header) × (answered node state (own_event node header) ≡ New (header_outputs node header))
 
--- ---- behind a new event
+-- ---- after a new event
 
 -- an event that a node takes is new at a sound state
 pub record Comes (node : Node) (state : State) (event : Event) : Type 0 where
@@ -165,7 +165,7 @@ pub record Comes (node : Node) (state : State) (event : Event) : Type 0 where
   pub taken : IsTaken node event
   pub new : IsTrue (is_new (answered node state event))
 
--- the state behind it has the floor of the one with all that it adds
+-- the state after it has the floor of the one with all that it adds
 abbrev pub FloorsAgree : Type 0
 FloorsAgree = (node : Node) (state : State) (event : Event) → Comes node state event
     → floor_in node (grown node state event.message) ≡ floor_in node (after node state event)
@@ -191,16 +191,16 @@ HeldIsEnoughNow = (node : Node) (state : State) (low : ℕ) (held : Slots) → I
     → HoldsFrom low held state.slots → SayTheSame node low (ledger_in node state) state.coins held state.slots
 
 -- slots say the same as a state with all that an event adds, what they order since the state's last committed wave lengthens its
--- order, and behind the event they hold what the state holds from its floor on
-pub record IsEnoughBehind (node : Node) (state : State) (event : Event) (low : ℕ) (held : Slots) : Type 0 where
+-- order, and after the event they hold what the state holds from its floor on
+pub record IsEnoughAfter (node : Node) (state : State) (event : Event) (low : ℕ) (held : Slots) : Type 0 where
   pub same : SayTheSame node low (ledger_in node state) (grown node state event.message).coins held (grown node state event.message).slots
   pub order : (after node state event).order
       ≡ state.order ++ ordered_since (ledger_of node held (grown node state event.message).coins) (last_wave (ledger_in node state))
-  pub behind : HoldsFrom (floor_in node (after node state event)) held (after node state event).slots
+  pub afterwards : HoldsFrom (floor_in node (after node state event)) held (after node state event).slots
 
 -- so do slots that hold, from a round on that is no higher than the floor of a sound state, what it holds with the certificate of
 -- an event that is new there
-abbrev pub HeldIsEnoughBehind : Type 0
-HeldIsEnoughBehind = (node : Node) (state : State) (event : Event) (low : ℕ) (held : Slots) → IsNode node → IsSound node state → IsTaken node event
+abbrev pub HeldIsEnoughAfter : Type 0
+HeldIsEnoughAfter = (node : Node) (state : State) (event : Event) (low : ℕ) (held : Slots) → IsNode node → IsSound node state → IsTaken node event
     → IsTrue (is_new (answered node state event)) → low ≤ floor_in node state → HoldsFrom low held (grown node state event.message).slots
-    → IsEnoughBehind node state event low held
+    → IsEnoughAfter node state event low held

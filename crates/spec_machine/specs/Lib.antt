@@ -1,3 +1,4 @@
 pub mod Machine
 pub mod Sound
 pub mod Laws
+pub mod After

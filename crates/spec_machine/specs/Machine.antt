@@ -1,4 +1,4 @@
--- What a node keeps, as a machine: what it answers an event, and what it keeps behind a new one.
+-- What a node keeps, as a machine: what it answers an event, and what it keeps after a new one.
 use Rattle.std.specs.Prelude.{ℕ, zero, suc, ◌+◌, ◌==◌, ◌&&◌, ◌||◌, max, not, Bool, true, false, List, [], ◌++◌, map, Option, Some, None, option_map, option_and_then, if◌then◌else◌}
 use Rattle.std.specs.List.{list_any}
 use Rattle.std.specs.Option.{option_map_or, option_or, option_to_list}
@@ -42,9 +42,9 @@ names node message digest =
     list_any (λ header. (header.body.author.0 == node.own.0) && list_any (λ named. same_digest named.digest digest) header.body.batches)
     (option_to_list (as_header message))
 
--- ---- the state behind a new event
+-- ---- the state after a new event
 
--- the votes that count behind a new message
+-- the votes that count after a new message
 abbrev pub counted_with : Node → State → Message → ℕ → ℕ → Option Vote
 counted_with node state message round voter = option_or (state.counted round voter) (vote_at node message round voter)
 
@@ -67,7 +67,7 @@ highest_with highest certificate = option_map_or (λ c. max highest c.header.rou
 abbrev pub last_leader : Ledger → Option Certificate
 last_leader ledger = option_and_then (leader ledger) (top ledger)
 
--- what the leaders behind the last one from before order
+-- what the leaders after the last one from before order
 abbrev pub newly_ordered : Ledger → Ledger → List Digest
 newly_ordered before later =
     map (λ c. certificate_digest c.header) (segments later (last_leader before) (newer later (last_wave before)))
@@ -88,7 +88,7 @@ grown node state message = record {
       (ledger_of node (slots_with state.slots (certificate_of node state message)) (state.coins ++ option_to_list (as_coin message)));
 }
 
--- the state behind a new event: what it adds, and then what lies below the new floor taken out
+-- the state after a new event: what it adds, and then what lies below the new floor taken out
 abbrev pub after : Node → State → Event → State
 after node state event = collected node (grown node state event.message)
 

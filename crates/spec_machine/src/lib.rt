@@ -1,15 +1,16 @@
-//! What a node keeps, as a machine: what it answers an event and what it keeps behind a new one, with the laws
+//! What a node keeps, as a machine: what it answers an event and what it keeps after a new one, with the laws
 //! that tie it to histories. Each law is what a function without a body ensures.
 #![tactic(auto)]
 
-ghost use Rattle.spec_machine.specs.Laws.{StartsFresh, StateFollows, StateAnswers, StateIsReady, StateProposes, AnswersAlike, KeptDecides, KeptFollows, KeptProposes, OrderIsPutOut, StateStands, FreshIsSound, SoundStays, KeptIsSound, SoundProposes, FloorsAgree, LowIsToTheFloor, HeldGoesOn, HeldIsEnoughNow, HeldIsEnoughBehind};
+ghost use Rattle.spec_machine.specs.After.{StatesAreHistories, OrderGrowsAfter, AfterJoins, PutOutMayBeGiven};
+ghost use Rattle.spec_machine.specs.Laws.{StartsFresh, StateFollows, StateAnswers, StateIsReady, StateProposes, AnswersAlike, KeptDecides, KeptFollows, KeptProposes, OrderIsPutOut, StateStands, FreshIsSound, SoundStays, KeptIsSound, SoundProposes, FloorsAgree, LowIsToTheFloor, HeldGoesOn, HeldIsEnoughNow, HeldIsEnoughAfter};
 
 /// What is kept of the empty history is the fresh state.
 pub fn starts_fresh()
     ensures { StartsFresh }
 {}
 
-/// What is kept of a legal history with one more event is the state behind that event.
+/// What is kept of a legal history with one more event is the state after that event.
 pub fn state_follows()
     ensures { StateFollows }
 {}
@@ -40,7 +41,7 @@ pub fn kept_decides()
     ensures { KeptDecides }
 {}
 
-/// What is kept of a legal history decides what is kept behind each new event, and with it all answers to come.
+/// What is kept of a legal history decides what is kept after each new event, and with it all answers to come.
 pub fn kept_follows()
     ensures { KeptFollows }
 {}
@@ -55,7 +56,7 @@ pub fn order_is_put_out()
     ensures { OrderIsPutOut }
 {}
 
-/// Behind an event that is new at a sound state nothing is taken back: its order begins with that from before, a vote
+/// After an event that is new at a sound state nothing is taken back: its order begins with that from before, a vote
 /// stays or its round is low, and a certificate stays or lies below the floor, which never goes down.
 pub fn state_stands()
     ensures { StateStands }
@@ -66,7 +67,7 @@ pub fn fresh_is_sound()
     ensures { FreshIsSound }
 {}
 
-/// The state behind an event that is new at a sound one is sound.
+/// The state after an event that is new at a sound one is sound.
 pub fn sound_stays()
     ensures { SoundStays }
 {}
@@ -81,7 +82,7 @@ pub fn sound_proposes()
     ensures { SoundProposes }
 {}
 
-/// The state behind an event that is new at a sound one has the floor of the state with all that the event adds.
+/// The state after an event that is new at a sound one has the floor of the state with all that the event adds.
 pub fn floors_agree()
     ensures { FloorsAgree }
 {}
@@ -103,8 +104,30 @@ pub fn held_is_enough_now()
     ensures { HeldIsEnoughNow }
 {}
 
-/// So they do with the certificate of an event that is new there; its order grows by what they say, and behind the event
+/// So they do with the certificate of an event that is new there; its order grows by what they say, and after the event
 /// they hold the state's certificates from its floor on.
-pub fn held_is_enough_behind()
-    ensures { HeldIsEnoughBehind }
+pub fn held_is_enough_after()
+    ensures { HeldIsEnoughAfter }
+{}
+
+/// The events after what is kept of a legal history lead to what is kept of the history with them, and are legal after
+/// it exactly where that history is legal.
+pub fn states_are_histories()
+    ensures { StatesAreHistories }
+{}
+
+/// The state after events that are legal after a sound one is sound, and its order begins with that of the sound one.
+pub fn order_grows_after()
+    ensures { OrderGrowsAfter }
+{}
+
+/// Events after a state, and more after these, are all of them after the state.
+pub fn after_joins()
+    ensures { AfterJoins }
+{}
+
+/// What was put out after events from a sound state on may be given out at each legal history that keeps the state,
+/// with these events.
+pub fn put_out_may_be_given()
+    ensures { PutOutMayBeGiven }
 {}

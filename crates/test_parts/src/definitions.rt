@@ -53,5 +53,5 @@ pub fn laws_hold() {
     spec_machine::low_is_to_the_floor();
     spec_machine::held_goes_on();
     spec_machine::held_is_enough_now();
-    spec_machine::held_is_enough_behind();
+    spec_machine::held_is_enough_after();
 }

@@ -1,7 +1,7 @@
 //! Laws. The calls do nothing: each one's contract is a law.
 
 ghost use Rattle.admission.specs.Behind.{OthersStay};
-ghost use Rattle.admission.specs.Standing.{OthersAreReady};
+ghost use Rattle.admission.specs.Standing.{OthersAreReady, OneState};
 
 use crate::assemblies::others_come;
 use crate::facts::{batches_stay, votes_stay};
@@ -9,6 +9,11 @@ use crate::facts::{batches_stay, votes_stay};
 /// A message without parents lacks none.
 pub fn others_are_ready()
     ensures { OthersAreReady }
+{}
+
+/// Tables have what one sound state has, and of no other.
+pub fn one_state()
+    ensures { OneState }
 {}
 
 // An event that adds neither a certificate nor a coin leaves the tables at the state after it, but for what it is.

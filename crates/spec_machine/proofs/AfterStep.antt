@@ -1,4 +1,4 @@
--- What the state behind a step keeps: its slots extend those from before, its floor is no lower, and parents that were held stay held.
+-- What the state after a step keeps: its slots extend those from before, its floor is no lower, and parents that were held stay held.
 use Rattle.std.proofs.Common.{◌≡◌, ℕ, ◌+◌, ◌<◌, ◌≤◌, true, false, Option, Some, None, ◌⊎◌, inl, inr, ap, sym, ◌∙◌, subst, arith}
 use Rattle.std.specs.Prelude.{◌==◌, ◌&&◌, nat_lt, option_and_then, if◌then◌else◌}
 use Rattle.std.specs.List.{list_any}
@@ -78,7 +78,7 @@ alone_is (Some d) round author c found =
     (ap (λ e. Some e) given.1, ap (λ (e : Certificate). is_of_slot round author e.header) (sym given.1) ∙ given.0)
 alone_is None round author c found = absurd (none-some c found)
 
--- what a slot holds behind a step it held, or it held nothing and the step adds it
+-- what a slot holds after a step it held, or it held nothing and the step adds it
 pub record IsNewIn (node : Node) (state : State) (m : Message) (round author : ℕ) (c : Certificate) : Type 0 where
   pub free : state.slots round author ≡ None
   pub added : certificate_of node state m ≡ Some c
@@ -141,37 +141,37 @@ is_high node state sender (message.Coin coin) step = tt
 pub step_next : (node : Node) (state : State) (sender : Author) (m : Message) → IsStep node state sender m → IsNext node state m
 step_next node state sender m step = record { members = members_some node step.node_is; extends = extends node state sender m step; high = is_high node state sender m step }
 
--- ---- the state behind the step
+-- ---- the state after the step
 
--- the state behind a message
-abbrev pub behind : Node → State → Message → State
-behind node state m = collected node (grown node state m)
+-- the state after a message
+abbrev pub after_step : Node → State → Message → State
+after_step node state m = collected node (grown node state m)
 
 -- its floor, and what it keeps by that
-pub record IsBehind (node : Node) (state : State) (m : Message) : Type 0 where
-  pub floors : floor_in node (grown node state m) ≡ floor_in node (behind node state m)
-  pub rises : floor_in node state ≤ floor_in node (behind node state m)
-  pub held : (header : HeaderBody) → all_held state.slots (floor_in node state) header ≡ true → all_held (behind node state m).slots (floor_in node (behind node state m)) header ≡ true
+pub record IsAfterStep (node : Node) (state : State) (m : Message) : Type 0 where
+  pub floors : floor_in node (grown node state m) ≡ floor_in node (after_step node state m)
+  pub rises : floor_in node state ≤ floor_in node (after_step node state m)
+  pub held : (header : HeaderBody) → all_held state.slots (floor_in node state) header ≡ true → all_held (after_step node state m).slots (floor_in node (after_step node state m)) header ≡ true
 
-held_behind : (node : Node) (state : State) (m : Message) → IsNext node state m → (header : HeaderBody) → all_held state.slots (floor_in node state) header ≡ true
-    → all_held (behind node state m).slots (floor_in node (grown node state m)) header ≡ true
-held_behind node state m next header all =
+held_after : (node : Node) (state : State) (m : Message) → IsNext node state m → (header : HeaderBody) → all_held state.slots (floor_in node state) header ≡ true
+    → all_held (after_step node state m).slots (floor_in node (grown node state m)) header ≡ true
+held_after node state m next header all =
     let low = floor_in node state in
     let high = floor_in node (grown node state m) in
     let same = agree node (grown node state m) next.extends.placed_after in
-    all_stay (is_held state.slots low header.round) (is_held (behind node state m).slots high header.round) header.parents
+    all_stay (is_held state.slots low header.round) (is_held (after_step node state m).slots high header.round) header.parents
     (λ p held.
-    sym (held_alike high header.round (grown node state m).slots (behind node state m).slots same.same p)
+    sym (held_alike high header.round (grown node state m).slots (after_step node state m).slots same.same p)
     ∙ held_stays state.slots (grown node state m).slots low high header.round p next.extends.kept (floor_rises node state m next) held)
     all
 
-pub is_behind : (node : Node) (state : State) (m : Message) → IsNext node state m → IsBehind node state m
-is_behind node state m next =
+pub is_after_step : (node : Node) (state : State) (m : Message) → IsNext node state m → IsAfterStep node state m
+is_after_step node state m next =
     let floors = kept_floor node (grown node state m) next.members next.extends.placed_after in
     record {
       floors = floors;
       rises = subst (λ f. floor_in node state ≤ f) floors (floor_rises node state m next);
-      held = λ header all. ap (λ f. all_held (behind node state m).slots f header) (sym floors) ∙ held_behind node state m next header all;
+      held = λ header all. ap (λ f. all_held (after_step node state m).slots f header) (sym floors) ∙ held_after node state m next header all;
     }
 
 -- what is found there for a round that isn't low was there before

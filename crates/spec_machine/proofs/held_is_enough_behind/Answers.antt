@@ -1,5 +1,0 @@
-use Rattle.spec_machine.proofs.Enough.{held_is_enough_behind}
-use Rattle.spec_machine.proofs.held_is_enough_behind.Goals as goal
-
-pub returns : goal.returns
-returns c = held_is_enough_behind
