@@ -1,11 +1,11 @@
 -- The votes in places, one after another, and what they weigh with one more.
 use Rattle.std.proofs.Common.{◌≡◌, ◌≢◌, ℕ, zero, suc, ◌+◌, ◌<◌, ◌≤◌, Bool, true, false, List, [], ◌∷◌, ◌++◌, length, get_or, Option, Some, None, refl, sym, ap, ◌∙◌, inl, inr, arith}
-use Rattle.std.specs.Prelude.{◌||◌, ◌&&◌, ◌==◌, not, nat_lt, replicate, is_some, option_map, if◌then◌else◌}
+use Rattle.std.specs.Prelude.{◌||◌, ◌&&◌, ◌==◌, not, nat_lt, nat_le, replicate, is_some, option_map, if◌then◌else◌}
 use Rattle.std.specs.Str.{bytes_eq}
 use Rattle.std.proofs.lemmas.Slice.Eq.{bytes_eq-Decides}
 use Rattle.std.specs.List.{filter_map, range_with_len, cons_option}
 use Rattle.std.proofs.Math.Bool.{or-true, or-false}
-use Rattle.std.proofs.lemmas.Bool.{cases_Bool, cases_lt, and_parts, eqb-true, eq-eqb, lt-ltb, le-ltb, ltb-true, ltb-false}
+use Rattle.std.proofs.lemmas.Bool.{cases_Bool, cases_lt, and_parts, eqb-true, eq-eqb, lt-ltb, le-ltb, ltb-true, ltb-false, leb-true, leb-false}
 use Rattle.std.proofs.lemmas.List.{append-nil, map-id, length-set, length-replicate, get_or_past, get_or-replicate, get_or-set_other}
 use Rattle.std.proofs.lemmas.Grind.{get_or-set_at}
 use Rattle.std.proofs.lemmas.List.FromFn.{map-range_with_len_more, length-range_with_len}
@@ -13,6 +13,7 @@ use Rattle.std.proofs.lemmas.List.Elements.{filter_map-append}
 use Rattle.wire.specs.Rising.{follows}
 use Rattle.wire.specs.Digests.{header_digest_of}
 use Rattle.wire.specs.declared.header.Certificate.{Certificate}
+use Rattle.wire.specs.declared.header.Header.{Header}
 use Rattle.wire.specs.declared.header.HeaderBody.{HeaderBody}
 use Rattle.wire.specs.declared.header.Vote.{Vote}
 use Rattle.wire.specs.declared.keys.Digest.{Digest}
@@ -24,7 +25,7 @@ use Rattle.committee.specs.declared.sets.MemberSet.{MemberSet}
 use Rattle.committee.proofs.Weights.{weight-same, weight-one}
 use Rattle.certify.specs.declared.added.Added.TheVariants.{Counted, Complete, Again, NotOurs}
 use Rattle.certify.specs.Answer.{answer, certificate_of, completion_of, is_ours, is_again, is_too_few}
-use Rattle.certify.specs.Assembled.{Places, AssemblyView, IsKept, is_on, has_voted, with_vote, entry_of, votes_weight}
+use Rattle.certify.specs.Assembled.{Places, AssemblyView, IsKept, is_on, has_voted, with_vote, with_entry, with_entries, entry_of, votes_weight, started, restored}
 
 -- ---- the votes of the first members
 
@@ -82,6 +83,20 @@ follows-range places voter a (suc n) high =
 pub follows-votes_below : (places : Places) (n : ℕ) → follows (λ e. nat_lt e.voter.0 n) (votes_below places n) ≡ true
 follows-votes_below places n = follows-range places n 0 n (omega arith)
 
+-- ---- the votes of so many members from one on
+
+abbrev pub votes_from : Places → ℕ → ℕ → List VoteEntry
+votes_from places member n = filter_map (entry_of places) (range_with_len member n)
+
+-- without the vote of the first they are those of the others
+pub votes_from-none : (places : Places) (member n : ℕ) → get_or places member None ≡ None → votes_from places member (suc n) ≡ votes_from places (member + 1) n
+votes_from-none places member n is = ap (λ place. cons_option (option_map (entry member) place) (votes_from places (member + 1) n)) is
+
+-- with it that comes first
+pub votes_from-some : (places : Places) (member n : ℕ) (signature : Signature) → get_or places member None ≡ Some signature
+    → votes_from places member (suc n) ≡ entry member signature ∷ votes_from places (member + 1) n
+votes_from-some places member n signature is = ap (λ place. cons_option (option_map (entry member) place) (votes_from places (member + 1) n)) is
+
 -- ---- with one vote more
 
 -- its voter has voted, and everyone who had
@@ -95,6 +110,21 @@ voted-with places vote member within =
           let differs : member ≢ vote.voter.0 = λ e. (let same = eq-eqb member vote.voter.0 e in absurd cc) in
           ap is_some (get_or-set_other places vote.voter.0 member (Some vote.signature) None differs) ∙ sym (ap (λ b. has_voted places member || b) apart ∙ or-false (has_voted places member))
     ]
+
+-- the same of a vote as a certificate has it
+pub voted-entry : (places : Places) (vote : VoteEntry) (member : ℕ) → vote.voter.0 < length places → has_voted (with_entry places vote) member ≡ (has_voted places member || (member == vote.voter.0))
+voted-entry places vote member within =
+    voted-with places (record { header = record { 0 = [] }; round = 0; author = record { 0 = 0 }; voter = vote.voter; signature = vote.signature }) member within
+
+-- with one vote after others
+pub with_entries-push : (places : Places) (votes : List VoteEntry) (vote : VoteEntry) → with_entries places (votes ++ vote ∷ []) ≡ with_entry (with_entries places votes) vote
+with_entries-push places [] vote = refl
+with_entries-push places (v ∷ vs) vote = with_entries-push (with_entry places v) vs vote
+
+-- they are as many as before
+pub length-with_entries : (places : Places) (votes : List VoteEntry) → length (with_entries places votes) ≡ length places
+length-with_entries places [] = refl
+length-with_entries places (v ∷ vs) = length-with_entries (with_entry places v) vs ∙ length-set places v.voter.0 (Some v.signature)
 
 -- where no place has a vote nobody has voted
 none-voted : (n member : ℕ) → has_voted (replicate n None) member ≡ false
@@ -124,6 +154,37 @@ alone-below charter own is mine =
 pub on-digest : (body : HeaderBody) (vote : Vote) → is_on body vote ≡ true → vote.header.0 ≡ header_digest_of body
 on-digest body vote on =
     (bytes_eq-Decides vote.header.0 (header_digest_of body)).0 (and_parts (bytes_eq vote.header.0 (header_digest_of body)) ((vote.round == body.round) && (vote.author.0 == body.author.0)) on).0
+
+-- an assembly that is restored keeps what each keeps
+pub restored-kept : (charter : Charter) (header : Header) (places : Places) (digest : Digest) (voters : MemberSet) (complete : Bool) → IsCharter charter
+    → length places ≡ length charter.keys → digest.0 ≡ header_digest_of header.body → ((member : ℕ) → has voters member ≡ has_voted places member)
+    → complete ≡ nat_le (quorum_of charter) (weight charter (has voters))
+    → IsKept (record { charter = charter; header = header; places = places; complete = complete }) digest voters
+restored-kept charter header places digest voters complete is size digested voted made =
+    let same = weight-same charter (has voters) (has_voted places) (λ m within. voted m) in
+    record {
+      assembly = record {
+        committee = is;
+        size = size;
+        below = λ e. omega (arith, same, leb-false _ _ (sym made ∙ e));
+        enough = λ e. omega (arith, same, leb-true _ _ (sym made ∙ e));
+      };
+      digested = digested;
+      voted = voted;
+    }
+
+-- it is complete where those who have voted weigh a quorum
+pub restored-complete : (charter : Charter) (places : Places) (voters : MemberSet) → ((member : ℕ) → has voters member ≡ has_voted places member)
+    → nat_le (quorum_of charter) (weight charter (has voters)) ≡ nat_le (quorum_of charter) (votes_weight charter places)
+restored-complete charter places voters voted = ap (nat_le (quorum_of charter)) (weight-same charter (has voters) (has_voted places) (λ m within. voted m))
+
+-- what stands in its places and whether they weigh a quorum make it the restored one
+pub restored-is : (charter : Charter) (header : Header) (own : Vote) (votes : List VoteEntry) (places : Places) (complete : Bool)
+    → places ≡ with_entries (started charter header own).places votes → complete ≡ nat_le (quorum_of charter) (votes_weight charter places)
+    → ◌≡◌ {A = AssemblyView} (record { charter = charter; header = header; places = places; complete = complete }) (restored charter header own votes)
+restored-is charter header own votes places complete are made =
+    ap (λ b. record { charter = charter; header = header; places = places; complete = b }) made
+    ∙ ap (λ ps. record { charter = charter; header = header; places = ps; complete = nat_le (quorum_of charter) (votes_weight charter ps) }) are
 
 -- the weight of those who have voted with one vote more
 pub weight-with : (old : AssemblyView) (vote : Vote) (digest : Digest) (before voters : MemberSet) → IsKept old digest before → vote.voter.0 < length old.charter.keys

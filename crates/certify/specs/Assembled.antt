@@ -1,5 +1,5 @@
 -- The votes on one header, and what they weigh.
-use Rattle.std.specs.Prelude.{◌≡◌, ℕ, ◌==◌, ◌&&◌, ◌<◌, ◌≤◌, Bool, true, false, List, length, replicate, Option, Some, None, is_some, option_map, slice_index_or, slice_set}
+use Rattle.std.specs.Prelude.{◌≡◌, ℕ, ◌==◌, ◌&&◌, ◌<◌, ◌≤◌, Bool, true, false, List, length, replicate, Option, Some, None, is_some, option_map, slice_index_or, slice_set, nat_le, fold}
 use Rattle.std.specs.List.{filter_map}
 use Rattle.std.specs.Str.{bytes_eq}
 use Rattle.wire.specs.Digests.{header_digest_of}
@@ -39,6 +39,13 @@ has_voted places member = is_some (slice_index_or places member None)
 abbrev pub with_vote : Places → Vote → Places
 with_vote places vote = slice_set places vote.voter.0 (Some vote.signature)
 
+-- the places with one vote more, and with these votes, as a certificate has them
+abbrev pub with_entry : Places → VoteEntry → Places
+with_entry places entry = slice_set places entry.voter.0 (Some entry.signature)
+
+abbrev pub with_entries : Places → List VoteEntry → Places
+with_entries places votes = fold with_entry places votes
+
 -- the vote of a member, if it is counted
 abbrev pub entry_of : Places → ℕ → Option VoteEntry
 entry_of places member = option_map (λ signature. record { voter = record { 0 = member }; signature = signature }) (slice_index_or places member None)
@@ -61,6 +68,12 @@ started charter header own = record {
   places = with_vote (replicate (length charter.keys) None) own;
   complete = false;
 }
+
+-- one with the own vote and these votes; it is complete where they weigh a quorum
+abbrev pub restored : Charter → Header → Vote → List VoteEntry → AssemblyView
+restored charter header own votes =
+    let places = with_entries (started charter header own).places votes in
+    record { charter = charter; header = header; places = places; complete = nat_le (quorum_of charter) (votes_weight charter places) }
 
 -- what holds of each assembly: its committee is one, with a place for each member, and it is complete exactly where the
 -- votes weigh a quorum

@@ -1,16 +1,18 @@
 //! The votes on one header.
 
-ghost use Rattle.std.specs.Prelude.{◌≡◌, ◌<◌, length, Some, IsTrue, IfOk, OnErr};
-ghost use Rattle.certify.specs.Assembled.{IsAssembled, is_on, has_voted, started};
+ghost use Rattle.std.specs.Prelude.{◌≡◌, ℕ, ◌<◌, ◌≤◌, ◌||◌, ◌==◌, All, length, slice_get, Some, IsTrue, IfOk, OnErr};
+ghost use Rattle.certify.specs.Assembled.{IsAssembled, is_on, has_voted, started, restored, votes_in, with_entries, with_entry};
 ghost use Rattle.certify.specs.Answer.{is_ours, answer, after, completion_of};
+ghost use Rattle.committee.specs.Sets.{has};
+ghost use Rattle.committee.specs.declared.members.TheConstants.{MAX_MEMBERS};
 ghost use Rattle.wire.specs.Digests.{header_digest_of};
 
 use crate::added::Added;
-use crate::certificate::{certificate_with, no_votes};
+use crate::certificate::{certificate_with, no_votes, nth_vote};
 use committee::{Committee, MemberSet};
 use std::alloc::{AllocError, Global};
 use std::marker::Model;
-use wire::{Author, Digest, Header, HeaderBody, Signature, Vote};
+use wire::{Author, Digest, Header, HeaderBody, Signature, Vote, VoteEntry};
 
 /// The votes on one header, the own one among them, until they weigh a quorum of the committee. Contracts see the
 /// committee, the header, of each member the signature of its vote if that is counted, and whether they make a
@@ -56,6 +58,30 @@ fn is_on(body: &HeaderBody, digest: &Digest, vote: &Vote) -> bool
     vote.header == *digest && vote.round == body.round && vote.author == body.author
 }
 
+// Puts a vote into its voter's place.
+fn put_vote(places: &mut Vec<Option<Signature>>, voters: &mut MemberSet, entry: &VoteEntry)
+    requires place { entry.now.voter.0 < length places.old.items }
+    requires member { entry.now.voter.0 < MAX_MEMBERS }
+    ensures places { places.new.items ≡ with_entry places.old.items entry.now }
+    ensures voters { (member : ℕ) → has voters.new member ≡ (has voters.old member || (member == entry.now.voter.0)) }
+{
+    places[entry.voter.0 as usize] = Some(entry.signature);
+    voters.insert(entry.voter);
+}
+
+// Puts votes into their voters' places.
+fn put_votes(places: &mut Vec<Option<Signature>>, voters: &mut MemberSet, votes: &[VoteEntry])
+    requires size { length places.old.items ≤ MAX_MEMBERS }
+    requires places { All (λ entry. entry.voter.0 < length places.old.items) votes.now }
+    requires voters { (member : ℕ) → has voters.old member ≡ has_voted places.old.items member }
+    ensures places { places.new.items ≡ with_entries places.old.items votes.now }
+    ensures voters { (member : ℕ) → has voters.new member ≡ has_voted places.new.items member }
+{
+    for entry in votes {
+        put_vote(places, voters, entry);
+    }
+}
+
 impl<'a> Assembly<'a> {
     /// An assembly of the header, with the own vote on it counted. `AllocError` where an allocation failed.
     pub fn start(
@@ -81,6 +107,38 @@ impl<'a> Assembly<'a> {
             places,
             voters,
             complete: false,
+        })
+    }
+
+    /// An assembly of the header with the own vote and these votes of members on it, which is complete where they weigh a
+    /// quorum. `AllocError` where an allocation failed.
+    pub fn restore(
+        alloc: Global,
+        committee: &'a Committee,
+        header: Header,
+        own: Vote,
+        votes: Vec<VoteEntry>,
+    ) -> Result<Assembly<'a>, AllocError>
+        requires ours { IsTrue (is_on header.body own) }
+        requires member { own.voter.0 < length committee.now.keys }
+        requires members { All (λ entry. entry.voter.0 < length committee.now.keys) votes.items }
+        ensures { IfOk result (λ assembly. assembly ≡ restored committee.now header own votes.items) }
+    {
+        committee.limits_hold();
+        let mut places = no_votes(alloc, committee.size() as usize)?;
+        places[own.voter.0 as usize] = Some(own.signature);
+        let mut voters = MemberSet::none();
+        voters.insert(own.voter);
+        put_votes(&mut places, &mut voters, votes.as_slice());
+        let complete = committee.quorum() <= committee.weight(&voters);
+        Ok(Assembly {
+            alloc,
+            committee,
+            header,
+            digest: own.header,
+            places,
+            voters,
+            complete,
         })
     }
 
@@ -154,6 +212,14 @@ impl<'a> Assembly<'a> {
         ensures { result ≡ has_voted self.now.places voter.0 }
     {
         self.voters.contains(voter)
+    }
+
+    /// The counted vote at a place, from 0 on, in the order of the voters. None from the number of counted votes on.
+    pub fn nth(&self, place: usize) -> Option<VoteEntry>
+        ensures { result ≡ slice_get (votes_in self.now.places) place }
+    {
+        self.limits_hold();
+        nth_vote(self.places.as_slice(), place)
     }
 
     /// Whether the votes weigh a quorum: they have made a certificate.

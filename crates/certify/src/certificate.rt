@@ -1,6 +1,6 @@
 //! The certificate that the counted votes make with one vote more.
 
-ghost use Rattle.std.specs.Prelude.{◌≡◌, ◌<◌, ◌≤◌, length, replicate, IfOk, None, slice_index_or};
+ghost use Rattle.std.specs.Prelude.{◌≡◌, ◌<◌, ◌≤◌, length, replicate, IfOk, None, slice_get, slice_index_or};
 ghost use Rattle.certify.specs.Answer.{certificate_of};
 ghost use Rattle.certify.specs.Assembled.{with_vote, votes_in};
 ghost use Rattle.committee.specs.declared.members.TheConstants.{MAX_MEMBERS};
@@ -25,6 +25,26 @@ fn signature_with(places: &[Option<Signature>], vote: &Vote, member: usize) -> O
     } else {
         places[member]
     }
+}
+
+/// The vote at a place, from 0 on, in the order of the voters.
+pub(crate) fn nth_vote(places: &[Option<Signature>], place: usize) -> Option<VoteEntry>
+    requires { length places.now ≤ MAX_MEMBERS }
+    ensures { result ≡ slice_get (votes_in places.now) place }
+{
+    let mut before = place;
+    for member in 0..places.len() {
+        if let Some(signature) = places[member] {
+            if before == 0 {
+                return Some(VoteEntry {
+                    voter: Author(member as u16),
+                    signature,
+                });
+            }
+            before -= 1;
+        }
+    }
+    None
 }
 
 fn votes_with(

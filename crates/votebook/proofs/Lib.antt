@@ -1,1 +1,2 @@
 pub mod Lookups
+pub mod Rising

@@ -26,7 +26,7 @@ exact_slots a b h = ap (λ (p : ℕ × ℕ). record { round = p.0; author = p.1 
 pub slots_total : IsTotalOrder slot_cmp
 slots_total = then_total (on_total (λ s. s.round) nat_cmp_total) (on_total (λ s. s.author) nat_cmp_total)
 
-find_is-digest_at : (entries : List (Slot × Digest)) (slot : Slot) → find slot_cmp slot entries ≡ digest_at entries slot
+pub find_is-digest_at : (entries : List (Slot × Digest)) (slot : Slot) → find slot_cmp slot entries ≡ digest_at entries slot
 find_is-digest_at [] slot = refl
 find_is-digest_at (e ∷ rest) slot = ap (cond (is_at (slot_cmp slot) e.0) (Some e.1)) (find_is-digest_at rest slot)
 

@@ -1,8 +1,10 @@
 //! The votes, by round and author.
 
-ghost use Rattle.std.specs.Prelude.{◌≡◌, ℕ, ◌≤◌, ◌<◌, IfOk, OnErr};
+ghost use Rattle.std.specs.Prelude.{◌≡◌, ℕ, ◌≤◌, ◌<◌, IfOk, OnErr, slice_get};
 ghost use Rattle.std.specs.FinMap as map;
-ghost use Rattle.votebook.specs.Slot.{slot_of as spec_slot};
+ghost use Rattle.std.specs.List.Sorted.{IsStrictlySortedBy};
+ghost use Rattle.std.specs.Map.{keys_of};
+ghost use Rattle.votebook.specs.Slot.{slot_cmp, slot_of as spec_slot};
 ghost use Rattle.votebook.specs.Votes.{Answers, voted_in, votes_after, ForgetsTo};
 
 use crate::slot::Slot;
@@ -53,6 +55,25 @@ impl VoteBook {
         VoteBook {
             votes: BTreeMap::new(alloc),
         }
+    }
+
+    /// The book with these votes, whose slots strictly rise: by round, and by author within a round. `AllocError` where an
+    /// allocation failed.
+    pub fn restore(alloc: Global, votes: Vec<(Slot, Digest)>) -> Result<VoteBook, AllocError>
+        requires rising { IsStrictlySortedBy slot_cmp (keys_of votes.items) }
+        ensures { IfOk result (λ book. map.entries book ≡ votes.items) }
+    {
+        let votes = votes.into_iter().collect(alloc)?;
+        Ok(VoteBook { votes })
+    }
+
+    /// The vote at a place, counted from 0, in the order of the slots: by round, and by author within a round. None from the
+    /// number of votes on. It takes time in proportion to the place.
+    pub fn nth(&self, place: usize) -> Option<(Slot, Digest)>
+        ensures { result ≡ slice_get (map.entries self.now) place }
+    {
+        let (slot, header) = self.votes.iter().nth(place)?;
+        Some((*slot, *header))
     }
 
     /// The header that has the vote of this author and round, if any.
