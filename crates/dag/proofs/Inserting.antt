@@ -11,7 +11,7 @@ use Rattle.std.proofs.lemmas.Option.{same_Some}
 use Rattle.wire.specs.declared.round.TheConstants.Round.{MAX}
 use Rattle.committee.specs.Charter.{Charter}
 use Rattle.spec_model.specs.Holdings.{is_low, is_held, all_held}
-use Rattle.spec_model.specs.Slots.{certificate_digest, is_of_slot, slots_of}
+use Rattle.spec_model.specs.Slots.{certificate_digest, is_of_slot, is_parent, slots_of}
 use Rattle.spec_model.specs.Words.{Certificate, ParentReference}
 use Rattle.spec_laws.proofs.Growing.{is_in}
 use Rattle.spec_laws.proofs.Lists.{given_or_none}
@@ -34,7 +34,9 @@ pub record Enters (charter : Charter) (floor base : ℕ) (rows : Rows) (entry : 
   pub kept : IsKept charter floor base rows
   pub member : entry.certificate.header.author.0 < length charter.keys
   pub limit : entry.certificate.header.round ≤ MAX
-  pub high : is_low floor entry.certificate.header.round ≡ false
+  pub positive : 0 < entry.certificate.header.round
+  pub above : floor ≤ entry.certificate.header.round
+  pub unnamed : (round author : ℕ) (d : Certificate) → slots_in (graph_of charter floor base rows) round author ≡ Some d → is_parent entry.certificate d ≡ false
   pub free : slots_in (graph_of charter floor base rows) entry.certificate.header.round entry.certificate.header.author.0 ≡ None
   pub held : all_held (slots_in (graph_of charter floor base rows)) floor entry.certificate.header ≡ true
   pub digest : entry.digest ≡ certificate_digest entry.certificate.header
@@ -101,7 +103,7 @@ entry_here charter floor base rows entry enters round author here =
     let header = entry.certificate.header in
     let size = length charter.keys in
     let place = slot_is round author header here in
-    let within = le-leb floor header.round (high_above floor header.round enters.high).1 in
+    let within = le-leb floor header.round enters.above in
     let row = full_row size rows (header.round - floor) enters.kept.full in
     ap (λ r. entry_at floor (entered size floor rows entry) r author) (sym place.0) ∙ ap (entry_at floor (entered size floor rows entry) header.round) (sym place.1)
     ∙ rw within (slot_here (extended size rows (header.round - floor)) (header.round - floor) header.author.0 (Some entry)
@@ -132,7 +134,7 @@ entry_other charter floor base rows entry enters round author other =
     elim (cases_Bool (nat_le floor round)) [
       | inr below ↦ rw below refl
       | inl within ↦
-          rw within (entry_other_at (length charter.keys) floor rows entry round author (leb-true floor round within) (high_above floor entry.certificate.header.round enters.high).1 other)
+          rw within (entry_other_at (length charter.keys) floor rows entry round author (leb-true floor round within) enters.above other)
     ]
 
 -- what contracts see: one certificate more
@@ -172,7 +174,7 @@ more charter floor base rows entry enters = record {
   grown = grown charter floor base rows entry enters;
   free = enters.free;
   member = enters.member;
-  high = enters.high;
+  unnamed = enters.unnamed;
   held = enters.held;
 }
 
@@ -184,12 +186,11 @@ new_kept charter floor base rows entry enters =
     let before = slots_in (graph_of charter floor base rows) in
     let after = slots_in (graph_of charter floor base (entered n floor rows entry)) in
     let is = more charter floor base rows entry enters in
-    let above = (high_above floor entry.certificate.header.round enters.high).0 in
     record {
       place = of_its_slot entry.certificate.header;
       digest = enters.digest;
       held = held_after n floor before after entry.certificate is entry.certificate.header enters.held;
-      parents = λ _ author. enters.parents author ∙ sym (new_parents n floor before after entry.certificate is above author);
+      parents = λ _ author. enters.parents author ∙ sym (new_parents n floor before after entry.certificate is enters.positive author);
     }
 
 -- and the others still are
@@ -217,13 +218,13 @@ long_after charter floor base rows entry enters =
     let size = length charter.keys in
     let place = header.round - floor in
     let all = extended size rows place in
-    let above = high_above floor header.round enters.high in
+    let above = enters.above in
     let set = length-set all place (slice_set (get_or all place []) header.author.0 (Some entry)) in
     let parts = length-append rows (replicate (suc place - length rows) (replicate size None)) in
     let more = length-replicate {A = List (Option Entry)} (suc place - length rows) (replicate size None) in
     let was = length-map rows (λ row. map (option_map placed_of) row) in
     let now = length-map (entered size floor rows entry) (λ row. map (option_map placed_of) row) in
-    omega (arith, above.1, set, parts, more, was, now)
+    omega (arith, above, set, parts, more, was, now)
 
 -- all of it is kept as it has to be
 pub kept_with : (charter : Charter) (floor base : ℕ) (rows : Rows) (entry : Entry) → Enters charter floor base rows entry
@@ -234,8 +235,8 @@ kept_with charter floor base rows entry enters =
     let place = header.round - floor in
     let all = extended size rows place in
     let later = entered size floor rows entry in
-    let above = high_above floor header.round enters.high in
-    let few = not_too_long size rows place ((MAX + 1) - floor) (omega (arith, enters.kept.few)) (omega (arith, enters.limit, above.1)) in
+    let above = enters.above in
+    let few = not_too_long size rows place ((MAX + 1) - floor) (omega (arith, enters.kept.few)) (omega (arith, enters.limit, above)) in
     let long = length-set all place (slice_set (get_or all place []) header.author.0 (Some entry)) in
     record {
       valid = enters.kept.valid;

@@ -12,3 +12,4 @@ pub mod Changing
 pub mod Dropping
 pub mod Unmarked
 pub mod Inserting
+pub mod Unnamed

@@ -4,10 +4,10 @@ use Rattle.std.specs.Prelude.{◌&&◌, ◌==◌}
 use Rattle.std.specs.Option.{option_map_or, option_or}
 use Rattle.std.proofs.lemmas.Bool.{cases_Bool, true≢false}
 use Rattle.std.proofs.lemmas.Option.{same_Some}
-use Rattle.spec_model.specs.Holdings.{is_low, is_held, all_held}
+use Rattle.spec_model.specs.Holdings.{is_held, all_held}
 use Rattle.spec_model.specs.Slots.{Slots, is_of_slot, slots_of, is_parent, reaches}
 use Rattle.spec_model.specs.Words.{Certificate, HeaderBody}
-use Rattle.spec_laws.proofs.Closed.{low_parent, held_stays, all_stay}
+use Rattle.spec_laws.proofs.Closed.{held_stays, all_stay}
 use Rattle.spec_laws.proofs.Growing.{AreInPlace, Extends, IsIn, reaches_same, reaches_new}
 use Rattle.spec_laws.proofs.Lists.{given_or_none}
 use Rattle.spec_laws.proofs.Votes.{of_its_slot}
@@ -22,7 +22,7 @@ pub record IsMore (n floor : ℕ) (before after : Slots) (c : Certificate) : Typ
   pub grown : (round author : ℕ) → after round author ≡ option_or (before round author) (slots_of (c ∷ []) round author)
   pub free : before c.header.round c.header.author.0 ≡ None
   pub member : c.header.author.0 < n
-  pub high : is_low floor c.header.round ≡ false
+  pub unnamed : (round author : ℕ) (d : Certificate) → before round author ≡ Some d → is_parent c d ≡ false
   pub held : all_held before floor c.header ≡ true
 
 -- what was held is held
@@ -77,8 +77,7 @@ extends n floor before after c more = record {
             elim (given_or_none (before above other)) [
               | inl old ↦
                   let is : old.0 ≡ child = same_Some old.0 child (sym (stays n floor before after c more above other old.0 old.1) ∙ held) in
-                  let low = low_parent before floor c old.0 (more.closed above other old.0 old.1) more.free (ap (is_parent c) is ∙ names') in
-                  absurd (true≢false (sym low ∙ more.high))
+                  absurd (true≢false (sym (ap (is_parent c) is ∙ names') ∙ more.unnamed above other old.0 old.1))
               | inr fresh ↦
                   let is = (is_new n floor before after c more above other child fresh held).1 in
                   let below = parent_below c c (ap (is_parent c) is ∙ names') in

@@ -1,15 +1,16 @@
 //! The DAG.
 
-ghost use Rattle.std.specs.Prelude.{◌≡◌, ◌≢◌, ◌&&◌, nat_lt, ◌+◌, ◌-◌, ◌<◌, ◌≤◌, ◌^◌, ℕ, true, false, max, min, not, nat_le, length, map, Ok, Err, Some, is_some, IfOk, OnOk, OnErr, option_copied, if◌then◌else◌};
+ghost use Rattle.std.specs.Prelude.{◌≡◌, ◌≢◌, ◌&&◌, nat_lt, ◌+◌, ◌-◌, ◌<◌, ◌≤◌, ◌^◌, ℕ, true, false, max, min, not, nat_le, length, map, [], None, Ok, Err, Some, is_some, IfOk, OnOk, OnErr, option_copied, if◌then◌else◌};
 ghost use Rattle.committee.specs.Charter.{numbers};
 ghost use Rattle.committee.specs.Sets.{has};
 ghost use Rattle.committee.specs.declared.members.TheConstants.{MAX_MEMBERS};
 ghost use Rattle.spec_model.specs.Holdings.{genesis, is_low, all_held};
-ghost use Rattle.spec_model.specs.Slots.{certificate_digest, slots_of};
+ghost use Rattle.spec_model.specs.Slots.{certificate_digest, is_parent, slots_of};
 ghost use Rattle.dag.specs.Rows.{first};
 ghost use Rattle.dag.specs.Sets.{nobody};
 ghost use Rattle.dag.specs.Kept.{has_below};
 ghost use Rattle.spec_model.specs.Admitting.{same_header};
+ghost use Rattle.spec_model.specs.Words.{Certificate};
 ghost use Rattle.dag.specs.Answer.{held_answer, answer};
 ghost use Rattle.dag.specs.Changes.{IsWith, IsMarked, IsDropped};
 ghost use Rattle.dag.specs.Graph.{IsGraph, DagView, slots_in, marked_in, end_in, count_in, stake_in, digest_in, parent_in, has_parent_in, reaches_in, is_parent_of, references_at, references_of};
@@ -173,6 +174,23 @@ impl<'a> Dag<'a> {
         })
     }
 
+    /// A DAG with nothing in it that begins with a round above the genesis. The round of the last committed leader is taken as
+    /// the next one.
+    pub fn above(alloc: Global, committee: &'a Committee, floor: Round) -> Dag<'a>
+        requires positive { 0 < floor }
+        requires limit { floor < MAX }
+        ensures { result ≡ record { charter = committee.now; floor = floor; base = floor + 1; rounds = [] } }
+    {
+        committee.limits_hold();
+        Dag {
+            alloc,
+            committee,
+            floor,
+            base: round_of(floor.number() + 1),
+            rows: VecDeque::new(alloc),
+        }
+    }
+
     /// Holds a certificate from now on, if it is a new one. It computes its digest, and does what `add_digested` does.
     pub fn add(&mut self, certificate: Certificate) -> Result<Added, DagRefusal>
         requires member { certificate.header.author.0 < length self.old.charter.keys }
@@ -267,6 +285,43 @@ impl<'a> Dag<'a> {
         requires named { 0 < length certificate.header.parents }
         requires digested { digest ≡ certificate_digest certificate.header }
         requires new { answer self.old certificate ≡ Ok Added.New }
+        ensures ok { OnOk result (IsWith self.old self.new certificate) }
+        ensures err { OnErr result (self.new ≡ self.old) }
+    {
+        self.limits_hold();
+        self.place(certificate, digest)
+    }
+
+    /// Holds a certificate of this digest from now on: of a DAG that is restored, into which certificates come in the order of
+    /// their rounds. None is held of a later round. At the floor no parent is asked for. `AllocError` where an allocation
+    /// failed: nothing has changed then.
+    pub fn restore(&mut self, certificate: Certificate, digest: Digest) -> Result<(), AllocError>
+        requires member { certificate.header.author.0 < length self.old.charter.keys }
+        requires named { 0 < length certificate.header.parents }
+        requires digested { digest ≡ certificate_digest certificate.header }
+        requires positive { 0 < certificate.header.round }
+        requires above { self.old.floor ≤ certificate.header.round }
+        requires last { end_in self.old ≤ certificate.header.round + 1 }
+        requires free { slots_in self.old certificate.header.round certificate.header.author.0 ≡ None }
+        requires held { all_held (slots_in self.old) self.old.floor certificate.header ≡ true }
+        ensures ok { OnOk result (IsWith self.old self.new certificate) }
+        ensures err { OnErr result (self.new ≡ self.old) }
+    {
+        self.limits_hold();
+        self.place(certificate, digest)
+    }
+
+    // Holds a certificate of this digest in a slot that holds nothing. Its parents are held, and nothing that is held names it
+    // as a parent.
+    fn place(&mut self, certificate: Certificate, digest: Digest) -> Result<(), AllocError>
+        requires member { certificate.header.author.0 < length self.old.charter.keys }
+        requires named { 0 < length certificate.header.parents }
+        requires digested { digest ≡ certificate_digest certificate.header }
+        requires positive { 0 < certificate.header.round }
+        requires above { self.old.floor ≤ certificate.header.round }
+        requires unnamed { (round author : ℕ) (held : Certificate) → slots_in self.old round author ≡ Some held → is_parent certificate held ≡ false }
+        requires free { slots_in self.old certificate.header.round certificate.header.author.0 ≡ None }
+        requires held { all_held (slots_in self.old) self.old.floor certificate.header ≡ true }
         ensures ok { OnOk result (IsWith self.old self.new certificate) }
         ensures err { OnErr result (self.new ≡ self.old) }
     {

@@ -8,6 +8,7 @@ use Rattle.spec_laws.proofs.Lists.{given_or_none}
 use Rattle.dag.specs.Graph.{size_in, slots_in}
 use Rattle.dag.proofs.Answering.{is_new}
 use Rattle.dag.proofs.Reaching.{IsMore, stays, old_reaches}
+use Rattle.dag.proofs.Unnamed.{unnamed_high}
 use Rattle.dag.proofs.facts.reach_stays.Goals as goal
 
 pub returns : goal.returns
@@ -21,7 +22,7 @@ returns c before after certificate graph member new with round author below othe
       grown = with.slots;
       free = fresh.free;
       member = member;
-      high = fresh.high;
+      unnamed = unnamed_high before certificate graph fresh.high fresh.free;
       held = fresh.held;
     } in
     let over : ℕ → Slots → Option Certificate → Bool = λ m s starts. option_map_or (λ start. option_map_or (reaches m s start) (s below other) false) starts false in
