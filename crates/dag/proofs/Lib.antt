@@ -13,3 +13,4 @@ pub mod Dropping
 pub mod Unmarked
 pub mod Inserting
 pub mod Unnamed
+pub mod Ordered

@@ -1,7 +1,7 @@
 -- What a DAG holds.
-use Rattle.std.specs.Prelude.{◌≡◌, ℕ, ◌+◌, ◌-◌, ◌<◌, ◌≤◌, ◌&&◌, cond, nat_le, Bool, true, false, List, All, length, count_by, sum_by, Option, Some}
+use Rattle.std.specs.Prelude.{◌≡◌, ℕ, ◌+◌, ◌-◌, ◌<◌, ◌≤◌, ◌&&◌, cond, nat_le, Bool, true, false, List, All, map, length, count_by, sum_by, Option, Some}
 use Rattle.std.specs.Prelude.{None, is_some, option_map, option_and_then, slice_get, if◌then◌else◌}
-use Rattle.std.specs.List.{list_any}
+use Rattle.std.specs.List.{list_any, filter_map, flat_map}
 use Rattle.std.specs.Option.{option_map_or}
 use Rattle.wire.specs.declared.round.TheConstants.Round.{MAX}
 use Rattle.committee.specs.Charter.{Charter, IsCharter, numbers, weight}
@@ -42,6 +42,14 @@ slots_in graph round author = option_map (λ placed. placed.certificate) (placed
 -- the certificate of a slot is marked
 abbrev pub marked_in : DagView → ℕ → ℕ → Bool
 marked_in graph round author = option_map_or (λ placed. placed.marked) (placed_at graph round author) false
+
+-- what the slots of a row hold, rising by author
+abbrev pub held_in : {X : Type 0} → List (Option X) → List X
+held_in row = filter_map (λ slot. slot) row
+
+-- the certificates, rising by round and then by author
+abbrev pub certificates_in : DagView → List Certificate
+certificates_in graph = map (λ placed. placed.certificate) (flat_map held_in graph.rounds)
 
 -- the round after the last that has a row
 abbrev pub end_in : DagView → ℕ

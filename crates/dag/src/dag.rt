@@ -1,6 +1,6 @@
 //! The DAG.
 
-ghost use Rattle.std.specs.Prelude.{◌≡◌, ◌≢◌, ◌&&◌, nat_lt, ◌+◌, ◌-◌, ◌<◌, ◌≤◌, ◌^◌, ℕ, true, false, max, min, not, nat_le, length, map, [], None, Ok, Err, Some, is_some, IfOk, OnOk, OnErr, option_copied, if◌then◌else◌};
+ghost use Rattle.std.specs.Prelude.{◌≡◌, ◌≢◌, ◌&&◌, nat_lt, ◌+◌, ◌-◌, ◌<◌, ◌≤◌, ◌^◌, ℕ, true, false, max, min, not, nat_le, length, map, [], None, Ok, Err, Some, is_some, IfOk, OnOk, OnErr, option_copied, slice_get, if◌then◌else◌};
 ghost use Rattle.committee.specs.Charter.{numbers};
 ghost use Rattle.committee.specs.Sets.{has};
 ghost use Rattle.committee.specs.declared.members.TheConstants.{MAX_MEMBERS};
@@ -13,7 +13,7 @@ ghost use Rattle.spec_model.specs.Admitting.{same_header};
 ghost use Rattle.spec_model.specs.Words.{Certificate};
 ghost use Rattle.dag.specs.Answer.{held_answer, answer};
 ghost use Rattle.dag.specs.Changes.{IsWith, IsMarked, IsDropped};
-ghost use Rattle.dag.specs.Graph.{IsGraph, DagView, slots_in, marked_in, end_in, count_in, stake_in, digest_in, parent_in, has_parent_in, reaches_in, is_parent_of, references_at, references_of};
+ghost use Rattle.dag.specs.Graph.{IsGraph, DagView, certificates_in, slots_in, marked_in, end_in, count_in, stake_in, digest_in, parent_in, has_parent_in, reaches_in, is_parent_of, references_at, references_of};
 ghost use Rattle.dag.specs.declared.reads.TheConstants.{MAX_ROUND_REFERENCES};
 ghost use Rattle.wire.specs.declared.limits.TheConstants.{MAX_PARENTS};
 ghost use Rattle.wire.specs.declared.round.TheConstants.Round.{MAX};
@@ -370,6 +370,17 @@ impl<'a> Dag<'a> {
         ensures { option_copied result ≡ slots_in self.now round author.0 }
     {
         match rows::entry(&self.rows, self.floor, round.number(), author) {
+            Some(held) => Some(&held.certificate),
+            None => None,
+        }
+    }
+
+    /// The certificate at a place, from 0 on, in the order of the rounds and of the authors of each. None from the number of
+    /// certificates on.
+    pub fn nth(&self, place: usize) -> Option<&Certificate>
+        ensures { option_copied result ≡ slice_get (certificates_in self.now) place }
+    {
+        match rows::nth(&self.rows, place) {
             Some(held) => Some(&held.certificate),
             None => None,
         }

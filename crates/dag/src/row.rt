@@ -1,8 +1,9 @@
 //! What is kept of one round.
 
-ghost use Rattle.std.specs.Prelude.{◌≡◌, ℕ, ◌<◌, ◌^◌, length, None, Some, false, IfOk, is_some, count_by, option_copied, option_map, slice_set, replicate};
+ghost use Rattle.std.specs.Prelude.{◌≡◌, ℕ, ◌<◌, ◌^◌, length, None, Some, false, IfOk, is_some, count_by, option_copied, option_map, slice_get, slice_set, replicate};
 ghost use Rattle.committee.specs.Sets.{has};
 ghost use Rattle.committee.specs.declared.members.TheConstants.{MAX_MEMBERS};
+ghost use Rattle.dag.specs.Graph.{held_in};
 ghost use Rattle.dag.specs.Rows.{is_unmarked, marked, marked_row, slot_at};
 
 use crate::entry::Entry;
@@ -37,6 +38,22 @@ fn mark(slot: &mut Option<Entry>)
     if let Some(entry) = slot {
         entry.marked = true;
     }
+}
+
+// What is held at a place, from 0 on, in the order of the slots.
+fn nth_held(slots: &[Option<Entry>], place: usize) -> Option<&Entry>
+    ensures { option_copied result ≡ slice_get (held_in slots.now) place }
+{
+    let mut before = place;
+    for author in 0..slots.len() {
+        if let Some(entry) = &slots[author] {
+            if before == 0 {
+                return Some(entry);
+            }
+            before -= 1;
+        }
+    }
+    None
 }
 
 impl Row {
@@ -93,6 +110,13 @@ impl Row {
             }
         }
         self.unmarked.remove_all(authors);
+    }
+
+    /// What is kept at a place, from 0 on, in the order of the authors.
+    pub(crate) fn nth(&self, place: usize) -> Option<&Entry>
+        ensures { option_copied result ≡ slice_get (held_in self.now) place }
+    {
+        nth_held(self.slots.as_slice(), place)
     }
 
     /// How many certificates there are.

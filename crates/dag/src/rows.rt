@@ -1,11 +1,11 @@
 //! The rows of a DAG, from its floor on.
 
 ghost use Rattle.std.specs.Prelude.{◌≡◌, ℕ, if◌then◌else◌, ◌-◌, ◌<◌, ◌≤◌, ◌++◌, ◌==◌, ◌&&◌, ◌||◌, ◌^◌, suc, nat_le, nat_lt, not, length, drop, [], None, Some, IfOk, OnOk, OnErr, All, option_copied, slice_get, slice_set, get_or, replicate, true, false};
-ghost use Rattle.std.specs.List.{list_any, list_all};
+ghost use Rattle.std.specs.List.{list_any, list_all, flat_map};
 ghost use Rattle.std.specs.Option.{option_map_or};
 ghost use Rattle.committee.specs.Sets.{has};
 ghost use Rattle.committee.specs.declared.members.TheConstants.{MAX_MEMBERS};
-ghost use Rattle.dag.specs.Graph.{row_at};
+ghost use Rattle.dag.specs.Graph.{row_at, held_in};
 ghost use Rattle.dag.specs.Rows.{marked_rows, names};
 
 use crate::entry::Entry;
@@ -38,6 +38,22 @@ pub(crate) fn entry(
         Some(row) => row.get(author.0),
         None => None,
     }
+}
+
+/// What is kept at a place, from 0 on, in the order of the rows and of the authors of each.
+pub(crate) fn nth(rows: &VecDeque<Row>, place: usize) -> Option<&Entry>
+    ensures { option_copied result ≡ slice_get (flat_map held_in rows.now.items) place }
+{
+    let mut before = place;
+    for i in 0..rows.len() {
+        let row = &rows[i];
+        let count = row.count();
+        if before < count {
+            return row.nth(before);
+        }
+        before -= count;
+    }
+    None
 }
 
 /// The authors whose certificates of a round have no mark.

@@ -1,6 +1,6 @@
 //! The coins, and the leaders that they choose.
 
-ghost use Rattle.std.specs.Prelude.{◌≡◌, ℕ, ◌+◌, ◌-◌, ◌*◌, ◌^◌, ◌<◌, ◌≤◌, ◌++◌, [], ◌∷◌, true, false, length, map, Ok, Some, option_map, IfSome, IfOk, OnOk, OnErr};
+ghost use Rattle.std.specs.Prelude.{◌≡◌, ℕ, ◌+◌, ◌-◌, ◌*◌, ◌^◌, ◌<◌, ◌≤◌, ◌++◌, [], ◌∷◌, true, false, length, map, Ok, Some, option_map, slice_get, IfSome, IfOk, OnOk, OnErr};
 ghost use Rattle.spec_model.specs.Ordering.{leader, is_directly_committed, top, newer, newer_to, newer_at};
 ghost use Rattle.spec_model.specs.Words.{Certificate};
 ghost use Rattle.dag.specs.Answer.{answer};
@@ -43,6 +43,20 @@ impl Coins {
         Coins {
             values: Vec::new(alloc),
         }
+    }
+
+    /// These coins, of the waves from 1 on. It takes no memory.
+    pub fn restore(values: Vec<u64>) -> Coins
+        ensures { result ≡ values.items }
+    {
+        Coins { values }
+    }
+
+    /// The coin at a place, from 0 on: that of the wave after the place's number. None from the number of coins on.
+    pub fn nth(&self, place: usize) -> Option<u64>
+        ensures { result ≡ slice_get self.now place }
+    {
+        self.values.get(place).copied()
     }
 
     /// Adds the coin of the next wave. `AllocError` where an allocation failed.
