@@ -5,3 +5,4 @@ pub mod Listing
 pub mod Steps
 pub mod Keyed
 pub mod Answering
+pub mod Restored

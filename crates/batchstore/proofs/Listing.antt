@@ -52,7 +52,7 @@ middle-none charter own front held back none =
     ap (fold placed []) (filter_map-append (to_name charter own) front (held ∷ back) ∙ ap (λ o. named_among charter own front ++ cons_option o (named_among charter own back)) none)
 
 -- with one that may be named it is in its place among them
-middle-some : (charter : Charter) (own : ℕ) (front : List Held) (held : Held) (back : List Held) → to_name charter own held ≡ Some (as_reference held.batch)
+pub middle-some : (charter : Charter) (own : ℕ) (front : List Held) (held : Held) (back : List Held) → to_name charter own held ≡ Some (as_reference held.batch)
     → None_of (digest_in held) back → listing charter own (front ++ held ∷ back) ≡ placed (fold placed [] (named_among charter own front ++ named_among charter own back)) (as_reference held.batch)
 middle-some charter own front held back some behind =
     ap (fold placed []) (filter_map-append (to_name charter own) front (held ∷ back) ∙ ap (λ o. named_among charter own front ++ cons_option o (named_among charter own back)) some)

@@ -10,6 +10,7 @@ mod store;
 mod table;
 
 pub use answers::{Acked, Put};
+pub use held::Held;
 pub use laws::{acknowledgements_add_up, nobody_acknowledged};
 pub use refusal::StoreRefusal;
 pub use store::BatchStore;

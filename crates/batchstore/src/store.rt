@@ -1,13 +1,15 @@
 //! The store of batches.
 
-ghost use Rattle.std.specs.Prelude.{◌≡◌, ℕ, ◌<◌, ◌==◌, ◌&&◌, ◌||◌, ◌⊎◌, [], ◌∷◌, true, false, Ok, Err, IsTrue, not, nat_le, ◌↔◌, length, take, map, Some, None, slice_get, if◌then◌else◌, IfOk, IfErr, IfSome, OnOk, OnErr, IsErrOf, option_copied, option_map};
+ghost use Rattle.std.specs.Prelude.{◌≡◌, ◌≢◌, ℕ, ◌<◌, All, AllPairs, ◌==◌, ◌&&◌, ◌||◌, ◌⊎◌, [], ◌∷◌, true, false, Ok, Err, IsTrue, not, nat_le, ◌↔◌, length, take, map, Some, None, slice_get, if◌then◌else◌, IfOk, IfErr, IfSome, OnOk, OnErr, IsErrOf, option_copied, option_map};
+ghost use Rattle.std.specs.BTreeMap.{insert_entry};
+ghost use Rattle.std.specs.Map.{values_of};
 ghost use Rattle.wire.specs.declared.limits.TheConstants.{MAX_BATCHES};
 ghost use Rattle.committee.specs.Charter.{weight, quorum_of};
 ghost use Rattle.committee.specs.Sets.{has};
 ghost use Rattle.committee.specs.declared.members.TheConstants.{MAX_MEMBERS};
 ghost use Rattle.batchstore.specs.declared.held.Held.{Held};
-ghost use Rattle.batchstore.specs.Kept.{reference_of};
-ghost use Rattle.batchstore.specs.Stock.{is_quorate, BatchStoreView, IsStock, digest_of, held_at, batch_in, has_with, has_own, holds, is_available, was_named, nameable};
+ghost use Rattle.batchstore.specs.Kept.{IsUnderItsDigest, compared, reference_of};
+ghost use Rattle.batchstore.specs.Stock.{is_quorate, may_be_named, BatchStoreView, IsStock, digest_of, held_at, batch_in, has_with, has_own, holds, is_available, was_named, nameable};
 ghost use Rattle.batchstore.specs.Answer.{is_member, is_known, is_clash, is_new, is_full, answer, with_batch, with_ack, with_names};
 
 use crate::answers::{Acked, Put};
@@ -95,6 +97,50 @@ fn first_references(
         .collect(alloc)
 }
 
+// Whether a batch may be named.
+fn may_be_named(committee: &Committee, own: Author, held: &Held) -> bool
+    requires { own.0 < MAX_MEMBERS }
+    ensures { result ≡ may_be_named committee.now own.0 held.now }
+{
+    held.batch.author() == own && (is_quorum(committee, own, &held.acknowledged) && !held.named)
+}
+
+// Lists a batch with its worker, if it may be named.
+fn list_one(
+    committee: &Committee,
+    own: Author,
+    digest: &Digest,
+    held: &Held,
+    nameable: &mut BTreeMap<Digest, u16>,
+) -> Result<(), AllocError>
+    requires { own.0 < MAX_MEMBERS }
+    ensures { OnOk result (nameable.new.entries ≡ (if may_be_named committee.now own.0 held.now then insert_entry compared nameable.old.entries digest.now held.now.batch.worker else nameable.old.entries)) }
+{
+    if may_be_named(committee, own, held) {
+        nameable.insert(*digest, held.batch.worker())?;
+    }
+    Ok(())
+}
+
+// The workers of those of these batches that may be named, by the batch digest.
+fn nameable_among(
+    alloc: Global,
+    committee: &Committee,
+    own: Author,
+    batches: &[(Digest, Held)],
+) -> Result<BTreeMap<Digest, u16>, AllocError>
+    requires member { own.0 < MAX_MEMBERS }
+    requires digested { All IsUnderItsDigest batches.now }
+    requires distinct { AllPairs (λ one other. one ≢ other) (map (λ held. digest_of held.batch) (values_of batches.now)) }
+    ensures { IfOk result (λ listed. map reference_of listed.entries ≡ nameable (record { charter = committee.now; own = own.0; held = values_of batches.now })) }
+{
+    let mut nameable = BTreeMap::new(alloc);
+    for entry in batches {
+        list_one(committee, own, &entry.0, &entry.1, &mut nameable)?;
+    }
+    Ok(nameable)
+}
+
 impl<'a> BatchStore<'a> {
     /// A store without a batch, of the member of this number. Its table begins its hashes at the seed.
     pub fn new(
@@ -113,6 +159,30 @@ impl<'a> BatchStore<'a> {
             held: Table::new(alloc, seed),
             nameable: BTreeMap::new(alloc),
         }
+    }
+
+    /// The store of these batches, in the order of acceptance, each beside its digest. Its table begins its hashes at the seed.
+    /// `AllocError` where an allocation failed.
+    pub fn restore(
+        alloc: Global,
+        committee: &'a Committee,
+        own: Author,
+        seed: TableSeed,
+        batches: Vec<(Digest, Held)>,
+    ) -> Result<BatchStore<'a>, AllocError>
+        requires digested { All IsUnderItsDigest batches.items }
+        requires stock { IsStock (record { charter = committee.now; own = own.0; held = values_of batches.items }) }
+        ensures { IfOk result (λ store. store ≡ record { charter = committee.now; own = own.0; held = values_of batches.items }) }
+    {
+        committee.limits_hold();
+        let nameable = nameable_among(alloc, committee, own, batches.as_slice())?;
+        let held = Table::restore(alloc, seed, batches)?;
+        Ok(BatchStore {
+            committee,
+            own,
+            held,
+            nameable,
+        })
     }
 
     /// Holds a batch from now on, if it is a new one. It computes its digest, and does what `put_digested` does.
@@ -383,6 +453,13 @@ impl<'a> BatchStore<'a> {
             Some(held) => Some(&held.batch),
             None => None,
         }
+    }
+
+    /// What is held of the batch that was accepted as the one of this place, from 0 on, if so many are held.
+    pub fn nth(&self, place: usize) -> Option<&Held>
+        ensures { option_copied result ≡ slice_get self.now.held place }
+    {
+        self.held.at(place)
     }
 
     /// How many batches are held.

@@ -1,7 +1,9 @@
 //! The batches of a store, found by their digests.
 
-ghost use Rattle.std.specs.Prelude.{◌≡◌, ◌<◌, [], ◌∷◌, ◌++◌, true, None, Some, IfSome, OnOk, OnErr, length, option_copied, option_map, slice_get, slice_set};
+ghost use Rattle.std.specs.Prelude.{◌≡◌, ◌≢◌, ◌<◌, All, AllPairs, IfOk, map, [], ◌∷◌, ◌++◌, true, None, Some, IfSome, OnOk, OnErr, length, option_copied, option_map, slice_get, slice_set};
 ghost use Rattle.indexmap.specs.IndexMap.{values, set_value_at};
+ghost use Rattle.std.specs.Map.{values_of};
+ghost use Rattle.batchstore.specs.Kept.{IsUnderItsDigest};
 ghost use Rattle.batchstore.specs.Stock.{digest_of, found};
 ghost use Rattle.batchstore.specs.declared.held.Held.{Held};
 
@@ -58,6 +60,21 @@ impl Table {
         Table {
             batches: IndexMap::with_hasher(alloc, seed),
         }
+    }
+
+    // The table of these batches, of which no two have one digest.
+    pub(crate) fn restore(
+        alloc: Global,
+        seed: TableSeed,
+        batches: Vec<(Digest, Held)>,
+    ) -> Result<Table, AllocError>
+        requires digested { All IsUnderItsDigest batches.items }
+        requires distinct { AllPairs (λ one other. one ≢ other) (map (λ held. digest_of held.batch) (values_of batches.items)) }
+        ensures { IfOk result (λ table. table ≡ values_of batches.items) }
+    {
+        let mut entries = IndexMap::with_hasher(alloc, seed);
+        entries.extend(batches.into_iter())?;
+        Ok(Table { batches: entries })
     }
 
     pub(crate) fn len(&self) -> usize
