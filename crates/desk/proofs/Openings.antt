@@ -60,7 +60,7 @@ not_opened_of node device disk_in disk failed at counts = record {
 pub nothing_taken : {S : Type 0} (node : Node) (history : History) (one : book.BookView S) → book.Stands node (book.run_on history) one → one.taken ≡ one.settled
 nothing_taken node history one at = at.taken ∙ sym at.settled
 
--- an opening that failed behind a stop of the machine
+-- an opening that failed after a stop of the machine
 pub stopped_of : (node : Node) (error : JournalError) (found : List ℕ) (before possible left : List ℕ → Type 0)
     → ((bytes : List ℕ) → possible bytes → before bytes) → IsNotOpened node error found possible left → IsNotOpened node error found before left
 stopped_of node error found before possible left fewer one = record {

@@ -1,4 +1,4 @@
--- A desk in its world behind each call.
+-- A desk in its world after each call.
 use Rattle.std.proofs.Common.{◌≡◌, ◌⊎◌, ℕ, ◌+◌, ◌≤◌, true, false, inl, inr, List, [], ◌∷◌, ◌++◌, length, take, drop, Result, Ok, refl, sym, ap, ◌∙◌, subst, arith, append-nil}
 use Rattle.std.specs.Prelude.{All, Contains, Some}
 use Rattle.std.proofs.lemmas.Bool.{cases_Bool, true≢false}
@@ -24,6 +24,7 @@ use Rattle.spec_world.specs.Runs.{AreKeys, first_bytes}
 use Rattle.spec_world.proofs.Beginning.{runs_begin}
 use Rattle.spec_world.proofs.GoingOn.{stops_are_possible, runs_begin_with_what_stands, groups_settle}
 use Rattle.spec_world.proofs.Groups.{taken_more}
+use Rattle.spec_world.proofs.Histories.{settled_stands}
 use Rattle.spec_world.proofs.Law.{nothing_taken_back}
 use Rattle.desk.specs.Desk.{DeskView, IsUp, IsLeft, IsOf, IsOpened}
 use Rattle.desk.specs.AtWorld.{HasTaken, IsAt, LeadsTo, IsStop}
@@ -63,7 +64,7 @@ module _ {S D : Type 0} (node : Node) (device : Device D) (world : World) (befor
 
   -- ---- events, outputs, reads
 
-  -- behind a move that leaves the disk, and what is settled, as it was
+  -- after a move that leaves the disk, and what is settled, as it was
   pub stays : (later : DeskView S D) (move : Move) (next : World) → IsStep node world move next → IsKept world next → steps.IsOf node next later.book
       → later.book.down ≡ false → later.journal ≡ before.journal
       → LeadsTo node device world (move ∷ []) later
@@ -196,16 +197,7 @@ module _ {S D : Type 0} (node : Node) (device : Device D) (world : World) (befor
 
 -- ---- a stop
 
--- where no group is on its way, what is settled stands on the disk
-settled_stands : (node : Node) (moves : List Move) (world : World) → IsNode node → IsRun node moves world → world.groups ≡ [] → StandsFor node (content_in world) (world.began ++ world.settled)
-settled_stands node moves world sound run idle =
-    let law = nothing_taken_back node moves world sound run in
-    let may = stops_are_possible node moves world sound run in
-    let found = law.stands (content_in world) may in
-    let recovered = law.recovered (content_in world) found.0 may found.1 in
-    subst (StandsFor node (content_in world)) (recovered.without_group idle) found.1
-
--- the four device calls behind a group that was taken, and what stands on the disk then
+-- the four device calls after a group that was taken, and what stands on the disk then
 record CallsFour (node : Node) (world : World) : Type 0 where
   pub next : World
   pub leads : Leads node world (device_call ∷ device_call ∷ device_call ∷ device_call ∷ []) next
@@ -298,8 +290,8 @@ module _ {S D : Type 0} (node : Node) (device : Device D) where
             | inr with_it ↦ at_once (with_it ∙ ap (λ (l : History). Ok (world.began ++ l)) (none_taken world idle)) stands
           ]
 
-      behind : HasTaken node world → told node bytes ≡ Ok (world.began ++ taken_in world) → (moves : List Move) × IsStop world moves × LeadsTo node device world moves desk
-      behind has told_as =
+      stopped : HasTaken node world → told node bytes ≡ Ok (world.began ++ taken_in world) → (moves : List Move) × IsStop world moves × LeadsTo node device world moves desk
+      stopped has told_as =
           let four = calls_four node world is.sound has in
           let calls = device_call ∷ device_call ∷ device_call ∷ device_call ∷ [] in
           let found = content_in four.next in
@@ -322,7 +314,7 @@ module _ {S D : Type 0} (node : Node) (device : Device D) where
           let settled : has.before.began ++ has.before.settled ≡ world.began ++ world.settled = sym (ap (λ (w : World). w.began ++ w.settled) has.taken.is) in
           elim (is.is_of.left bytes may) [
             | inl found ↦ at_once found (subst (λ (b : List ℕ). StandsFor node b (world.began ++ world.settled)) same (subst (StandsFor node (content_in has.before)) settled stands))
-            | inr with_it ↦ behind has with_it
+            | inr with_it ↦ stopped has with_it
           ]
 
 told_nothing : (node : Node) → told node [] ≡ Ok []

@@ -7,7 +7,7 @@ use Rattle.spec_world.specs.Steps.{Move, device_call, restart, IsTakenTo, Leads,
 use Rattle.desk.specs.Desk.{DeskView, IsOf}
 use Rattle.diskmodel.specs.Disk.{Device}
 
--- a group was taken behind a world with none on its way, and nothing happened since
+-- a group was taken after a world with none on its way, and nothing happened since
 pub record HasTaken (node : Node) (world : World) : Type 0 where
   pub before : World
   pub moves : List Move

@@ -22,7 +22,7 @@ pub record IsSound {S D : Type 0} (device : Device D) (desk : DeskView S D) : Ty
   pub alive : desk.book.down ≡ false → IsAlive device desk.journal
   pub settled : desk.book.down ≡ false → desk.book.taken ≡ desk.book.settled
 
--- all that was taken behind what a run began with
+-- all that was taken after what a run began with
 abbrev pub taken_of : book.Run → History
 taken_of run = run.began ++ run.taken
 

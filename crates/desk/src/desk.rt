@@ -54,7 +54,10 @@ impl<'a, S: Sign, D: Disk> Desk<'a, S, D> {
     ghost use Rattle.spec_model.specs.Proposing.{propose as propose_of};
     ghost use Rattle.spec_machine.specs.Machine.{is_missing_parents};
     ghost use Rattle.spec_world.specs.Steps.{accept as accept_event, take_to, device_call, settle, read_order, release as release_output};
+    ghost use Rattle.spec_model.specs.Histories.{History};
+    ghost use Rattle.spec_world.specs.Runs.{HasJustBegun};
     ghost use Rattle.spec_world.specs.World.{World};
+    ghost use Rattle.opening.specs.Told.{told};
     ghost use Rattle.validator.specs.Setting.{node_of};
     ghost use Rattle.opening.specs.Laws.{IsOpening};
     ghost use Rattle.desk.specs.Desk.{IsOpened, IsNotOpened};
@@ -72,6 +75,9 @@ impl<'a, S: Sign, D: Disk> Desk<'a, S, D> {
         ensures setting { IfOk result (λ desk. desk.book.validator.setting ≡ config.now) }
         ensures ok { IfOk result (λ desk. IsOpened (node_of S.scheme config.now) D.device (D.device.content disk) desk) }
         ensures err { IfErr result (λ failed. IsNotOpened (node_of S.scheme config.now) failed.error (D.device.content disk) (D.device.outcome disk) (D.device.outcome failed.disk)) }
+        // It stands in each world in which a run has just begun with what the disk is read as. Each legal history begins some run.
+        ensures world { let node = node_of S.scheme config.now in IfOk result (λ desk. (world : World) (history : History) → HasJustBegun node world history
+            → told node (D.device.content disk) ≡ Ok history → IsAt node D.device world desk) }
         // Its errors, and what a stop at any moment of it leaves.
         ensures opening { IsOpening (node_of S.scheme config.now) D.device (λ desk. disk_of desk.journal) disk result }
     {
@@ -161,7 +167,7 @@ impl<'a, S: Sign, D: Disk> Desk<'a, S, D> {
         self.book.release()
     }
 
-    /// The order behind the settled records, from this place on. It is empty past its end.
+    /// The order after the settled records, from this place on. It is empty past its end.
     ///
     /// # Errors
     /// `Down` exactly where the desk is down, `Memory` where an allocation failed.
@@ -177,7 +183,7 @@ impl<'a, S: Sign, D: Disk> Desk<'a, S, D> {
         self.book.order(from)
     }
 
-    /// The validator's round, behind all that was accepted.
+    /// The validator's round, after all that was accepted.
     pub fn round_now(&self) -> u64
         ensures { let node = node_of S.scheme self.now.book.validator.setting in (run : Run) → Stands node run self.now.book
             → result ≡ round_of node (history_in run) }
@@ -194,7 +200,7 @@ impl<'a, S: Sign, D: Disk> Desk<'a, S, D> {
         self.book.validator().ready(event)
     }
 
-    /// The header that the node proposes, behind all that was accepted. None where its round has an own header, or is past
+    /// The header that the node proposes, after all that was accepted. None where its round has an own header, or is past
     /// `Round::MAX`. `AllocError` where an allocation failed.
     pub fn propose(&self) -> Result<Option<Header>, AllocError>
         ensures { let node = node_of S.scheme self.now.book.validator.setting in IfOk result (λ found. (run : Run) → Stands node run self.now.book

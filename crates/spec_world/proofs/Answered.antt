@@ -39,7 +39,7 @@ abbrev start_of : Output → ℕ
 start_of (output.Order start digests) = start
 start_of _ = 0
 
--- where all pieces of the order are those behind a place, each begins behind it
+-- where all pieces of the order are those after a place, each begins after it
 pieces_behind : (node : Node) (before : History) (event : Event) (digests : List Digest) (outputs : List Output) → filter is_order outputs ≡ pieces (length (order node before)) digests
     → (o : Output) → Contains outputs o → BeginsBehind node (before ++ event ∷ []) o
 pieces_behind node before event digests outputs are (output.Order start piece) inside =

@@ -53,7 +53,7 @@ with_four n rest are = joined (to_be_bytes w32 n) rest (number_bytes 4 n) are
 with_eight : (n : ℕ) (rest : List ℕ) → AreBytes rest → AreBytes (to_be_bytes w64 n ++ rest)
 with_eight n rest are = joined (to_be_bytes w64 n) rest (number_bytes 8 n) are
 
--- what is made of elements, one behind the other
+-- what is made of elements, one after the other
 in_turn : {X : Type 0} (P : X → Type 0) (f : X → List ℕ) → ((x : X) → P x → AreBytes (f x)) → (xs : List X) → All P xs → AreBytes (flat_map f xs)
 in_turn P f each [] all = All-nil (λ b. b < 256)
 in_turn P f each (x ∷ xs) all = joined (f x) (flat_map f xs) (each x (All-head P x xs all)) (in_turn P f each xs (All-tail P x xs all))
@@ -146,7 +146,7 @@ configuration_are version node keys =
 
 -- ---- groups
 
--- a record behind its length
+-- a record after its length
 framed : (bytes : List ℕ) → AreBytes bytes → AreBytes (record_bytes bytes)
 framed bytes are = with_four (length bytes) bytes are
 

@@ -40,7 +40,7 @@ scanned : (file : List ℕ) (records : List Record) → stands file ≡ Ok recor
 unfolding stands
 scanned file records is = read_of (scan file) records is
 
--- an opening cuts what lies behind the closed gate
+-- an opening cuts what lies after the closed gate
 openable : (node : Node) (file : List ℕ) (history : History) → Holds node file history → AreBytes file → (bytes : List ℕ) × IsOpened node bytes history
 openable node file history held are_bytes =
     let found = scanned file held.records held.stands_for in
@@ -84,11 +84,11 @@ stops_are_possible node moves world sound run =
 
 -- ---- what is accepted can be settled
 
--- behind a device call
+-- after a device call
 abbrev called_on : World → Call → World
 called_on world call = record world { calls = world.calls ++ call ∷ []; phase = next_phase world.phase }
 
--- what the disk comes to behind the four calls
+-- what the disk comes to after the four calls
 append_ends : (file : List ℕ) (ends : EndsClosed file) (group : List (List ℕ)) → FitsGroup group → (one : World) → group_in one ≡ group → state one.bytes_at_start one.calls ≡ firmed file
     → let two = called_on one (Wrote (length (content_in one)) (group_bytes group)) in
     let three = called_on two Synced in
@@ -169,7 +169,7 @@ one_call : (world next : World) (phase : Phase) (step : IsCalled world next) →
 one_call world next phase step is =
     ap (λ (p : Phase). call_in p (content_in world) (group_in world)) (sym is) ∙ due_group world.groups world.phase (content_in world) step.call step.due
 
--- what a read gives behind it
+-- what a read gives after it
 content_next : (world next : World) (step : IsCalled world next) → content_in next ≡ (after (state world.bytes_at_start world.calls) step.call).content
 content_next world next step = ap content_in step.is ∙ ap (λ (s : State). s.content) (after_all-push (firmed world.bytes_at_start) world.calls step.call)
 

@@ -26,7 +26,7 @@ pub first_and_others : (world : World) → taken_in world ≡ with_first world +
 first_and_others world =
     ap (λ l. world.settled ++ l) (events_split world.groups) ∙ sym (append_assoc world.settled (first_of world.groups) (events_of (drop 1 world.groups)))
 
--- a group that is taken stands behind what was taken
+-- a group that is taken stands after what was taken
 pub taken_more : (world : World) (count : ℕ) → Begins (taken_in world) world.accepted → 1 ≤ length (group_to world count) → world.settled
     ++ events_of (world.groups ++ group_to world count ∷ []) ≡ take count world.accepted
 taken_more world count begins some =

@@ -80,7 +80,7 @@ given_stays node world (restart found) next step = same_given world next (ap (λ
 
 -- ---- each event came in by a move
 
--- an event behind a step was there before it, or came in by it
+-- an event after a step was there before it, or came in by it
 abbrev CameBy : World → Move → Event → Type 0
 CameBy world move event = Contains (world.began ++ world.accepted) event ⊎ (move ≡ accept event)
 

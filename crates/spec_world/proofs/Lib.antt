@@ -14,3 +14,5 @@ pub mod Lasting
 mod Agreeing
 pub mod Filling
 pub mod Scripts
+mod Sizes
+pub mod Histories

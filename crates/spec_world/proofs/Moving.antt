@@ -40,7 +40,7 @@ due_all node began accepted ticket outputs within put =
     (All-weaker (IsPut node (began ++ take ticket accepted)) (λ o. IsDue node began accepted (record { ticket = ticket; output = o }))
     (λ o is. record { within = within; put = is }) outputs put)
 
--- what was due is so behind one event more
+-- what was due is so after one event more
 still_due : (node : Node) (began accepted : History) (event : Event) (waiting : Waiting) → IsDue node began accepted waiting → IsDue node began (accepted ++ event ∷ []) waiting
 still_due node began accepted event waiting due = record {
   within = omega (arith, due.within, length_push accepted event);

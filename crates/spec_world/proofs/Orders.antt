@@ -52,12 +52,12 @@ shorter_by_one one more before last is some =
 
 -- ---- what ends a history
 
--- an order in an output begins behind that from before the event that ends its history
+-- an order in an output begins after that from before the event that ends its history
 abbrev pub BeginsBehind : Node → History → Output → Type 0
 BeginsBehind node history (output.Order start digests) = (before : History) × (event : Event) × (history ≡ before ++ event ∷ []) × (length (order node before) ≤ start)
 BeginsBehind node history _ = Unit {0}
 
--- an output may be given out at a history, and begins behind what was put out of the order before
+-- an output may be given out at a history, and begins after what was put out of the order before
 pub record IsPut (node : Node) (history : History) (output : Output) : Type 0 where
   pub by : WasPutOut node history output
   pub may : MayGive node history output

@@ -25,7 +25,7 @@ bytes_of-kept : (gate : ℕ) (group : List (List ℕ)) → bytes_of (kept gate g
 bytes_of-kept gate [] = refl
 bytes_of-kept gate (bytes ∷ group) = ap (λ (l : List (List ℕ)). bytes ∷ l) (bytes_of-kept gate group)
 
--- a record with its gate behind place 0
+-- a record with its gate after place 0
 abbrev IsBehind : Record → Type 0
 IsBehind one = 0 < one.gate
 

@@ -28,7 +28,7 @@ use Rattle.spec_world.proofs.Standing.{settled_accepted}
 
 -- ---- longer runs
 
--- moves behind moves
+-- moves after moves
 pub leads_join : (node : Node) (world : World) (one two : List Move) (middle last : World) → Leads node world one middle → Leads node middle two last → Leads node world (one ++ two) last
 leads_join node world [] two middle last same more = subst (λ (w : World). Leads node w two last) (sym same) more
 leads_join node world (move ∷ one) two middle last leads more = (leads.0, leads.1, leads_join node leads.0 one two middle last leads.2 more)

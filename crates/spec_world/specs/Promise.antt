@@ -38,7 +38,7 @@ vote_given (read digests) = None
 
 -- ---- orders
 
--- the order that was given out, if it is one, at a history with this order: a read is the whole order, an output its digests behind
+-- the order that was given out, if it is one, at a history with this order: a read is the whole order, an output its digests after
 -- what that has before their place
 abbrev pub order_given : List Digest → Outgoing → Option (List Digest)
 order_given order (put_out (output.Order start digests)) = Some (take start order ++ digests)
@@ -73,7 +73,7 @@ pub record IsRecovered (node : Node) (world : World) (history : History) : Type 
   pub without_group : world.groups ≡ [] → history ≡ world.began ++ world.settled
 
 -- what this run took, which is what it settled and the groups on their way, it had accepted, in that order; all of it is a legal
--- history, behind what the run began with
+-- history, after what the run began with
 pub record IsInOrder (node : Node) (world : World) : Type 0 where
   pub taken : Begins (taken_in world) world.accepted
   pub legal : IsLegal node (world.began ++ world.accepted)

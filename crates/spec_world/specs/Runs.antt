@@ -3,6 +3,7 @@ use Rattle.std.specs.Prelude.{◌≡◌, ◌≤◌, ℕ, zero, suc, List, [], �
 use Rattle.journal.specs.Format.{FitsGroup, file_with}
 use Rattle.journal.specs.Journal.{append_calls}
 use Rattle.journal.specs.declared.layout.TheConstants.{CLOSED}
+use Rattle.spec_model.specs.Admitting.{IsLegal}
 use Rattle.spec_model.specs.Histories.{History}
 use Rattle.spec_model.specs.Nodes.{Node, IsNode}
 use Rattle.spec_records.specs.Records.{record_of, configuration_of}
@@ -36,6 +37,16 @@ RunsGoOn = (node : Node) (moves : List Move) (world : World) (found : List ℕ) 
 abbrev pub RunsBeginWithWhatStands : Type 0
 RunsBeginWithWhatStands = (node : Node) (moves : List Move) (world : World) (found : List ℕ) (history : History) → IsNode node → IsRun node moves world → MayStop world found
     → StandsFor node found history → (next : World) × IsStep node world (restart found) next × (next.began ≡ history) × (next.given ≡ world.given)
+
+-- a world in which a run of the node has just begun with this history
+pub record HasJustBegun (node : Node) (world : World) (history : History) : Type 0 where
+  pub moves : List Move
+  pub run : IsRun node moves world
+  pub is : world ≡ run_on world.bytes_at_start history world.given
+
+-- each legal history is one with which some run begins
+abbrev pub HistoriesBegin : Type 0
+HistoriesBegin = (node : Node) (history : History) → IsLegal node history → AreKeys node → (world : World) × HasJustBegun node world history
 
 -- the accepted events up to so many are settled, no group is on its way, and the disk has what is settled, which is its file with one
 -- group more; nothing else changed

@@ -47,7 +47,7 @@ abbrev pub ScriptsAreRuns : Type 0
 ScriptsAreRuns = (node : Node) (moves : List Move) (world : World) (desk : Desk) (commands : List Command) → IsNode node → IsRun node moves world → IsAtDesk world desk
     → All (IsTakenIn node) commands → GivesOutText node moves world desk commands
 
--- a run that has just begun stands at the desk on its history: on an empty disk that is the one of no event, and behind a stop that of
+-- a run that has just begun stands at the desk on its history: on an empty disk that is the one of no event, and after a stop that of
 -- what it left
 abbrev pub ScriptsBegin : Type 0
 ScriptsBegin = (bytes : List ℕ) (began : History) (given : List Given) → IsAtDesk (run_on bytes began given) (desk_on began)

@@ -47,7 +47,7 @@ IsAnswered world event (New outputs) next = next ≡ with_new world event output
 IsAnswered world event (Known outputs) next = next ≡ with_known world outputs
 IsAnswered world event (Refused refusal) next = ⊥
 
--- behind a device call
+-- after a device call
 abbrev pub next_phase : Phase → Phase
 next_phase not_begun = group_written
 next_phase group_written = group_synced
@@ -68,7 +68,7 @@ pub record IsAccepted (node : Node) (world : World) (event : Event) (next : Worl
 abbrev pub group_to : World → ℕ → History
 group_to world count = drop (length (taken_in world)) (take count world.accepted)
 
--- so many of the accepted events are taken, and those that weren't are a group behind the ones on their way: any that fits, not the
+-- so many of the accepted events are taken, and those that weren't are a group after the ones on their way: any that fits, not the
 -- longest one alone
 pub record IsTakenTo (world : World) (count : ℕ) (next : World) : Type 0 where
   pub fits : FitsGroup (map record_of (group_to world count))
@@ -80,7 +80,7 @@ pub record IsCalled (world : World) (next : World) : Type 0 where
   pub due : next_call world ≡ Some call
   pub is : next ≡ record world { calls = world.calls ++ call ∷ []; phase = next_phase world.phase }
 
--- behind the last device call the first group is settled, and the append of the next one can begin
+-- after the last device call the first group is settled, and the append of the next one can begin
 pub record IsSettled (world : World) (next : World) : Type 0 where
   pub done : world.phase ≡ gate_synced
   pub is : next ≡ record world { settled = world.settled ++ first_of world.groups; groups = drop 1 world.groups; phase = not_begun }
@@ -92,7 +92,7 @@ pub record IsReleased (world : World) (waiting : Waiting) (next : World) : Type 
   pub is : next ≡ with_given world (put_out waiting.output) (world.began ++ take waiting.ticket world.accepted)
 
 -- a new run begins on what the stop left, with events for which that stands. Openings that fail, or are stopped themselves, belong to
--- the same step, as does an opening behind a device call that failed; the bytes are any that are opened
+-- the same step, as does an opening after a device call that failed; the bytes are any that are opened
 pub record IsRestarted (node : Node) (world : World) (found : List ℕ) (next : World) : Type 0 where
   pub left : MayStop world found
   pub stands_for : StandsFor node found next.began

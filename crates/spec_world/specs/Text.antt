@@ -56,7 +56,7 @@ with_answer desk event (Refused refusal) = desk
 abbrev pub fits_group : List (List ℕ) → Bool
 fits_group records = nat_le 1 (length records) && (nat_le (length records) MAX_GROUP_RECORDS && nat_le (body_len records) MAX_GROUP_BYTES)
 
--- a group of events with more of these behind it, for as long as the records fit
+-- a group of events with more of these after it, for as long as the records fit
 unfoldable pub filled : History → History → History
 filled group [] = group
 filled group (event ∷ events) = if fits_group (map record_of (group ++ event ∷ [])) then filled (group ++ event ∷ []) events else group
@@ -91,16 +91,16 @@ without_due desk = record desk { waiting = filter (λ waiting. not (is_due desk 
 abbrev pub frames : List Waiting → List ℕ
 frames waiting = flat_map (λ one. frame_of one.output) waiting
 
--- the desk behind a command, when what is due was written
+-- the desk after a command, when what is due was written
 abbrev pub carried_out : Node → Desk → Command → Desk
 carried_out node desk command = without_due (after node desk command)
 
--- what the commands write: behind each of them the outputs that are due, in their order
+-- what the commands write: after each of them the outputs that are due, in their order
 unfoldable pub text : Node → Desk → List Command → List ℕ
 text node desk [] = []
 text node desk (command ∷ commands) = frames (due (after node desk command)) ++ text node (carried_out node desk command) commands
 
--- the desk behind all of them
+-- the desk after all of them
 unfoldable pub desk_behind : Node → Desk → List Command → Desk
 desk_behind node desk [] = desk
 desk_behind node desk (command ∷ commands) = desk_behind node (carried_out node desk command) commands

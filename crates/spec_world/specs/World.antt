@@ -21,7 +21,7 @@ use Rattle.journal.specs.declared.version.Version.{Version}
 pub data Phase : Type 0 where
   -- nothing of the group is written, or there is none
   not_begun : Phase
-  -- it was written behind the file's closed gate
+  -- it was written after the file's closed gate
   group_written : Phase
   -- that is synced
   group_synced : Phase
@@ -48,7 +48,7 @@ pub record Given : Type 0 where
 pub record World : Type 0 where
   -- the history with which this run began
   pub began : History
-  -- the events that this run accepted, oldest first; of these those that are settled on the disk, and behind them the groups that were
+  -- the events that this run accepted, oldest first; of these those that are settled on the disk, and after them the groups that were
   -- taken and are on their way there, oldest first: the append is at the first of them
   pub accepted : History
   pub settled : History
@@ -111,7 +111,7 @@ group_in world = map record_of (first_of world.groups)
 abbrev pub content_in : World → List ℕ
 content_in world = (state world.bytes_at_start world.calls).content
 
--- the next device call of an append, by what a read of the disk gives and by the group: the group is written behind the file's end; a
+-- the next device call of an append, by what a read of the disk gives and by the group: the group is written after the file's end; a
 -- sync; the gate before the group is opened, in a write of its own; a sync
 abbrev pub call_in : Phase → List ℕ → List (List ℕ) → Option Call
 call_in not_begun content group = Some (Wrote (length content) (group_bytes group))

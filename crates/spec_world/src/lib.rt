@@ -4,7 +4,7 @@
 
 ghost use Rattle.spec_world.specs.Lasting.{SettledGrows, GivenStays, EventsCameIn, GivenVotesAreSettled, GivenOrdersAreSettled};
 ghost use Rattle.spec_world.specs.Promise.{NothingTakenBack, WhatGoesOutAgrees};
-ghost use Rattle.spec_world.specs.Runs.{RunsBegin, StopsArePossible, RunsGoOn, RunsBeginWithWhatStands, GroupsSettle, AppendsMakeCalls};
+ghost use Rattle.spec_world.specs.Runs.{RunsBegin, StopsArePossible, RunsGoOn, RunsBeginWithWhatStands, HistoriesBegin, GroupsSettle, AppendsMakeCalls};
 ghost use Rattle.spec_world.specs.Scripts.{ScriptsAreRuns, ScriptsBegin};
 
 /// Over every list of runs of one node, in every interleaving of accepts, takes, writes, syncs, settlements and
@@ -34,6 +34,12 @@ pub fn runs_go_on()
 /// That run begins with the history for which the bytes stand, and nothing that was given out is forgotten.
 pub fn runs_begin_with_what_stands()
     ensures { RunsBeginWithWhatStands }
+{}
+
+/// Each legal history is one with which some run begins, of a node whose keys have 32 bytes each. So what is said of each run that has
+/// just begun with what a disk is read as is said of some run.
+pub fn histories_begin()
+    ensures { HistoriesBegin }
 {}
 
 /// Accepted events that fit a group can be settled, where no group is on its way: taken, written, synced, their gate opened
@@ -79,7 +85,7 @@ pub fn what_goes_out_agrees()
 {}
 
 /// Every text of a script is what some run gives out: wherever a run stands at a script's desk, it goes on by moves and gives
-/// out the text of the commands, as frames, and nothing else, and stands at the desk behind them.
+/// out the text of the commands, as frames, and nothing else, and stands at the desk after them.
 pub fn scripts_are_runs()
     ensures { ScriptsAreRuns }
 {}

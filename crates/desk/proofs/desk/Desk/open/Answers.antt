@@ -7,6 +7,7 @@ use Rattle.validator.specs.Standing.{AreAtSound}
 use Rattle.book.specs.Book.{Stands, run_on}
 use Rattle.book.specs.OnTheWay.{StandsAtLegal}
 use Rattle.journal.specs.Journal.{disk_of}
+use Rattle.desk.proofs.Worlds.{opened_at}
 use Rattle.desk.proofs.Openings.{opened_of, not_opened_of, legal_of, nothing_taken}
 use Rattle.desk.proofs.desk.Desk.open.Goals as goal
 
@@ -35,6 +36,13 @@ returns-in-Ok-clause-ok g c =
     → Stands (node_of g.S.Sign.scheme s) (run_on began) book) c.in-Ok.ensures.setting c.new.ensures.stands in
     opened_of node g.D.Disk.device (g.D.Disk.device.content c.args.disk) validator.tables book c.in-Ok.journal c.in-Ok.ensures.stands stands
     c.new.ensures.queue c.new.ensures.up c.in-Ok.ensures.alive c.in-Ok.ensures.configured c.in-Ok.ensures.same
+
+pub returns-in-Ok-clause-world : goal.returns-in-Ok-clause-world
+returns-in-Ok-clause-world g c = λ world history begun is.
+    let node = node_of g.S.Sign.scheme c.args.config.now in
+    let bytes = g.D.Disk.device.content c.args.disk in
+    let opened = returns-in-Ok-clause-ok g c in
+    opened_at node g.D.Disk.device bytes _ opened.is_of.stands_at.legal.sound opened begun.moves world begun.run history is begun.is
 
 pub returns-in-Ok-clause-opening : goal.returns-in-Ok-clause-opening
 returns-in-Ok-clause-opening g c =

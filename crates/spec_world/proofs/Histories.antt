@@ -1,0 +1,116 @@
+-- Each legal history is where some run begins.
+use Rattle.std.proofs.Common.{◌≡◌, ℕ, ◌+◌, true, List, [], ◌∷◌, ◌++◌, length, map, take, drop, refl, sym, ap, ◌∙◌, subst, arith, length-append}
+use Rattle.std.specs.Prelude.{IsTrue}
+use Rattle.std.proofs.lemmas.List.{append-nil}
+use Rattle.header.specs.declared.admission.Admission.{Admission}
+use Rattle.header.specs.declared.admission.Admission.TheVariants.{New, Known, Refused}
+use Rattle.journal.specs.Format.{FitsGroup}
+use Rattle.spec_laws.proofs.Legal.{Adds, legal-induction}
+use Rattle.spec_model.specs.Admitting.{admit, is_new, IsLegal}
+use Rattle.spec_model.specs.Histories.{History}
+use Rattle.spec_model.specs.Nodes.{Node, IsNode}
+use Rattle.spec_model.specs.Words.{Event}
+use Rattle.spec_records.specs.Records.{record_of}
+use Rattle.spec_world.specs.World.{World, StandsFor, content_in, events_of, taken_in, run_on}
+use Rattle.spec_world.specs.Steps.{Move, accept, take_to, device_call, settle, restart, with_new, group_to, IsAccepted, IsAnswered, Leads, IsRun}
+use Rattle.spec_world.specs.Runs.{AreKeys, first_bytes, HasJustBegun, HistoriesBegin}
+use Rattle.spec_world.proofs.Beginning.{runs_begin}
+use Rattle.spec_world.proofs.GoingOn.{stops_are_possible, runs_begin_with_what_stands, groups_settle}
+use Rattle.spec_world.proofs.Law.{nothing_taken_back}
+use Rattle.spec_world.proofs.Scripts.{leads_join, run_more}
+use Rattle.spec_world.proofs.Sizes.{event_fits}
+
+-- where no group is in flight, what is settled stands on the disk
+pub settled_stands : (node : Node) (moves : List Move) (world : World) → IsNode node → IsRun node moves world → world.groups ≡ [] → StandsFor node (content_in world) (world.began ++ world.settled)
+settled_stands node moves world sound run idle =
+    let law = nothing_taken_back node moves world sound run in
+    let may = stops_are_possible node moves world sound run in
+    let found = law.stands (content_in world) may in
+    let recovered = law.recovered (content_in world) found.0 may found.1 in
+    subst (StandsFor node (content_in world)) (recovered.without_group idle) found.1
+
+-- a run that began with nothing, and has accepted and settled these events
+record HasSettled (node : Node) (history : History) : Type 0 where
+  pub moves : List Move
+  pub world : World
+  pub run : IsRun node moves world
+  pub began : world.began ≡ []
+  pub accepted : world.accepted ≡ history
+  pub settled : world.settled ≡ history
+  pub idle : world.groups ≡ []
+
+new_of : (answer : Admission) → is_new answer ≡ true → (world : World) (event : Event) → (next : World) × IsAnswered world event answer next
+    × (next.accepted ≡ world.accepted ++ event ∷ []) × (next.settled ≡ world.settled) × (next.groups ≡ world.groups) × (next.began ≡ world.began)
+new_of (New outputs) new world event = (with_new world event outputs, refl, refl, refl, refl, refl)
+new_of (Known outputs) new world event = absurd cc
+new_of (Refused why) new world event = absurd cc
+
+-- all of a list, and what follows as many as there are in front
+take_all : (history : History) → take (length history) history ≡ history
+take_all [] = refl
+take_all (first ∷ history) = ap (λ l. first ∷ l) (take_all history)
+
+drop_front : (history : History) (event : Event) → drop (length history) (history ++ event ∷ []) ≡ event ∷ []
+drop_front [] event = refl
+drop_front (first ∷ history) event = drop_front history event
+
+-- with one more
+one_more : (node : Node) (history : History) (event : Event) → IsNode node → Adds node history event → HasSettled node history → HasSettled node (history ++ event ∷ [])
+one_more node history event sound adds so_far =
+    let world = so_far.world in
+    let all : world.began ++ world.accepted ≡ history = (λ i. so_far.began i ++ so_far.accepted i) in
+    let new : is_new (admit node (world.began ++ world.accepted) event) ≡ true = ap (λ (h : History). is_new (admit node h event)) all ∙ adds.new in
+    let next = new_of (admit node (world.began ++ world.accepted) event) new world event in
+    let leads : Leads node world (accept event ∷ []) next.0 = (next.0, record { is_taken = adds.taken; is = next.1 }, refl) in
+    let run = run_more node so_far.moves (accept event ∷ []) world next.0 so_far.run leads in
+    let accepted : next.0.accepted ≡ history ++ event ∷ [] = next.2 ∙ ap (λ (l : History). l ++ event ∷ []) so_far.accepted in
+    let idle : next.0.groups ≡ [] = next.4 ∙ so_far.idle in
+    let taken : taken_in next.0 ≡ history = (λ i. (next.3 ∙ so_far.settled) i ++ events_of (idle i)) ∙ append-nil history in
+    let longer = history ++ event ∷ [] in
+    let count = length longer in
+    let group : group_to next.0 count ≡ event ∷ [] =
+    (λ i. drop (length (taken i)) (take count (accepted i))) ∙ ap (drop (length history)) (take_all longer) ∙ drop_front history event in
+    let fits : FitsGroup (map record_of (group_to next.0 count)) = subst (λ (l : History). FitsGroup (map record_of l)) (sym group) (event_fits event adds.taken.message) in
+    let there = groups_settle node (so_far.moves ++ accept event ∷ []) next.0 count sound run idle fits in
+    let steps = take_to count ∷ device_call ∷ device_call ∷ device_call ∷ device_call ∷ settle ∷ [] in
+    record {
+      moves = (so_far.moves ++ accept event ∷ []) ++ steps;
+      world = there.0;
+      run = run_more node (so_far.moves ++ accept event ∷ []) steps next.0 there.0 run there.1;
+      began = there.2.began ∙ next.5 ∙ so_far.began;
+      accepted = there.2.accepted ∙ accepted;
+      settled = there.2.settled ∙ ap (take count) accepted ∙ take_all longer;
+      idle = there.2.groups;
+    }
+
+all_settled : (node : Node) (history : History) → IsLegal node history → AreKeys node → HasSettled node history
+all_settled node history legal keys =
+    legal-induction node (HasSettled node)
+    (record {
+      moves = [];
+      world = run_on (first_bytes node) [] [];
+      run = runs_begin node legal.sound keys;
+      began = refl;
+      accepted = refl;
+      settled = refl;
+      idle = refl;
+    })
+    (λ so_far event adds settled. one_more node so_far event legal.sound adds settled) history legal
+
+pub histories_begin : HistoriesBegin
+histories_begin node history legal keys =
+    let settled = all_settled node history legal keys in
+    let world = settled.world in
+    let found = content_in world in
+    let all : world.began ++ world.settled ≡ history = (λ i. settled.began i ++ settled.settled i) in
+    let stands : StandsFor node found history = subst (StandsFor node found) all (settled_stands node settled.moves world legal.sound settled.run settled.idle) in
+    let there = runs_begin_with_what_stands node settled.moves world found history legal.sound settled.run
+    (stops_are_possible node settled.moves world legal.sound settled.run) stands in
+    let next = there.0 in (
+      next,
+      record {
+        moves = settled.moves ++ restart found ∷ [];
+        run = run_more node settled.moves (restart found ∷ []) world next settled.run (next, there.1, refl);
+        is = there.1.is ∙ (λ i. run_on next.bytes_at_start (there.2 i) (sym there.3 i));
+      },
+    )
