@@ -60,7 +60,7 @@ journal_read node (first ∷ events) history is =
     let read = unless_ok (first_fault node first events) (read_events node [] events) history (sym (journal_cons node first events) ∙ is) in
     omega (arith, events_read node [] history events read)
 
--- what bytes are told as has an event for each record behind the first
+-- what bytes are told as has an event for each record after the first
 pub told_length : (node : Node) (bytes : List ℕ) (records : List Record) (history : History) → stands bytes ≡ Ok records → told node bytes ≡ Ok history → length records - 1 ≡ length history
 told_length node bytes records history is told_as = journal_read node records history (sym (told_records node bytes records is) ∙ told_as)
 

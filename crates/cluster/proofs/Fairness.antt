@@ -7,7 +7,6 @@ use Rattle.std.specs.List.{list_any}
 use Rattle.std.specs.Option.{option_map_or}
 use Rattle.book.specs.declared.own.error.FlushError.TheVariants as errors
 use Rattle.desk.specs.AtWorld.{IsStop}
-use Rattle.desk.specs.Desk.{DeskView}
 use Rattle.header.specs.Checks.{fault_of}
 use Rattle.spec_cluster.proofs.Unforged.{vote_unforged, certificate_unforged}
 use Rattle.spec_cluster.specs.Cluster.{Cluster, Worlds, Turn, AreMembers, IsReached}
@@ -21,15 +20,18 @@ use Rattle.spec_world.specs.Steps.{Move, accept, release}
 use Rattle.spec_world.specs.World.{World, Waiting, Outgoing, put_out, read, Given}
 use Rattle.wire.specs.declared.message.Message.TheVariants as message
 use Rattle.wire.specs.declared.output.Output.TheVariants as output
-use Rattle.cluster.specs.Answers.{TakesIn, MakesRound, Stops}
+use Rattle.cluster.specs.Answers.{Deed, TakesIn, MakesRound, Stops, Does}
 use Rattle.cluster.specs.Applying.{handed_in, signed_by, NoneForged, StandsAmong}
-use Rattle.cluster.specs.Cluster.{message_at, Does}
+use Rattle.cluster.specs.Cluster.{message_at, asked_in}
 use Rattle.cluster.specs.Member.{MemberView, going_out}
 use Rattle.cluster.specs.Outputs.{message_of, output_in, outputs_in}
 use Rattle.cluster.specs.declared.moves.Applied.{Applied}
 use Rattle.cluster.specs.declared.moves.Applied.TheVariants.{Took, Refused, Unchecked, Settled, Fault, Reopened}
 use Rattle.cluster.specs.declared.moves.Move as moves
-use Rattle.cluster.specs.declared.moves.Move.TheVariants.{Deliver, Give, Coin, Flush, Stop}
+use Rattle.cluster.specs.declared.moves.Move.TheVariants as step
+use Rattle.cluster.specs.declared.moves.Move.TheVariants.{Deliver, Give, Coin, Flush}
+use Rattle.cluster.specs.declared.moves.Request.{Request}
+use Rattle.cluster.specs.declared.moves.Request.TheVariants.{Take, Round, Stop}
 use Rattle.cluster.proofs.InTurn.{ArePlain, MayLead, plain_may}
 use Rattle.diskmodel.specs.Disk.{Device}
 use Rattle.sigface.specs.Scheme.{Scheme}
@@ -56,7 +58,7 @@ is_put_out (read digests) out inside = absurd (Contains-nothing out inside)
 
 -- ---- the moves of a member's world
 
--- what goes out behind a move lets no event in
+-- what goes out after a move lets no event in
 pub going_plain : (down : Bool) (went : List Waiting) → ArePlain (going_out down went)
 going_plain true went = tt
 going_plain false went = (tt, releases went)
@@ -70,31 +72,31 @@ stop_plain world moves (found, inl same) = subst ArePlain (sym same) (tt, tt)
 stop_plain world moves (found, inr same) = subst ArePlain (sym same) (tt, (tt, (tt, (tt, (tt, tt)))))
 
 module _ {S D : Type 0} (device : Device D) where
-  round_plain : (own : Node) (world : World) (applied : Applied) (moves : List Move) (before later : DeskView S D) → MakesRound own device world applied moves before later → ArePlain moves
-  round_plain own world (Settled count) moves before later round = by_pending before.book.pending refl
+  round_plain : (own : Node) (applied : Applied) (deed : Deed S D) → MakesRound own device applied deed → ArePlain deed.moves
+  round_plain own (Settled count) deed round = by_pending deed.before.book.pending refl
     where
-      by_pending : (pending : List (List ℕ)) → before.book.pending ≡ pending → ArePlain moves
+      by_pending : (pending : List (List ℕ)) → deed.before.book.pending ≡ pending → ArePlain deed.moves
       by_pending [] is = subst ArePlain (sym (round.idle is).2) tt
       by_pending (first ∷ rest) is = subst ArePlain (sym (round.by (λ none. some_none (sym is ∙ none)))) (tt, (tt, (tt, (tt, (tt, (tt, tt))))))
         where
           some_none : first ∷ rest ≡ [] → ⊥
           some_none same = cc
-  round_plain own world (Fault errors.Memory) moves before later round = subst ArePlain (sym (round.unchanged (inr refl)).1) tt
-  round_plain own world (Fault errors.Down) moves before later round = subst ArePlain (sym (round.unchanged (inl refl)).1) tt
-  round_plain own world (Fault errors.Full) moves before later round = subst ArePlain (sym (round.taken_down (inl refl)).by) (tt, tt)
-  round_plain own world (Fault errors.Device) moves before later round = subst ArePlain (sym (round.taken_down (inr refl)).by) (tt, tt)
-  round_plain own world (Took ticket new) moves before later round = absurd round
-  round_plain own world (Refused why) moves before later round = absurd round
-  round_plain own world (Unchecked error) moves before later round = absurd round
-  round_plain own world (Reopened count) moves before later round = absurd round
+  round_plain own (Fault errors.Memory) deed round = subst ArePlain (sym (round.unchanged (inr refl)).1) tt
+  round_plain own (Fault errors.Down) deed round = subst ArePlain (sym (round.unchanged (inl refl)).1) tt
+  round_plain own (Fault errors.Full) deed round = subst ArePlain (sym (round.taken_down (inl refl)).by) (tt, tt)
+  round_plain own (Fault errors.Device) deed round = subst ArePlain (sym (round.taken_down (inr refl)).by) (tt, tt)
+  round_plain own (Took ticket new) deed round = absurd round
+  round_plain own (Refused why) deed round = absurd round
+  round_plain own (Unchecked error) deed round = absurd round
+  round_plain own (Reopened count) deed round = absurd round
 
-  stops_plain : (own : Node) (world : World) (applied : Applied) (moves : List Move) (before later : DeskView S D) → Stops own device world applied moves before later → ArePlain moves
-  stops_plain own world (Reopened count) moves before later stop = stop_plain world moves stop.by
-  stops_plain own world (Took ticket new) moves before later stop = absurd stop
-  stops_plain own world (Refused why) moves before later stop = absurd stop
-  stops_plain own world (Unchecked error) moves before later stop = absurd stop
-  stops_plain own world (Settled count) moves before later stop = absurd stop
-  stops_plain own world (Fault error) moves before later stop = absurd stop
+  stops_plain : (own : Node) (applied : Applied) (deed : Deed S D) → Stops own device applied deed → ArePlain deed.moves
+  stops_plain own (Reopened count) deed stop = stop_plain deed.world deed.moves stop.by
+  stops_plain own (Took ticket new) deed stop = absurd stop
+  stops_plain own (Refused why) deed stop = absurd stop
+  stops_plain own (Unchecked error) deed stop = absurd stop
+  stops_plain own (Settled count) deed stop = absurd stop
+  stops_plain own (Fault error) deed stop = absurd stop
 
   module _ (scheme : Scheme S) (cluster : Cluster) (value : ℕ → ℕ) (worlds : Worlds) (members : List (MemberView S D))
       (stand : (number : Author) → cluster.honest number.0 ≡ true → StandsAmong scheme device members number (cluster.node number.0) (worlds number.0)) where
@@ -148,39 +150,53 @@ module _ {S D : Type 0} (device : Device D) where
               given_fair from.0 honest found.0 found.1 out (is_put_out found.0.outgoing out found.2) m same
 
       module _ (own : Node) (charter : own.charter ≡ cluster.charter) where
-        takes_may : (event : Event) (applied : Applied) (moves : List Move) (before later : DeskView S D) → TakesIn own cluster.accepts event applied moves before later
-            → (fault_of cluster.charter cluster.accepts event ≡ None → IsFair cluster value worlds (accept event)) → MayLead cluster value worlds moves
-        takes_may event (Took ticket new) moves before later takes fair =
+        takes_may : (event : Event) (applied : Applied) (deed : Deed S D) → TakesIn own cluster.accepts event applied deed
+            → (fault_of cluster.charter cluster.accepts event ≡ None → IsFair cluster value worlds (accept event)) → MayLead cluster value worlds deed.moves
+        takes_may event (Took ticket new) deed takes fair =
             let passed : fault_of cluster.charter cluster.accepts event ≡ None = subst (λ c. fault_of c cluster.accepts event ≡ None) charter takes.passed in
             subst (MayLead cluster value worlds) (sym takes.by) (passed, fair passed, tt)
-        takes_may event (Refused why) moves before later takes fair = subst (MayLead cluster value worlds) (sym takes.by) tt
-        takes_may event (Unchecked error) moves before later takes fair = subst (MayLead cluster value worlds) (sym takes.by) tt
-        takes_may event (Settled count) moves before later takes fair = absurd takes
-        takes_may event (Fault error) moves before later takes fair = absurd takes
-        takes_may event (Reopened count) moves before later takes fair = absurd takes
+        takes_may event (Refused why) deed takes fair = subst (MayLead cluster value worlds) (sym takes.by) tt
+        takes_may event (Unchecked error) deed takes fair = subst (MayLead cluster value worlds) (sym takes.by) tt
+        takes_may event (Settled count) deed takes fair = absurd takes
+        takes_may event (Fault error) deed takes fair = absurd takes
+        takes_may event (Reopened count) deed takes fair = absurd takes
 
         -- the moves that are made of a fair move of the cluster
-        pub does_may : (step : moves.Move) (applied : Applied) (world : World) (moves : List Move) (before later : DeskView S D)
-            → Does own device cluster.accepts members step applied world moves before later
-            → ((event : Event) → handed_in cluster members step ≡ Some event → fault_of cluster.charter cluster.accepts event ≡ None
-            → NoneForged cluster members event.message × HasCoin value event.message)
-            → MayLead cluster value worlds moves
-        does_may (Deliver from output to) applied world moves before later (message, is, takes) fair = by_sender (cluster.honest from.0) refl
-          where
-            event : Event
-            event = record { sender = from; message = message }
+        module _ (applied : Applied) (deed : Deed S D) where
+          -- that takes an event in
+          taken_may : (request : Request) (event : Event) → ◌≡◌ {A = Option Request} (Some (Take event.sender event.message)) (Some request) → Does own device cluster.accepts request applied deed
+              → (fault_of cluster.charter cluster.accepts event ≡ None → IsFair cluster value worlds (accept event)) → MayLead cluster value worlds deed.moves
+          taken_may request event is does fair =
+              takes_may event applied deed (subst (λ (r : Request). Does own device cluster.accepts r applied deed) (sym (same_Some (Take event.sender event.message) request is)) does) fair
 
-            by_sender : (honest : Bool) → cluster.honest from.0 ≡ honest → MayLead cluster value worlds moves
-            by_sender true honest = takes_may event applied moves before later takes (λ passed. sent_fair from honest output message is)
-            by_sender false off =
-                takes_may event applied moves before later takes
-                (λ passed. fair_there event (fair event (ap (λ (b : Bool). cond b None (option_map (λ (m : Message). record { sender = from; message = m }) (message_at members from output))) off
-                ∙ ap (option_map (λ (m : Message). record { sender = from; message = m })) is) passed))
-        does_may (Give to sender given) applied world moves before later takes fair =
-            let event : Event = record { sender = sender; message = given } in
-            takes_may event applied moves before later takes (λ passed. fair_there event (fair event refl passed))
-        does_may (Coin from coin) applied world moves before later takes fair =
-            let event : Event = record { sender = from; message = message.Coin coin } in
-            takes_may event applied moves before later takes (λ passed. fair_there event (fair event refl passed))
-        does_may (Flush from) applied world moves before later round fair = plain_may cluster value worlds moves (round_plain own world applied moves before later round)
-        does_may (Stop from) applied world moves before later stop fair = plain_may cluster value worlds moves (stops_plain own world applied moves before later stop)
+          pub does_may : (move : moves.Move) (request : Request) → asked_in members move ≡ Some request → Does own device cluster.accepts request applied deed
+              → ((event : Event) → handed_in cluster members move ≡ Some event → fault_of cluster.charter cluster.accepts event ≡ None
+              → NoneForged cluster members event.message × HasCoin value event.message)
+              → MayLead cluster value worlds deed.moves
+          does_may (Deliver from output to) request asked does fair = by_message (message_at members from output) refl asked
+            where
+              by_message : (found : Option Message) → message_at members from output ≡ found → option_map (λ message. Take from message) found ≡ Some request → MayLead cluster value worlds deed.moves
+              by_message None is so = absurd (none-some request so)
+              by_message (Some message) is so = by_sender (cluster.honest from.0) refl
+                where
+                  event : Event
+                  event = record { sender = from; message = message }
+
+                  by_sender : (honest : Bool) → cluster.honest from.0 ≡ honest → MayLead cluster value worlds deed.moves
+                  by_sender true honest = taken_may request event so does (λ passed. sent_fair from honest output message is)
+                  by_sender false off =
+                      taken_may request event so does
+                      (λ passed. fair_there event (fair event (ap (λ (b : Bool). cond b None (option_map (λ (m : Message). record { sender = from; message = m }) (message_at members from output))) off
+                      ∙ ap (option_map (λ (m : Message). record { sender = from; message = m })) is) passed))
+          does_may (Give to sender given) request asked does fair =
+              let event : Event = record { sender = sender; message = given } in
+              taken_may request event asked does (λ passed. fair_there event (fair event refl passed))
+          does_may (Coin from coin) request asked does fair =
+              let event : Event = record { sender = from; message = message.Coin coin } in
+              taken_may request event asked does (λ passed. fair_there event (fair event refl passed))
+          does_may (Flush from) request asked does fair =
+              plain_may cluster value worlds deed.moves
+              (round_plain own applied deed (subst (λ (r : Request). Does own device cluster.accepts r applied deed) (sym (same_Some Round request asked)) does))
+          does_may (step.Stop from) request asked does fair =
+              plain_may cluster value worlds deed.moves
+              (stops_plain own applied deed (subst (λ (r : Request). Does own device cluster.accepts r applied deed) (sym (same_Some Stop request asked)) does))

@@ -1,10 +1,9 @@
--- The worlds of the honest members, behind each move of a cluster.
+-- The worlds of the honest members, after each move of a cluster.
 use Rattle.std.proofs.Common.{◌≡◌, ◌≢◌, ◌⊎◌, ℕ, true, false, inl, inr, List, [], ◌∷◌, ◌++◌, Option, Some, None, refl, sym, ap, ◌∙◌, subst}
-use Rattle.std.specs.Prelude.{◌<◌, length}
+use Rattle.std.specs.Prelude.{◌<◌, length, Result, Ok, Err}
 use Rattle.std.proofs.lemmas.Bool.{cases_Bool, cases_eq, true≢false, eqb-true}
 use Rattle.committee.specs.Charter.{Charter, IsCharter}
 use Rattle.spec_world.proofs.Scripts.{leads_join}
-use Rattle.desk.specs.Desk.{DeskView}
 use Rattle.header.specs.Checks.{Accepts}
 use Rattle.spec_accord.specs.Accord.{Agree}
 use Rattle.spec_cluster.specs.Agreement.{AreAgreed, Agreement, GaveIt}
@@ -16,12 +15,15 @@ use Rattle.spec_model.specs.Words.{Author, Digest}
 use Rattle.spec_world.specs.Steps.{Move, IsRestarted, Leads}
 use Rattle.spec_world.specs.World.{World, run_on}
 use Rattle.validator.specs.Setting.{ConfigView, node_of}
-use Rattle.cluster.specs.Answers.{Makes, MakesSome, IsGone}
-use Rattle.cluster.specs.Applying.{Became, moved, moved_some, refused, gone, IsApplied, MovesLead, IsFairMove, StandsAmong, first_world, BeginsAmong, AreInAccord, GivenOrdersAgree}
-use Rattle.cluster.specs.Cluster.{named, at, actor, Does}
+use Rattle.cluster.specs.Answers.{Deed, Does, Makes, MakesSome, Became, IsGone}
+use Rattle.cluster.specs.Applying.{MovesLead, IsFairMove, StandsAmong, first_world, BeginsAmong, AreInAccord, GivenOrdersAgree}
+use Rattle.cluster.specs.Cluster.{named, at, actor, asked_in, IsAsked, IsApplied}
 use Rattle.cluster.specs.Member.{MemberView, StandsAt, HasPutOut, IsLongest, going_out}
+use Rattle.cluster.specs.declared.error.ClusterError.{ClusterError}
+use Rattle.cluster.specs.declared.error.ClusterError.TheVariants.{Memory, NoSuchNode, NoSuchOutput, Journal}
 use Rattle.cluster.specs.declared.moves.Applied.{Applied}
 use Rattle.cluster.specs.declared.moves.Move as moves
+use Rattle.cluster.specs.declared.moves.Request.{Request}
 use Rattle.cluster.proofs.Fairness.{going_plain, does_may}
 use Rattle.cluster.proofs.InTurn.{ArePlain, MayLead, may_join, reached_more, TurnsTo, turns_to}
 use Rattle.cluster.proofs.Places.{found_passes}
@@ -49,41 +51,52 @@ module _ {S D : Type 0} (scheme : Scheme S) (device : Device D) (cluster : Clust
     pub stands : StandsAt own device to other
     pub setting : other.setting ≡ one.setting
 
-  module _ (own : Node) (worlds : Worlds) (Kind : List Move → DeskView S D → DeskView S D → Type 0)
-      (may : (moves : List Move) (a b : DeskView S D) → Kind moves a b → MayLead cluster value worlds moves) (world : World)
+  module _ (own : Node) (worlds : Worlds) (Done : Deed S D → Type 0) (may : (deed : Deed S D) → Done deed → MayLead cluster value worlds deed.moves) (world : World)
       (one other : MemberView S D) where
-    makes_on : Makes own device Kind world one other → GoesOn own worlds world one other
+    makes_on : Makes own device Done world one other → GoesOn own worlds world one other
     makes_on is =
-        let behind = is.behind in
-        let out = going_out is.middle.book.down behind.went in
+        let gone_out = is.collected in
+        let out = going_out is.middle.book.down gone_out.went in
         record {
           moves = is.moved.moves ++ out;
-          may = may_join cluster value worlds is.moved.moves out (may is.moved.moves is.desk is.middle is.moved.does) (going_plain is.middle.book.down behind.went);
-          to = behind.to;
-          leads = leads_join own world is.moved.moves out is.moved.to behind.to is.moved.leads behind.leads;
+          may = may_join cluster value worlds is.moved.moves out
+              (may (record { world = world; moves = is.moved.moves; before = is.desk; later = is.middle }) is.moved.does) (going_plain is.middle.book.down gone_out.went);
+          to = gone_out.to;
+          leads = leads_join own world is.moved.moves out is.moved.to gone_out.to is.moved.leads gone_out.leads;
           stands = is.stands;
           setting = is.setting;
         }
 
-    makes_some_on : MakesSome own device Kind world one other → GoesOn own worlds world one other
+    makes_some_on : MakesSome own device Done world one other → GoesOn own worlds world one other
     makes_some_on is =
-        let behind = is.behind in
+        let gone_out = is.collected in
         let first : MayLead cluster value worlds is.moved.moves = elim is.moved.does [
           | inl none ↦ subst (MayLead cluster value worlds) (sym none.0) tt
-          | inr does ↦ may is.moved.moves is.desk is.middle does
+          | inr does ↦ may (record { world = world; moves = is.moved.moves; before = is.desk; later = is.middle }) does
         ] in
-        let plain = elim behind.are as (λ _. ArePlain behind.moves) [
+        let plain = elim gone_out.are as (λ _. ArePlain gone_out.moves) [
           | inl none ↦ subst ArePlain (sym none) tt
-          | inr out ↦ subst ArePlain (sym out) (going_plain is.middle.book.down behind.went)
+          | inr out ↦ subst ArePlain (sym out) (going_plain is.middle.book.down gone_out.went)
         ] in
         record {
-          moves = is.moved.moves ++ behind.moves;
-          may = may_join cluster value worlds is.moved.moves behind.moves first plain;
-          to = behind.to;
-          leads = leads_join own world is.moved.moves behind.moves is.moved.to behind.to is.moved.leads behind.leads;
+          moves = is.moved.moves ++ gone_out.moves;
+          may = may_join cluster value worlds is.moved.moves gone_out.moves first plain;
+          to = gone_out.to;
+          leads = leads_join own world is.moved.moves gone_out.moves is.moved.to gone_out.to is.moved.leads gone_out.leads;
           stands = is.stands;
           setting = is.setting;
         }
+
+  -- one that stayed as it was
+  same_on : (own : Node) (worlds : Worlds) (world : World) (one other : MemberView S D) → StandsAt own device world one → other ≡ one → GoesOn own worlds world one other
+  same_on own worlds world one other stands same = record {
+    moves = [];
+    may = tt;
+    to = world;
+    leads = refl;
+    stands = subst (StandsAt own device world) (sym same) stands;
+    setting = ap (λ (m : MemberView S D). m.setting) same;
+  }
 
   -- a member that is gone
   gone_on : (own : Node) (worlds : Worlds) (world : World) (one other : MemberView S D) → StandsAt own device world one → IsGone one other → GoesOn own worlds world one other
@@ -168,46 +181,52 @@ module _ {S D : Type 0} (scheme : Scheme S) (device : Device D) (cluster : Clust
 
   module _ (are_members : AreMembers cluster) where
     module _ (before later : List (MemberView S D)) (step : moves.Move) (fair : IsFairMove cluster value before step) (are : AreAt before) where
-      may : cluster.honest (actor step).0 ≡ true → (own : Node) → own ≡ cluster.node (actor step).0 → (answer : Applied) (moves : List Move) (a b : DeskView S D)
-          → Does own device cluster.accepts before step answer (are.worlds (actor step).0) moves a b → MayLead cluster value are.worlds moves
-      may honest own same answer moves a b does =
+      may : cluster.honest (actor step).0 ≡ true → (own : Node) → own ≡ cluster.node (actor step).0 → (request : Request) → asked_in before step ≡ Some request → (answer : Applied)
+          (deed : Deed S D) → Does own device cluster.accepts request answer deed → MayLead cluster value are.worlds deed.moves
+      may honest own same request asked answer deed does =
           does_may device scheme cluster value are.worlds before are.stand are.turns are_members are.reached own
-          (ap (λ (n : Node). n.charter) same ∙ (are_members (actor step).0 honest).charter) step answer (are.worlds (actor step).0) moves a b does
+          (ap (λ (n : Node). n.charter) same ∙ (are_members (actor step).0 honest).charter) answer deed step request asked does
           (λ event handed passed. fair event handed honest passed)
 
-      honest_became : cluster.honest (actor step).0 ≡ true → ((other : Author) → other ≢ actor step → at later other ≡ at before other)
-          → Became scheme device cluster.accepts before step later → AreAt later
-      honest_became honest others (moved answer is) =
-          honest_on before later (actor step) honest is.one is.other is.was is.is others are
-          (λ own stands.
-          makes_on (node_of scheme is.one.setting) are.worlds
-          (Does (node_of scheme is.one.setting) device cluster.accepts before step answer (are.worlds (actor step).0))
-          (may honest (node_of scheme is.one.setting) own answer)
-          (are.worlds (actor step).0) is.one is.other (is.becomes (are.worlds (actor step).0) stands))
-      honest_became honest others (moved_some is) =
-          honest_on before later (actor step) honest is.one is.other is.was is.is others are
-          (λ own stands.
-          let some = is.becomes (are.worlds (actor step).0) stands in
-          makes_some_on (node_of scheme is.one.setting) are.worlds
-          (Does (node_of scheme is.one.setting) device cluster.accepts before step some.0 (are.worlds (actor step).0))
-          (may honest (node_of scheme is.one.setting) own some.0)
-          (are.worlds (actor step).0) is.one is.other some.1)
-      honest_became honest others (refused same) = subst AreAt (sym same) are
-      honest_became honest others (gone stop is) =
-          honest_on before later (actor step) honest is.one is.other is.was is.is others are
-          (λ own stands. gone_on (node_of scheme is.one.setting) are.worlds (are.worlds (actor step).0) is.one is.other stands is.becomes)
+      -- an honest member was asked
+      module _ (honest : cluster.honest (actor step).0 ≡ true) (request : Request) (asked : asked_in before step ≡ Some request) (one other : MemberView S D)
+          (own : node_of scheme one.setting ≡ cluster.node (actor step).0) (stands : StandsAt (node_of scheme one.setting) device (are.worlds (actor step).0) one) where
+        went_on : (answer : Result Applied ClusterError) → Became (node_of scheme one.setting) device cluster.accepts request one other answer
+            → GoesOn (node_of scheme one.setting) are.worlds (are.worlds (actor step).0) one other
+        went_on (Ok applied) is =
+            makes_on (node_of scheme one.setting) are.worlds (Does (node_of scheme one.setting) device cluster.accepts request applied)
+            (may honest (node_of scheme one.setting) own request asked applied) (are.worlds (actor step).0) one other (is.ok (are.worlds (actor step).0) stands)
+        went_on (Err Memory) is =
+            let some = is.memory refl (are.worlds (actor step).0) stands in
+            makes_some_on (node_of scheme one.setting) are.worlds (Does (node_of scheme one.setting) device cluster.accepts request some.0)
+            (may honest (node_of scheme one.setting) own request asked some.0) (are.worlds (actor step).0) one other some.1
+        went_on (Err NoSuchNode) is = same_on (node_of scheme one.setting) are.worlds (are.worlds (actor step).0) one other stands (is.same refl)
+        went_on (Err NoSuchOutput) is = absurd (is.never refl)
+        went_on (Err (Journal cause)) is = gone_on (node_of scheme one.setting) are.worlds (are.worlds (actor step).0) one other stands (is.lost tt).1.gone
+
+      asked_on : (answer : Result Applied ClusterError) → cluster.honest (actor step).0 ≡ true → (request : Request) → asked_in before step ≡ Some request
+          → IsAsked (λ one other. Became (node_of scheme one.setting) device cluster.accepts request one other answer) (actor step) before later answer → AreAt later
+      asked_on answer honest request asked is =
+          let among = are.stand (actor step) honest in
+          let other = is.there among.member among.is in
+          honest_on before later (actor step) honest among.member other.0 among.is other.1 is.others are
+          (λ own stands. went_on honest request asked among.member other.0 own stands answer other.2)
 
       -- a fair move was applied
-      step_on : IsApplied scheme device cluster.accepts before step later → AreAt later
-      step_on applied = elim (cases_Bool (cluster.honest (actor step).0)) [
-        | inl honest ↦ honest_became honest applied.others applied.became
-        | inr off ↦ others_on before later (actor step) off applied.others are
-      ]
+      step_on : (answer : Result Applied ClusterError) → IsApplied scheme device cluster.accepts before step later answer → AreAt later
+      step_on answer applied = by_request (asked_in before step) refl
+        where
+          by_request : (asked : Option Request) → asked_in before step ≡ asked → AreAt later
+          by_request None none = subst AreAt (sym (applied.not_asked none)) are
+          by_request (Some request) asked = elim (cases_Bool (cluster.honest (actor step).0)) [
+            | inl honest ↦ asked_on answer honest request asked (applied.asked request asked)
+            | inr off ↦ others_on before later (actor step) off (applied.asked request asked).others are
+          ]
 
     -- and so were these
     pub leads_on : (steps : List moves.Move) (before later : List (MemberView S D)) → MovesLead scheme device cluster.accepts (IsFairMove cluster value) before steps later → AreAt before → AreAt later
     leads_on [] before later same are = subst AreAt same are
-    leads_on (step ∷ steps) before later leads are = leads_on steps leads.0 later leads.3 (step_on before leads.0 step leads.1 are leads.2)
+    leads_on (step ∷ steps) before later leads are = leads_on steps leads.0 later leads.4 (step_on before leads.0 step leads.2 are leads.1 leads.3)
 
   module _ (first : List (MemberView S D)) (begin : (number : Author) → cluster.honest number.0 ≡ true → BeginsAmong scheme device first cluster number) where
     -- they begin

@@ -8,7 +8,7 @@ use Rattle.spec_world.specs.Steps.{Move, accept, take_to, device_call, settle, r
 use Rattle.spec_world.specs.Steps as one
 use Rattle.spec_world.specs.World.{World}
 
--- ---- turns behind turns
+-- ---- turns after turns
 
 module _ (cluster : Cluster) (Assumed : Worlds → Turn → Type 0) where
   turns_join : (turns more : List Turn) (first middle last : Worlds) → Leads cluster Assumed first turns middle

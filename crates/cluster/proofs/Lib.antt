@@ -4,7 +4,6 @@ pub mod Turning
 pub mod Counting
 pub mod Members
 pub mod Places
-pub mod Sending
 pub mod Acting
 pub mod InTurn
 pub mod Fairness

@@ -1,6 +1,6 @@
 -- The member of a number, and where it stands.
 use Rattle.std.proofs.Common.{◌≡◌, ◌≢◌, ℕ, ◌<◌, Bool, true, false, cond, inl, inr, List, [], ◌∷◌, length, map, set, refl, sym, ap, ◌∙◌, subst}
-use Rattle.std.specs.Prelude.{Option, Some, None, is_some, slice_get, get_or, nat_lt, ◌==◌, ◌↔◌}
+use Rattle.std.specs.Prelude.{Option, Some, None, Result, Err, is_some, slice_get, get_or, nat_lt, ◌==◌, ◌↔◌}
 use Rattle.std.specs.List.{find, position, position_or_len}
 use Rattle.std.specs.Option.{option_map_or}
 use Rattle.std.proofs.lemmas.Bool.{cases_Bool, true≢false, ltb-true, lt-ltb, cases_lt, eqb-true}
@@ -9,8 +9,11 @@ use Rattle.std.proofs.lemmas.List.Folds.{find_at, find-set, find_past}
 use Rattle.std.proofs.lemmas.Option.{slice_get_past, slice_get-get_or, get_or_from_slice_get}
 use Rattle.desk.specs.Desk as desk
 use Rattle.spec_model.specs.Words.{Author}
-use Rattle.cluster.specs.Cluster.{named, at, has_member, IsThere, MovesOne}
+use Rattle.cluster.specs.Cluster.{named, at, has_member, IsThere, IsAsked}
 use Rattle.cluster.specs.Member.{MemberView}
+use Rattle.cluster.specs.declared.error.ClusterError.{ClusterError}
+use Rattle.cluster.specs.declared.error.ClusterError.TheVariants.{NoSuchNode}
+use Rattle.cluster.specs.declared.moves.Applied.{Applied}
 
 -- where the first one stands that passes
 record IsFirst {X : Type 0} (p : X → Bool) (xs : List X) (place : ℕ) : Type 0 where
@@ -81,17 +84,6 @@ module _ {S D : Type 0} (members : List (MemberView S D)) (number : Author) (pla
   is_named : named number one ≡ true
   is_named = found_passes (λ member. named number member) members one found
 
-  pub moves_one : (Becomes : MemberView S D → MemberView S D → Type 0) → Becomes one later → MovesOne Becomes number members (set members place later)
-  moves_one Becomes becomes =
-      let at_place = first_of (λ member. named number member) members place first in
-      record {
-        one = one;
-        other = later;
-        was = found;
-        is = find-set (λ member. named number member) members place later at_place.is at_place.within (ap (λ s. s.own.0 == number.0) setting ∙ is_named);
-        becomes = becomes;
-      }
-
   -- the others stay
   pub others_stay : (other : Author) → other ≢ number → at (set members place later) other ≡ at members other
   others_stay other differs =
@@ -113,6 +105,27 @@ module _ {S D : Type 0} (members : List (MemberView S D)) (number : Author) (pla
       ∙ sym (map-set (λ (m : MemberView S D). m.setting) members place (get_or members place one))
       ∙ ap (map (λ (m : MemberView S D). m.setting)) (set-get_or members place one)
 
+  -- it was asked
+  pub becomes_one : (Becomes : MemberView S D → MemberView S D → Type 0) (answer : Result Applied ClusterError) → Becomes one later → IsAsked Becomes number members (set members place later) answer
+  becomes_one Becomes answer becomes =
+      let at_place = first_of (λ member. named number member) members place first in
+      record {
+        there = λ other is. (
+          later,
+          find-set (λ member. named number member) members place later at_place.is at_place.within (ap (λ s. s.own.0 == number.0) setting ∙ is_named),
+          subst (λ (m : MemberView S D). Becomes m later) (same_one one other (sym found ∙ is)) becomes,
+        );
+        nobody = λ none. absurd (some_none (sym found ∙ none));
+        others = others_stay;
+        settings = settings_stay;
+      }
+    where
+      same_one : (x y : MemberView S D) → ◌≡◌ {A = Option (MemberView S D)} (Some x) (Some y) → x ≡ y
+      same_one x y same = cc
+
+      some_none : ◌≡◌ {A = Option (MemberView S D)} (Some one) None → ⊥
+      some_none same = cc
+
   -- it is there unless it is gone
   pub gone_where : (one.desk ≡ None) ↔ (IsThere members number → ⊥)
   gone_where = (λ gone is. absurd (true≢false (sym is ∙ there_is ∙ ap is_some gone)), λ never. by_desk one.desk refl never)
@@ -128,3 +141,21 @@ module _ {S D : Type 0} (members : List (MemberView S D)) (number : Author) (pla
 pub none_there : {S D : Type 0} (members : List (MemberView S D)) (number : Author) → position (λ member. named number member) members ≡ None → IsThere members number → ⊥
 none_there members number none is =
     true≢false (sym is ∙ ap (λ found. option_map_or (λ member. is_some member.desk) found false) (none_found (λ member. named number member) members none))
+
+-- members of whom none became another one
+pub same_asked : {S D : Type 0} (members : List (MemberView S D)) (number : Author) (Becomes : MemberView S D → MemberView S D → Type 0) (answer : Result Applied ClusterError)
+    → ((one : MemberView S D) → at members number ≡ Some one → Becomes one one) → (at members number ≡ None → answer ≡ Err NoSuchNode) → IsAsked Becomes number members members answer
+same_asked members number Becomes answer becomes none = record {
+  there = λ one is. (one, is, becomes one is);
+  nobody = λ so. (none so, refl);
+  others = λ other differs. refl;
+  settings = refl;
+}
+
+-- one that isn't there has no desk
+pub desk_none : {S D : Type 0} (members : List (MemberView S D)) (number : Author) (one : MemberView S D) → at members number ≡ Some one → (IsThere members number → ⊥) → one.desk ≡ None
+desk_none {S} {D} members number one found never = by_desk one.desk refl
+  where
+    by_desk : (d : Option (desk.DeskView S D)) → one.desk ≡ d → one.desk ≡ None
+    by_desk None is = is
+    by_desk (Some x) is = absurd (never (ap (λ o. option_map_or (λ member. is_some member.desk) o false) found ∙ ap is_some is))

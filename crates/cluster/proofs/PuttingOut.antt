@@ -1,4 +1,4 @@
--- What a member gave out, behind a read of the order and behind a release.
+-- What a member gave out, after a read of the order and after a release.
 use Rattle.std.proofs.Common.{◌≡◌, inl, inr, List, [], ◌∷◌, ◌++◌, length, drop, refl, sym, ap, ◌∙◌, subst, append_assoc, append-nil}
 use Rattle.std.specs.Prelude.{Some, Contains}
 use Rattle.std.proofs.lemmas.List.Elements.{Contains-append_left, Contains-push}
@@ -62,7 +62,7 @@ module _ (node : Node) (moves : List Move) (world next : World) (sound : IsNode 
         whole = whole;
       }
 
-  -- an output went out behind it
+  -- an output went out after it
   pub release_out : (output : Output) (history : History) → next ≡ with_given world (put_out output) history → (out later : GivenOutView) → IsWhole node world out
       → later.outputs ≡ out.outputs ++ output ∷ [] → later.order ≡ out.order → IsWhole node next later
   release_out output history same out later was outputs is =

@@ -22,7 +22,7 @@ use Rattle.header.specs.declared.admission.Admission.TheVariants.{New, Known}
 use Rattle.header.specs.declared.admission.Admission.TheVariants as admission
 use Rattle.spec_world.specs.Steps.{Move, accept, take_to, device_call, settle, release, read_order, restart, IsAnswered, IsStep, Leads}
 use Rattle.spec_world.specs.World.{World}
-use Rattle.cluster.specs.Answers.{TakesIn, MakesRound, IsDeviceFault, HasMoved}
+use Rattle.cluster.specs.Answers.{Deed, TakesIn, MakesRound, IsDeviceFault, HasMoved}
 use Rattle.cluster.specs.declared.moves.Applied.TheVariants.{Took, Refused, Unchecked, Settled, Fault}
 use Rattle.diskmodel.specs.Disk.{Device}
 
@@ -61,9 +61,9 @@ stop_quiet world moves (found, inr same) = subst AllQuiet (sym same) (tt, (tt, (
 
 module _ {S D : Type 0} (node : Node) (device : Device D) where
   -- nothing moved
-  pub stays : (Does : List Move → DeskView S D → DeskView S D → Type 0) (world : World) (before later : DeskView S D) → IsAt node device world before → later ≡ before → Does [] before later
-      → HasMoved node device Does world before later
-  stays Does world before later at same does = record {
+  pub stays : (Done : Deed S D → Type 0) (world : World) (before later : DeskView S D) → IsAt node device world before → later ≡ before
+      → Done (record { world = world; moves = []; before = before; later = later }) → HasMoved node device Done world before later
+  stays Done world before later at same does = record {
     moves = [];
     does = does;
     to = world;
@@ -73,10 +73,10 @@ module _ {S D : Type 0} (node : Node) (device : Device D) where
   }
 
   -- a desk moved
-  pub moved : (Does : List Move → DeskView S D → DeskView S D → Type 0) (world : World) (moves : List Move) (before later : DeskView S D)
-      → AllQuiet moves → LeadsTo node device world moves later → Does moves before later
-      → HasMoved node device Does world before later
-  moved Does world moves before later quiet to does = record { moves = moves; does = does; to = to.next; leads = to.leads; at = to.is_at; quiet = leads_given node moves world to.next quiet to.leads }
+  pub moved : (Done : Deed S D → Type 0) (world : World) (moves : List Move) (before later : DeskView S D)
+      → AllQuiet moves → LeadsTo node device world moves later → Done (record { world = world; moves = moves; before = before; later = later })
+      → HasMoved node device Done world before later
+  moved Done world moves before later quiet to does = record { moves = moves; does = does; to = to.next; leads = to.leads; at = to.is_at; quiet = leads_given node moves world to.next quiet to.leads }
 
   module _ (accepts : Accepts) (event : Event) (world : World) (before later : DeskView S D) (passed : fault_of node.charter accepts event ≡ None) (at : IsAt node device world before) where
     pub took : before.book.down ≡ false → (ticket : ℕ) (new : Bool) → (new ≡ true → TakesNew node before.book later.book event)
@@ -112,20 +112,20 @@ module _ {S D : Type 0} (node : Node) (device : Device D) where
         → (before.book.pending ≢ [] → Flushes node before.book later.book (device.content (disk_of before.journal)) (device.content (disk_of later.journal)) count)
         → (before.book.pending ≢ [] → (w : World) → IsAt node device w before
         → LeadsTo node device w (take_to (length w.settled + count) ∷ device_call ∷ device_call ∷ device_call ∷ device_call ∷ settle ∷ []) later)
-        → HasMoved node device (MakesRound node device world (Settled count)) world before later
+        → HasMoved node device (MakesRound node device (Settled count)) world before later
     settled up count idle flushes steps = by_pending before.book.pending refl
       where
-        by_pending : (pending : List (List ℕ)) → before.book.pending ≡ pending → HasMoved node device (MakesRound node device world (Settled count)) world before later
+        by_pending : (pending : List (List ℕ)) → before.book.pending ≡ pending → HasMoved node device (MakesRound node device (Settled count)) world before later
         by_pending [] none =
             let same = idle none in
-            stays (MakesRound node device world (Settled count)) world before later at same.1
+            stays (MakesRound node device (Settled count)) world before later at same.1
             (record { up = up; idle = λ _. (ok_is count 0 same.0, same.1, refl); flushes = flushes; by = λ some. absurd (some none) })
           where
             ok_is : (one other : ℕ) → ◌≡◌ {A = Result ℕ FlushError} (Ok one) (Ok other) → one ≡ other
             ok_is one other so = cc
         by_pending (first ∷ rest) is =
             let some = some_pending first rest is in
-            moved (MakesRound node device world (Settled count)) world
+            moved (MakesRound node device (Settled count)) world
             (take_to (length world.settled + count) ∷ device_call ∷ device_call ∷ device_call ∷ device_call ∷ settle ∷ []) before later
             (tt, (tt, (tt, (tt, (tt, (tt, tt)))))) (steps some world at)
             (record { up = up; idle = λ none. absurd (some none); flushes = flushes; by = λ _. refl })
@@ -134,19 +134,19 @@ module _ {S D : Type 0} (node : Node) (device : Device D) where
         → (error ≡ errors.Full → FindsNoRoom node before.book later.book (device.content (disk_of before.journal)))
         → (error ≡ errors.Device → FailsWithRoom node before.book later.book (device.content (disk_of before.journal)))
         → ((error ≡ errors.Full) ⊎ (error ≡ errors.Device) → (w : World) → IsAt node device w before → (count : ℕ) × LeadsTo node device w (take_to count ∷ []) later)
-        → HasMoved node device (MakesRound node device world (Fault error)) world before later
+        → HasMoved node device (MakesRound node device (Fault error)) world before later
     fault errors.Memory down unchanged full fails steps =
         let same = unchanged (inr refl) in
-        stays (MakesRound node device world (Fault errors.Memory)) world before later at same
+        stays (MakesRound node device (Fault errors.Memory)) world before later at same
         (record { was_down = down; unchanged = λ _. (same, refl); taken_down = λ either. absurd (elim either [ inl so ↦ (cc) | inr so ↦ (cc) ]) })
     fault errors.Down down unchanged full fails steps =
         let same = unchanged (inl refl) in
-        stays (MakesRound node device world (Fault errors.Down)) world before later at same
+        stays (MakesRound node device (Fault errors.Down)) world before later at same
         (record { was_down = down; unchanged = λ _. (same, refl); taken_down = λ either. absurd (elim either [ inl so ↦ (cc) | inr so ↦ (cc) ]) })
     fault errors.Full down unchanged full fails steps =
         let to = steps (inl refl) world at in
         let found = full refl in
-        moved (MakesRound node device world (Fault errors.Full)) world (take_to to.0 ∷ []) before later (tt, tt) to.1
+        moved (MakesRound node device (Fault errors.Full)) world (take_to to.0 ∷ []) before later (tt, tt) to.1
         (record {
           was_down = down;
           unchanged = λ either. absurd (elim either [ inl so ↦ (cc) | inr so ↦ (cc) ]);
@@ -155,7 +155,7 @@ module _ {S D : Type 0} (node : Node) (device : Device D) where
     fault errors.Device down unchanged full fails steps =
         let to = steps (inr refl) world at in
         let found = fails refl in
-        moved (MakesRound node device world (Fault errors.Device)) world (take_to to.0 ∷ []) before later (tt, tt) to.1
+        moved (MakesRound node device (Fault errors.Device)) world (take_to to.0 ∷ []) before later (tt, tt) to.1
         (record {
           was_down = down;
           unchanged = λ either. absurd (elim either [ inl so ↦ (cc) | inr so ↦ (cc) ]);

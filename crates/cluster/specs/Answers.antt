@@ -1,5 +1,5 @@
 -- What a move makes of a member, and what it is answered.
-use Rattle.std.specs.Prelude.{◌≡◌, ◌≢◌, ◌⊎◌, ◌↔◌, ◌<◌, ⊤, ℕ, ◌+◌, Bool, true, false, List, [], ◌∷◌, length, Some, None}
+use Rattle.std.specs.Prelude.{◌≡◌, ◌≢◌, ◌⊎◌, ◌↔◌, ◌<◌, ⊤, ℕ, ◌+◌, Bool, true, false, List, [], ◌∷◌, length, Some, None, Result, IfOk, IfErr, IsErrOf}
 use Rattle.book.specs.Book.{Run, Stands, TakesNew, TakesKnown, MayRefuse}
 use Rattle.book.specs.OnTheWay.{Flushes, GoesDown, HasRoomFor}
 use Rattle.book.specs.declared.own.error.FlushError.{FlushError}
@@ -22,67 +22,78 @@ use Rattle.cluster.specs.declared.error.ClusterError.{ClusterError}
 use Rattle.cluster.specs.declared.error.ClusterError.TheVariants as errors
 use Rattle.cluster.specs.declared.moves.Applied.{Applied}
 use Rattle.cluster.specs.declared.moves.Applied.TheVariants.{Took, Refused, Unchecked, Settled, Fault, Reopened}
+use Rattle.cluster.specs.declared.moves.Request.{Request}
+use Rattle.cluster.specs.declared.moves.Request.TheVariants.{Take, Round, Stop}
 use Rattle.diskmodel.specs.Disk.{Device}
+
+-- what a desk did: the world in which it stood before, the moves of that world, and the desk before and after
+pub record Deed (S D : Type 0) : Type 0 where
+  pub world : World
+  pub moves : List Move
+  pub before : DeskView S D
+  pub later : DeskView S D
 
 -- ---- an event is given
 
 -- a desk that is up took it, as new or as known
-pub record IsTaken {S D : Type 0} (node : Node) (accepts : Accepts) (event : Event) (ticket : ℕ) (new : Bool) (moves : List Move) (before later : DeskView S D) : Type 0 where
+pub record IsTaken {S D : Type 0} (node : Node) (accepts : Accepts) (event : Event) (ticket : ℕ) (new : Bool) (deed : Deed S D) : Type 0 where
   pub passed : fault_of node.charter accepts event ≡ None
-  pub up : before.book.down ≡ false
-  pub takes_new : new ≡ true → TakesNew node before.book later.book event
-  pub takes_known : new ≡ false → TakesKnown node before.book later.book event
-  pub counted : ticket ≡ later.book.accepted
-  pub by : moves ≡ accept event ∷ []
+  pub up : deed.before.book.down ≡ false
+  pub takes_new : new ≡ true → TakesNew node deed.before.book deed.later.book event
+  pub takes_known : new ≡ false → TakesKnown node deed.before.book deed.later.book event
+  pub counted : ticket ≡ deed.later.book.accepted
+  pub by : deed.moves ≡ accept event ∷ []
 
 -- it refused it, as admission does or because it is down, and stayed as it was
-pub record IsRefused {S D : Type 0} (node : Node) (accepts : Accepts) (event : Event) (why : Refusal) (moves : List Move) (before later : DeskView S D) : Type 0 where
+pub record IsRefused {S D : Type 0} (node : Node) (accepts : Accepts) (event : Event) (why : Refusal) (deed : Deed S D) : Type 0 where
   pub passed : fault_of node.charter accepts event ≡ None
   pub not_memory : why ≢ refusal.Memory
-  pub down : (why ≡ refusal.Down) ↔ (before.book.down ≡ true)
-  pub may : (run : Run) → Stands node run before.book → MayRefuse node run before.book event why
-  pub same : later ≡ before
-  pub by : moves ≡ []
+  pub down : (why ≡ refusal.Down) ↔ (deed.before.book.down ≡ true)
+  pub may : (run : Run) → Stands node run deed.before.book → MayRefuse node run deed.before.book event why
+  pub same : deed.later ≡ deed.before
+  pub by : deed.moves ≡ []
 
 -- it failed a check before, the first one that it fails
-pub record IsUnchecked {S D : Type 0} (node : Node) (accepts : Accepts) (event : Event) (error : CheckError) (moves : List Move) (before later : DeskView S D) : Type 0 where
+pub record IsUnchecked {S D : Type 0} (node : Node) (accepts : Accepts) (event : Event) (error : CheckError) (deed : Deed S D) : Type 0 where
   pub fault : fault_of node.charter accepts event ≡ Some error
-  pub same : later ≡ before
-  pub by : moves ≡ []
+  pub same : deed.later ≡ deed.before
+  pub by : deed.moves ≡ []
 
-abbrev pub TakesIn : {S D : Type 0} → Node → Accepts → Event → Applied → List Move → DeskView S D → DeskView S D → Type 0
-TakesIn node accepts event (Took ticket new) moves before later = IsTaken node accepts event ticket new moves before later
-TakesIn node accepts event (Refused why) moves before later = IsRefused node accepts event why moves before later
-TakesIn node accepts event (Unchecked error) moves before later = IsUnchecked node accepts event error moves before later
-TakesIn node accepts event other moves before later = ⊥
+abbrev pub TakesIn : {S D : Type 0} → Node → Accepts → Event → Applied → Deed S D → Type 0
+TakesIn node accepts event (Took ticket new) deed = IsTaken node accepts event ticket new deed
+TakesIn node accepts event (Refused why) deed = IsRefused node accepts event why deed
+TakesIn node accepts event (Unchecked error) deed = IsUnchecked node accepts event error deed
+TakesIn node accepts event other deed = ⊥
 
 -- ---- a round
 
 -- a desk that is up wrote and settled so many records, all that fit a group; none where nothing was pending
-pub record IsSettled {S D : Type 0} (node : Node) (device : Device D) (world : World) (count : ℕ) (moves : List Move) (before later : DeskView S D) : Type 0 where
-  pub up : before.book.down ≡ false
-  pub idle : before.book.pending ≡ [] → (count ≡ 0) × (later ≡ before) × (moves ≡ [])
-  pub flushes : before.book.pending ≢ [] → Flushes node before.book later.book (device.content (disk_of before.journal)) (device.content (disk_of later.journal)) count
-  pub by : before.book.pending ≢ [] → moves ≡ take_to (length world.settled + count) ∷ device_call ∷ device_call ∷ device_call ∷ device_call ∷ settle ∷ []
+pub record IsSettled {S D : Type 0} (node : Node) (device : Device D) (count : ℕ) (deed : Deed S D) : Type 0 where
+  pub up : deed.before.book.down ≡ false
+  pub idle : deed.before.book.pending ≡ [] → (count ≡ 0) × (deed.later ≡ deed.before) × (deed.moves ≡ [])
+  pub flushes : deed.before.book.pending ≢ []
+      → Flushes node deed.before.book deed.later.book (device.content (disk_of deed.before.journal)) (device.content (disk_of deed.later.journal)) count
+  pub by : deed.before.book.pending ≢ []
+      → deed.moves ≡ take_to (length deed.world.settled + count) ∷ device_call ∷ device_call ∷ device_call ∷ device_call ∷ settle ∷ []
 
--- a round took the desk down: a group was taken, and is on its way
-pub record IsTakenDown {S D : Type 0} (node : Node) (device : Device D) (error : FlushError) (moves : List Move) (before later : DeskView S D) : Type 0 where
-  pub down : GoesDown node before.book later.book
-  pub full : error ≡ flush.Full → HasRoomFor down.group (device.content (disk_of before.journal)) → ⊥
-  pub room : error ≡ flush.Device → HasRoomFor down.group (device.content (disk_of before.journal))
+-- a round took the desk down: a group was taken, and is in flight
+pub record IsTakenDown {S D : Type 0} (node : Node) (device : Device D) (error : FlushError) (deed : Deed S D) : Type 0 where
+  pub down : GoesDown node deed.before.book deed.later.book
+  pub full : error ≡ flush.Full → HasRoomFor down.group (device.content (disk_of deed.before.journal)) → ⊥
+  pub room : error ≡ flush.Device → HasRoomFor down.group (device.content (disk_of deed.before.journal))
   pub count : ℕ
-  pub by : moves ≡ take_to count ∷ []
+  pub by : deed.moves ≡ take_to count ∷ []
 
 -- the round failed: Down exactly where the desk was down, which it then left as it was, as did want of memory; else it went down
-pub record IsFault {S D : Type 0} (node : Node) (device : Device D) (error : FlushError) (moves : List Move) (before later : DeskView S D) : Type 0 where
-  pub was_down : (error ≡ flush.Down) ↔ (before.book.down ≡ true)
-  pub unchanged : (error ≡ flush.Down) ⊎ (error ≡ flush.Memory) → (later ≡ before) × (moves ≡ [])
-  pub taken_down : (error ≡ flush.Full) ⊎ (error ≡ flush.Device) → IsTakenDown node device error moves before later
+pub record IsFault {S D : Type 0} (node : Node) (device : Device D) (error : FlushError) (deed : Deed S D) : Type 0 where
+  pub was_down : (error ≡ flush.Down) ↔ (deed.before.book.down ≡ true)
+  pub unchanged : (error ≡ flush.Down) ⊎ (error ≡ flush.Memory) → (deed.later ≡ deed.before) × (deed.moves ≡ [])
+  pub taken_down : (error ≡ flush.Full) ⊎ (error ≡ flush.Device) → IsTakenDown node device error deed
 
-abbrev pub MakesRound : {S D : Type 0} → Node → Device D → World → Applied → List Move → DeskView S D → DeskView S D → Type 0
-MakesRound node device world (Settled count) moves before later = IsSettled node device world count moves before later
-MakesRound node device world (Fault error) moves before later = IsFault node device error moves before later
-MakesRound node device world other moves before later = ⊥
+abbrev pub MakesRound : {S D : Type 0} → Node → Device D → Applied → Deed S D → Type 0
+MakesRound node device (Settled count) deed = IsSettled node device count deed
+MakesRound node device (Fault error) deed = IsFault node device error deed
+MakesRound node device other deed = ⊥
 
 -- a round's answer where the disk failed
 abbrev pub IsDeviceFault : Applied → Type 0
@@ -100,51 +111,61 @@ pub record HasFailed {S D : Type 0} (device : Device D) (before later : MemberVi
 -- ---- a stop
 
 -- the machine stopped and left one of the outcomes of its disk, on which the node was opened, with so many events
-pub record IsReopened {S D : Type 0} (node : Node) (device : Device D) (world : World) (count : ℕ) (moves : List Move) (before later : DeskView S D) : Type 0 where
+pub record IsReopened {S D : Type 0} (node : Node) (device : Device D) (count : ℕ) (deed : Deed S D) : Type 0 where
   pub found : List ℕ
-  pub left : device.outcome (disk_of before.journal) found
-  pub opened : IsOpened node device found later
+  pub left : device.outcome (disk_of deed.before.journal) found
+  pub opened : IsOpened node device found deed.later
   pub counted : count ≡ length opened.history
-  pub by : IsStop world moves
+  pub by : IsStop deed.world deed.moves
 
-abbrev pub Stops : {S D : Type 0} → Node → Device D → World → Applied → List Move → DeskView S D → DeskView S D → Type 0
-Stops node device world (Reopened count) moves before later = IsReopened node device world count moves before later
-Stops node device world other moves before later = ⊥
+abbrev pub Stops : {S D : Type 0} → Node → Device D → Applied → Deed S D → Type 0
+Stops node device (Reopened count) deed = IsReopened node device count deed
+Stops node device other deed = ⊥
 
--- ---- each of them, and what goes out behind it
+-- ---- each of them, and what goes out after it
 
--- a desk made a move, by these moves of its world, by which nothing goes out
-pub record HasMoved {S D : Type 0} (node : Node) (device : Device D) (Does : List Move → DeskView S D → DeskView S D → Type 0) (world : World) (before later : DeskView S D) : Type 0 where
+-- what a desk did at a request that was answered so
+abbrev pub Does : {S D : Type 0} → Node → Device D → Accepts → Request → Applied → Deed S D → Type 0
+Does node device accepts (Take sender given) applied deed = TakesIn node accepts (record { sender = sender; message = given }) applied deed
+Does node device accepts Round applied deed = MakesRound node device applied deed
+Does node device accepts Stop applied deed = Stops node device applied deed
+
+-- or it did nothing
+abbrev pub OrNothing : {S D : Type 0} → (Deed S D → Type 0) → Deed S D → Type 0
+OrNothing Done deed = ((deed.moves ≡ []) × (deed.later ≡ deed.before)) ⊎ Done deed
+
+-- a desk did this in its world, by moves of that by which nothing goes out
+pub record HasMoved {S D : Type 0} (node : Node) (device : Device D) (Done : Deed S D → Type 0) (world : World) (before later : DeskView S D) : Type 0 where
   pub moves : List Move
-  pub does : Does moves before later
+  pub does : Done (record { world = world; moves = moves; before = before; later = later })
   pub to : World
   pub leads : Leads node world moves to
   pub at : IsAt node device to later
   pub quiet : to.given ≡ world.given
 
--- A member's desk made a move, and then all went out that may: the member stands at the world to which that led.
-pub record Makes {S D : Type 0} (node : Node) (device : Device D) (Does : List Move → DeskView S D → DeskView S D → Type 0) (world : World) (before later : MemberView S D) : Type 0 where
+-- A member's desk did this, and then all went out that may: the member stands at the world to which that led.
+pub record Makes {S D : Type 0} (node : Node) (device : Device D) (Done : Deed S D → Type 0) (world : World) (before later : MemberView S D) : Type 0 where
   pub desk : DeskView S D
   pub middle : DeskView S D
   pub next : DeskView S D
   pub was : before.desk ≡ Some desk
   pub is : later.desk ≡ Some next
   pub setting : later.setting ≡ before.setting
-  pub moved : HasMoved node device Does world desk middle
-  pub behind : HasCollected node device moved.to middle next before.out later.out
-  pub stands : StandsAt node device behind.to later
+  pub moved : HasMoved node device Done world desk middle
+  pub collected : HasCollected node device moved.to middle next before.out later.out
+  pub stands : StandsAt node device collected.to later
 
--- Memory was refused: nothing had happened, or the move was made, and what goes out behind it waits in the desk from some output on.
-pub record MakesSome {S D : Type 0} (node : Node) (device : Device D) (Does : List Move → DeskView S D → DeskView S D → Type 0) (world : World) (before later : MemberView S D) : Type 0 where
+-- An allocation failed: nothing had happened, or the desk did this, and what goes out after it waits in the desk from some output on.
+pub record MakesSome {S D : Type 0} (node : Node) (device : Device D) (Done : Deed S D → Type 0) (world : World) (before later : MemberView S D) : Type 0 where
   pub desk : DeskView S D
   pub middle : DeskView S D
   pub next : DeskView S D
   pub was : before.desk ≡ Some desk
   pub is : later.desk ≡ Some next
   pub setting : later.setting ≡ before.setting
-  pub moved : HasMoved node device (λ moves one other. ((moves ≡ []) × (other ≡ one)) ⊎ Does moves one other) world desk middle
-  pub behind : HasCollectedSome node device moved.to middle next before.out later.out
-  pub stands : StandsAt node device behind.to later
+  pub moved : HasMoved node device (OrNothing Done) world desk middle
+  pub collected : HasCollectedSome node device moved.to middle next before.out later.out
+  pub stands : StandsAt node device collected.to later
 
 -- a node could not be opened
 abbrev pub IsJournal : ClusterError → Type 0
@@ -174,3 +195,22 @@ pub record IsLost {S D : Type 0} (node : Node) (disks : Device D) (error : Clust
   pub was : before.desk ≡ Some desk
   pub device : error ≡ errors.Journal journal.Device → CountsMore disks (disk_of desk.journal)
   pub fault : (world : World) → StandsAt node disks world before → IsJournalFault error
+
+-- ---- what becomes of a request
+
+-- What became of a member to which a request was made, by its answer.
+pub record Became {S D : Type 0} (node : Node) (device : Device D) (accepts : Accepts) (request : Request) (before later : MemberView S D) (answer : Result Applied ClusterError) : Type 0 where
+  -- its desk did what was asked, and then all went out that may
+  pub ok : IfOk answer (λ applied. (world : World) → StandsAt node device world before → Makes node device (Does node device accepts request applied) world before later)
+  -- an allocation failed, before or after it
+  pub memory : IsErrOf answer errors.Memory → (world : World) → StandsAt node device world before
+      → (applied : Applied) × MakesSome node device (Does node device accepts request applied) world before later
+  -- a round answers Device only where the disk counted a failure
+  pub fault : request ≡ Round → IfOk answer (λ applied. IsDeviceFault applied → HasFailed device before later)
+  -- a node that could not be opened after a stop is gone
+  pub lost : IfErr answer (λ error. IsJournal error → (request ≡ Stop) × IsLost node device error before later)
+  -- one that is gone is asked in vain
+  pub gone : IsErrOf answer errors.NoSuchNode ↔ (before.desk ≡ None)
+  pub same : IsErrOf answer errors.NoSuchNode → later ≡ before
+  pub never : IsErrOf answer errors.NoSuchOutput → ⊥
+  pub setting : later.setting ≡ before.setting

@@ -1,5 +1,5 @@
 -- Moves that were applied to a cluster one after the other, what is assumed of them, and what its honest members then agree on.
-use Rattle.std.specs.Prelude.{◌≡◌, ◌≢◌, ℕ, Bool, true, false, List, [], ◌∷◌, map, Option, Some, None, Contains, option_map, if◌then◌else◌}
+use Rattle.std.specs.Prelude.{◌≡◌, ℕ, Bool, true, false, List, [], ◌∷◌, Option, Some, None, Contains, Result, option_map, if◌then◌else◌}
 use Rattle.std.specs.List.{list_any}
 use Rattle.std.specs.Option.{option_map_or}
 use Rattle.header.specs.Checks.{Accepts, fault_of, is_signed}
@@ -16,9 +16,9 @@ use Rattle.spec_world.specs.Steps.{IsRun}
 use Rattle.spec_world.specs.World.{World, put_out, run_on}
 use Rattle.validator.specs.Setting.{node_of}
 use Rattle.wire.specs.declared.message.Message.TheVariants as message
-use Rattle.cluster.specs.Answers.{IsGone}
-use Rattle.cluster.specs.Cluster.{at, actor, message_at, Does, MovesOne, Moved, MovedSome, IsStopOf}
+use Rattle.cluster.specs.Cluster.{at, actor, message_at, IsApplied}
 use Rattle.cluster.specs.Member.{MemberView, StandsAt}
+use Rattle.cluster.specs.declared.error.ClusterError.{ClusterError}
 use Rattle.cluster.specs.declared.moves.Applied.{Applied}
 use Rattle.cluster.specs.declared.moves.Move.{Move}
 use Rattle.cluster.specs.declared.moves.Move.TheVariants.{Deliver, Give, Coin}
@@ -27,27 +27,13 @@ use Rattle.sigface.specs.Scheme.{Scheme}
 
 -- ---- moves that were applied
 
--- what became of the node that a move names: it made the move; it made it, or not, and memory was refused; nothing happened; it is
--- gone behind a stop
-pub data Became {S D : Type 0} (scheme : Scheme S) (device : Device D) (accepts : Accepts) (before : List (MemberView S D)) (step : Move) (later : List (MemberView S D)) : Type 0 where
-  moved : (applied : Applied) → Moved scheme device (λ own world. Does own device accepts before step applied world) (actor step) before later
-      → Became scheme device accepts before step later
-  moved_some : MovedSome scheme device (λ applied own world. Does own device accepts before step applied world) (actor step) before later
-      → Became scheme device accepts before step later
-  refused : later ≡ before → Became scheme device accepts before step later
-  gone : IsStopOf step → MovesOne IsGone (actor step) before later → Became scheme device accepts before step later
-
--- a move was applied, whatever it was answered: all other members are as they were, and what each is set up with stays
-pub record IsApplied {S D : Type 0} (scheme : Scheme S) (device : Device D) (accepts : Accepts) (before : List (MemberView S D)) (step : Move) (later : List (MemberView S D)) : Type 0 where
-  pub became : Became scheme device accepts before step later
-  pub others : (other : Author) → other ≢ actor step → at later other ≡ at before other
-  pub settings : map (λ member. member.setting) later ≡ map (λ member. member.setting) before
-
--- these moves lead from some members to others, and of each of them it holds, of the members before it, what is assumed of a move
+-- these moves lead from some members to others, whatever each was answered, and of each of them it holds, of the members before it, what is
+-- assumed of a move
 abbrev pub MovesLead : {S D : Type 0} → Scheme S → Device D → Accepts → (List (MemberView S D) → Move → Type 0) → List (MemberView S D) → List Move → List (MemberView S D) → Type 0
 MovesLead scheme device accepts Assumed before [] later = before ≡ later
 MovesLead {S} {D} scheme device accepts Assumed before (step ∷ steps) later =
-    (next : List (MemberView S D)) × Assumed before step × IsApplied scheme device accepts before step next × MovesLead scheme device accepts Assumed next steps later
+    (next : List (MemberView S D)) × (answer : Result Applied ClusterError) × Assumed before step × IsApplied scheme device accepts before step next answer
+    × MovesLead scheme device accepts Assumed next steps later
 
 -- ---- what is assumed of a move
 

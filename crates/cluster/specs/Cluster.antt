@@ -1,21 +1,22 @@
 -- What contracts see of a cluster, and what a move is of it.
-use Rattle.std.specs.Prelude.{◌≡◌, ◌≢◌, ◌⊎◌, ⊤, ℕ, ◌==◌, Bool, true, false, List, is_some, slice_get, Option, Some, None, AllPairs}
+use Rattle.std.specs.Prelude.{◌≡◌, ◌≢◌, ◌⊎◌, ⊤, ℕ, ◌==◌, Bool, true, false, List, map, is_some, slice_get, Option, Some, None, AllPairs, Result, Err, option_map, option_and_then}
 use Rattle.std.specs.List.{find}
-use Rattle.std.specs.Option.{option_and_then, option_map_or}
-use Rattle.desk.specs.Desk as desk
+use Rattle.std.specs.Option.{option_map_or}
 use Rattle.header.specs.Checks.{Accepts}
-use Rattle.spec_model.specs.Nodes.{Node}
 use Rattle.spec_model.specs.Words.{Author, Message}
-use Rattle.spec_world.specs.Steps as world
-use Rattle.spec_world.specs.World.{World}
 use Rattle.validator.specs.Setting.{ConfigView, node_of}
 use Rattle.wire.specs.declared.message.Message.TheVariants as message
-use Rattle.cluster.specs.Answers.{TakesIn, MakesRound, Stops, Makes, MakesSome}
-use Rattle.cluster.specs.Member.{MemberView, StandsAt}
+use Rattle.cluster.specs.Answers.{Became}
+use Rattle.cluster.specs.Member.{MemberView}
 use Rattle.cluster.specs.Outputs.{message_of}
+use Rattle.cluster.specs.declared.error.ClusterError.{ClusterError}
+use Rattle.cluster.specs.declared.error.ClusterError.TheVariants as errors
 use Rattle.cluster.specs.declared.moves.Applied.{Applied}
 use Rattle.cluster.specs.declared.moves.Move.{Move}
 use Rattle.cluster.specs.declared.moves.Move.TheVariants.{Deliver, Give, Coin, Flush, Stop}
+use Rattle.cluster.specs.declared.moves.Request.{Request}
+use Rattle.cluster.specs.declared.moves.Request.TheVariants.{Take, Round}
+use Rattle.cluster.specs.declared.moves.Request.TheVariants as request
 use Rattle.diskmodel.specs.Disk.{Device}
 use Rattle.sigface.specs.Scheme.{Scheme}
 
@@ -46,35 +47,28 @@ actor (Stop node) = node
 abbrev pub message_at : {S D : Type 0} → List (MemberView S D) → Author → ℕ → Option Message
 message_at members node output = option_and_then (λ member. option_and_then message_of (slice_get member.out.outputs output)) (at members node)
 
--- what the move is to the desk that makes it: a message from its sender is checked and taken in, a round is made, the machine stops
-abbrev pub Does : {S D : Type 0} → Node → Device D → Accepts → List (MemberView S D) → Move → Applied → World → List world.Move → desk.DeskView S D → desk.DeskView S D → Type 0
-Does node device accepts members (Deliver from output to) applied world moves before later =
-    (message : Message) × (message_at members from output ≡ Some message) × TakesIn node accepts (record { sender = from; message = message }) applied moves before later
-Does node device accepts members (Give to sender given) applied world moves before later = TakesIn node accepts (record { sender = sender; message = given }) applied moves before later
-Does node device accepts members (Coin own coin) applied world moves before later = TakesIn node accepts (record { sender = own; message = message.Coin coin }) applied moves before later
-Does node device accepts members (Flush own) applied world moves before later = MakesRound node device world applied moves before later
-Does node device accepts members (Stop own) applied world moves before later = Stops node device world applied moves before later
+-- what a move asks of the node that it moves: nothing where there is no such output to deliver
+abbrev pub asked_in : {S D : Type 0} → List (MemberView S D) → Move → Option Request
+asked_in members (Deliver from output to) = option_map (λ message. Take from message) (message_at members from output)
+asked_in members (Give to sender given) = Some (Take sender given)
+asked_in members (Coin node coin) = Some (Take node (message.Coin coin))
+asked_in members (Flush node) = Some Round
+asked_in members (Stop node) = Some request.Stop
 
--- the member of a number becomes another one, of which this holds
-pub record MovesOne {S D : Type 0} (Becomes : MemberView S D → MemberView S D → Type 0) (number : Author) (before later : List (MemberView S D)) : Type 0 where
-  pub one : MemberView S D
-  pub other : MemberView S D
-  pub was : at before number ≡ Some one
-  pub is : at later number ≡ Some other
-  pub becomes : Becomes one other
+-- A request was made to the member of a number, if there is one: it becomes another one, of which this holds. All other members are as
+-- they were, and what each is set up with stays.
+pub record IsAsked {S D : Type 0} (Becomes : MemberView S D → MemberView S D → Type 0) (number : Author) (before later : List (MemberView S D)) (answer : Result Applied ClusterError) : Type 0 where
+  pub there : (one : MemberView S D) → at before number ≡ Some one → (other : MemberView S D) × (at later number ≡ Some other) × Becomes one other
+  pub nobody : at before number ≡ None → (answer ≡ Err errors.NoSuchNode) × (later ≡ before)
+  pub others : (other : Author) → other ≢ number → at later other ≡ at before other
+  pub settings : map (λ member. member.setting) later ≡ map (λ member. member.setting) before
 
--- the member of a number makes a move of this kind in each world at which it stands, and then all goes out that may
-abbrev pub Moved : {S D : Type 0} → Scheme S → Device D → (Node → World → List world.Move → desk.DeskView S D → desk.DeskView S D → Type 0) → Author
-    → List (MemberView S D) → List (MemberView S D) → Type 0
-Moved scheme device Kind number before later = MovesOne (λ member other. (world : World) → StandsAt (node_of scheme member.setting) device world member
-    → Makes (node_of scheme member.setting) device (Kind (node_of scheme member.setting) world) world member other) number before later
-
--- or memory was refused in it
-abbrev pub MovedSome : {S D : Type 0} → Scheme S → Device D
-    → (Applied → Node → World → List world.Move → desk.DeskView S D → desk.DeskView S D → Type 0) → Author → List (MemberView S D)
-    → List (MemberView S D) → Type 0
-MovedSome scheme device Kind number before later = MovesOne (λ member other. (world : World) → StandsAt (node_of scheme member.setting) device world member
-    → (applied : Applied) × MakesSome (node_of scheme member.setting) device (Kind applied (node_of scheme member.setting) world) world member other) number before later
+-- A move was applied, whatever it was answered: what it asks was asked of the node that it moves; and where it asks nothing, nothing happened.
+pub record IsApplied {S D : Type 0} (scheme : Scheme S) (device : Device D) (accepts : Accepts) (before : List (MemberView S D)) (step : Move)
+    (later : List (MemberView S D)) (answer : Result Applied ClusterError) : Type 0 where
+  pub asked : (request : Request) → asked_in before step ≡ Some request
+      → IsAsked (λ one other. Became (node_of scheme one.setting) device accepts request one other answer) (actor step) before later answer
+  pub not_asked : asked_in before step ≡ None → later ≡ before
 
 -- ---- what a move is refused
 
@@ -95,9 +89,10 @@ abbrev pub LacksOutput : {S D : Type 0} → List (MemberView S D) → Move → T
 LacksOutput members (Deliver node output to) = IsThere members to × (at members node ≢ None) × (message_at members node output ≡ None)
 LacksOutput members move = ⊥
 
-abbrev pub IsStopOf : Move → Type 0
-IsStopOf (Stop node) = ⊤
-IsStopOf other = ⊥
+-- a move that delivers an output
+abbrev pub IsDelivery : Move → Type 0
+IsDelivery (Deliver node output to) = ⊤
+IsDelivery move = ⊥
 
 -- ---- what a cluster is made of
 

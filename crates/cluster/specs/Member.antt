@@ -49,20 +49,20 @@ pub record StandsAt {S D : Type 0} (node : Node) (device : Device D) (world : Wo
 abbrev pub IsOn : {S D : Type 0} → Device D → D → MemberView S D → Type 0
 IsOn {S} {D} device disk member = (one : desk.DeskView S D) → member.desk ≡ Some one → device.faults (disk_of one.journal) ≡ device.faults disk
 
--- a member proposes a header, or none: what its node proposes behind all that it accepted
+-- a member proposes a header, or none: what its node proposes after all that it accepted
 pub record Proposes {S D : Type 0} (node : Node) (member : MemberView S D) (found : Option Header) : Type 0 where
   pub desk : desk.DeskView S D
   pub has : member.desk ≡ Some desk
   pub proposes : (run : Run) → Stands node run desk.book → found ≡ propose node (history_in run)
 
--- ---- what goes out behind a move
+-- ---- what goes out after a move
 
 -- the moves by which these outputs go out: the settled order is read first. A desk that is down answers neither
 abbrev pub going_out : Bool → List Waiting → List Move
 going_out true went = []
 going_out false went = read_order ∷ map release went
 
--- outputs left a desk's queue, from its head on, and were kept behind the others; these are what went out
+-- outputs left a desk's queue, from its head on, and were kept after the others; these are what went out
 pub record HasKept {S D : Type 0} (desk next : desk.DeskView S D) (before later : GivenOutView) (went : List Waiting) : Type 0 where
   pub took : List Waiting
   pub queue : desk.book.queue ≡ took ++ next.book.queue
@@ -79,7 +79,7 @@ pub record HasCollected {S D : Type 0} (node : Node) (device : Device D) (world 
   pub at : IsAt node device to next
   pub out : HasPutOut node to later
 
--- memory was refused before the order was read, or behind some of them
+-- memory was refused before the order was read, or after some of them
 pub record HasCollectedSome {S D : Type 0} (node : Node) (device : Device D) (world : World) (desk next : desk.DeskView S D) (before later : GivenOutView) : Type 0 where
   pub went : List Waiting
   pub kept : HasKept desk next before later went

@@ -1,15 +1,13 @@
 -- What a node does in a thread of its own.
 use Rattle.std.specs.Prelude.{◌≡◌, ◌≢◌, ⊤, ℕ, ◌+◌, List, [], ◌∷◌, All, Option, Some, None, is_some, if◌then◌else◌}
-use Rattle.desk.specs.Desk as desk
 use Rattle.header.specs.Checks.{Accepts}
 use Rattle.spec_model.specs.Nodes.{Node}
 use Rattle.spec_model.specs.Words.{Author, Event, Output}
-use Rattle.spec_world.specs.Steps.{Move}
 use Rattle.spec_world.specs.World.{World}
 use Rattle.validator.specs.Setting.{node_of}
 use Rattle.wire.specs.Outputs.{receiver_of}
 use Rattle.wire.specs.declared.output_bytes.TheConstants.{TO_ALL}
-use Rattle.cluster.specs.Answers.{TakesIn, MakesRound, Makes}
+use Rattle.cluster.specs.Answers.{Deed, TakesIn, MakesRound, Makes}
 use Rattle.cluster.specs.Member.{MemberView, StandsAt}
 use Rattle.cluster.specs.Outputs.{message_of, IsFor}
 use Rattle.cluster.specs.declared.moves.Applied.{Applied}
@@ -40,14 +38,14 @@ pub data Act : Type 0 where
   round : Applied → Act
 
 -- what that is to its desk
-abbrev pub DoesAct : {S D : Type 0} → Node → Device D → Accepts → Act → World → List Move → desk.DeskView S D → desk.DeskView S D → Type 0
-DoesAct node device accepts (take event applied) world moves before later = TakesIn node accepts event applied moves before later
-DoesAct node device accepts (round applied) world moves before later = MakesRound node device world applied moves before later
+abbrev pub DoesAct : {S D : Type 0} → Node → Device D → Accepts → Act → Deed S D → Type 0
+DoesAct node device accepts (take event applied) deed = TakesIn node accepts event applied deed
+DoesAct node device accepts (round applied) deed = MakesRound node device applied deed
 
 -- a member does that in each world at which it stands, and then all goes out that may
 abbrev pub HasActed : {S D : Type 0} → Scheme S → Device D → Accepts → Act → MemberView S D → MemberView S D → Type 0
 HasActed scheme device accepts act before later = (world : World) → StandsAt (node_of scheme before.setting) device world before
-    → Makes (node_of scheme before.setting) device (DoesAct (node_of scheme before.setting) device accepts act world) world before later
+    → Makes (node_of scheme before.setting) device (DoesAct (node_of scheme before.setting) device accepts act) world before later
 
 -- it does all of these, the last one first in the list
 abbrev pub HaveActed : {S D : Type 0} → Scheme S → Device D → Accepts → List Act → MemberView S D → MemberView S D → Type 0

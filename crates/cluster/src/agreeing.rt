@@ -6,7 +6,6 @@ use sigface::{Sign, Verify};
 use spec_cluster::agreement;
 
 impl<'a, S: Sign, D: StopDisk, V: Verify> Cluster<'a, S, D, V> {
-    ghost use Rattle.validator.specs.Setting.{node_of};
     ghost use Rattle.cluster.specs.Applying.{GivenOrdersAgree};
 
     /// Whichever nodes are honest, whatever moves were applied, and whatever each of them was answered: where the honest

@@ -3,7 +3,7 @@
 use crate::delivering::message_in;
 use crate::error::ClusterError;
 use crate::member::Member;
-use crate::moves::{Applied, Move};
+use crate::moves::{Applied, Move, Request};
 use crate::running::run_members;
 use diskmodel::{Gate, StopDisk};
 use journal::JournalError;
@@ -46,20 +46,18 @@ impl<'a, S: Sign, D: StopDisk, V: Verify> Model for Cluster<'a, S, D, V> {
 }
 
 impl<'a, S: Sign, D: StopDisk + Drop, V: Verify + Drop> Cluster<'a, S, D, V> {
-    ghost use Rattle.std.specs.Prelude.{◌≡◌, ◌≢◌, ◌⊎◌, ◌↔◌, ℕ, [], length, map, position, Some, None, vec_len, All, Contains, IfOk, IfErr, IfSome, OnOk, IsNone, IsErrOf, option_copied, slice_get};
+    ghost use Rattle.std.specs.Prelude.{◌≡◌, ◌≢◌, ◌⊎◌, ◌↔◌, [], length, map, position, Some, None, vec_len, All, Contains, IfOk, IfErr, IfSome, IsNone, IsErrOf, option_copied, slice_get};
     ghost use Rattle.std.specs.List.{AllZip};
     ghost use Rattle.std.specs.Option.{option_and_then, option_map};
     ghost use Rattle.spec_world.specs.Runs.{first_bytes};
     ghost use Rattle.spec_world.specs.Steps.{IsRun};
-    ghost use Rattle.spec_world.specs.World.{World, run_on};
+    ghost use Rattle.spec_world.specs.World.{run_on};
     ghost use Rattle.validator.specs.Setting.{node_of};
-    ghost use Rattle.cluster.specs.Answers.{TakesIn, MakesRound, IsDeviceFault, HasFailed, Stops, Makes, MakesSome, IsJournal, IsJournalFault, IsLost, CountsMore};
-    ghost use Rattle.cluster.specs.Applying.{IsApplied};
+    ghost use Rattle.cluster.specs.Answers.{Became, IsJournal, IsJournalFault, CountsMore};
     ghost use Rattle.cluster.specs.Member.{MemberView, StandsAt, IsOn, Proposes};
-    ghost use Rattle.cluster.specs.Cluster.{named, at, has_member, message_at, IsThere, Does, Moved, MovedSome, MovesOne, LacksNode, LacksOutput, IsStopOf, AreOfOne, AreDistinct, actor};
+    ghost use Rattle.cluster.specs.Cluster.{named, at, has_member, message_at, asked_in, actor, IsAsked, IsApplied, IsThere, IsDelivery, LacksNode, LacksOutput, AreOfOne, AreDistinct};
     ghost use Rattle.cluster.specs.Threads.{HasRun};
-    ghost use Rattle.cluster.specs.declared.moves.Applied.{Applied};
-    ghost use Rattle.cluster.specs.declared.moves.Move.TheVariants.{Deliver, Flush};
+    ghost use Rattle.cluster.specs.declared.moves.Move.TheVariants.{Deliver};
 
     /// Opens a node for each of these settings, each on the disk at its place.
     ///
@@ -107,40 +105,19 @@ impl<'a, S: Sign, D: StopDisk + Drop, V: Verify + Drop> Cluster<'a, S, D, V> {
     /// from then on, and what it put out can still be delivered. `Memory` where an allocation failed, also after the move:
     /// what could not be put out then waits in the node.
     pub fn apply(&mut self, step: Move) -> Result<Applied, ClusterError>
-        // The node that moves makes just this move in its world, and what may go out behind it goes out.
-        ensures moves { IfOk result (λ applied. Moved S.scheme D.device (λ node world. Does node D.device (V.accepts self.old.verifier) self.old.members step applied world) (actor step) self.old.members self.new.members) }
-        // Whatever it is answered, it is one of the moves over which `orders_agree` speaks.
-        ensures applied { IsApplied S.scheme D.device (V.accepts self.old.verifier) self.old.members step self.new.members }
-        // A round answers Device only where the node's disk counted a failure.
-        ensures device { (node : Author) → step ≡ Flush node → IfOk result (λ applied. IsDeviceFault applied → MovesOne (HasFailed D.device) node self.old.members self.new.members) }
-        // All others are as they were, and what each is set up with stays.
-        ensures others { (other : Author) → other ≢ actor step → at self.new.members other ≡ at self.old.members other }
+        // The node that moves does just this in its world, and what may go out after it goes out. All others are as they were.
+        ensures applied { IsApplied S.scheme D.device (V.accepts self.old.verifier) self.old.members step self.new.members result }
         ensures verifier { self.new.verifier ≡ self.old.verifier }
-        ensures settings { map (λ member. member.setting) self.new.members ≡ map (λ member. member.setting) self.old.members }
         // A node that no move names, or that is gone, and an output that there isn't, are refused so exactly.
         ensures no_node { IsErrOf result ClusterError.NoSuchNode ↔ LacksNode self.old.members step }
         ensures no_output { IsErrOf result ClusterError.NoSuchOutput ↔ LacksOutput self.old.members step }
         ensures unchanged { IfErr result (λ error. (error ≡ ClusterError.NoSuchNode) ⊎ (error ≡ ClusterError.NoSuchOutput) → self.new ≡ self.old) }
-        // Where memory was refused nothing had happened, or the move was made, and some of what goes out behind it waits.
-        ensures memory { IsErrOf result ClusterError.Memory → MovedSome S.scheme D.device (λ applied node world. Does node D.device (V.accepts self.old.verifier) self.old.members step applied world) (actor step) self.old.members self.new.members }
-        // A node that could not be opened behind a stop is gone, for want of memory or a fault of its disk, and what it gave out
-        // stays.
-        ensures gone { IfErr result (λ error. IsJournal error → IsStopOf step × MovesOne (λ member. IsLost (node_of S.scheme member.setting) D.device error member) (actor step) self.old.members self.new.members) }
     {
-        match step {
-            Move::Deliver { node, output, to } => self.deliver(node, output, to),
-            Move::Give {
-                to,
-                sender,
-                message,
-            } => self.give(to, sender, message),
-            Move::Coin { node, coin } => self.give(node, node, Message::Coin(coin)),
-            Move::Flush(node) => self.flush(node),
-            Move::Stop(node) => self.stop(node),
-        }
+        let (node, request) = self.asked(step)?;
+        self.ask(node, request)
     }
 
-    /// The header that a node proposes behind all that it accepted. None where it proposes none.
+    /// The header that a node proposes after all that it accepted. None where it proposes none.
     ///
     /// # Errors
     /// `NoSuchNode` where there is no such node, or it is gone; `Memory` where an allocation failed.
@@ -251,22 +228,49 @@ impl<'a, S: Sign, D: StopDisk + Drop, V: Verify + Drop> Cluster<'a, S, D, V> {
         }
     }
 
-    fn deliver(&mut self, node: Author, output: u64, to: Author) -> Result<Applied, ClusterError>
-        ensures moves { IfOk result (λ applied. Moved S.scheme D.device (λ own world. Does own D.device (V.accepts self.old.verifier) self.old.members (Deliver node output to) applied world) to self.old.members self.new.members) }
-        ensures others { (other : Author) → other ≢ to → at self.new.members other ≡ at self.old.members other }
-        ensures verifier { self.new.verifier ≡ self.old.verifier }
-        ensures settings { map (λ member. member.setting) self.new.members ≡ map (λ member. member.setting) self.old.members }
-        ensures no_node { IsErrOf result ClusterError.NoSuchNode ↔ LacksNode self.old.members (Deliver node output to) }
-        ensures no_output { IsErrOf result ClusterError.NoSuchOutput ↔ LacksOutput self.old.members (Deliver node output to) }
-        ensures unchanged { IfErr result (λ error. (error ≡ ClusterError.NoSuchNode) ⊎ (error ≡ ClusterError.NoSuchOutput) → self.new ≡ self.old) }
-        ensures memory { IsErrOf result ClusterError.Memory → MovedSome S.scheme D.device (λ applied own world. Does own D.device (V.accepts self.old.verifier) self.old.members (Deliver node output to) applied world) to self.old.members self.new.members }
+    // The node that a move moves, and what it asks of it.
+    fn asked(&self, step: Move) -> Result<(Author, Request), ClusterError>
+        ensures ok { IfOk result (λ asked. (asked.0 ≡ actor step) × (asked_in self.now.members step ≡ Some asked.1)) }
+        ensures no_node { IsErrOf result ClusterError.NoSuchNode ↔ (IsDelivery step × LacksNode self.now.members step) }
+        ensures no_output { IsErrOf result ClusterError.NoSuchOutput ↔ LacksOutput self.now.members step }
+        ensures memory { IsErrOf result ClusterError.Memory → IsThere self.now.members (actor step) }
+        ensures never { IfErr result (λ error. IsJournal error → ⊥) }
+    {
+        match step {
+            Move::Deliver { node, output, to } => Ok((to, self.delivery(node, output, to)?)),
+            Move::Give {
+                to,
+                sender,
+                message,
+            } => Ok((to, Request::Take { sender, message })),
+            Move::Coin { node, coin } => Ok((
+                node,
+                Request::Take {
+                    sender: node,
+                    message: Message::Coin(coin),
+                },
+            )),
+            Move::Flush(node) => Ok((node, Request::Round)),
+            Move::Stop(node) => Ok((node, Request::Stop)),
+        }
+    }
+
+    // What a delivery asks of the node to which it goes.
+    fn delivery(&self, node: Author, output: u64, to: Author) -> Result<Request, ClusterError>
+        ensures ok { IfOk result (λ request. asked_in self.now.members (Deliver node output to) ≡ Some request) }
+        ensures no_node { IsErrOf result ClusterError.NoSuchNode ↔ LacksNode self.now.members (Deliver node output to) }
+        ensures no_output { IsErrOf result ClusterError.NoSuchOutput ↔ LacksOutput self.now.members (Deliver node output to) }
+        ensures memory { IsErrOf result ClusterError.Memory → IsThere self.now.members to }
         ensures never { IfErr result (λ error. IsJournal error → ⊥) }
     {
         if !self.is_there(to) {
             return Err(ClusterError::NoSuchNode);
         }
         let message = self.message_from(node, output)?;
-        self.give(to, node, message)
+        Ok(Request::Take {
+            sender: node,
+            message,
+        })
     }
 
     // The message in this output of a member.
@@ -288,56 +292,16 @@ impl<'a, S: Sign, D: StopDisk + Drop, V: Verify + Drop> Cluster<'a, S, D, V> {
         }
     }
 
-    fn give(
-        &mut self,
-        to: Author,
-        sender: Author,
-        message: Message,
-    ) -> Result<Applied, ClusterError>
-        ensures moves { IfOk result (λ applied. Moved S.scheme D.device (λ node world. TakesIn node (V.accepts self.old.verifier) (record { sender = sender; message = message }) applied) to self.old.members self.new.members) }
-        ensures others { (other : Author) → other ≢ to → at self.new.members other ≡ at self.old.members other }
+    // Makes a request to the member of this number.
+    fn ask(&mut self, number: Author, request: Request) -> Result<Applied, ClusterError>
+        ensures asked { IsAsked (λ one other. Became (node_of S.scheme one.setting) D.device (V.accepts self.old.verifier) request one other result) number self.old.members self.new.members result }
         ensures verifier { self.new.verifier ≡ self.old.verifier }
-        ensures settings { map (λ member. member.setting) self.new.members ≡ map (λ member. member.setting) self.old.members }
-        ensures no_node { IsErrOf result ClusterError.NoSuchNode ↔ (IsThere self.old.members to → ⊥) }
-        ensures unchanged { IsErrOf result ClusterError.NoSuchNode → self.new ≡ self.old }
-        ensures memory { IsErrOf result ClusterError.Memory → MovedSome S.scheme D.device (λ applied node world. TakesIn node (V.accepts self.old.verifier) (record { sender = sender; message = message }) applied) to self.old.members self.new.members }
-        ensures errors { IfErr result (λ error. (error ≡ ClusterError.NoSuchNode) ⊎ (error ≡ ClusterError.Memory)) }
+        ensures no_node { IsErrOf result ClusterError.NoSuchNode ↔ (IsThere self.old.members number → ⊥) }
+        ensures same { IsErrOf result ClusterError.NoSuchNode → self.new ≡ self.old }
+        ensures never { ¬ IsErrOf result ClusterError.NoSuchOutput }
     {
-        match self.place_of(to) {
-            Some(place) => self.members[place].take_in(&self.verifier, sender, message),
-            None => Err(ClusterError::NoSuchNode),
-        }
-    }
-
-    fn flush(&mut self, node: Author) -> Result<Applied, ClusterError>
-        ensures moves { IfOk result (λ applied. Moved S.scheme D.device (λ own world. MakesRound own D.device world applied) node self.old.members self.new.members) }
-        ensures device { IfOk result (λ applied. IsDeviceFault applied → MovesOne (HasFailed D.device) node self.old.members self.new.members) }
-        ensures others { (other : Author) → other ≢ node → at self.new.members other ≡ at self.old.members other }
-        ensures verifier { self.new.verifier ≡ self.old.verifier }
-        ensures settings { map (λ member. member.setting) self.new.members ≡ map (λ member. member.setting) self.old.members }
-        ensures no_node { IsErrOf result ClusterError.NoSuchNode ↔ (IsThere self.old.members node → ⊥) }
-        ensures unchanged { IsErrOf result ClusterError.NoSuchNode → self.new ≡ self.old }
-        ensures memory { IsErrOf result ClusterError.Memory → MovedSome S.scheme D.device (λ applied own world. MakesRound own D.device world applied) node self.old.members self.new.members }
-        ensures errors { IfErr result (λ error. (error ≡ ClusterError.NoSuchNode) ⊎ (error ≡ ClusterError.Memory)) }
-    {
-        match self.place_of(node) {
-            Some(place) => self.members[place].flush(),
-            None => Err(ClusterError::NoSuchNode),
-        }
-    }
-
-    fn stop(&mut self, node: Author) -> Result<Applied, ClusterError>
-        ensures moves { IfOk result (λ applied. Moved S.scheme D.device (λ own world. Stops own D.device world applied) node self.old.members self.new.members) }
-        ensures others { (other : Author) → other ≢ node → at self.new.members other ≡ at self.old.members other }
-        ensures verifier { self.new.verifier ≡ self.old.verifier }
-        ensures settings { map (λ member. member.setting) self.new.members ≡ map (λ member. member.setting) self.old.members }
-        ensures no_node { IsErrOf result ClusterError.NoSuchNode ↔ (IsThere self.old.members node → ⊥) }
-        ensures unchanged { IsErrOf result ClusterError.NoSuchNode → self.new ≡ self.old }
-        ensures memory { IsErrOf result ClusterError.Memory → MovedSome S.scheme D.device (λ applied own world. Stops own D.device world applied) node self.old.members self.new.members }
-        ensures errors { IfErr result (λ error. (error ≡ ClusterError.NoSuchNode) ⊎ ((error ≡ ClusterError.Memory) ⊎ (IsJournal error × MovesOne (λ member. IsLost (node_of S.scheme member.setting) D.device error member) node self.old.members self.new.members))) }
-    {
-        match self.place_of(node) {
-            Some(place) => self.members[place].stop(self.alloc),
+        match self.place_of(number) {
+            Some(place) => self.members[place].answer(self.alloc, &self.verifier, request),
             None => Err(ClusterError::NoSuchNode),
         }
     }

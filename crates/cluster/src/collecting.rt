@@ -1,13 +1,11 @@
-//! What a member gave out, and what goes out behind a move.
+//! What a member gave out, and what goes out after a move.
 
-ghost use Rattle.std.specs.Prelude.{◌≡◌, ◌++◌, ◌∷◌, [], map, drop, false, true, List, OnOk, OnErr, IfOk};
+ghost use Rattle.std.specs.Prelude.{◌≡◌, [], drop, false, true, OnOk, OnErr, IfOk};
 ghost use Rattle.book.specs.Book.{releasable};
-ghost use Rattle.spec_model.specs.Holdings.{order as order_of};
-ghost use Rattle.spec_world.specs.Lasting.{settled_in};
-ghost use Rattle.spec_world.specs.World.{World, Waiting};
+ghost use Rattle.spec_world.specs.World.{World};
 ghost use Rattle.validator.specs.Setting.{node_of};
 ghost use Rattle.desk.specs.AtWorld.{IsAt};
-ghost use Rattle.cluster.specs.Member.{HasPutOut, HasKept, HasCollected, HasCollectedSome};
+ghost use Rattle.cluster.specs.Member.{HasPutOut, HasCollected, HasCollectedSome};
 ghost use Rattle.cluster.specs.Collecting.{HasRead, IsWhole, HasReleased, IsReleasedNext};
 
 use desk::Desk;
@@ -99,7 +97,7 @@ pub(crate) fn collect<S: Sign, D: StopDisk>(
     release_all(desk, given)
 }
 
-// Reads the settled order behind what was given out of it.
+// Reads the settled order after what was given out of it.
 fn read_order<S: Sign, D: StopDisk>(
     desk: &Desk<'_, S, D>,
     given: &mut GivenOut,
@@ -117,7 +115,7 @@ fn read_order<S: Sign, D: StopDisk>(
     }
 }
 
-// Takes all outputs that may go out, behind the settled order.
+// Takes all outputs that may go out, after the settled order.
 fn release_all<S: Sign, D: StopDisk>(
     desk: &mut Desk<'_, S, D>,
     given: &mut GivenOut,

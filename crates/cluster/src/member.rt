@@ -2,7 +2,7 @@
 
 use crate::collecting::{GivenOut, collect};
 use crate::error::ClusterError;
-use crate::moves::Applied;
+use crate::moves::{Applied, Request};
 use crate::turns::{offer, restart, round};
 use desk::Desk;
 use diskmodel::StopDisk;
@@ -47,15 +47,16 @@ impl<'a, S: Sign, D: StopDisk> Model for Member<'a, S, D> {
 }
 
 impl<'a, S: Sign, D: StopDisk> Member<'a, S, D> {
-    ghost use Rattle.std.specs.Prelude.{◌≡◌, ◌≢◌, ◌⊎◌, ◌↔◌, [], length, is_some, slice_get, Some, None, IfOk, IfErr, IfSome, OnOk, OnErr, IsNone, IsErrOf};
+    ghost use Rattle.std.specs.Prelude.{◌≡◌, ◌≢◌, ◌⊎◌, ◌↔◌, [], length, is_some, slice_get, Some, None, IfOk, IfErr, IfSome, IsNone, IsErrOf};
     ghost use Rattle.spec_world.specs.Runs.{first_bytes};
     ghost use Rattle.spec_world.specs.Steps.{IsRun};
-    ghost use Rattle.spec_world.specs.World.{World, run_on};
+    ghost use Rattle.spec_world.specs.World.{run_on};
     ghost use Rattle.validator.specs.Setting.{node_of};
     ghost use Rattle.desk.specs.Desk.{DeskView};
-    ghost use Rattle.cluster.specs.Answers.{TakesIn, MakesRound, IsDeviceFault, HasFailed, Stops, Makes, MakesSome, IsJournal, IsJournalFault, IsLost, CountsMore};
+    ghost use Rattle.header.specs.Checks.{Accepts};
+    ghost use Rattle.cluster.specs.Answers.{Became, IsJournal, IsJournalFault, CountsMore};
     ghost use Rattle.cluster.specs.Member.{StandsAt, IsOn, Proposes};
-    ghost use Rattle.cluster.specs.declared.moves.Applied.{Applied};
+    ghost use Rattle.cluster.specs.declared.moves.Request.TheVariants.{Take, Round, Stop};
 
     /// Opens a node on a disk. It gave nothing out.
     ///
@@ -126,7 +127,7 @@ impl<'a, S: Sign, D: StopDisk> Member<'a, S, D> {
         self.given.order()
     }
 
-    /// The header that it proposes behind all that it accepted. None where it proposes none.
+    /// The header that it proposes after all that it accepted. None where it proposes none.
     ///
     /// # Errors
     /// `NoSuchNode` where it is gone; `Memory` where an allocation failed.
@@ -141,6 +142,28 @@ impl<'a, S: Sign, D: StopDisk> Member<'a, S, D> {
         }
     }
 
+    /// Answers a request, and then takes what it puts out.
+    ///
+    /// # Errors
+    /// `NoSuchNode` where it is gone; `Journal` where it can't be opened after a stop: it is gone then. `Memory` where an allocation
+    /// failed, also after what was asked was done.
+    pub(crate) fn answer<V: Verify>(
+        &mut self,
+        alloc: Global,
+        verifier: &V,
+        request: Request,
+    ) -> Result<Applied, ClusterError>
+    where
+        D: Drop,
+        ensures { Became (node_of S.scheme self.old.setting) D.device (V.accepts verifier.now) request self.old self.new result }
+    {
+        match request {
+            Request::Take { sender, message } => self.take_in(verifier, sender, message),
+            Request::Round => self.flush(),
+            Request::Stop => self.stop(alloc),
+        }
+    }
+
     /// Gives it a message, and then takes what it puts out.
     ///
     /// # Errors
@@ -151,14 +174,7 @@ impl<'a, S: Sign, D: StopDisk> Member<'a, S, D> {
         sender: Author,
         message: Message,
     ) -> Result<Applied, ClusterError>
-        ensures ok { let node = node_of S.scheme self.old.setting in IfOk result (λ applied. (world : World) → StandsAt node D.device world self.old
-            → Makes node D.device (TakesIn node (V.accepts verifier.now) (record { sender = sender; message = message }) applied) world self.old self.new) }
-        ensures memory { let node = node_of S.scheme self.old.setting in IsErrOf result ClusterError.Memory → (world : World) → StandsAt node D.device world self.old
-            → (applied : Applied) × MakesSome node D.device (TakesIn node (V.accepts verifier.now) (record { sender = sender; message = message }) applied) world self.old self.new }
-        ensures gone { IsErrOf result ClusterError.NoSuchNode ↔ (self.old.desk ≡ None) }
-        ensures same { IsErrOf result ClusterError.NoSuchNode → self.new ≡ self.old }
-        ensures errors { IfErr result (λ error. (error ≡ ClusterError.NoSuchNode) ⊎ (error ≡ ClusterError.Memory)) }
-        ensures setting { self.new.setting ≡ self.old.setting }
+        ensures became { Became (node_of S.scheme self.old.setting) D.device (V.accepts verifier.now) (Take sender message) self.old self.new result }
         ensures there { is_some self.new.desk ≡ is_some self.old.desk }
     {
         let Some(desk) = &mut self.desk else {
@@ -172,17 +188,9 @@ impl<'a, S: Sign, D: StopDisk> Member<'a, S, D> {
     /// Lets it make one round, and then takes what it puts out.
     ///
     /// # Errors
-    /// `NoSuchNode` where it is gone; `Memory` where an allocation failed behind the round.
+    /// `NoSuchNode` where it is gone; `Memory` where an allocation failed after the round.
     pub(crate) fn flush(&mut self) -> Result<Applied, ClusterError>
-        ensures ok { let node = node_of S.scheme self.old.setting in IfOk result (λ applied. (world : World) → StandsAt node D.device world self.old
-            → Makes node D.device (MakesRound node D.device world applied) world self.old self.new) }
-        ensures memory { let node = node_of S.scheme self.old.setting in IsErrOf result ClusterError.Memory → (world : World) → StandsAt node D.device world self.old
-            → (applied : Applied) × MakesSome node D.device (MakesRound node D.device world applied) world self.old self.new }
-        ensures device { IfOk result (λ applied. IsDeviceFault applied → HasFailed D.device self.old self.new) }
-        ensures gone { IsErrOf result ClusterError.NoSuchNode ↔ (self.old.desk ≡ None) }
-        ensures same { IsErrOf result ClusterError.NoSuchNode → self.new ≡ self.old }
-        ensures errors { IfErr result (λ error. (error ≡ ClusterError.NoSuchNode) ⊎ (error ≡ ClusterError.Memory)) }
-        ensures setting { self.new.setting ≡ self.old.setting }
+        ensures became { (accepts : Accepts) → Became (node_of S.scheme self.old.setting) D.device accepts Round self.old self.new result }
         ensures there { is_some self.new.desk ≡ is_some self.old.desk }
     {
         let Some(desk) = &mut self.desk else {
@@ -193,23 +201,11 @@ impl<'a, S: Sign, D: StopDisk> Member<'a, S, D> {
         Ok(applied)
     }
 
-    /// Stops its machine, opens it again, and then takes what it puts out.
-    ///
-    /// # Errors
-    /// `NoSuchNode` where it is gone; `Journal` where it can't be opened: it is gone then. `Memory` where an allocation failed
-    /// behind the opening.
-    pub(crate) fn stop(&mut self, alloc: Global) -> Result<Applied, ClusterError>
+    // Stops its machine, opens it again, and then takes what it puts out. The errors are those of `answer`.
+    fn stop(&mut self, alloc: Global) -> Result<Applied, ClusterError>
     where
         D: Drop,
-        ensures ok { let node = node_of S.scheme self.old.setting in IfOk result (λ applied. (world : World) → StandsAt node D.device world self.old
-            → Makes node D.device (Stops node D.device world applied) world self.old self.new) }
-        ensures memory { let node = node_of S.scheme self.old.setting in IsErrOf result ClusterError.Memory → (world : World) → StandsAt node D.device world self.old
-            → (applied : Applied) × MakesSome node D.device (Stops node D.device world applied) world self.old self.new }
-        ensures gone { IsErrOf result ClusterError.NoSuchNode ↔ (self.old.desk ≡ None) }
-        ensures same { IsErrOf result ClusterError.NoSuchNode → self.new ≡ self.old }
-        ensures journal { IfErr result (λ error. (error ≡ ClusterError.NoSuchNode) ⊎ ((error ≡ ClusterError.Memory) ⊎ (IsJournal error × IsLost (node_of S.scheme self.old.setting) D.device error self.old self.new))) }
-        ensures never { ¬ IsErrOf result ClusterError.NoSuchOutput }
-        ensures setting { self.new.setting ≡ self.old.setting }
+        ensures { (accepts : Accepts) → Became (node_of S.scheme self.old.setting) D.device accepts Stop self.old self.new result }
     {
         let Some(desk) = self.desk.take() else {
             return Err(ClusterError::NoSuchNode);

@@ -31,6 +31,17 @@ pub enum Move {
     Stop(Author),
 }
 
+/// What a move asks of the node that it moves.
+#[derive(Debug, Drop)]
+pub enum Request {
+    /// To take a message from this sender.
+    Take { sender: Author, message: Message },
+    /// To make one round.
+    Round,
+    /// Its machine stops, and it is opened again.
+    Stop,
+}
+
 /// What a move is answered.
 #[derive(Clone, Copy, Debug, PartialEq, Eq)]
 pub enum Applied {

@@ -2,7 +2,6 @@
 
 ghost use Rattle.std.specs.Prelude.{◌≡◌, vec_len, map, Ok, IfOk};
 ghost use Rattle.std.specs.List.{AllZip};
-ghost use Rattle.validator.specs.Setting.{node_of};
 ghost use Rattle.cluster.specs.Threads.{HasRun};
 
 use crate::member::Member;
@@ -35,7 +34,6 @@ where
     G: Gate + Drop,
 {
     ghost use Rattle.std.specs.Prelude.{IfOk};
-    ghost use Rattle.validator.specs.Setting.{node_of};
     ghost use Rattle.cluster.specs.Threads.{HasRun};
 
     ghost ran = { λ shared worker ended. IfOk ended (λ later. HasRun S.scheme D.device (V.accepts shared.verifier.now) shared.turns worker.member later) };

@@ -1,6 +1,6 @@
 //! Jobs that are done in threads, one for each.
 
-ghost use Rattle.std.specs.Prelude.{◌≡◌, IfOk};
+ghost use Rattle.std.specs.Prelude.{IfOk};
 ghost use Rattle.std.specs.List.{AllZip};
 ghost use Rattle.std.specs.Thread.{IsSend, IsSync};
 
@@ -69,7 +69,7 @@ where
     )
 }
 
-// Starts a thread for the last of the jobs, and in the same way for those before it. Behind that comes what is done in this thread.
+// Starts a thread for the last of the jobs, and in the same way for those before it. After that comes what is done in this thread.
 fn run_each<'s, E, R, O, J, X, B>(
     scope: &Scope<'s, E>,
     rt: &'s R,

@@ -70,7 +70,7 @@ fn hand_in<S: Sign, D: StopDisk>(
 /// Lets a desk make one round.
 pub(crate) fn round<S: Sign, D: StopDisk>(desk: &mut Desk<'_, S, D>) -> Applied
     ensures moved { let node = node_of S.scheme desk.old.book.validator.setting in (world : World) → IsAt node D.device world desk.old
-        → HasMoved node D.device (MakesRound node D.device world result) world desk.old desk.new }
+        → HasMoved node D.device (MakesRound node D.device result) world desk.old desk.new }
     // It answers Device only where the disk counted a failure.
     ensures device { IsDeviceFault result → D.device.faults (disk_of desk.old.journal) < D.device.faults (disk_of desk.new.journal) }
     ensures setting { desk.new.book.validator.setting ≡ desk.old.book.validator.setting }
@@ -107,7 +107,7 @@ pub(crate) fn restart<'a, S: Sign, D: StopDisk + Drop>(
     }
 }
 
-// How many events a disk's journal has, behind the record of the configuration.
+// How many events a disk's journal has, after the record of the configuration.
 fn count_events<D: StopDisk + Drop>(alloc: Global, disk: D) -> Result<(u64, D), JournalError>
     ensures same { IfOk result (λ counted. stands (D.device.content counted.1) ≡ stands (D.device.content disk)) }
     ensures count { IfOk result (λ counted. (node : Node) (history : History) → told node (D.device.content disk) ≡ Ok history → counted.0 ≡ length history) }

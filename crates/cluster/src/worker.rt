@@ -2,7 +2,6 @@
 
 ghost use Rattle.std.specs.Prelude.{◌≡◌, IfOk, OnOk};
 ghost use Rattle.header.specs.Checks.{Accepts};
-ghost use Rattle.validator.specs.Setting.{node_of};
 ghost use Rattle.cluster.specs.Threads.{HasRun};
 
 use crate::delivering::message_in;

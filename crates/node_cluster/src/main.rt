@@ -29,7 +29,7 @@ fn main(rt: HostRuntime) -> ExitCode {
     }
 }
 
-/// Plays all waves, and says whether all is well behind them.
+/// Plays all waves, and says whether all is well after them.
 fn run<R: AllocGlobal + Print>(rt: &R) -> Result<bool, Ending> {
     let settings = Settings::new(rt.alloc(), DEPTH, BATCHES)?;
     let mut play = Play::new(rt.alloc(), &settings)?;

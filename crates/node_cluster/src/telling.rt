@@ -5,7 +5,7 @@ use crate::play::{LAST, Named, Play};
 use sim_members::MEMBERS;
 use wire::{Author, Digest};
 
-/// Shows the certificates of a round, each behind its author.
+/// Shows the certificates of a round, each after its author.
 pub fn tell_round(rt: &impl Print, play: &mut Play<'_>, round: u64) -> Result<(), Ending> {
     print!(rt; "round {round}, certified:")?;
     for named in play.certified(round)? {

@@ -11,7 +11,7 @@ use wire::{Author, Coin, Message, Signature, Wave};
 /// A signature of nobody.
 pub const UNSIGNED: Signature = Signature([0; 64]);
 
-/// The texts before and behind the first blank; where there is none, the whole one and nothing.
+/// The texts before and after the first blank; where there is none, the whole one and nothing.
 pub fn parted(text: &str) -> (&str, &str) {
     text.split_once(' ').unwrap_or((text, ""))
 }

@@ -91,7 +91,7 @@ impl Headers {
         }
     }
 
-    /// Of the headers of a kind the place of the one that has so many behind it, or else of the first.
+    /// Of the headers of a kind the place of the one that has so many after it, or else of the first.
     pub fn near_last(&self, which: Which, behind: u64) -> Option<usize> {
         let mut found = None;
         let mut left = behind;

@@ -29,7 +29,7 @@ const LEAVINGS: [(Leaving, &str); 4] = [
 ];
 
 impl<'a> Schedule<'a> {
-    // The node that is so many behind this one.
+    // The node that is so many after this one.
     fn behind(&self, node: Author, more: u16) -> Author {
         Author(node.0.wrapping_add(more) % self.honest.count())
     }

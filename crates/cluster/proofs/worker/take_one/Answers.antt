@@ -8,6 +8,6 @@ use Rattle.cluster.proofs.worker.take_one.Goals as goal
 pub returns : goal.returns
 returns g c =
     took_one g.S.Sign.scheme g.D.Disk.device (g.V.Verify.accepts c.args.verifier.now)
-    (record { sender = c.sender-sender.result; message = c.into_message.result }) c.in_ok-take_in.field-0 c.args.member.now c.take_in.new.self c.take_in.ensures.setting c.take_in.ensures.there
+    (record { sender = c.sender-sender.result; message = c.into_message.result }) c.in_ok-take_in.field-0 c.args.member.now c.take_in.new.self c.take_in.ensures.became.setting c.take_in.ensures.there
     (heard_as c.args.member.now.setting.own c.args.envelope c.sender-sender.result c.into_message.result c.sender-sender.ensures c.into_message.ensures
-    (subst (λ (own : Author). IsHeard own c.args.envelope) c.own.ensures (c.is_for.ensures c.if-not-is_for.false))) c.in_ok-take_in.ensures.ok
+    (subst (λ (own : Author). IsHeard own c.args.envelope) c.own.ensures (c.is_for.ensures c.if-not-is_for.false))) c.in_ok-take_in.ensures.became.ok

@@ -1,5 +1,4 @@
 use Rattle.std.proofs.Common.{sym, subst}
-use Rattle.validator.specs.Setting.{node_of}
 use Rattle.cluster.specs.Member.{MemberView}
 use Rattle.cluster.specs.Threads.{HasRun}
 use Rattle.cluster.proofs.Acting.{on_ok, run_on}
