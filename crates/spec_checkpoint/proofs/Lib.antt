@@ -1,0 +1,9 @@
+mod Blank
+mod Floors
+mod Tests
+mod Batches
+mod Certificates
+mod Votes
+mod Sound
+mod Rising
+mod NoFault

@@ -1,0 +1,29 @@
+-- What holds of checkpoints.
+use Rattle.std.specs.Prelude.{◌≡◌, true}
+use Rattle.spec_machine.specs.Machine.{fresh}
+use Rattle.spec_machine.specs.Sound.{IsSound}
+use Rattle.spec_model.specs.Admitting.{IsLegal}
+use Rattle.spec_model.specs.Giving.{kept}
+use Rattle.spec_model.specs.Histories.{History}
+use Rattle.spec_model.specs.Nodes.{Node, IsNode}
+use Rattle.spec_checkpoint.specs.Data.{Checkpoint, blank, IsCanonical, IsWritten}
+use Rattle.spec_checkpoint.specs.Faults.{has_no_fault}
+use Rattle.spec_checkpoint.specs.Meaning.{state_in}
+
+-- the checkpoint of a node that has taken nothing is the fresh state
+abbrev pub BlankIsFresh : Type 0
+BlankIsFresh = (node : Node) → state_in node blank ≡ fresh node
+
+-- a checkpoint without a fault is a sound state
+abbrev pub NoFaultIsSound : Type 0
+NoFaultIsSound = (node : Node) (checkpoint : Checkpoint) → IsNode node → IsCanonical node checkpoint → has_no_fault node checkpoint ≡ true
+    → IsSound node (state_in node checkpoint)
+
+-- and one that a node writes of a sound state has no fault
+abbrev pub SoundHasNoFault : Type 0
+SoundHasNoFault = (node : Node) (checkpoint : Checkpoint) → IsWritten node checkpoint → IsSound node (state_in node checkpoint) → has_no_fault node checkpoint ≡ true
+
+-- so what is kept of a legal history has none, where a checkpoint is that
+abbrev pub KeptHasNoFault : Type 0
+KeptHasNoFault = (node : Node) (checkpoint : Checkpoint) (history : History) → IsWritten node checkpoint → IsLegal node history → state_in node checkpoint ≡ kept node history
+    → has_no_fault node checkpoint ≡ true
