@@ -1,4 +1,4 @@
--- What stays of a validator's tables behind an event.
+-- What stays of a validator's tables after an event.
 use Rattle.std.proofs.Common.{◌≡◌, ℕ, Bool, true, false, Option, Some, None, inl, inr, refl, ap, sym, subst, ◌∙◌}
 use Rattle.std.specs.Prelude.{◌==◌, nat_le, option_map, if◌then◌else◌}
 use Rattle.std.specs.FinMap as map
@@ -18,7 +18,7 @@ use Rattle.admission.specs.HeaderLaws.{OthersCome}
 use Rattle.sequencer.specs.Laws.{SequenceStays}
 use Rattle.admission.specs.Laws.{BatchesStay, VotesStay}
 use Rattle.admission.specs.Votes.{HasVotes}
-use Rattle.admission.specs.Behind.{NothingIsLow, OthersStay}
+use Rattle.admission.specs.After.{NothingIsLow, OthersStay}
 use Rattle.admission.specs.Standing.{AreAt}
 use Rattle.admission.specs.declared.tables.Tables.{Tables}
 

@@ -1,4 +1,4 @@
--- What tables have behind an event that adds a certificate or a coin.
+-- What tables have after an event that adds a certificate or a coin.
 use Rattle.std.proofs.Common.{◌≡◌, ℕ, Bool, true, false, Option, Some, None, inl, inr, refl, ap, sym, subst, ◌∙◌}
 use Rattle.std.specs.Prelude.{not, ◌==◌, nat_le, if◌then◌else◌, IfOk, IfErr, Result, Ok, Err}
 use Rattle.std.specs.Global.{Vec}
@@ -26,7 +26,7 @@ use Rattle.admission.specs.Batches.{HasBatches, changes_batches}
 use Rattle.admission.specs.Votes.{is_peers_header}
 use Rattle.admission.specs.declared.step.Step.{Step}
 use Rattle.admission.specs.declared.step.Step.TheVariants as step
-use Rattle.admission.specs.Behind.{OthersStay}
+use Rattle.admission.specs.After.{OthersStay}
 use Rattle.admission.specs.Standing.{AreAt, Meets, PutsOut}
 use Rattle.admission.specs.declared.tables.Tables.{Tables}
 use Rattle.admission.proofs.Beside.{unless_held}
@@ -57,7 +57,7 @@ with_high before held floor round new forgotten with high = record {
         not_low true x same = absurd cc
         not_low false x same = refl
 
--- behind such an event, with votes and headers without what fell low
+-- after such an event, with votes and headers without what fell low
 pub after_commit : (others : OthersStay) (node : Node) (state : State) (event : Event) (tables later : Tables) (made : SequencerView) (before : ℕ) → Comes node state event → AreAt node state tables
     → changes_batches node event.message ≡ false → is_peers_header node event.message ≡ false
     → later.own ≡ tables.own → later.batches ≡ tables.batches

@@ -23,7 +23,7 @@ use Rattle.spec_machine.specs.Sound.{IsSound}
 use Rattle.admission.specs.Headers.{AssembliesView, assembly_at, vote_in, IsWith, IsAt}
 use Rattle.spec_machine.specs.Laws.{FloorsAgree, Comes}
 use Rattle.admission.specs.HeaderLaws.{HeaderComesTo}
-use Rattle.admission.proofs.HeadersBehind.{behind}
+use Rattle.admission.proofs.HeadersAfter.{table_after}
 use Rattle.admission.proofs.NewThere.{header_free}
 use Rattle.admission.proofs.HeaderVotes.{vote_started}
 
@@ -110,5 +110,5 @@ header_comes agree node state sender header before step at own =
       on = own_on node header.body;
       voter = sym at.own;
       free = free_there node state before header.body.round at free;
-      behind = λ held with. behind agree node state event held step (header_grown node state header before held step.sound step.node_is.member at own free with);
+      after = λ held with. table_after agree node state event held step (header_grown node state header before held step.sound step.node_is.member at own free with);
     }

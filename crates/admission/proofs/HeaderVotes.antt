@@ -43,7 +43,7 @@ on_is body vote on =
     let make : List ℕ → ℕ → ℕ → Vote = λ d r a. record { header = record { 0 = d }; round = r; author = record { 0 = a }; voter = vote.voter; signature = vote.signature } in
     ap (λ d. make d body.round body.author.0) (sym digest) ∙ ap (λ r. make vote.header.0 r body.author.0) (sym (eqb-true _ _ slot.0)) ∙ ap (make vote.header.0 vote.round) (sym (eqb-true _ _ slot.1))
 
--- behind a vote its voter has it, and each other member what it had
+-- after a vote its voter has it, and each other member what it had
 pub vote_with : (assembled : AssemblyView) (vote : Vote) (voter : ℕ) → vote.voter.0 < length assembled.places → is_on assembled.header.body vote ≡ true
     → vote_in (with assembled vote) voter ≡ (if voter == vote.voter.0 then Some vote else vote_in assembled voter)
 vote_with assembled vote voter within on =

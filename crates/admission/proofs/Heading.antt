@@ -1,4 +1,4 @@
--- What tables have behind a new header.
+-- What tables have after a new header.
 use Rattle.std.proofs.Common.{◌≡◌, ℕ, Bool, true, false, cond, Option, Some, None, inl, inr, refl, ap, sym, ◌∙◌}
 use Rattle.std.specs.Prelude.{nat_le, if◌then◌else◌, Result, Ok, Err}
 use Rattle.std.specs.FinMap as map

@@ -1,13 +1,13 @@
 pub mod Reading
 pub mod Listing
-pub mod Behind
+pub mod BatchesAfter
 pub mod Answering
 pub mod Voting
 pub mod Beginning
 pub mod Looking
 pub mod NewThere
 pub mod HeaderVotes
-pub mod HeadersBehind
+pub mod HeadersAfter
 pub mod HeaderComing
 pub mod VoteComing
 pub mod OneState

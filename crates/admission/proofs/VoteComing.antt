@@ -29,7 +29,7 @@ use Rattle.spec_machine.specs.Sound.{IsSound, counts}
 use Rattle.admission.specs.Headers.{AssembliesView, assembly_at, vote_in, answer_in, counted_in, IsEntry, IsHeaders, IsWith, IsAt}
 use Rattle.spec_machine.specs.Laws.{FloorsAgree, Comes}
 use Rattle.admission.specs.HeaderLaws.{added_by, VoteComesTo}
-use Rattle.admission.proofs.HeadersBehind.{behind}
+use Rattle.admission.proofs.HeadersAfter.{table_after}
 use Rattle.admission.proofs.HeaderComing.{turned}
 use Rattle.admission.proofs.NewThere.{IsNewVote, new_vote, voter_is_member}
 use Rattle.admission.proofs.HeaderVotes.{with, vote_with, voted_is, certified}
@@ -145,7 +145,7 @@ added_is : (few : Bool) (certificate : Certificate) → (if few then Counted els
 added_is true certificate = refl
 added_is false certificate = refl
 
--- what is counted behind either answer
+-- what is counted after either answer
 vote_after : (few : Bool) (certificate : Certificate) (assembled : AssemblyView) (vote : Vote) (voter : ℕ)
     → vote_in (after (if few then Counted else Complete certificate) assembled vote) voter ≡ vote_in (with assembled vote) voter
 vote_after true certificate assembled vote voter = refl
@@ -231,7 +231,7 @@ vote_comes agree node state sender vote before step holds at =
       counted = λ counted. was_counted (certificate_of node state m) (sym by ∙ counted);
       complete = λ certificate complete. was_completed (certificate_of node state m) certificate (sym by ∙ complete);
       completed = ap (option_and_then (certificate_by node (counted_with node state m vote.round))) (or_none (state.own_headers vote.round));
-      behind = λ later with'.
-          behind agree node state event later step
+      after = λ later with'.
+          table_after agree node state event later step
           (vote_grown node state vote before later assembled at is member (subst (λ x. IsWith before later vote.round (counted_in x before vote)) answered with'));
     }

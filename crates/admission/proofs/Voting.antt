@@ -1,4 +1,4 @@
--- What a book of votes has behind a new event.
+-- What a book of votes has after a new event.
 use Rattle.std.proofs.Common.{arith, ◌≡◌, ◌≢◌, ℕ, Bool, true, false, cond, Option, Some, None, inl, inr, refl, ap, sym, subst, ◌∙◌}
 use Rattle.std.specs.Prelude.{◌==◌, ◌&&◌, nat_le, option_map, if◌then◌else◌}
 use Rattle.std.specs.FinMap.{get-insert}
@@ -38,7 +38,7 @@ forgotten : (floor other round : ℕ) (found : Option Digest) → floor ≡ othe
 forgotten floor other round found same =
     ap (λ f. if nat_le round f then None else found) (sym same) ∙ ap (λ b. if b then None else found) (sym (low_is_to_the_floor floor round))
 
--- a book that has the votes with all that an event adds has those behind it without what fell low
+-- a book that has the votes with all that an event adds has those after it without what fell low
 record HasGrown (node : Node) (state : State) (m : Message) (votes : Votes) : Type 0 where
   others : (author : Author) (round : ℕ) → author.0 ≢ node.own.0 → voted_in votes author round ≡ option_or (state.votes round author.0) (option_map digest_of (header_at m round author.0))
   own : (author : Author) (round : ℕ) → author.0 ≡ node.own.0 → voted_in votes author round ≡ None

@@ -31,8 +31,8 @@ VotesAgree = (node : Node) (state : State) (headers : AssembliesView) → IsSoun
 -- ---- after an event
 
 -- a table is that at the state after an event once the rounds up to its floor are forgotten
-abbrev pub IsBehind : Node → State → Event → AssembliesView → Type 0
-IsBehind node state event headers =
+abbrev pub IsTableAfter : Node → State → Event → AssembliesView → Type 0
+IsTableAfter node state event headers =
     (later : AssembliesView) → IsForgotten headers later (floor_in node (after node state event)) → IsAt node (after node state event) later
 
 -- a new own header: it and the node's own vote on it may be held, since its round has none, and with both the table is that after
@@ -42,8 +42,8 @@ pub record HeaderComesTo (node : Node) (state : State) (event : Event) (header :
   pub on : is_on header.body (own_vote node header.body) ≡ true
   pub voter : (own_vote node header.body).voter.0 ≡ before.own
   pub free : assembly_at before header.body.round ≡ None
-  pub behind : (held : AssembliesView) → IsWith before held header.body.round (Some (started before.charter header (own_vote node header.body)))
-      → IsBehind node state event held
+  pub after : (held : AssembliesView) → IsWith before held header.body.round (Some (started before.charter header (own_vote node header.body)))
+      → IsTableAfter node state event held
 
 abbrev pub HeaderComes : Type 0
 HeaderComes = (node : Node) (state : State) (event : Event) (header : Header) (before : AssembliesView) → Comes node state event → IsAt node state before
@@ -61,7 +61,7 @@ pub record VoteComesTo (node : Node) (state : State) (event : Event) (vote : Vot
   pub counted : answer_in before vote ≡ Counted → certificate_of node state event.message ≡ None
   pub complete : (certificate : Certificate) → answer_in before vote ≡ Complete certificate → certificate_of node state event.message ≡ Some certificate
   pub completed : completed_at node (grown node state event.message) vote.round ≡ certificate_of node state event.message
-  pub behind : (counted : AssembliesView) → IsWith before counted vote.round (counted_in (answer_in before vote) before vote) → IsBehind node state event counted
+  pub after : (counted : AssembliesView) → IsWith before counted vote.round (counted_in (answer_in before vote) before vote) → IsTableAfter node state event counted
 
 abbrev pub VoteComes : Type 0
 VoteComes = (node : Node) (state : State) (event : Event) (vote : Vote) (before : AssembliesView) → Comes node state event → IsHeaders before → IsAt node state before
@@ -76,4 +76,4 @@ is_other node _ = true
 -- with any other event the table stays, but for the rounds up to the floor
 abbrev pub OthersCome : Type 0
 OthersCome = (node : Node) (state : State) (event : Event) (before : AssembliesView) → Comes node state event → IsAt node state before
-    → is_other node event.message ≡ true → IsBehind node state event before
+    → is_other node event.message ≡ true → IsTableAfter node state event before

@@ -6,4 +6,4 @@ pub mod Headers
 pub mod HeaderLaws
 pub mod Standing
 pub mod Decisions
-pub mod Behind
+pub mod After

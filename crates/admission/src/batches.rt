@@ -190,7 +190,7 @@ pub fn may_name_all(batches: &BatchStore, own: Author, header: &Header) -> bool
 /// Marks the batches that a header names. For a new own header the store is then at the state after it. It takes no memory.
 pub fn name_all(batches: &mut BatchStore, header: &Header)
     ensures named { batches.new ≡ with_names batches.old header.now.body.batches }
-    ensures behind { GoesOnWithOwn batches.old batches.new header.now }
+    ensures goes_on { GoesOnWithOwn batches.old batches.new header.now }
 {
     batches.name(header.body.batches.as_slice());
 }

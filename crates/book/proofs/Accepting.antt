@@ -53,7 +53,7 @@ now_said before later count from to first noted upto said =
     ]
 
 module _ {S : Type 0} (given : OutputsGiven) (node : Node) (run : Run) (before later : BookView S) (event : Event) (outputs : List Output) (at : Stands node run before) where
-  -- behind a new event
+  -- after a new event
   pub stands_new : admit node (history_in run) event ≡ New outputs → GoesOn node (history_in run) event later.validator.tables
       → later.pending ≡ before.pending ++ record_of event ∷ [] → later.queue ≡ before.queue ++ ticketed (before.accepted + 1) outputs
       → later.accepted ≡ before.accepted + 1 → later.taken ≡ before.taken → later.settled ≡ before.settled → later.ordered ≡ before.ordered
@@ -100,7 +100,7 @@ module _ {S : Type 0} (given : OutputsGiven) (node : Node) (run : Run) (before l
                 ∙ ap (λ h. length (order node h)) (sym whole)
           ]
 
-  -- behind a known one
+  -- after a known one
   pub stands_known : admit node (history_in run) event ≡ Known outputs → later ≡ record before { queue = before.queue ++ ticketed before.accepted outputs } → Stands node run later
   stands_known is same = subst (Stands node run) (sym same) (record {
     legal = at.legal;

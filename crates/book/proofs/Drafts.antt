@@ -73,7 +73,7 @@ written_back old new count draft others last parts same =
     omega (arith, ap length whole, length-append (draft.front ++ body_bytes others) (record_bytes last), tail) in
     same ∙ ap (take (length old - (4 + length last))) whole ∙ take_at (draft.front ++ body_bytes others) (record_bytes last) (length old - (4 + length last)) (sym long)
 
--- the bytes of a group: the length of the body stands in the room before it, and a closed gate behind it
+-- the bytes of a group: the length of the body stands in the room before it, and a closed gate after it
 pub closes : (bytes closed : List ℕ) (count len : ℕ) (draft : IsDraft bytes count) → len ≡ body_len draft.records → closed
     ≡ (to_be_bytes w32 len ++ drop 4 bytes) ++ 0 ∷ [] → closed ≡ group_bytes draft.records
 closes bytes closed count len draft is same =

@@ -1,4 +1,4 @@
--- What may go out behind a ticket.
+-- What may go out after a ticket.
 use Rattle.std.proofs.Common.{◌≡◌, ℕ, ◌+◌, ◌≤◌, List, [], ◌∷◌, ◌++◌, length, take, drop, refl, sym, ap, ◌∙◌, subst, arith, append_assoc}
 use Rattle.std.specs.Prelude.{All, Contains}
 use Rattle.std.proofs.lemmas.List.{take_all, take-append-le, length_push, length-append, take-append-drop}
@@ -52,7 +52,7 @@ due_all node run ticket outputs within out =
     (All-weaker (λ o. GoesOut node (history_to ticket run) (put_out o)) (λ o. IsDue node run (record { ticket = ticket; output = o }))
     (λ o is. record { within = within; goes_out = is }) outputs out)
 
--- what was due is so behind one event more
+-- what was due is so after one event more
 still_due : (node : Node) (run : Run) (event : Event) (waiting : Waiting) → IsDue node run waiting → IsDue node (with_accepted run event) waiting
 still_due node run event waiting due = record {
   within = omega (arith, due.within, length_push run.accepted event);
@@ -74,7 +74,7 @@ put_known given node history event outputs is =
     All-weaker (Contains outputs) (λ o. GoesOut node history (put_out o))
     (λ o inside. (by_known event outputs is inside, All-contains (MayGive node history) outputs o may inside)) outputs (All-contains_itself outputs)
 
--- tickets go on rising behind outputs whose ticket is no lower
+-- tickets go on rising after outputs whose ticket is no lower
 all_from : (low ticket : ℕ) (outputs : List Output) → low ≤ ticket → All (λ w. low ≤ w.ticket) (ticketed ticket outputs)
 all_from low ticket outputs le =
     All-map (λ w. low ≤ w.ticket) (λ (output : Output). record { ticket = ticket; output = output }) outputs
@@ -96,7 +96,7 @@ pub rise_new : (node : Node) (run : Run) (ticket : ℕ) (outputs : List Output) 
 rise_new node run ticket outputs queue le due rise =
     rise_more queue ticket outputs (All-weaker (IsDue node run) (λ w. w.ticket ≤ ticket) (λ w is. omega (arith, is.within, le)) queue due) rise
 
--- the queue behind a new event
+-- the queue after a new event
 pub due_new : (given : OutputsGiven) (node : Node) (run : Run) (event : Event) (outputs : List Output) (queue : List Waiting)
     → admit node (history_in run) event ≡ New outputs → All (IsDue node run) queue
     → All (IsDue node (with_accepted run event)) (queue ++ ticketed (length run.accepted + 1) outputs)
@@ -110,7 +110,7 @@ due_new given node run event outputs queue is due =
     (All-weaker (IsDue node run) (IsDue node (with_accepted run event)) (still_due node run event) queue due)
     (due_all node (with_accepted run event) (length run.accepted + 1) outputs (omega (arith, long)) out)
 
--- and behind a known one
+-- and after a known one
 pub due_known : (given : OutputsGiven) (node : Node) (run : Run) (event : Event) (outputs : List Output) (queue : List Waiting)
     → admit node (history_in run) event ≡ Known outputs → All (IsDue node run) queue
     → All (IsDue node run) (queue ++ ticketed (length run.accepted) outputs)

@@ -60,7 +60,7 @@ due_same node run other queue began accepted due =
     }) queue due
 
 module _ {S : Type 0} (node : Node) (run : Run) (before later : BookView S) (at : Stands node run before) where
-  -- behind a group that is taken
+  -- after a group that is taken
   pub stands_taken : (group : List (List ℕ)) → IsLongestBeginning before.pending group later.pending → later ≡ record before { pending = later.pending; taken = before.taken + length group }
       → Stands node (with_taken run (length group)) later
   stands_taken group longest same =
@@ -104,7 +104,7 @@ module _ {S : Type 0} (node : Node) (run : Run) (before later : BookView S) (at 
       let rest = drop (length run.settled) run.taken in
       omega (arith, begins_length group (map record_of rest) begins, length-map rest record_of, length-drop (length run.settled) run.taken, begins_length run.settled run.taken at.settled_begins)
 
-  -- behind a group that is settled
+  -- after a group that is settled
   pub stands_settled : (group : List (List ℕ)) → length run.settled + length group ≤ length run.taken
       → later.settled ≡ before.settled + length group → later ≡ record before { settled = later.settled; ordered = later.ordered; reached = later.reached }
       → later.ordered ≡ length_at later.settled before.ordered before.reached

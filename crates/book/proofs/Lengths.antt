@@ -42,7 +42,7 @@ there count first (r ∷ reached) last upto low =
       | inr not ↦ (let over = leb-false r.ticket count not in absurd (omega (arith, here, over)))
     ]
 
--- behind all tickets the length stays
+-- after all tickets the length stays
 pub stays : (count later first : ℕ) (reached : List Reached) → UpTo count reached → count ≤ later → length_at later first reached ≡ length_at count first reached
 stays count later first [] upto le = refl
 stays count later first (r ∷ reached) upto le =

@@ -175,7 +175,7 @@ module _ {S : Type 0} (node : Node) where
         by_result (Ok None) stands records = stands
         by_result (Err error) stands records = stands
 
-    -- and that the book stands somewhere behind it
+    -- and that the book stands somewhere after it
     pub took_somewhere : IfOk r (λ group. IsNone group → later ≡ before) → OnErr r (later ≡ before) → StandsSomewhere node before → StandsSomewhere node later
     took_somewhere nothing same some = by_result r stands nothing same
       where

@@ -54,7 +54,7 @@ packed_with [] last other first one also is same fits packed = fits
 packed_with (group ∷ []) last other first one also is same fits packed = (packed.0, full_still group last other first one also is same packed.1, fits)
 packed_with (group ∷ next ∷ others) last other first one also is same fits packed = (packed.0, packed.1, packed_with (next ∷ others) last other first one also is same fits packed.2)
 
--- one more behind the last, which could not take its record
+-- one more after the last, which could not take its record
 pub packed_more : (front : List (List (List ℕ))) (last : List (List ℕ)) (next : List ℕ) → ArePacked (front ++ last ∷ []) → (FitsGroup (last ++ next ∷ []) → ⊥) → FitsGroup (next ∷ [])
     → ArePacked ((front ++ last ∷ []) ++ (next ∷ []) ∷ [])
 packed_more [] last next packed full fits = (packed, full, fits)
@@ -63,7 +63,7 @@ packed_more (group ∷ other ∷ others) last next packed full fits = (packed.0,
 
 -- ---- records
 
--- those behind the last group stand behind all
+-- those after the last group stand after all
 pub records_behind : (front : List (List (List ℕ))) (last : List (List ℕ)) → all_records (front ++ last ∷ []) ≡ all_records front ++ last
 records_behind [] last = append-nil last
 records_behind (group ∷ front) last = ap (λ l. group ++ l) (records_behind front last) ∙ sym (append_assoc group (all_records front) last)
@@ -139,7 +139,7 @@ empty_tells items view len result long is packed same = (
   λ none. is ∙ eq-eqb len 0 (long ∙ ap length (none_packed items packed (same ∙ none))),
 )
 
--- ---- behind a put
+-- ---- after a put
 
 pub packed_in_last : {X E : Type 0} (r : Result X E) (items later : List (List (List ℕ))) (bytes : List ℕ) → HasRoom items (length bytes)
     → OnOk r ((front : List (List (List ℕ))) (last : List (List ℕ)) → items ≡ front ++ last ∷ [] → later ≡ front ++ (last ++ bytes ∷ []) ∷ [])

@@ -58,7 +58,7 @@ last_out old rest first left (Some output) was outputs gone none each = (
 
 -- ---- the head
 
--- the first event, and those behind it
+-- the first event, and those after it
 front_is : (items : List Queued) (first : Queued) → 0 < length items → first ≡ get_or items 0 first → (rest : List Queued) × (items ≡ first ∷ rest)
 front_is [] first some is = absurd (omega (arith, some))
 front_is (x ∷ rest) first some is = (rest, ap (λ q. q ∷ rest) (sym is))

@@ -20,7 +20,7 @@ use Rattle.book.specs.Pending.{IsLongestBeginning}
 use Rattle.book.specs.Steps.{run_of, IsOf, Moves, AcceptIsAStep, TakesBehind, TakeIsAStep, SettleIsAStep, ReleaseIsAStep, FlushesThere, FlushIsSteps, FailIsAStep}
 use Rattle.book.proofs.Flushing.{stands_taken, records_taken}
 
--- what waits goes on waiting behind more outputs, and they wait too
+-- what waits goes on waiting after more outputs, and they wait too
 waits_more : (waiting queue more : List Waiting) → All (Contains waiting) queue → All (Contains (waiting ++ more)) (queue ++ more)
 waits_more waiting queue more all =
     All-append (Contains (waiting ++ more)) queue more
@@ -131,7 +131,7 @@ module _ {S : Type 0} (node : Node) (world : World) (before later : BookView S) 
 
 -- ---- a round of one owner
 
--- the run behind a group that is taken and settled where no other is on its way
+-- the run after a group that is taken and settled where no other is on its way
 run_there : (world next : World) (group count : ℕ) → world.groups ≡ [] → count ≡ length world.settled + group → next.began ≡ world.began → next.accepted ≡ world.accepted
     → next.settled ≡ take count world.accepted → next.groups ≡ [] → with_settled (with_taken (run_of world) group) group ≡ run_of next
 run_there world next group count none is began accepted settled idle =

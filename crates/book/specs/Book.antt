@@ -33,7 +33,7 @@ pub record BookView (S : Type 0) : Type 0 where
   pub accepted : ℕ
   pub taken : ℕ
   pub settled : ℕ
-  -- how long the order is behind the settled records, and how long it is from which ticket on
+  -- how long the order is after the settled records, and how long it is from which ticket on
   pub ordered : ℕ
   pub reached : List Reached
   -- whether it is down, as where a device call failed
@@ -72,15 +72,15 @@ with_taken run count = record run { taken = take (length run.taken + count) run.
 abbrev pub with_settled : Run → ℕ → Run
 with_settled run count = record run { settled = take (length run.settled + count) run.taken }
 
--- an output that waits may be given out behind the records that its ticket counts
+-- an output that waits may be given out after the records that its ticket counts
 pub record IsDue (node : Node) (run : Run) (waiting : Waiting) : Type 0 where
   pub within : waiting.ticket ≤ length run.accepted
   pub goes_out : GoesOut node (history_to waiting.ticket run) (put_out waiting.output)
 
--- A book stands at a run. What is settled was taken, and what was taken was accepted, in that order, and all of it is legal behind
+-- A book stands at a run. What is settled was taken, and what was taken was accepted, in that order, and all of it is legal after
 -- what the run began with; the validator stands there; the pending records are those of what was accepted and not taken; the
--- numbers are the lengths; each output may be given out behind its ticket, and tickets don't fall; and the lengths of the order are
--- those behind the records of their numbers.
+-- numbers are the lengths; each output may be given out after its ticket, and tickets don't fall; and the lengths of the order are
+-- those after the records of their numbers.
 pub record Stands {S : Type 0} (node : Node) (run : Run) (book : BookView S) : Type 0 where
   pub legal : IsLegal node (history_in run)
   pub at : validator.AreAtSound node book.validator.tables (kept node (history_in run))
@@ -147,7 +147,7 @@ releasable book = if book.down then None else settled_head book.settled book.que
 abbrev pub SettlesNext : {S : Type 0} → Node → BookView S → List (List ℕ) → Type 0
 SettlesNext node book group = (run : Run) × Stands node run book × Begins group (map record_of (drop (length run.settled) run.taken))
 
--- an output was put out behind settled records, and may be given out there and behind all that is settled
+-- an output was put out after settled records, and may be given out there and after all that is settled
 pub record GoesOutSettled (node : Node) (run : Run) (output : Output) : Type 0 where
   pub ticket : ℕ
   pub settled : ticket ≤ length run.settled

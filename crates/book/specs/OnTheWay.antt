@@ -29,11 +29,11 @@ pub record StandsAtLegal (node : Node) (tables : Tables) : Type 0 where
   pub legal : IsLegal node history
   pub at : AreAtSound node tables (kept node history)
 
--- a group has room behind these bytes of a disk
+-- a group has room after these bytes of a disk
 abbrev pub HasRoomFor : List (List ℕ) → List ℕ → Type 0
 HasRoomFor group old = length old + length (group_bytes group) ≤ MAX_JOURNAL_BYTES
 
--- The longest beginning of the pending records that fits a group is taken, has room behind what a disk has, is written there, and is
+-- The longest beginning of the pending records that fits a group is taken, has room after what a disk has, is written there, and is
 -- settled: the book stands at each run at which it stood, with these taken and settled. So many records they are.
 pub record Flushes {S : Type 0} (node : Node) (before later : BookView S) (old new : List ℕ) (count : ℕ) : Type 0 where
   pub group : List (List ℕ)
@@ -52,7 +52,7 @@ pub record GoesDown {S : Type 0} (node : Node) (before later : BookView S) : Typ
   pub is : later ≡ record before { pending = later.pending; taken = before.taken + length group; down = true }
   pub way : AreOnTheWay node later (group ∷ [])
 
--- so it goes down, and there was no room behind these bytes for what it took, or there was
+-- so it goes down, and there was no room after these bytes for what it took, or there was
 abbrev pub FindsNoRoom : {S : Type 0} → Node → BookView S → BookView S → List ℕ → Type 0
 FindsNoRoom node before later old = (down : GoesDown node before later) × (HasRoomFor down.group old → ⊥)
 

@@ -30,7 +30,7 @@ ArePacked [] = ⊤
 ArePacked (last ∷ []) = FitsGroup last
 ArePacked (group ∷ next ∷ others) = FitsGroup group × IsFullBefore group next × ArePacked (next ∷ others)
 
--- the records of groups, one behind the other
+-- the records of groups, one after the other
 abbrev pub all_records : List (List (List ℕ)) → List (List ℕ)
 all_records groups = flat_map (λ group. group) groups
 

@@ -68,6 +68,6 @@ FlushIsSteps S = (node : Node) (moves : List Move) (world : World) (before later
     → world.groups ≡ [] → Flushes node before later old new count → FlushesThere node world (length world.settled + count) old new later
 
 -- a round that took the book down: the group is taken, and stays on its way; the device calls that were made before the failure come
--- behind that
+-- after that
 abbrev pub FailIsAStep : Type 0 → Type 0
 FailIsAStep S = (node : Node) (world : World) (before later : BookView S) → IsOf node world before → (down : GoesDown node before later) → TakesBehind node world down.group later

@@ -49,7 +49,7 @@ pub struct Book<'a, S: Sign> {
     accepted: u64,
     taken: u64,
     settled: u64,
-    // How long the order is behind the settled records.
+    // How long the order is after the settled records.
     ordered: u64,
     down: bool,
 }
@@ -262,7 +262,7 @@ impl<'a, S: Sign> Book<'a, S> {
         ensures output { result ≡ releasable self.old }
         ensures queue { self.new ≡ (if is_some result then record self.old { queue = drop 1 self.old.queue } else self.old) }
         ensures stands { let node = node_of S.scheme self.old.validator.setting in StandsAsBefore node self.old self.new }
-        // What it gives may be given out behind what is settled.
+        // What it gives may be given out after what is settled.
         ensures goes_out { let node = node_of S.scheme self.old.validator.setting in IfSome result (λ output. (run : Run) → Stands node run self.old
             → GoesOutSettled node run output) }
     {
@@ -313,7 +313,7 @@ impl<'a, S: Sign> Book<'a, S> {
         self.settled
     }
 
-    /// The validator's round, behind all that was accepted.
+    /// The validator's round, after all that was accepted.
     pub fn round_now(&self) -> u64
         ensures { let node = node_of S.scheme self.now.validator.setting in (run : Run) → Stands node run self.now
             → result ≡ round_of node (history_in run) }
@@ -321,7 +321,7 @@ impl<'a, S: Sign> Book<'a, S> {
         self.validator.round()
     }
 
-    /// The order behind the settled records, from this place on: the digests of the certificates that are ordered. It is empty past
+    /// The order after the settled records, from this place on: the digests of the certificates that are ordered. It is empty past
     /// its end.
     ///
     /// # Errors
@@ -346,7 +346,7 @@ impl<'a, S: Sign> Book<'a, S> {
     }
 }
 
-// Puts the record of an event behind the others, and makes room for its outputs and for how long the order then is.
+// Puts the record of an event after the others, and makes room for its outputs and for how long the order then is.
 fn make_room(
     pending: &mut Pending,
     queue: &mut VecDeque<Queued>,

@@ -48,7 +48,7 @@ impl Draft {
         self.count == 0
     }
 
-    /// Whether a record of this length fits behind the others.
+    /// Whether a record of this length fits after the others.
     pub(crate) fn has_room(&self, len: usize) -> bool
         requires { LENGTH_BYTES + len ≤ MAX_GROUP_BYTES }
         ensures { (bytes : List ℕ) → length bytes ≡ len → (IsTrue result ↔ FitsGroup (self.now ++ bytes ∷ [])) }
@@ -60,7 +60,7 @@ impl Draft {
         self.bytes.len() + len <= MAX_GROUP_BYTES
     }
 
-    /// Puts the record of an event, which has this length, behind the others, among which it fits. `AllocError` where an allocation
+    /// Puts the record of an event, which has this length, after the others, among which it fits. `AllocError` where an allocation
     /// failed: nothing has changed then.
     pub(crate) fn put(&mut self, event: &Checked, len: usize) -> Result<(), AllocError>
         requires len { len ≡ length (record_bytes event.now) }

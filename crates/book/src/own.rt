@@ -237,7 +237,7 @@ impl<'a, S: Sign> OwnBook<'a, S> {
         self.book.committee()
     }
 
-    /// The validator's round, behind all that was accepted.
+    /// The validator's round, after all that was accepted.
     pub fn round_now(&self) -> u64
         ensures { let node = node_of S.scheme self.now.validator.setting in (run : Run) → Stands node run self.now
             → result ≡ round_of node (history_in run) }
@@ -245,7 +245,7 @@ impl<'a, S: Sign> OwnBook<'a, S> {
         self.book.round_now()
     }
 
-    /// The order behind the settled records, from this place on. It is empty past its end.
+    /// The order after the settled records, from this place on. It is empty past its end.
     ///
     /// # Errors
     /// `Down` where the book is down, `Memory` where an allocation failed.

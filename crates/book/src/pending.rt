@@ -48,7 +48,7 @@ impl Pending {
         self.drafts.is_empty()
     }
 
-    /// Puts the record of an event, which has this length, behind the others. `AllocError` where an allocation failed: nothing has
+    /// Puts the record of an event, which has this length, after the others. `AllocError` where an allocation failed: nothing has
     /// changed then.
     pub(crate) fn put(&mut self, event: &Checked, len: usize) -> Result<(), AllocError>
         requires short { LENGTH_BYTES + len ≤ MAX_GROUP_BYTES }
@@ -131,7 +131,7 @@ fn put_into_last(
     put
 }
 
-// Puts the record of an event, which has this length, into a group of its own behind the others. Where an allocation fails nothing
+// Puts the record of an event, which has this length, into a group of its own after the others. Where an allocation fails nothing
 // has changed.
 fn put_behind(
     alloc: Global,

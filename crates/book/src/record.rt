@@ -24,7 +24,7 @@ pub(crate) fn record_len(event: &Checked) -> usize
     EVENT_FRONT_BYTES + encoded_len(event.message())
 }
 
-/// Puts the record of an event, its kind, the sender and the message, with its length before it, behind these bytes. `AllocError`
+/// Puts the record of an event, its kind, the sender and the message, with its length before it, after these bytes. `AllocError`
 /// where an allocation failed: a part of it may stand there then.
 pub(crate) fn put_record(bytes: &mut Vec<u8>, event: &Checked, len: usize) -> Result<(), AllocError>
     requires len { len ≡ length (record_of event.now) }

@@ -9,7 +9,7 @@ pub fn accept_is_a_step<S: Sign>()
     ensures { AcceptIsAStep S }
 {}
 
-/// A group that a book takes, also before another one is settled, is taken in its world, behind those on their way.
+/// A group that a book takes, also before another one is settled, is taken in its world, after those on their way.
 pub fn take_is_a_step<S: Sign>()
     ensures { TakeIsAStep S }
 {}

@@ -13,7 +13,7 @@ use Rattle.flatten.proofs.Taking.{past_before}
 use Rattle.flatten.specs.Laws.{EachFollows}
 use Rattle.flatten.specs.Segments.{leader_held, AreLinked, IsMarkedPast, IsMarkedFor}
 
--- those behind a beginning are linked
+-- those after a beginning are linked
 linked_behind : (graph : DagView) (previous : Option (ℕ × Author)) (front back : List (ℕ × Author)) → AreLinked graph previous (front ++ back) → AreLinked graph (last_or previous front) back
 linked_behind graph previous [] back linked = linked
 linked_behind graph previous (first ∷ front) back linked = linked_behind graph (Some first) front back linked.2

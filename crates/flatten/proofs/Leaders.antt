@@ -1,4 +1,4 @@
--- Leaders one behind the other.
+-- Leaders one after the other.
 use Rattle.std.proofs.Common.{◌≡◌, ℕ, zero, suc, ◌+◌, ◌-◌, ◌^◌, ◌<◌, ◌≤◌, Bool, true, List, [], ◌∷◌, ◌++◌, length, drop, slice_get, Option, Some}
 use Rattle.std.proofs.Common.{None, inl, inr, refl, ap, sym, ◌∙◌, subst, arith, append_assoc, add-one}
 use Rattle.std.specs.Prelude.{All, min, not, is_some, nat_le, ◌&&◌}

@@ -240,7 +240,7 @@ reads_few graph previous c =
     fewer false true high k = omega arith
     fewer false false high k = omega arith
 
--- behind a leader those are unordered whom it doesn't reach
+-- after a leader those are unordered whom it doesn't reach
 pub unordered_next : (graph : DagView) → IsGraph graph → (previous : Option Certificate) (leader : ℕ × Author) (high : ℕ) (free new : ℕ → ℕ → Bool)
     (c : Certificate) → Leads graph previous leader high free c
     → ((round other : ℕ) → lowest_in graph leader.0 ≤ round → round ≤ high → new round other ≡ (free round other && not (reaches_in graph leader.0 leader.1.0 round other)))

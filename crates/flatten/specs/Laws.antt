@@ -22,7 +22,7 @@ abbrev pub MadeStays : Type 0
 MadeStays = (before after : DagView) (certificate : Certificate) (made : LengtheningView) → Enters before after certificate → made.last.0 < certificate.header.round
     → FitsTo before made → FitsTo after made
 
--- a leader is held and reaches all that the one before it does, whose history has what is marked: what `segment` gives for it behind
+-- a leader is held and reaches all that the one before it does, whose history has what is marked: what `segment` gives for it after
 -- that one is the definition's segment
 pub record Follows (graph : DagView) (previous : Option (ℕ × Author)) (leader : ℕ × Author) : Type 0 where
   pub held : is_some (slots_in graph leader.0 leader.1.0) ≡ true

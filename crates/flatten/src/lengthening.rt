@@ -107,7 +107,7 @@ impl Lengthening {
     }
 }
 
-/// Marks what leaders order, in the DAG that this was made of: what is marked behind it, at most the depth below the last
+/// Marks what leaders order, in the DAG that this was made of: what is marked after it, at most the depth below the last
 /// leader, is what that reaches. It takes no memory.
 pub fn mark(dag: &mut Dag, made: &Lengthening)
     ensures charter { dag.new.charter ≡ dag.old.charter }

@@ -1,4 +1,4 @@
--- The history at which a node begins behind an opening.
+-- The history at which a node begins after an opening.
 use Rattle.std.proofs.Common.{◌≡◌, ℕ, List, [], inr, sym, subst, ap, ◌∙◌}
 use Rattle.std.specs.Prelude.{Result, Ok, Err, IfOk, IfErr}
 use Rattle.diskmodel.specs.Disk.{AtEachMoment, Device}

@@ -16,7 +16,7 @@ pub record IsCalling {S : Type 0} (caller : CallerView S) : Type 0 where
   pub of_node : IsOf caller.node caller.seat
   pub setting : caller.node.setting ≡ caller.setting
 
--- behind a call it is at the same node
+-- after a call it is at the same node
 pub record StaysWith {S : Type 0} (before later : CallerView S) : Type 0 where
   pub setting : later.setting ≡ before.setting
   pub node : later.node ≡ before.node

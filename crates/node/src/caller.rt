@@ -80,7 +80,7 @@ impl<'n, 'a, S: Sign> Caller<'n, 'a, S> {
         Ok(Caller::new(self.node, self.config, seat))
     }
 
-    /// Takes an event that passed the checks under the node's committee, behind all that was accepted. The caller has then seen all of
+    /// Takes an event that passed the checks under the node's committee, after all that was accepted. The caller has then seen all of
     /// that, and a new event is one of its own. It answers Down exactly where the caller then knows that the node is down.
     pub fn submit<R: Wait>(&mut self, rt: &R, event: Checked) -> Result<Receipt, Refusal>
         requires passed { fault_of self.old.setting.charter accepts_all event ≡ None }
@@ -122,7 +122,7 @@ impl<'n, 'a, S: Sign> Caller<'n, 'a, S> {
         self.node.peek_voted(rt, &mut self.seat, author, round)
     }
 
-    /// The round behind all that was accepted.
+    /// The round after all that was accepted.
     pub fn round_now<R: Wait>(&mut self, rt: &R) -> u64
         ensures stays { StaysWith self.old self.new }
         ensures looked { Looked S.scheme self.old.node self.old.seat self.new.seat }

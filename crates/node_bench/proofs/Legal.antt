@@ -1,4 +1,4 @@
--- A validator behind an opening stands at a history.
+-- A validator after an opening stands at a history.
 use Rattle.std.proofs.Common.{◌≡◌, sym, subst}
 use Rattle.std.specs.Prelude.{Result}
 use Rattle.spec_model.specs.Histories.{History}

@@ -1,4 +1,4 @@
-//! The events of rounds, one behind the other.
+//! The events of rounds, one after the other.
 
 ghost use Rattle.std.specs.Prelude.{◌≡◌, None, IfOk};
 ghost use Rattle.header.specs.Checks.{fault_of, accepts_all};

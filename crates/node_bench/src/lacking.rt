@@ -16,7 +16,7 @@ const ABSENT: u64 = 0;
 
 const PRESENT: u64 = 1;
 
-/// Certificates behind as many rounds without a coin as the size says. Without the work they are only tested.
+/// Certificates after as many rounds without a coin as the size says. Without the work they are only tested.
 pub fn take_behind(task: Task, config: &Config<HashSign>, fold: &mut Fold) -> Result<(), Ending> {
     let mut validator = Validator::new(task.alloc, config)?;
     let mut events = Events::new(task.alloc, config.committee(), Front::Nothing, false)?;
@@ -42,7 +42,7 @@ fn take_some(
     Ok(())
 }
 
-/// Coins, each behind as many rounds of a validator of its own as the size says, in which the leader of each wave before was absent, so
+/// Coins, each after as many rounds of a validator of its own as the size says, in which the leader of each wave before was absent, so
 /// that it is the first that commits. Without the work they don't come.
 pub fn commit_late(task: Task, config: &Config<HashSign>, fold: &mut Fold) -> Result<(), Ending> {
     for _ in 0..task.count {

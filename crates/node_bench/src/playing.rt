@@ -51,7 +51,7 @@ pub fn run_stream<R: Threads + Wait + Sync>(
     Ok(())
 }
 
-// The frames of the certificates, and behind them those of the batches.
+// The frames of the certificates, and after them those of the batches.
 fn stream_of(task: Task, config: &Config<HashSign>) -> Result<Vec<u8>, Ending> {
     let mut stream = Vec::new(task.alloc);
     let mut rounds = Rounds::new(task.alloc, config.committee(), true)?;

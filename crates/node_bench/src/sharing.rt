@@ -136,7 +136,7 @@ fn flush_all<S: Sign, D: Disk + Drop, R: Wait>(
     Ok(released)
 }
 
-// One round, behind which all is released that may go out. Says how many events it settled.
+// One round, after which all is released that may go out. Says how many events it settled.
 fn flush<S: Sign, D: Disk, R: Wait>(
     rt: &R,
     flushing: &mut Flushing<'_, '_, S, D>,

@@ -87,7 +87,7 @@ impl Task {
     // How many events are its pieces.
     fn events(self, step: Step) -> u64 {
         match step {
-            // Behind each odd round but the first a wave ends, with its coin.
+            // After each odd round but the first a wave ends, with its coin.
             Step::Round => {
                 let coins = (self.count.saturating_add(1) / 2).saturating_sub(1);
                 self.count

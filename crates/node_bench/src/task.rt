@@ -68,9 +68,9 @@ pub enum Kind {
     Run,
     /// Rounds of all members' certificates, with a coin a wave, in a committee of some depth.
     Deep,
-    /// Certificates behind rounds without a coin.
+    /// Certificates after rounds without a coin.
     Behind,
-    /// Coins that commit, each behind rounds of which nothing was committed.
+    /// Coins that commit, each after rounds of which nothing was committed.
     Late,
 }
 

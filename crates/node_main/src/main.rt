@@ -19,7 +19,7 @@ fn main(rt: HostRuntime) -> ExitCode {
     ExitCode::from(status)
 }
 
-// The arguments behind the program's name.
+// The arguments after the program's name.
 fn arguments(rt: &HostRuntime) -> Result<Vec<String>, Ending> {
     let args = match env::args(rt) {
         Ok(args) => args,

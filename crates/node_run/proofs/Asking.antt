@@ -1,4 +1,4 @@
--- What an event leaves as it was, of what a node is asked behind it.
+-- What an event leaves as it was, of what a node is asked after it.
 use Rattle.std.proofs.Common.{◌≡◌, ℕ, ◌-◌, Bool, true, false, cond, List, [], ◌∷◌, ◌++◌, Option, Some, None, refl, ap, ◌∙◌, append-nil}
 use Rattle.std.proofs.Math.Path.{fun_ext}
 use Rattle.std.specs.Prelude.{◌==◌, ◌&&◌, ◌||◌, not, nat_le, nat_lt, take, map, fold, find, filter_map, is_some, if◌then◌else◌}

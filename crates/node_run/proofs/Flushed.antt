@@ -1,4 +1,4 @@
--- What there is left to bring to the disk behind a round, and what is told of all rounds.
+-- What there is left to bring to the disk after a round, and what is told of all rounds.
 use Rattle.std.proofs.Common.{◌≡◌, ◌+◌, ◌<◌, ℕ, Bool, true, false, List, length, Option, Some, None, Result, Ok, refl, sym, subst, ◌∙◌, inl, inr, arith}
 use Rattle.std.specs.Prelude.{◌⊎◌, ◌↔◌, IfOk, OnOk, IsErrOf, IsSome, IsTrue}
 use Rattle.flusher.specs.Rounds.{TakesLongest}

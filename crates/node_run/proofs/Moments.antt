@@ -36,18 +36,18 @@ module _ {S D : Type 0} (scheme : Scheme S) (device : Device D) where
   abbrev pub disk : Flusher D → D
   disk flusher = disk_of (journal_of flusher)
 
-  -- at each moment from one to the other there is what was settled, and perhaps more behind it
+  -- at each moment from one to the other there is what was settled, and perhaps more after it
   abbrev pub Leaves : NodeView S → Flusher D → Flusher D → Type 0
   Leaves node first later = AtEachMoment device (disk first) (disk later) (HoldsMore scheme node (settled_in first))
 
-  -- a round behind others
+  -- a round after others
   pub round_on : (node at : NodeView S) (seen : List Marked) (first now later : Flusher D) (round : Result ℕ FlushError) → at ≡ node → (IsErrOf round flush.Down → ⊥)
       → Begins (settled_in first) (settled_in now) → IsErrOf round flush.Down ⊎ IsErrOf round flush.Memory ⊎ TakesLongest seen (settled_in now) (taken_in later)
       → (IsErrOf round flush.Memory → (journal_of later ≡ journal_of now) × (taken_in later ≡ settled_in now))
       → IsErrOf round flush.Down ⊎ AtEachMoment device (disk now) (disk later) (HoldsEither scheme at (settled_in now) (taken_in later))
       → (now ≡ first) ⊎ Leaves node first now → Leaves node first later
   round_on node at seen first now later round here up begins takes memory (inl down) so_far = absurd (up down)
-  round_on node at seen first now later round here up begins takes memory (inr leaves) so_far = behind so_far
+  round_on node at seen first now later round here up begins takes memory (inr leaves) so_far = goes_on so_far
     where
       taken : Begins (settled_in now) (taken_in later)
       taken = begins_taken seen (settled_in now) (taken_in later) round up takes (λ none. (memory none).1)
@@ -60,15 +60,15 @@ module _ {S D : Type 0} (scheme : Scheme S) (device : Device D) where
         holds = subst (λ n. Holds (node_of scheme n.setting) c (from_start n (taken_in later))) here holds;
       }
 
-      behind : (now ≡ first) ⊎ Leaves node first now → Leaves node first later
-      behind (inl same) = subst (λ f. AtEachMoment device (disk f) (disk later) (HoldsMore scheme node (settled_in first))) same
+      goes_on : (now ≡ first) ⊎ Leaves node first now → Leaves node first later
+      goes_on (inl same) = subst (λ f. AtEachMoment device (disk f) (disk later) (HoldsMore scheme node (settled_in first))) same
           (weaker device (disk now) (disk later) (HoldsMore scheme node (settled_in first)) (HoldsEither scheme at (settled_in now) (taken_in later)) leaves more)
-      behind (inr before) = joins device (disk first) (disk now) (disk later) (HoldsMore scheme node (settled_in first)) (HoldsEither scheme at (settled_in now) (taken_in later)) before leaves more
+      goes_on (inr before) = joins device (disk first) (disk now) (disk later) (HoldsMore scheme node (settled_in first)) (HoldsEither scheme at (settled_in now) (taken_in later)) before leaves more
 
-  -- rounds until nothing is pending, behind others; a node that is down stays so, and its disk as it is
+  -- rounds until nothing is pending, after others; a node that is down stays so, and its disk as it is
   pub all_on : (node at : NodeView S) (first now later : Flusher D) → at ≡ node → Begins (settled_in first) (settled_in now) → (now ≡ first) ⊎ (is_down first ≡ false → Leaves node first now)
       → (IsTrue (is_down now) → later ≡ now) → (is_down now ≡ false → Leaves at now later) → is_down first ≡ false → Leaves node first later
-  all_on node at first now later here begins so_far stays leaves up = behind (is_down now) refl so_far
+  all_on node at first now later here begins so_far stays leaves up = goes_on (is_down now) refl so_far
     where
       more : (c : List ℕ) → HoldsMore scheme at (settled_in now) c → HoldsMore scheme node (settled_in first) c
       more c it = record {
@@ -77,9 +77,9 @@ module _ {S D : Type 0} (scheme : Scheme S) (device : Device D) where
         holds = subst (λ n. Holds (node_of scheme n.setting) c (from_start n it.more)) here it.holds;
       }
 
-      behind : (down : Bool) → is_down now ≡ down → (now ≡ first) ⊎ (is_down first ≡ false → Leaves node first now) → Leaves node first later
-      behind true is (inl same) = absurd (let bad : true ≡ false = sym is ∙ ap (λ f. is_down f) same ∙ up in cc)
-      behind true is (inr before) = subst (λ f. Leaves node first f) (sym (stays is)) (before up)
-      behind false is (inl same) = subst (λ f. AtEachMoment device (disk f) (disk later) (HoldsMore scheme node (settled_in first))) same
+      goes_on : (down : Bool) → is_down now ≡ down → (now ≡ first) ⊎ (is_down first ≡ false → Leaves node first now) → Leaves node first later
+      goes_on true is (inl same) = absurd (let bad : true ≡ false = sym is ∙ ap (λ f. is_down f) same ∙ up in cc)
+      goes_on true is (inr before) = subst (λ f. Leaves node first f) (sym (stays is)) (before up)
+      goes_on false is (inl same) = subst (λ f. AtEachMoment device (disk f) (disk later) (HoldsMore scheme node (settled_in first))) same
           (weaker device (disk now) (disk later) (HoldsMore scheme node (settled_in first)) (HoldsMore scheme at (settled_in now)) (leaves is) more)
-      behind false is (inr before) = joins device (disk first) (disk now) (disk later) (HoldsMore scheme node (settled_in first)) (HoldsMore scheme at (settled_in now)) (before up) (leaves is) more
+      goes_on false is (inr before) = joins device (disk first) (disk now) (disk later) (HoldsMore scheme node (settled_in first)) (HoldsMore scheme at (settled_in now)) (before up) (leaves is) more

@@ -1,4 +1,4 @@
--- An event that is submitted behind a look.
+-- An event that is submitted after a look.
 use Rattle.std.proofs.Common.{◌≡◌, [], ◌∷◌, ◌++◌, Bool, true, false, Result, Ok, Err, Option, Some, None, refl, sym, subst, ap, ◌∙◌, inl, inr}
 use Rattle.std.specs.Prelude.{not, is_some}
 use Rattle.header.specs.Digested.{certificate_digest_in}
@@ -102,7 +102,7 @@ submitted node event before later fault told is goes done = record {
   checked = λ _. inr (goes, done);
 }
 
--- behind a look
+-- after a look
 pub submitted_since : {S : Type 0} (node : Node) (event : Event) (before mid later : CallerView S) (told : Result Taken Told)
     → mid.seat.view.start ≡ before.seat.view.start → mid.seat.view.number ≡ before.seat.view.number → mid.seat.view.mine ≡ before.seat.view.mine
     → Begins before.seat.view.seen mid.seat.view.seen → IsSubmitted node event mid later told → IsSubmitted node event before later told
@@ -131,7 +131,7 @@ ready_goes node event before later start more lacks_none = record {
   goes = λ _. subst (λ (first : History). is_missing_parents (admit node (first ++ events later.seat.view.seen) event) ≡ false) start lacks_none;
 }
 
--- a look counts for a call that goes on behind it
+-- a look counts for a call that goes on after it
 pub goes_yet : {S : Type 0} (node : Node) (event : Event) (before mid later : CallerView S) → MayBeSubmitted node event before mid → Begins mid.seat.view.seen later.seat.view.seen
     → MayBeSubmitted node event before later
 goes_yet node event before mid later goes more = record {

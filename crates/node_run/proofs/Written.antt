@@ -78,8 +78,8 @@ some_kept old mid new bytes some keeps = record {
 }
 
 -- all of the first, and some of the second
-some_behind : (old mid new : Option (List ℕ)) (first second : List ℕ) → Appends old mid first → AppendsSome mid new second → AppendsSome old new (first ++ second)
-some_behind old mid new first second one some = record {
+some_after : (old mid new : Option (List ℕ)) (first second : List ℕ) → Appends old mid first → AppendsSome mid new second → AppendsSome old new (first ++ second)
+some_after old mid new first second one some = record {
   part = first ++ some.part;
   begins = record { rest = some.begins.rest; parts = ap (λ (l : List ℕ). first ++ l) some.begins.parts ∙ sym (append_assoc first some.part some.begins.rest) };
   appends = Appends-trans old mid new first some.part one some.appends;
@@ -110,7 +110,7 @@ more_of May before mid later old cur new more so_far each up memory others writt
   each = All-append May so_far.outputs more so_far.each each;
   written = λ yet. subst (Appends old new) whole
       (Appends-trans old cur new (flat_map frame_of so_far.outputs) (flat_map frame_of more) (so_far.written fine) (written yet));
-  some = subst (AppendsSome old new) whole (some_behind old cur new (flat_map frame_of so_far.outputs) (flat_map frame_of more) (so_far.written fine) some);
+  some = subst (AppendsSome old new) whole (some_after old cur new (flat_map frame_of so_far.outputs) (flat_map frame_of more) (so_far.written fine) some);
   others = others;
 }
   where

@@ -15,7 +15,7 @@ use Rattle.node_run.specs.Taking.{Handles, OnlyLooks}
 use Rattle.node_run.specs.declared.caller.Taken.{Taken}
 use Rattle.node_run.specs.declared.caller.Taken.TheVariants.{New, Known, Waits}
 
--- a certificate waits behind the others, or one of its digest waits already
+-- a certificate waits after the others, or one of its digest waits already
 pub record Enters (event : Event) (old new : List Event) : Type 0 where
   pub again : waiting.Waits old event → new ≡ old
   pub first : (waiting.Waits old event → ⊥) → new ≡ old ++ event ∷ []
@@ -26,7 +26,7 @@ CantWait event held why =
     (why ≡ Refused refusal.Down) ⊎ (why ≡ Refused refusal.Memory)
     ⊎ ((why ≡ Refused refusal.MissingParents) × (waiting.Waits held event → ⊥) × (length held ≡ MAX_WAITING))
 
--- What the caller made of it is told: whether it was a new record, or why it was refused. One that has to wait does so, or can't. Behind
+-- What the caller made of it is told: whether it was a new record, or why it was refused. One that has to wait does so, or can't. After
 -- that the caller's seat stays as it is, but for a look where it waits.
 pub record Brings {S : Type 0} (node : Node) (fault : Option CheckError) (event : Event) (before now : CallerView S) (old new : List Event) (result : Result Bool Told) : Type 0 where
   pub told : Result Taken Told

@@ -24,20 +24,20 @@ use Rattle.node_run.specs.Ends.{TellsRounds}
 use Rattle.node_run.specs.Members.{IsConfigOf}
 use Rattle.sigface.specs.Scheme.{Scheme}
 
--- bytes are a node's journal with what was settled, and perhaps more behind it
+-- bytes are a node's journal with what was settled, and perhaps more after it
 pub record HoldsMore {S : Type 0} (scheme : Scheme S) (node : NodeView S) (settled : List Marked) (left : List ℕ) : Type 0 where
   pub more : List Marked
   pub begins : Begins settled more
   pub holds : Holds (node_of scheme node.setting) left (from_start node more)
 
 -- a node's rounds told these faults: of its journal as rounds do, and none of outputs or of the input; a stop at any moment leaves what was
--- settled, and perhaps more behind it
+-- settled, and perhaps more after it
 pub record HasFlushed {S D : Type 0} (scheme : Scheme S) (device : Device D) (node : NodeView S) (flusher : Flusher D) (tells : Faults) (left : D) : Type 0 where
   pub told : TellsRounds (device.faults (disk_of (journal_of flusher))) (device.faults left) tells.journal
   pub others : (tells.output ≡ false) × (tells.input ≡ false)
   pub any_moment : is_down flusher ≡ false → AtEachMoment device (disk_of (journal_of flusher)) left (HoldsMore scheme node (settled_in flusher))
 
--- a disk was told as a history, and bytes are the node's journal with that, and perhaps more behind it
+-- a disk was told as a history, and bytes are the node's journal with that, and perhaps more after it
 pub record GoesOn (node : Node) (before left : List ℕ) : Type 0 where
   pub history : History
   pub is_told : told node before ≡ Ok history
@@ -45,9 +45,9 @@ pub record GoesOn (node : Node) (before left : List ℕ) : Type 0 where
   pub holds : Holds node left (history ++ more)
 
 -- A node was opened on a disk, if it could be, and ran until this ending; this is left of the disk. A fault of the disk is told exactly
--- where it counted one. Of the journal's other faults a full one is told behind the opening, and what the opening refused. That is what
+-- where it counted one. Of the journal's other faults a full one is told after the opening, and what the opening refused. That is what
 -- the disk was told as, and nothing that a stop leaves in a world of the node. The disk is lost only with a thread that couldn't be made.
--- A stop at any moment leaves what is told as an outcome from before it is, or what the disk was told as with more behind it.
+-- A stop at any moment leaves what is told as an outcome from before it is, or what the disk was told as with more after it.
 pub record RunsOver {D : Type 0} (node : Node) (disks : Device D) (disk : D) (ending : Ending) (left : Option D) : Type 0 where
   pub device : ending ≡ Journal errors.Device → IfSome left (λ later. disks.faults disk < disks.faults later)
   pub no_fault : ending ≢ Journal errors.Device → IfSome left (λ later. disks.faults later ≡ disks.faults disk)

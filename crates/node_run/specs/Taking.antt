@@ -34,12 +34,12 @@ pub record IsSubmitted {S : Type 0} (node : Node) (event : Event) (before later 
   pub submits : Submits node event before.seat.view later.seat.view answer
   pub is : told ≡ told_as answer
 
--- an event is a certificate, and behind all that was accepted, which the caller has then seen, it lacks a parent
+-- an event is a certificate, and after all that was accepted, which the caller has then seen, it lacks a parent
 pub record LacksParents {S : Type 0} (node : Node) (event : Event) (later : CallerView S) : Type 0 where
   pub certificate : is_some (certificate_digest_in event.message) ≡ true
   pub lacks : is_missing_parents (admit node (seen_by later.seat) event) ≡ true
 
--- an event is no certificate, or one that lacks no parent behind what the caller had seen when it looked, during a call
+-- an event is no certificate, or one that lacks no parent after what the caller had seen when it looked, during a call
 pub record MayBeSubmitted {S : Type 0} (node : Node) (event : Event) (before later : CallerView S) : Type 0 where
   pub looked : List Marked
   pub more : Begins before.seat.view.seen looked
@@ -70,7 +70,7 @@ abbrev pub is_told_new : Result Taken Told → Bool
 is_told_new (Ok New) = true
 is_told_new other = false
 
--- What came of what is proposed behind what the caller had seen when it looked, during the call: a header that passes the checks was
+-- What came of what is proposed after what the caller had seen when it looked, during the call: a header that passes the checks was
 -- submitted, and this says whether it was new; else nothing was.
 pub record IsProposed {S : Type 0} (node : Node) (before later : CallerView S) (new : Bool) : Type 0 where
   pub looked : List Marked

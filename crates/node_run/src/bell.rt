@@ -40,7 +40,7 @@ impl Bell {
         self.changed.notify_one();
     }
 
-    /// Sleeps until there is work, or no more to come. Says whether more may come behind what there is.
+    /// Sleeps until there is work, or no more to come. Says whether more may come after what there is.
     pub(crate) fn wait<R: Wait>(&self, rt: &R) -> bool {
         let told = self.told.lock(rt);
         let mut told = self

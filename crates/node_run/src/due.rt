@@ -1,4 +1,4 @@
-//! What is due to be asked behind a record.
+//! What is due to be asked after a record.
 
 ghost use Rattle.std.specs.Prelude.{◌≡◌, ◌↔◌, IsTrue};
 ghost use Rattle.node_run.specs.Asking.{Leaves, nothing_due, all_due, both_due};
@@ -53,7 +53,7 @@ impl Due {
     }
 }
 
-/// What is due behind a new event of a member's node. What isn't due is answered as before the event: no certificate entered and no
+/// What is due after a new event of a member's node. What isn't due is answered as before the event: no certificate entered and no
 /// floor moved where the waiting ones aren't, and no round, availability or own header changed where the proposal isn't.
 pub(crate) fn due_behind(own: Author, message: &Message) -> Due
     ensures left { Leaves own message.now result }

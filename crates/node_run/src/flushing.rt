@@ -28,7 +28,7 @@ pub(crate) fn flush_all<S: Sign, D: Disk, R: Wait>(
     ensures journal { TellsJournal (D.device.faults (disk_of (journal_of rounds.old.flusher))) (D.device.faults (disk_of (journal_of rounds.new.flusher))) (is_down rounds.old.flusher) (is_down rounds.new.flusher) result.journal (HasNoRoom (D.device.content (disk_of (journal_of rounds.new.flusher))) (settled_in rounds.new.flusher) (taken_in rounds.new.flusher)) }
     ensures others { (result.output ≡ false) × (result.input ≡ false) }
     ensures node { rounds.new.node ≡ rounds.old.node }
-    // A stop at any moment leaves what was settled, and perhaps more behind it.
+    // A stop at any moment leaves what was settled, and perhaps more after it.
     ensures any_moment { is_down rounds.old.flusher ≡ false → AtEachMoment D.device (disk_of (journal_of rounds.old.flusher)) (disk_of (journal_of rounds.new.flusher)) (HoldsMore S.scheme rounds.old.node (settled_in rounds.old.flusher)) }
 {
     let mut faults = Faults::none();
@@ -57,9 +57,9 @@ fn flush_pending<S: Sign, D: Disk, R: Wait>(
     ensures full { is_down rounds.old.flusher ≡ false → result.journal ≡ Some JournalError.Full → HasNoRoom (D.device.content (disk_of (journal_of rounds.new.flusher))) (settled_in rounds.new.flusher) (taken_in rounds.new.flusher) }
 
     // Unless the node is down or memory was refused, of some list of what was accepted, with all of it that the seat had seen before,
-    // nothing more fits a group behind what is settled.
+    // nothing more fits a group after what is settled.
     ensures all { is_down rounds.new.flusher ≡ false → result.memory ≡ false → TakesLongest rounds.old.seat.view.seen (settled_in rounds.new.flusher) (settled_in rounds.new.flusher) }
-    // Behind want of memory nothing is taken that isn't settled.
+    // After want of memory nothing is taken that isn't settled.
     ensures memory { result.memory ≡ true → taken_in rounds.new.flusher ≡ settled_in rounds.new.flusher }
     ensures others { (result.output ≡ false) × (result.input ≡ false) }
     ensures node { rounds.new.node ≡ rounds.old.node }

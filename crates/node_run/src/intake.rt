@@ -34,7 +34,7 @@ pub(crate) struct Intake<'n, 'a, S: Sign> {
     waiter: Waiter,
     makers: Makers,
     pending: &'n Bell,
-    // What is to be asked behind the next record.
+    // What is to be asked after the next record.
     due: Due,
     was_refused_memory: bool,
 }
@@ -160,7 +160,7 @@ impl<'n, 'a, S: Sign> Intake<'n, 'a, S> {
         }
     }
 
-    // Submits a message, or lets it wait. Behind a new record what it left as it was stays undue.
+    // Submits a message, or lets it wait. After a new record what it left as it was stays undue.
     fn submit<R: Wait>(&mut self, rt: &R, sender: Author, message: Message) -> Result<bool, Told>
         ensures due { IsDueBehind self.old.caller.setting.own message self.old.due self.new.due result }
         ensures makers { self.new.makers ≡ self.old.makers }
@@ -206,7 +206,7 @@ impl<'n, 'a, S: Sign> Intake<'n, 'a, S> {
         }
     }
 
-    // Takes what the validator proposes, where that is due. It stays due where memory was refused, and is again behind a new own header.
+    // Takes what the validator proposes, where that is due. It stays due where memory was refused, and is again after a new own header.
     // The mark is set only where no event of the caller's was accepted, and stays.
     fn propose<R: Wait>(&mut self, rt: &R)
         ensures memory { self.new.was_refused_memory ≢ self.old.was_refused_memory → self.new.caller.seat.view.mine ≡ self.old.caller.seat.view.mine }

@@ -84,7 +84,7 @@ impl<'n, 'a, R: Wait, S: Sign, W: Write + Drop> Work<R, Sink<W>> for Writing<'n,
     }
 }
 
-// What the thread does that reads: behind it nothing is pending any more.
+// What the thread does that reads: after it nothing is pending any more.
 #[derive(Drop)]
 struct Reading<'n, 'a, 'e, S: Sign, I: Read + Drop, E: Write> {
     input: Input<I>,
@@ -178,7 +178,7 @@ where
     requires { desks.writing.sink.faults ≡ no_faults }
     ensures told { IfSome result.1 (λ left. TellsRounds (D.device.faults (disk_of (journal_of rounds.entry.flusher))) (D.device.faults left) result.0.journal) }
     ensures lost { result.1 ≡ None → result.0 ≡ no_memory }
-    // A stop at any moment leaves what was settled, and perhaps more behind it.
+    // A stop at any moment leaves what was settled, and perhaps more after it.
     ensures any_moment { is_down rounds.entry.flusher ≡ false → IfSome result.1 (λ left. AtEachMoment D.device (disk_of (journal_of rounds.entry.flusher)) left (HoldsMore S.scheme rounds.entry.node (settled_in rounds.entry.flusher))) }
 {
     let Desks {

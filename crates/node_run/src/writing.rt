@@ -110,7 +110,7 @@ impl<W: Write + Drop> Sink<W> {
         self.faults
     }
 
-    // Puts the frame of an output behind what was written, and lets go of it.
+    // Puts the frame of an output after what was written, and lets go of it.
     fn put(&mut self, output: Output)
         ensures { Puts (frame_of output) self.old.faults self.new.faults (writer_contents W.contents self.old.writer) (writer_contents W.contents self.new.writer) }
     {

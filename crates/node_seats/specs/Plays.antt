@@ -27,11 +27,11 @@ pub record Reads (Judged : History → Type 0) (before : View) (count : ℕ) (la
   pub own : later.numbered ≡ true → HasOwn later
   pub judged : Judged (later.start ++ events later.firm)
 
--- the event is accepted behind all that the seat has seen
+-- the event is accepted after all that the seat has seen
 abbrev pub with_event : View → Event → View
 with_event view event = record view { seen = view.seen ++ mark view.number event ∷ []; mine = view.mine ++ event ∷ [] }
 
--- where the first word was this number, the event is accepted, behind exactly what the seat had seen; else the seat has looked
+-- where the first word was this number, the event is accepted, after exactly what the seat had seen; else the seat has looked
 pub record Accepts (old : ℕ) (event : Event) (before : View) (count : ℕ) (later : View) : Type 0 where
   pub won : count ≡ old → (length before.seen ≡ old) × (later ≡ with_event before event)
   pub lost : count ≢ old → Looks (λ history. Unit {0}) before count later

@@ -23,7 +23,7 @@ pub record Fits (start : History) (accepted settled : List Marked) (down : Bool)
   pub down_is : view.down ≡ true → down ≡ true
 
 -- the first word is how many events were accepted, the second how many of these, from the front, are settled, and the third is 1
--- where the node is down, else 0; all of them are legal behind where the node began, no seat that isn't there brought one, and what
+-- where the node is down, else 0; all of them are legal after where the node began, no seat that isn't there brought one, and what
 -- each seat knows is so
 pub record IsKept (Legal : History → Type 0) (words : List ℕ) (views : List View) : Type 0 where
   pub start : History

@@ -88,7 +88,7 @@ impl<K, L: Law<K>> Words<K, L> {
         unreachable!()
     }
 
-    /// Tries until the event is accepted behind what the seat has seen.
+    /// Tries until the event is accepted after what the seat has seen.
     pub fn raise<C: Call, R: Wait>(&self, rt: &R, seat: &mut Seat, from: u64)
         requires of { seat.old.table ≡ self.now.table }
         requires live { (seat.old.view.live ≡ true) × (seat.old.view.numbered ≡ true) }
@@ -128,7 +128,7 @@ impl<K, L: Law<K>> Words<K, L> {
         unreachable!()
     }
 
-    /// Two looks, behind which the second seat has seen all that the first has. The answer is how many events these are that the
+    /// Two looks, after which the second seat has seen all that the first has. The answer is how many events these are that the
     /// second has seen.
     pub fn meet<J: Judge>(&self, first: &mut Seat, second: &mut Seat) -> u64
         requires first { (first.old.table ≡ self.now.table) × (first.old.view.live ≡ true) }

@@ -127,7 +127,7 @@ impl<K, L: Law<K>> Words<K, L> {
         self.table.shared.store::<Downed>(&mut seat.place, DOWN, 1);
     }
 
-    /// Where so many events were accepted, the call's event is accepted behind them, and the answer is that number. Else
+    /// Where so many events were accepted, the call's event is accepted after them, and the answer is that number. Else
     /// it is how many were accepted, and the seat has seen these.
     pub fn accept<C: Call>(&self, seat: &mut Seat, from: u64) -> u64
         requires of { seat.old.table ≡ self.now.table }

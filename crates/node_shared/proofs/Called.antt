@@ -57,7 +57,7 @@ stays_then one two three first second = record {
 }
 
 module _ {S : Type 0} (scheme : Scheme S) (shared : NodeView S) where
-  -- where nothing is seen or settled behind a call, the seat is as behind the call
+  -- where nothing is seen or settled after a call, the seat is as after the call
   pub looked_stays : (before mid later : SeatView) → Looked scheme shared before mid → Stays mid later → Looked scheme shared before later
   looked_stays before mid later looked stays = record {
     of_node = of_same shared mid later looked.of_node stays.same;
@@ -91,7 +91,7 @@ module _ {S : Type 0} (scheme : Scheme S) (shared : NodeView S) where
     legal = looked.legal;
   }
 
-  -- and one whose event is new has it behind that
+  -- and one whose event is new has it after that
   pub brought_new : (before mid later : SeatView) (event : Event) → Looked scheme shared before mid
       → (later.table ≡ mid.table) × (later.id ≡ mid.id) × (later.view.live ≡ true) × (later.view.numbered ≡ true) × (later.view.number ≡ mid.view.number) × (later.view.start ≡ mid.view.start)
       → later.view.down ≡ mid.view.down → later.view.firm ≡ mid.view.firm → later.view.seen ≡ mid.view.seen ++ mark mid.view.number event ∷ [] → later.view.mine ≡ mid.view.mine ++ event ∷ []

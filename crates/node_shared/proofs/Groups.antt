@@ -58,8 +58,8 @@ module _ {S : Type 0} (shared : NodeView S) (scheme : Scheme S) (seat : SeatView
       (is : later ≡ record book { pending = later.pending; taken = book.taken + length group })
       (stands : (run : Run) → Stands (node_of scheme book.validator.setting) run book → Stands (node_of scheme book.validator.setting) (with_taken run (length group)) later)
       (records : (run : Run) → Stands (node_of scheme book.validator.setting) run book → group ≡ map record_of (drop (length run.taken) (with_taken run (length group)).taken)) where
-    behind : Stands (node_of scheme shared.setting) (with_taken run (length group)) later
-    behind =
+    afterwards : Stands (node_of scheme shared.setting) (with_taken run (length group)) later
+    afterwards =
         subst (λ (s : ConfigView S). (r : Run) → Stands (node_of scheme s) r book → Stands (node_of scheme s) (with_taken r (length group)) later) home.setting stands run home.stands
 
     counted : later.taken ≡ flush.settled + length group
@@ -67,12 +67,12 @@ module _ {S : Type 0} (shared : NodeView S) (scheme : Scheme S) (seat : SeatView
 
     pub home_taken : IsAtHome scheme shared seat later
     home_taken = at_home shared scheme seat later (with_taken run (length group)) (ap (λ (b : BookView S). b.validator.setting) is ∙ home.setting)
-        home.of_node behind refl refl refl (λ down. home.down (sym (ap (λ (b : BookView S). b.down) is) ∙ down))
+        home.of_node afterwards refl refl refl (λ down. home.down (sym (ap (λ (b : BookView S). b.down) is) ∙ down))
 
     within : later.taken ≤ length flush.seat.view.seen
     within =
-        let is_in : length (with_taken run (length group)).taken ≤ length (events seat.view.seen) = begins_length _ _ behind.taken_begins in
-        omega (arith, is_in, behind.taken, size)
+        let is_in : length (with_taken run (length group)).taken ≤ length (events seat.view.seen) = begins_length _ _ afterwards.taken_begins in
+        omega (arith, is_in, afterwards.taken, size)
 
     pub flush_taken : IsFlushOf shared (record flush { taken = later.taken })
     flush_taken = record {
@@ -121,13 +121,13 @@ module _ {S : Type 0} (shared : NodeView S) (scheme : Scheme S) (seat : SeatView
         take_all (length run.settled + length synced) run.taken (omega (arith, less, count, left)) ∙ taken_is
 
     -- and the book is at home again once its seat knows it
-    pub home_settled : (later : BookView S) (behind : SeatView) → later.validator.setting ≡ book.validator.setting → later.down ≡ book.down
+    pub home_settled : (later : BookView S) (afterwards : SeatView) → later.validator.setting ≡ book.validator.setting → later.down ≡ book.down
         → ((run : Run) → Stands (node_of scheme book.validator.setting) run book → Begins synced (map record_of (drop (length run.settled) run.taken))
         → Stands (node_of scheme book.validator.setting) (with_settled run (length synced)) later)
-        → IsSame seat behind → behind.view.seen ≡ seat.view.seen → behind.view.firm ≡ taken_by flush → IsAtHome scheme shared behind later
-    home_settled later behind setting down stands same seen firm =
+        → IsSame seat afterwards → afterwards.view.seen ≡ seat.view.seen → afterwards.view.firm ≡ taken_by flush → IsAtHome scheme shared afterwards later
+    home_settled later afterwards setting down stands same seen firm =
         let there = subst (λ (s : ConfigView S). (r : Run) → Stands (node_of scheme s) r book
         → Begins synced (map record_of (drop (length r.settled) r.taken)) → Stands (node_of scheme s) (with_settled r (length synced)) later)
         home.setting stands run home.stands begins in
-        at_home shared scheme behind later (with_settled run (length synced)) (setting ∙ home.setting) (of_same shared seat behind home.of_node same) there (sym same.start)
+        at_home shared scheme afterwards later (with_settled run (length synced)) (setting ∙ home.setting) (of_same shared seat afterwards home.of_node same) there (sym same.start)
         (ap events (sym seen)) (all_of_it ∙ ap events (sym firm)) (λ is. same.down (home.down (sym down ∙ is)))

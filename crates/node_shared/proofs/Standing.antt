@@ -46,12 +46,12 @@ module _ {S : Type 0} (shared : NodeView S) where
         record { setting = setting ∙ home.setting; of_node = home.of_node; taken = home.taken; stands = there (run_of seat.view home.taken) home.stands; down = λ is. home.down (down is) }
 
     -- a book that is taken down is at home where its seat knows of it
-    pub home_down : (seat behind : SeatView) (book later : BookView S) → IsAtHome scheme shared seat book → later ≡ record book { down = true }
+    pub home_down : (seat afterwards : SeatView) (book later : BookView S) → IsAtHome scheme shared seat book → later ≡ record book { down = true }
         → ((run : Run) → Stands (node_of scheme book.validator.setting) run book → Stands (node_of scheme book.validator.setting) run later)
-        → Stays seat behind → behind.view.down ≡ true → IsAtHome scheme shared behind later
-    home_down seat behind book later home is stands stays down =
+        → Stays seat afterwards → afterwards.view.down ≡ true → IsAtHome scheme shared afterwards later
+    home_down seat afterwards book later home is stands stays down =
         let there = subst (λ (s : ConfigView S). (run : Run) → Stands (node_of scheme s) run book → Stands (node_of scheme s) run later) home.setting stands in
-        at_home behind later (run_of seat.view home.taken) (ap (λ (b : BookView S). b.validator.setting) is ∙ home.setting) (of_same seat behind home.of_node stays.same)
+        at_home afterwards later (run_of seat.view home.taken) (ap (λ (b : BookView S). b.validator.setting) is ∙ home.setting) (of_same seat afterwards home.of_node stays.same)
         (there (run_of seat.view home.taken) home.stands) (sym stays.same.start) (ap events (sym stays.seen)) (ap events (sym stays.firm)) (λ _. down)
 
 -- a book without the first of its outputs, or as it was, is set up as it was

@@ -40,19 +40,19 @@ module _ {S : Type 0} (shared : NodeView S) (scheme : Scheme S) (seat : SeatView
         (subst (λ (l : List Marked). IsLegal (node_of scheme shared.setting) (seat.view.start ++ (events l ++ event ∷ []))) (sym same) (here.stands run home.stands).legal)
 
     -- and the book is at home again once its seat has seen it
-    pub home_with : (behind : SeatView) (by : ℕ) → later.validator.setting ≡ book.validator.setting → IsSame seat behind → behind.view.seen
-        ≡ seat.view.seen ++ mark by event ∷ [] → behind.view.firm ≡ seat.view.firm → (later.down ≡ true → ⊥)
-        → IsAtHome scheme shared behind later
-    home_with behind by setting same seen firm up =
-        at_home shared scheme behind later (with_accepted run event) (setting ∙ home.setting) (of_same shared seat behind home.of_node same) (here.stands run home.stands) (sym same.start)
+    pub home_with : (afterwards : SeatView) (by : ℕ) → later.validator.setting ≡ book.validator.setting → IsSame seat afterwards → afterwards.view.seen
+        ≡ seat.view.seen ++ mark by event ∷ [] → afterwards.view.firm ≡ seat.view.firm → (later.down ≡ true → ⊥)
+        → IsAtHome scheme shared afterwards later
+    home_with afterwards by setting same seen firm up =
+        at_home shared scheme afterwards later (with_accepted run event) (setting ∙ home.setting) (of_same shared seat afterwards home.of_node same) (here.stands run home.stands) (sym same.start)
         (sym (events_push by event seat.view.seen) ∙ ap events (sym seen)) (ap events (sym firm)) (λ down. absurd (up down))
 
     -- the answer
-    pub submits_new : (before behind : View) (receipt : Receipt) → before.start ≡ seat.view.start → Begins before.seen seat.view.seen → receipt.new
+    pub submits_new : (before afterwards : View) (receipt : Receipt) → before.start ≡ seat.view.start → Begins before.seen seat.view.seen → receipt.new
         ≡ true → receipt.ticket ≡ later.accepted → receipt.ticket ≤ MAX_ACCEPTED
-        → behind.seen ≡ seat.view.seen ++ mark before.number event ∷ [] → behind.mine ≡ before.mine ++ event ∷ []
-        → Submits (node_of scheme shared.setting) event before behind (Ok receipt)
-    submits_new before behind receipt began more is_new ticket limit seen mine = record {
+        → afterwards.seen ≡ seat.view.seen ++ mark before.number event ∷ [] → afterwards.mine ≡ before.mine ++ event ∷ []
+        → Submits (node_of scheme shared.setting) event before afterwards (Ok receipt)
+    submits_new before afterwards receipt began more is_new ticket limit seen mine = record {
       all = seat.view.seen;
       more = more;
       new = λ _. record {
@@ -65,7 +65,7 @@ module _ {S : Type 0} (shared : NodeView S) (scheme : Scheme S) (seat : SeatView
         seen = seen;
         mine = mine;
         ticket =
-            let size : length behind.seen ≡ length seat.view.seen + 1 = ap length seen ∙ length-append seat.view.seen (mark before.number event ∷ []) in
+            let size : length afterwards.seen ≡ length seat.view.seen + 1 = ap length seen ∙ length-append seat.view.seen (mark before.number event ∷ []) in
             let stood : book.accepted ≡ length (events seat.view.seen) = home.stands.accepted in
             let same : length (events seat.view.seen) ≡ length seat.view.seen = length-map seat.view.seen (λ (one : Marked). one.event) in
             omega (arith, size, stood, same, ticket, here.accepted);
@@ -89,10 +89,10 @@ module _ {S : Type 0} (shared : NodeView S) (scheme : Scheme S) (seat : SeatView
       down = λ is. home.down (sym (ap (λ (b : BookView S). b.down) was.is) ∙ is);
     }
 
-    pub submits_known : (before behind : View) (receipt : Receipt) → before.start ≡ seat.view.start → Begins before.seen seat.view.seen → receipt.new ≡ false → receipt.ticket ≡ later.accepted
-        → behind.seen ≡ seat.view.seen → behind.mine ≡ before.mine
-        → Submits (node_of scheme shared.setting) event before behind (Ok receipt)
-    submits_known before behind receipt began more is_known ticket seen mine = record {
+    pub submits_known : (before afterwards : View) (receipt : Receipt) → before.start ≡ seat.view.start → Begins before.seen seat.view.seen → receipt.new ≡ false → receipt.ticket ≡ later.accepted
+        → afterwards.seen ≡ seat.view.seen → afterwards.mine ≡ before.mine
+        → Submits (node_of scheme shared.setting) event before afterwards (Ok receipt)
+    submits_known before afterwards receipt began more is_known ticket seen mine = record {
       all = seat.view.seen;
       more = more;
       new = λ new. let bad : false ≡ true = sym is_known ∙ new in absurd cc;
@@ -102,7 +102,7 @@ module _ {S : Type 0} (shared : NodeView S) (scheme : Scheme S) (seat : SeatView
         seen = seen;
         mine = mine;
         ticket =
-            let size : length behind.seen ≡ length seat.view.seen = ap length seen in
+            let size : length afterwards.seen ≡ length seat.view.seen = ap length seen in
             let stood : book.accepted ≡ length (events seat.view.seen) = home.stands.accepted in
             let same : length (events seat.view.seen) ≡ length seat.view.seen = length-map seat.view.seen (λ (one : Marked). one.event) in
             let kept : later.accepted ≡ book.accepted = ap (λ (b : BookView S). b.accepted) was.is in
@@ -134,12 +134,12 @@ module _ {S : Type 0} (shared : NodeView S) (scheme : Scheme S) (seat : SeatView
   may_refuse CoinEarly may = may
   may_refuse CoinConflict may = may
 
-  pub submits_refused : (before behind : View) (refusal : Refusal)
+  pub submits_refused : (before afterwards : View) (refusal : Refusal)
       → ((run : Run) → Stands (node_of scheme book.validator.setting) run book → MayRefuse (node_of scheme book.validator.setting) run book event
       refusal)
-      → before.start ≡ seat.view.start → Begins before.seen seat.view.seen → behind.seen ≡ seat.view.seen → behind.mine ≡ before.mine
-      → Submits (node_of scheme shared.setting) event before behind (Err refusal)
-  submits_refused before behind refusal refused began more seen mine =
+      → before.start ≡ seat.view.start → Begins before.seen seat.view.seen → afterwards.seen ≡ seat.view.seen → afterwards.mine ≡ before.mine
+      → Submits (node_of scheme shared.setting) event before afterwards (Err refusal)
+  submits_refused before afterwards refusal refused began more seen mine =
       let there = subst (λ (s : ConfigView S). (run : Run) → Stands (node_of scheme s) run book → MayRefuse (node_of scheme s) run book event refusal) home.setting refused in
       record {
         all = seat.view.seen;

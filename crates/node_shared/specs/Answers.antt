@@ -37,7 +37,7 @@ pub record IsKnown (node : Node) (event : Event) (before : View) (all : List Mar
   pub mine : later.mine ≡ before.mine
   pub ticket : receipt.ticket ≡ length later.seen
 
--- why an event is refused, behind so many that were accepted: for want of memory, since a device call failed, since the run has
+-- why an event is refused, after so many that were accepted: for want of memory, since a device call failed, since the run has
 -- accepted as much as it may, or as admission answers there
 abbrev pub MayRefuseAt : Node → History → ℕ → Event → Refusal → Type 0
 MayRefuseAt node history count event Memory = ⊤
@@ -49,7 +49,7 @@ MayRefuseAt node history count event StoreFull = (admit node history event ≡ R
 MayRefuseAt node history count event refusal = admit node history event ≡ Refused refusal
 
 -- Of an event that a seat submits: there is a list of what was accepted, which what the seat had seen begins, and admission's
--- answer behind it is the answer.
+-- answer after it is the answer.
 pub record Submits (node : Node) (event : Event) (before : View) (later : View) (answer : Result Receipt Refusal) : Type 0 where
   pub all : List Marked
   pub more : Begins before.seen all
@@ -58,14 +58,14 @@ pub record Submits (node : Node) (event : Event) (before : View) (later : View) 
   pub refused : IfErr answer (λ refusal. MayRefuseAt node (before.start ++ events all) (length all) event refusal)
   pub same : IfErr answer (λ refusal. (later.seen ≡ all) × (later.mine ≡ before.mine))
 
--- an output was put out behind so many of the events that a seat knows as settled, by the last of them, which was new, or by one that is
+-- an output was put out after so many of the events that a seat knows as settled, by the last of them, which was new, or by one that is
 -- known there, and it may be given out there
 pub record IsPutOutBy (node : Node) (view : View) (output : Output) : Type 0 where
   pub count : ℕ
   pub settled : count ≤ length view.firm
   pub goes_out : GoesOut node (view.start ++ events (take count view.firm)) (put_out output)
 
--- an output may be given out behind what a seat knows as settled, of which an event put it out
+-- an output may be given out after what a seat knows as settled, of which an event put it out
 pub record Gives (node : Node) (seat : SeatView) (output : Output) : Type 0 where
   pub may : MayGive node (firm_by seat) output
   pub put_out : IsPutOutBy node seat.view output

@@ -27,7 +27,7 @@ pub record IsOf {S : Type 0} (node : NodeView S) (seat : SeatView) : Type 0 wher
   pub numbered : seat.view.numbered ≡ true
   pub start : seat.view.start ≡ node.start
 
--- all that a seat has seen, and of that all that it knows as settled, behind where the node began
+-- all that a seat has seen, and of that all that it knows as settled, after where the node began
 abbrev pub seen_by : SeatView → History
 seen_by seat = seat.view.start ++ events seat.view.seen
 

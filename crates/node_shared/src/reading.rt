@@ -55,7 +55,7 @@ impl<'a, S: Sign> Node<'a, S> {
         self.words.read_down(seat)
     }
 
-    /// Two looks, behind which the second seat has seen all that the first has, and knows that the node is down if the first does.
+    /// Two looks, after which the second seat has seen all that the first has, and knows that the node is down if the first does.
     /// The answer is how many events the second has seen. It waits for nobody and takes no memory.
     pub fn meet(&self, first: &mut Seat, second: &mut Seat) -> u64
         requires first { IsOf self.now first.old }
@@ -143,7 +143,7 @@ impl<'a, S: Sign> Node<'a, S> {
         locked.book.release()
     }
 
-    /// The order behind the settled events, which the seat then knows, from this place on: the digests of the certificates that
+    /// The order after the settled events, which the seat then knows, from this place on: the digests of the certificates that
     /// are ordered. It is empty past its end.
     ///
     /// # Errors
@@ -164,7 +164,7 @@ impl<'a, S: Sign> Node<'a, S> {
         order
     }
 
-    /// The digest of the header that has the vote of an author and round, behind all that was accepted, which the seat has then
+    /// The digest of the header that has the vote of an author and round, after all that was accepted, which the seat has then
     /// seen. None for low rounds.
     pub fn peek_voted<R: Wait>(
         &self,
@@ -185,7 +185,7 @@ impl<'a, S: Sign> Node<'a, S> {
         voted
     }
 
-    /// The validator's round, behind all that was accepted, which the seat has then seen.
+    /// The validator's round, after all that was accepted, which the seat has then seen.
     pub fn round_now<R: Wait>(&self, rt: &R, seat: &mut Seat) -> u64
         requires of { IsOf self.now seat.old }
         ensures looked { Looked S.scheme self.now seat.old seat.new }
@@ -199,7 +199,7 @@ impl<'a, S: Sign> Node<'a, S> {
         round
     }
 
-    /// Whether an event that passed the checks is ready behind all that was accepted, which the seat has then seen: its answer
+    /// Whether an event that passed the checks is ready after all that was accepted, which the seat has then seen: its answer
     /// there isn't that a parent is missing.
     pub fn ready<R: Wait>(&self, rt: &R, seat: &mut Seat, event: &Checked) -> bool
         requires of { IsOf self.now seat.old }
@@ -215,7 +215,7 @@ impl<'a, S: Sign> Node<'a, S> {
         ready
     }
 
-    /// The header that the validator proposes behind all that was accepted, which the seat has then seen, or None where it
+    /// The header that the validator proposes after all that was accepted, which the seat has then seen, or None where it
     /// proposes none. `AllocError` where an allocation failed.
     pub fn propose<R: Wait>(&self, rt: &R, seat: &mut Seat) -> Result<Option<Header>, AllocError>
         requires of { IsOf self.now seat.old }

@@ -17,7 +17,7 @@ use std::marker::Brand;
 use std::sync::Wait;
 
 impl<'a, S: Sign> Node<'a, S> {
-    /// Takes an event that passed the checks, behind all that was accepted. The seat has then seen all of that, and a new event is
+    /// Takes an event that passed the checks, after all that was accepted. The seat has then seen all of that, and a new event is
     /// one of its own. It answers Down exactly where the seat then knows that the node is down.
     pub fn submit<R: Wait>(
         &self,

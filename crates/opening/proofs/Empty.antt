@@ -1,4 +1,4 @@
--- That a journal without records ends at its first byte, so that the configuration's group fits behind it.
+-- That a journal without records ends at its first byte, so that the configuration's group fits after it.
 use Rattle.std.proofs.Common.{◌≡◌, ◌≢◌, ℕ, ◌+◌, ◌-◌, ◌<◌, ◌≤◌, inl, inr, Bool, true, false, cond, eqb, ltb, List, [], ◌∷◌, ◌++◌, length, Option}
 use Rattle.std.proofs.Common.{Some, None, Result, Ok, Err, refl, sym, ap, ◌∙◌, arith, length-append}
 use Rattle.std.specs.Option.{option_map, option_and_then, option_map_or}
@@ -101,7 +101,7 @@ empty_length file ends none =
 group_length : (bytes : List ℕ) → length (group_bytes (bytes ∷ [])) ≡ 9 + length bytes
 group_length bytes = omega (arith, length-append (bytes ++ []) (0 ∷ []), length-append bytes [])
 
--- so that a short record's group fits behind it
+-- so that a short record's group fits after it
 pub never_full : (file : List ℕ) (record_bytes : List ℕ) → EndsClosed file → stands file ≡ Ok [] → length record_bytes ≤ 1130
     → MAX_JOURNAL_BYTES < length file + length (group_bytes (record_bytes ∷ [])) → ⊥
 never_full file record_bytes ends none short full =

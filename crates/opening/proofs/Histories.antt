@@ -61,7 +61,7 @@ split_by : (node : Node) (history later : History) (one : Record) (rest : List R
 split_by node history later one rest (Ok mid) first is = record { mid = mid; first = first; others = sym (read_ok node history mid one rest first) ∙ is }
 split_by node history later one rest (Err place) first is = absurd (no_ok place later (sym (read_err node history one rest place first) ∙ is))
 
--- records are those of events that the node takes, each new behind a history
+-- records are those of events that the node takes, each new after a history
 pub record AreEvents (node : Node) (history : History) (records : List Record) (events : History) : Type 0 where
   pub same : bytes_of records ≡ map record_of events
   pub taken : All (IsTaken node) events

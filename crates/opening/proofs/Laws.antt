@@ -76,13 +76,13 @@ ok_is one other same = cc
 no_ok : (error : JournalError) (history : History) → ◌≡◌ {A = Result History JournalError} (Err error) (Ok history) → ⊥
 no_ok error history same = cc
 
--- a reading behind no fault gave a history
+-- a reading after no fault gave a history
 unless_ok : (fault : Option JournalError) (read : Result History ℕ) (history : History) → unless fault read ≡ Ok history → (fault ≡ None) × (read ≡ Ok history)
 unless_ok (Some error) read history is = absurd (no_ok error history is)
 unless_ok None (Ok found) history is = (refl, ap Ok (ok_is found history is))
 unless_ok None (Err place) history is = absurd (no_ok (Damaged place) history is)
 
--- the events of a journal are behind its configuration, alone in the first group
+-- the events of a journal are after its configuration, alone in the first group
 held : (node : Node) (bytes : List ℕ) (history : History) (first : Record) (events : List Record) → stands bytes ≡ Ok (first ∷ events) → HasNoFault node first events
     → AreEvents node [] events history → Holds node bytes history
 held node bytes history first events stands_for is are = record {

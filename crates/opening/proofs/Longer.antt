@@ -70,7 +70,7 @@ read_first : (node : Node) (history later : History) (first : Record) (one other
 read_first node history later first one other is (Ok next) e goes = read_ok node history next first (one ++ other) e ∙ goes next (sym (read_ok node history next first one e) ∙ is)
 read_first node history later first one other is (Err place) e goes = absurd (failed_read place later (sym (read_err node history first one place e) ∙ is))
 
--- a reading goes on behind what was read
+-- a reading goes on after what was read
 read_append : (node : Node) (history later : History) (one other : List Record) → read_events node history one ≡ Ok later → read_events node history (one ++ other) ≡ read_events node later other
 read_append node history later [] other is = ap (λ (h : History). read_events node h other) (ok_history history later (sym (read_nil node history) ∙ is))
 read_append node history later (first ∷ one) other is =
@@ -107,7 +107,7 @@ kept_alone : (gate : ℕ) (group : List (List ℕ)) → 0 < gate → is_alone (k
 kept_alone gate [] behind = refl
 kept_alone gate (bytes ∷ group) behind = and_from (nat_lt 0 gate) (is_alone (kept gate group)) (lt-ltb 0 gate behind) (kept_alone gate group behind)
 
--- a group behind place 0 brings none
+-- a group after place 0 brings none
 no_fault_more : (node : Node) (first : Record) (events : List Record) (gate : ℕ) (group : List (List ℕ)) → 0 < gate → first_fault node first events ≡ None
     → first_fault node first (events ++ kept gate group) ≡ None
 no_fault_more node first events gate group behind none =
@@ -120,7 +120,7 @@ no_fault_more node first events gate group behind none =
 
 -- ---- a journal with a group more
 
--- records that stand behind a first one
+-- records that stand after a first one
 record IsBehind (bytes : List ℕ) : Type 0 where
   pub first : Record
   pub events : List Record

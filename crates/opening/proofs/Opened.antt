@@ -19,7 +19,7 @@ use Rattle.opening.proofs.Laws.{found_records}
 use Rattle.opening.proofs.Telling.{told_records, told_damaged, told_same, as_one_of, keeps_one, keeps_same}
 use Rattle.admission.specs.declared.tables.Tables.{Tables}
 
--- the tables stand where the bytes stand, if the records behind the first are bytes
+-- the tables stand where the bytes stand, if the records after the first are bytes
 pub stands_for_at : (node : Node) (bytes : List ℕ) (records : List Record) (tables : Tables) → stands bytes ≡ Ok records → All IsText (drop 1 records) → StandsAt node (told node bytes) tables
     → StandsForAt node bytes tables
 stands_for_at node bytes records tables is texts at =
@@ -40,7 +40,7 @@ no_refusal Full history read is tells = absurd (clash Full history read is (tell
 records_are : (one other : List Record) → ◌≡◌ {A = Result (List Record) ℕ} (Ok one) (Ok other) → one ≡ other
 records_are one other same = cc
 
--- a first record with none behind it
+-- a first record with none after it
 pub one_text : (before later first : List ℕ) → stands before ≡ Ok [] → stands later ≡ stands_with before (first ∷ []) → HasTexts later
 one_text before later first none is records found =
     let same : records ≡ kept_at (length before - 1) first ∷ [] =

@@ -140,7 +140,7 @@ pub read_err : (node : Node) (history : History) (one : Record) (rest : List Rec
 unfolding read_events
 read_err node history one rest place is = ap (go_on (λ l. read_events node l rest)) is
 
--- a history was reached behind so many of the records, and tables stand there
+-- a history was reached after so many of the records, and tables stand there
 pub record IsReached (node : Node) (records : List Record) (count : ℕ) (tables : Tables) : Type 0 where
   pub history : History
   pub legal : IsLegal node history
@@ -219,7 +219,7 @@ pub fault_none : (node : Node) (first : Record) (events : List Record) (version 
     → first_fault node first events ≡ None
 fault_none node first events version own is own_is so = fault_own node first events version is ∙ ap mismatch (sym own_is ∙ so)
 
--- an error of a reading of records is that of the journal behind a first record without a fault
+-- an error of a reading of records is that of the journal after a first record without a fault
 pub fails_told : (fault : Option JournalError) (read : Result History ℕ) (error : JournalError) → fault ≡ None → FailsAs error read → Tells error (unless fault read)
 fails_told fault read Memory none fails = tt
 fails_told fault read (Damaged gate) none fails = ap (λ (f : Option JournalError). unless f read) none ∙ ap or_damaged fails

@@ -51,7 +51,7 @@ checked_in charter sender (Err fault) = None
 abbrev pub sender_in : List ℕ → Author
 sender_in bytes = record { 0 = from_be_bytes w16 (slice_index bytes 1 ∷ slice_index bytes 2 ∷ []) }
 
--- the event of a record: its kind is an event's, the message behind the sender is read, and passes the checks
+-- the event of a record: its kind is an event's, the message after the sender is read, and passes the checks
 unfoldable pub event_in : Charter → List ℕ → Option Event
 event_in charter bytes =
     if nat_lt (length bytes) FRONT_BYTES then None
@@ -67,7 +67,7 @@ unfoldable pub read_event : Node → History → Record → Result History ℕ
 read_event node history kept =
     option_map_or (λ event. option_map_or (λ later. Ok later) (with_new node history event) (Err kept.gate)) (event_in node.charter kept.bytes) (Err kept.gate)
 
--- a reading behind another one, whose place stands if it has none
+-- a reading after another one, whose place stands if it has none
 abbrev pub go_on : (History → Result History ℕ) → Result History ℕ → Result History ℕ
 go_on read (Ok history) = read history
 go_on read (Err place) = Err place
@@ -119,7 +119,7 @@ can_tell Second charter = true
 
 -- ---- a journal
 
--- the version of a first record with these behind it: its shape says it, where it is alone in the first group
+-- the version of a first record with these after it: its shape says it, where it is alone in the first group
 abbrev pub first_version : Record → List Record → Option Version
 first_version first events = if is_alone events then shaped_version first.bytes else None
 
@@ -131,7 +131,7 @@ is_own node bytes version = can_tell version node.charter && bytes_eq bytes (con
 abbrev pub mismatch : Bool → Option JournalError
 mismatch own = if own then None else Some ConfigMismatch
 
--- why a first record with these behind it isn't the node's own configuration, alone in the first group
+-- why a first record with these after it isn't the node's own configuration, alone in the first group
 abbrev pub first_fault : Node → Record → List Record → Option JournalError
 first_fault node first events = option_map_or (λ version. mismatch (is_own node first.bytes version)) (first_version first events) (Some (Damaged first.gate))
 

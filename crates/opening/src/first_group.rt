@@ -39,7 +39,7 @@ pub fn configuration(
     Ok(bytes)
 }
 
-// Puts the members' keys behind the bytes.
+// Puts the members' keys after the bytes.
 fn put_keys(bytes: &mut Vec<u8>, committee: &Committee) -> Result<(), AllocError>
     ensures keys { OnOk result (bytes.new.items ≡ bytes.old.items ++ flat_map (λ key. key.0) committee.now.keys) }
     ensures len { OnOk result (length bytes.new.items ≡ length bytes.old.items + length committee.now.keys * KEY_BYTES) }
@@ -53,7 +53,7 @@ fn put_keys(bytes: &mut Vec<u8>, committee: &Committee) -> Result<(), AllocError
     Ok(())
 }
 
-// Puts the members' stakes behind the bytes, where the version has them.
+// Puts the members' stakes after the bytes, where the version has them.
 fn put_stakes(
     bytes: &mut Vec<u8>,
     version: Version,
@@ -68,7 +68,7 @@ fn put_stakes(
     }
 }
 
-// Puts the members' stakes behind the bytes.
+// Puts the members' stakes after the bytes.
 fn put_each_stake(bytes: &mut Vec<u8>, committee: &Committee) -> Result<(), AllocError>
     ensures stakes { OnOk result (bytes.new.items ≡ bytes.old.items ++ flat_map (to_be_bytes w32) committee.now.stakes) }
     ensures len { OnOk result (length bytes.new.items ≡ length bytes.old.items + length committee.now.keys * STAKE_BYTES) }

@@ -25,7 +25,7 @@ use validator::{Config, Validator};
 ///
 /// # Errors
 /// In this order: `Device` or `Memory`, where the disk or the memory fails; `Damaged` with the place of an open gate
-/// without a whole group behind it; `Damaged` with that of the first group, where its one record isn't a configuration of
+/// without a whole group after it; `Damaged` with that of the first group, where its one record isn't a configuration of
 /// either version; `ConfigMismatch`, where it is another one, or has no stakes and a stake isn't 1; `Damaged` with the
 /// place of the group of the first record that is no event, fails the checks, or isn't new. The disk is handed back.
 pub fn reopen<'a, S: Sign, D: Disk>(
@@ -132,7 +132,7 @@ fn fresh_validator<'a, S: Sign>(
     replay(alloc, config, &[])
 }
 
-// The validator after the events of the records behind the first.
+// The validator after the events of the records after the first.
 fn validator_behind<'a, S: Sign>(
     alloc: Global,
     config: &'a Config<S>,

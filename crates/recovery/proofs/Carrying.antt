@@ -101,7 +101,7 @@ drop_here commands count next within is =
     let more : suc count ≡ count + 1 = omega arith in
     drop-cons commands count next within ∙ (λ i. sym is i ∷ drop (more i) commands)
 
--- what comes behind those that were carried out
+-- what comes after those that were carried out
 pub script_parts : (commands done : List Command) (next : Command) → done ≡ take (length done) commands → length done < length commands → next ≡ get_or commands (length done) next
     → script_of commands ≡ script_of done ++ said next ∷ script_of (drop (length done + 1) commands)
 script_parts commands done next front within is =

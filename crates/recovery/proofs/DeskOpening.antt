@@ -1,4 +1,4 @@
--- A book and a journal behind an opening.
+-- A book and a journal after an opening.
 use Rattle.std.proofs.Common.{◌≡◌, ℕ, inl, inr, List, Result, Ok, refl, sym, ap, ◌∙◌, subst}
 use Rattle.diskmodel.specs.Disk.{Device}
 use Rattle.journal.specs.declared.error.JournalError.{JournalError}
@@ -71,7 +71,7 @@ ends_stop : (cause : JournalError) → IsNoRefusal cause → MayEnd stop (ended_
 ends_stop cause (inl device) = subst (λ (e : JournalError). MayEnd stop (ended_by e)) (sym device) tt
 ends_stop cause (inr memory) = subst (λ (e : JournalError). MayEnd stop (ended_by e)) (sym memory) tt
 
--- A stop behind which the node isn't opened: what it left is told as what is settled, which no opening refuses.
+-- A stop after which the node isn't opened: what it left is told as what is settled, which no opening refuses.
 pub stop_breaks : (node : Node) (desk : Desk) (error : DriveError) (bytes later : List ℕ) (possible left : List ℕ → Type 0) → possible bytes
     → ((found : List ℕ) → possible found → told node found ≡ Ok (settled_in desk)) → IsNotOpened node error bytes possible left → Breaks node desk stop error later left
 stop_breaks node desk error bytes later possible left found_now only not_opened = record {

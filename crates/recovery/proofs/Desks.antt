@@ -1,4 +1,4 @@
--- A book and a journal behind each command.
+-- A book and a journal after each command.
 use Rattle.std.proofs.Common.{◌≡◌, ◌≢◌, ℕ, suc, ◌+◌, ◌<◌, ◌≤◌, true, false, ◌⊎◌, inl, inr, List, [], ◌∷◌, ◌++◌, length, take, drop, map, Result, Ok}
 use Rattle.std.proofs.Common.{Err, refl, sym, ap, ◌∙◌, subst, arith, append_assoc, append-nil}
 use Rattle.std.specs.Prelude.{IsErrOf, IfOk, IfErr, OnErr}
@@ -53,7 +53,7 @@ module _ {S D : Type 0} (node : Node) (device : Device D) (desk : Desk) (before 
   answered_as : (event : Event) (answer : Admission) → admit node (desk.began ++ desk.accepted) event ≡ answer → Later (with_answer desk event answer) → Later (after node desk (take_in event))
   answered_as event answer same at = subst Later (sym (after_take_in node desk event ∙ ap (with_answer desk event) same)) at
 
-  -- behind a new event
+  -- after a new event
   pub with_new_event : (event : Event) → TakesNew node before later event → Later (after node desk (take_in event))
   with_new_event event takes =
       answered_as event (New takes.outputs) (takes.answer (run_of desk) is.stands_at) (record {
@@ -65,7 +65,7 @@ module _ {S D : Type 0} (node : Node) (device : Device D) (desk : Desk) (before 
         told_as = is.told_as;
       })
 
-  -- behind a known one
+  -- after a known one
   pub with_known_event : (event : Event) → TakesKnown node before later event → Later (after node desk (take_in event))
   with_known_event event takes =
       answered_as event (Known takes.outputs) (takes.answer (run_of desk) is.stands_at) (record {
@@ -86,7 +86,7 @@ module _ {S D : Type 0} (node : Node) (device : Device D) (desk : Desk) (before 
   refused_as event StoreFull other room (inr full) = absurd (omega (arith, full.1, room))
   refused_as event refusal other room may = may
 
-  -- behind one that is refused
+  -- after one that is refused
   pub with_refused_event : (event : Event) (refusal : Refusal) → refusal ≢ Memory → before.accepted < MAX_ACCEPTED → MayRefuse node (run_of desk) before event refusal → later ≡ before
       → Later (after node desk (take_in event))
   with_refused_event event refusal other room may same =
@@ -148,7 +148,7 @@ module _ {S D : Type 0} (node : Node) (device : Device D) (desk : Desk) (before 
         (with_it ∙ ap (stands_with (device.content (disk_of old))) group_are) legal
         ∙ ap Ok whole
 
-    -- behind the flush
+    -- after the flush
     pub flushed_is : (later : BookView S) (new : Journal D) → Stands node (with_settled (with_taken (run_of desk) (length group)) (length group)) later
         → later.queue ≡ before.queue → later.down ≡ before.down → IsAlive device new → stands (device.content (disk_of new)) ≡ stands_with (device.content (disk_of old)) group
         → IsOf node device (after node desk flush) later new
@@ -173,7 +173,7 @@ module _ {S D : Type 0} (node : Node) (device : Device D) (desk : Desk) (before 
   left_by_flush bytes (inr with_it) =
       inr (told_flushed (record before { pending = with_it.1 }) with_it.0 with_it.2 bytes with_it.3 ∙ ap (λ (d : Desk). Ok (settled_in d)) (sym (after_flush node desk)))
 
-  -- behind a round that settled a group
+  -- after a round that settled a group
   pub flushes_is : (later : BookView S) (new : Journal D) (old_bytes new_bytes : List ℕ) (count : ℕ) → device.content (disk_of old) ≡ old_bytes
       → device.content (disk_of new) ≡ new_bytes → Flushes node before later old_bytes new_bytes count
       → IsAlive device new → IsOf node device (after node desk flush) later new
@@ -203,7 +203,7 @@ module _ {S D : Type 0} (node : Node) (device : Device D) (desk : Desk) (before 
 -- ---- what comes of an event
 
 module _ {S D : Type 0} (node : Node) (device : Device D) (desk : Desk) (before later : BookView S) (journal : Journal D) (is : IsOf node device desk before journal) (event : Event) where
-  -- unless memory was refused, a book that took an event is that of the desk behind it
+  -- unless memory was refused, a book that took an event is that of the desk after it
   pub accepted_is : (answer : Result Receipt Refusal) → before.accepted < MAX_ACCEPTED
       → IfOk answer (λ receipt. receipt.new ≡ true → TakesNew node before later event) → IfOk answer (λ receipt. receipt.new ≡ false → TakesKnown node before later event)
       → IfErr answer (λ refusal. (run : Run) → Stands node run before → MayRefuse node run before event refusal) → OnErr answer (later ≡ before) → (IsErrOf answer Memory → ⊥)
@@ -227,7 +227,7 @@ count_is {S} node before later event (Ok receipt) new known same =
     ]
 count_is {S} node before later event (Err refusal) new known same = omega (arith, ap (λ (b : BookView S). b.accepted) same)
 
--- ---- what a stop leaves behind an error
+-- ---- what a stop leaves after an error
 
 -- an error of writing isn't that of a full journal, or of the disk
 not_full : (error : DriveError) → (error ≡ ends.Memory) ⊎ (error ≡ ends.Output) → error ≡ ends.Full → ⊥
@@ -244,7 +244,7 @@ ends_any command error (inl memory) = subst (MayEnd command) (sym memory) tt
 ends_any command error (inr output) = subst (MayEnd command) (sym output) tt
 
 module _ {S D : Type 0} (node : Node) (device : Device D) (desk : Desk) (book : BookView S) (old : Journal D) (is : IsOf node device desk book old) where
-  -- behind want of memory, which changed nothing on the disk
+  -- after want of memory, which changed nothing on the disk
   pub same_breaks : (command : Command) (error : DriveError) → error ≡ ends.Memory → Breaks node desk command error (device.content (disk_of old)) (device.outcome (disk_of old))
   same_breaks command error memory = record {
     left = λ bytes left. inl (left_firm node device desk book old is bytes left);
@@ -252,7 +252,7 @@ module _ {S D : Type 0} (node : Node) (device : Device D) (desk : Desk) (book : 
     full = λ full. absurd (not_full error (inl memory) full);
   }
 
-  -- behind a disk that failed
+  -- after a disk that failed
   pub device_breaks : (pending : List (List ℕ)) → pending ≡ book.pending → (new : Journal D)
       → ((bytes : List ℕ) → device.outcome (disk_of new) bytes → IsWithOrWithout pending (device.content (disk_of old)) bytes)
       → Breaks node desk flush ends.Device (device.content (disk_of new)) (device.outcome (disk_of new))
@@ -262,7 +262,7 @@ module _ {S D : Type 0} (node : Node) (device : Device D) (desk : Desk) (book : 
     full = λ so. absurd (cc);
   }
 
-  -- behind a group for which the journal has no room
+  -- after a group for which the journal has no room
   pub full_breaks : (later : BookView S) (new : Journal D) → new ≡ old → FindsNoRoom node book later (device.content (disk_of old))
       → Breaks node desk flush ends.Full (device.content (disk_of new)) (device.outcome (disk_of new))
   full_breaks later new same no_room = subst (λ (j : Journal D). Breaks node desk flush ends.Full (device.content (disk_of j)) (device.outcome (disk_of j))) (sym same) (record {
@@ -275,7 +275,7 @@ module _ {S D : Type 0} (node : Node) (device : Device D) (desk : Desk) (book : 
     };
   })
 
--- behind an error in writing what a command made due
+-- after an error in writing what a command made due
 pub behind_breaks : {S D : Type 0} (node : Node) (device : Device D) (desk : Desk) (command : Command) (book : BookView S) (new : Journal D)
     → IsOf node device (after node desk command) book new → (error : DriveError) → (error ≡ ends.Memory) ⊎ (error ≡ ends.Output)
     → Breaks node desk command error (device.content (disk_of new)) (device.outcome (disk_of new))

@@ -29,14 +29,14 @@ module _ {S D : Type 0} (node : Node) (device : Device D) (script : Desk) (befor
       some_none : first ∷ rest ≡ [] → ⊥
       some_none same = cc
 
-  -- behind one that succeeded
+  -- after one that succeeded
   pub round_is : (answer : Result ℕ FlushError) → IsOk answer → OnOk answer (before.book.pending ≡ [] → (answer ≡ Ok 0) × (later ≡ before))
       → IfOk answer (λ count. before.book.pending ≢ [] → Flushes node before.book later.book (device.content (disk_of before.journal)) (device.content (disk_of later.journal)) count)
       → OnOk answer (IsAlive device later.journal) → IsOf node device (after node script flush) later.book later.journal
   round_is (Ok count) ok idle flushes alive = by_pending before.book.pending count refl (λ none. (idle none).1) flushes alive
   round_is (Err error) ok idle flushes alive = absurd cc
 
-  -- behind one that failed
+  -- after one that failed
   pub round_breaks : (answer : Result ℕ FlushError) (error : DriveError) → (error ≡ ends.Memory) ⊎ ((error ≡ ends.Device) ⊎ (error ≡ ends.Full))
       → (error ≡ ends.Memory → IsErrOf answer errors.Memory) → (error ≡ ends.Device → IsErrOf answer errors.Device) → (error ≡ ends.Full → IsErrOf answer errors.Full)
       → IfErr answer (λ e. (e ≡ errors.Down) ⊎ (e ≡ errors.Memory) → later ≡ before)

@@ -71,7 +71,7 @@ pub record IsOpenedOf {S D : Type 0} (node : Node) (device : Device D) (before :
 
 -- ---- how a script ends
 
--- It was carried out: what is written is its text, behind what the disk was told as. The disk is told as what is settled then, and no stop
+-- It was carried out: what is written is its text, after what the disk was told as. The disk is told as what is settled then, and no stop
 -- changes that.
 pub record HasRun (node : Node) (commands : List script.Command) (before later : List ℕ) (outcome : List ℕ → Type 0) (old new : Option (List ℕ)) : Type 0 where
   pub history : History
@@ -114,7 +114,7 @@ MayEnd command Full = command ≡ script.flush
 MayEnd command (Damaged place) = ⊥
 MayEnd command ConfigMismatch = ⊥
 
--- A command failed at a desk: what a stop leaves is told as what is settled there, or behind the command.
+-- A command failed at a desk: what a stop leaves is told as what is settled there, or after the command.
 pub record Breaks (node : Node) (desk : script.Desk) (command : script.Command) (error : DriveError) (content : List ℕ) (outcome : List ℕ → Type 0) : Type 0 where
   pub left : (bytes : List ℕ) → outcome bytes
       → (told node bytes ≡ Ok (script.settled_in desk)) ⊎ (told node bytes ≡ Ok (script.settled_in (script.after node desk command)))

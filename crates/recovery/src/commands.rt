@@ -142,7 +142,7 @@ fn flushed<'a, S: Sign, D: StopDisk>(
     }
 }
 
-// Opened again, behind a stop of the machine.
+// Opened again, after a stop of the machine.
 fn stopped<'a, S: Sign, D: StopDisk>(
     desk: Desk<'a, S, D>,
     alloc: Global,

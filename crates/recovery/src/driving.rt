@@ -83,7 +83,7 @@ impl From<WriteError> for DriveError {
     }
 }
 
-/// Opens a node on a disk and carries out the commands, one after the other. Behind each of them every output whose records are
+/// Opens a node on a disk and carries out the commands, one after the other. After each of them every output whose records are
 /// on the disk is written as a frame: the length of its bytes in four, and its bytes. An event that is refused writes nothing.
 ///
 /// # Errors
@@ -100,7 +100,7 @@ pub fn drive<'a, S: Sign, D: StopDisk, W: Write>(
     requires passed { All (Passes config.now.charter) commands.items }
     requires few { vec_len commands ≤ MAX_ACCEPTED }
 
-    // What is written is the text of the script behind what the disk was told as.
+    // What is written is the text of the script after what the disk was told as.
     ensures ok { IfOk result (λ left. HasRun (node_of S.scheme config.now) (script_of commands.items) (D.device.content disk) (D.device.content left) (D.device.outcome left) (W.contents writer.old) (W.contents writer.new)) }
 
     // Else nothing was carried out, or some of the commands and a part of the next one.

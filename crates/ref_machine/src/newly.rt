@@ -102,7 +102,7 @@ fn last_leader<'a>(ledger: &Ledger<'a>) -> Option<&'a Certificate>
     }
 }
 
-/// What leaders order one after the other, behind the leader before them.
+/// What leaders order one after the other, after the leader before them.
 fn segments_behind<'a>(
     alloc: Global,
     ledger: &Ledger,
@@ -121,7 +121,7 @@ fn segments_behind<'a>(
     Ok(found)
 }
 
-/// What the leaders behind the last one from before order.
+/// What the leaders after the last one from before order.
 fn newly_ordered(alloc: Global, before: &Ledger, later: &Ledger) -> Result<Vec<Digest>, AllocError>
     ensures { IfOk result (λ found. found.items ≡ machine.newly_ordered (ledger_view before.now) (ledger_view later.now)) }
 {

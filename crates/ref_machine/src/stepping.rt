@@ -1,4 +1,4 @@
-//! What a node answers an event by its tables, what it keeps behind it, and what it proposes.
+//! What a node answers an event by its tables, what it keeps after it, and what it proposes.
 
 ghost use Rattle.std.specs.Prelude.{◌≡◌, IfOk};
 ghost use Rattle.spec_machine.specs.Machine as machine;
@@ -38,7 +38,7 @@ pub fn fresh<S: Sign>(alloc: Global, node: &Node<S>) -> Result<Tables, AllocErro
     })
 }
 
-/// The tables behind a new event: with what it adds, and without what then lies below the floor.
+/// The tables after a new event: with what it adds, and without what then lies below the floor.
 ///
 /// # Errors
 /// When memory runs out.

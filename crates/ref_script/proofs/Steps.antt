@@ -17,7 +17,7 @@ use Rattle.spec_world.specs.Text.{Desk, with_answer, take_in, fits_group, filled
 
 -- ---- lists
 
--- so many, and so many behind them
+-- so many, and so many after them
 pub take_both : {X : Type 0} (m n : ℕ) (xs : List X) → take (m + n) xs ≡ take m xs ++ take n (drop m xs)
 take_both m n xs =
     sym (take-append-drop m (take (m + n) xs))

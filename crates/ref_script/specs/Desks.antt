@@ -11,7 +11,7 @@ said (Event event) = script.take_in event
 said Flush = script.flush
 said Stop = script.stop
 
--- a desk: the run began with the first events, and of those behind them, which it accepted, the first are settled
+-- a desk: the run began with the first events, and of those after them, which it accepted, the first are settled
 abbrev pub desk_of : declared.Desk → script.Desk
 desk_of desk = record {
   began = take desk.began desk.events.items;

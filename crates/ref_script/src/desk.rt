@@ -24,7 +24,7 @@ impl Model for Waiting {
 /// What there is between two commands.
 #[derive(Drop)]
 pub struct Desk {
-    /// The events with which this run began, and behind them those that it accepted.
+    /// The events with which this run began, and after them those that it accepted.
     pub events: Vec<Event>,
     /// How many of them the run began with.
     pub began: usize,

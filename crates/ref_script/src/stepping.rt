@@ -27,7 +27,7 @@ pub fn desk_on(alloc: Global, history: Vec<Event>) -> Desk
     }
 }
 
-/// Puts outputs behind those that wait, each with this ticket.
+/// Puts outputs after those that wait, each with this ticket.
 fn put_ticketed(
     waiting: &mut Vec<Waiting>,
     ticket: usize,

@@ -12,7 +12,7 @@ use header::{Event, Node};
 use sigface::Sign;
 use std::alloc::{AllocError, Global};
 
-/// What a node whose run begins with a history writes for commands: behind each of them the outputs that are due, in their
+/// What a node whose run begins with a history writes for commands: after each of them the outputs that are due, in their
 /// order, each as a frame.
 ///
 /// # Errors

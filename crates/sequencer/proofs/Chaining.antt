@@ -1,4 +1,4 @@
--- The leaders that are newer behind a step were held before it, and each reaches the one before.
+-- The leaders that are newer after a step were held before it, and each reaches the one before.
 use Rattle.std.proofs.Common.{◌≡◌, ◌⊎◌, ℕ, zero, suc, ◌+◌, ◌-◌, ◌*◌, ◌<◌, ◌≤◌, true, false, List, [], ◌∷◌, ◌++◌, length, Option, Some, inl, inr, refl, ap, sym, ◌∙◌, subst, arith}
 use Rattle.std.specs.Prelude.{nat_le, option_and_then, Contains}
 use Rattle.std.specs.Option.{option_map_or}
@@ -94,7 +94,7 @@ supported_held before after ext sound more c there supported =
           ]
     ]
 
--- ---- what comes behind a step: nothing, or leaders up to that of a higher wave
+-- ---- what comes after a step: nothing, or leaders up to that of a higher wave
 
 pub record IsSame (before now : Ledger) : Type 0 where
   pub same : top now ≡ top before

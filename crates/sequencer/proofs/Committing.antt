@@ -1,4 +1,4 @@
--- What was prepared, once it is done, leaves the sequencer at the state behind the event.
+-- What was prepared, once it is done, leaves the sequencer at the state after the event.
 use Rattle.std.proofs.Common.{◌≡◌, ℕ, suc, ◌+◌, ◌-◌, ◌*◌, ◌<◌, max, true, false, [], ◌∷◌, ◌++◌, length, Option, Some, None, inl, inr, refl, ap, sym, ◌∙◌, subst, arith}
 use Rattle.std.proofs.Math.Path.{fun_ext}
 use Rattle.std.specs.Prelude.{nat_lt, option_map, option_and_then, if◌then◌else◌}
@@ -192,13 +192,13 @@ grown_committed : (node : Node) (state : State) (event : Event) (sequence : Sequ
     → IsGrownTo node state event is.marked × (floor_in node (grown node state event.message) ≡ made.last.0 - later.charter.depth)
 grown_committed node state event sequence later new made comes ext stepped of last newer is =
     let at = comes.at in
-    let behind = grown node state event.message in
-    let now = ledger_in node behind in
-    let end = last_of node behind made.last comes.comes.node_is ext.placed_after last in
+    let reached = grown node state event.message in
+    let now = ledger_in node reached in
+    let end = last_of node reached made.last comes.comes.node_is ext.placed_after last in
     let charter : is.marked.charter ≡ node.charter = is.charter ∙ stepped.charter ∙ at.charter in
-    let slots : slots_in is.marked ≡ behind.slots = fun_ext (λ round. fun_ext (λ author. is.slots round author)) ∙ stepped.slots in
+    let slots : slots_in is.marked ≡ reached.slots = fun_ext (λ round. fun_ext (λ author. is.slots round author)) ∙ stepped.slots in
     let depth : later.charter.depth ≡ node.charter.depth = ap (λ (x : Charter). x.depth) (stepped.charter ∙ at.charter) in
-    let floor = floor_is node behind made.last end.0 end.1 end.2 in
+    let floor = floor_is node reached made.last end.0 end.1 end.2 in
     let held : leader_held is.marked (Some made.last) ≡ last_leader now = ap (λ (s : Slots). s made.last.0 made.last.1.0) slots ∙ end.2.held ∙ sym end.2.is_last in (
       record {
         charter = charter;
@@ -225,24 +225,24 @@ pub goes_on : AreKnown → (node : Node) (state : State) (event : Event) (sequen
     → ((made : LengtheningView) → prepared.committed ≡ Some made → FitsTo later made) → CommitsTo later sequence.last prepared.committed new.graph new.last
     → new.coins ≡ (grown node state event.message).coins → new.order ≡ sequence.order ++ prepared_digests prepared → IsAt node (after node state event) new
 goes_on known node state event sequence later prepared new comes ext ready stepped of commits coins order =
-    let behind = grown node state event.message in
+    let reached = grown node state event.message in
     let back = is_behind known node state event sequence comes ext in
-    let ordered : new.order ≡ behind.order = order ∙ ap (λ l. l ++ prepared_digests prepared) comes.at.order ∙ ap (λ l. state.order ++ l) ready.digests in
+    let ordered : new.order ≡ reached.order = order ∙ ap (λ l. l ++ prepared_digests prepared) comes.at.order ∙ ap (λ l. state.order ++ l) ready.digests in
     elim (given_or_none prepared.committed) [
       | inr none ↦
-          let last : option_map slot_of (last_leader (ledger_in node behind)) ≡ sequence.last = ready.last
+          let last : option_map slot_of (last_leader (ledger_in node reached)) ≡ sequence.last = ready.last
           ∙ ap (λ o. option_map_or (λ (made : LengtheningView). Some made.last) o sequence.last) none in
           let commits' : (new.graph ≡ later) × (new.last ≡ sequence.last) = subst (λ o. CommitsTo later sequence.last o new.graph new.last) none commits in
           let same = nothing_newer node state event sequence comes ext last in
-          let leaders = same_last (ledger_in node state) behind.slots ext (option_to_list (as_coin event.message)) same in
+          let leaders = same_last (ledger_in node state) reached.slots ext (option_to_list (as_coin event.message)) same in
           let is = grown_same node state event sequence later comes ext stepped leaders in
-          let floor : floor_in node behind ≡ floor_in node state = ap (floor_of node) same.same in
-          let dropped = stays_dropped later (floor_in node behind) stepped.sound (stepped.floor ∙ comes.at.floor ∙ sym floor) in
+          let floor : floor_in node reached ≡ floor_in node state = ap (floor_of node) same.same in
+          let dropped = stays_dropped later (floor_in node reached) stepped.sound (stepped.floor ∙ comes.at.floor ∙ sym floor) in
           stands node state event sequence new later comes back stepped.sound is
-          (subst (λ (g : DagView). IsDropped later g (floor_in node behind)) (sym commits'.0) dropped) coins ordered (commits'.1 ∙ sym last)
+          (subst (λ (g : DagView). IsDropped later g (floor_in node reached)) (sym commits'.0) dropped) coins ordered (commits'.1 ∙ sym last)
       | inl found ↦
           let made = found.0 in
-          let last : option_map slot_of (last_leader (ledger_in node behind)) ≡ Some made.last = ready.last ∙ ap (λ o. option_map_or (λ (m : LengtheningView). Some m.last) o sequence.last) found.1 in
+          let last : option_map slot_of (last_leader (ledger_in node reached)) ≡ Some made.last = ready.last ∙ ap (λ o. option_map_or (λ (m : LengtheningView). Some m.last) o sequence.last) found.1 in
           let commits' : IsCommitted later new.graph made × (new.last ≡ Some made.last) = subst (λ o. CommitsTo later sequence.last o new.graph new.last) found.1 commits in
           let is = grown_committed node state event sequence later new.graph made comes ext stepped (of made found.1) last (ready.newer made found.1) commits'.0 in
           stands node state event sequence new commits'.0.marked comes back commits'.0.sound is.0

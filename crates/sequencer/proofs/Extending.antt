@@ -81,7 +81,7 @@ nothing_placed graph round author none = on (placed_at graph round author) none
     on None is = refl
     on (Some p) is = absurd cc
 
--- what is behind the last row isn't held
+-- what is after the last row isn't held
 pub placed_within : (graph : DagView) (round author : ℕ) → end_in graph ≤ round → placed_at graph round author ≡ None
 placed_within graph round author past =
     let above = le-leb graph.floor round (omega (arith, past)) in

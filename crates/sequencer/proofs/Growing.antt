@@ -1,4 +1,4 @@
--- The slots behind an event extend those from before.
+-- The slots after an event extend those from before.
 use Rattle.std.proofs.Common.{◌≡◌, ◌≢◌, ℕ, ◌*◌, ◌/◌, suc, true, false, [], ◌∷◌, ◌++◌, Some, inl, inr, ap, sym, ◌∙◌, subst, arith}
 use Rattle.std.proofs.Math.Path.{fun_ext}
 use Rattle.std.specs.Prelude.{◌==◌}

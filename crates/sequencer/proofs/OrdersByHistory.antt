@@ -72,7 +72,7 @@ all_chained ledger placed =
           (chained_to ledger placed wave lead.0 (leader_in ledger (suc wave) lead.0 placed lead.2))
     ]
 
--- so do those behind a beginning of them
+-- so do those after a beginning of them
 chained_behind : (ledger : Ledger) (previous : Option Certificate) (front back : List Certificate) → AreChained ledger previous (front ++ back) → AreChained ledger (last_or previous front) back
 chained_behind ledger previous [] back chained = chained
 chained_behind ledger previous (c ∷ front) back chained = chained_behind ledger (Some c) front back chained.2

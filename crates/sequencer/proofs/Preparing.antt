@@ -1,4 +1,4 @@
--- What the leaders order that are newer behind a step, over what the DAG held before it.
+-- What the leaders order that are newer after a step, over what the DAG held before it.
 use Rattle.std.proofs.Common.{◌≡◌, ℕ, suc, ◌+◌, ◌-◌, ◌*◌, ◌/◌, ◌<◌, ◌≤◌, true, false, List, [], ◌∷◌, ◌++◌, map, length, Option, Some, None, inl, inr, refl, ap, sym, ◌∙◌, subst, arith}
 use Rattle.std.specs.Prelude.{is_some, option_map, option_and_then, slice_get, Contains}
 use Rattle.std.specs.Option.{option_map_or, option_to_list}

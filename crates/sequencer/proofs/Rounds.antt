@@ -64,7 +64,7 @@ full_by node state sequence at round more =
     let stake = stake_is node state sequence at round in
     enough (quorum_of node.charter) (weight node.charter (λ author. is_some (state.slots round author))) (omega (arith, charter, stake, more))
 
--- the round is that behind the greatest full one from the floor on
+-- the round is that after the greatest full one from the floor on
 pub round_is : (node : Node) (state : State) (sequence : SequencerView) → IsSound node state → IsAt node state sequence → (full : ℕ) → (full ≡ 0)
     ⊎ (quorum_of sequence.graph.charter ≤ stake_in sequence.graph full)
     → ((round : ℕ) → full < round → round < end_in sequence.graph → sequence.graph.floor ≤ round → stake_in sequence.graph round < quorum_of sequence.graph.charter) → full + 1 ≡ round_in node state

@@ -1,4 +1,4 @@
--- What a sequencer has behind an event is what the state behind it has.
+-- What a sequencer has after an event is what the state after it has.
 use Rattle.std.proofs.Common.{◌≡◌, ℕ, ◌-◌, ◌*◌, ◌≤◌, max, false, length, Option, Some, None, inl, inr, refl, ap, sym, ◌∙◌, subst, arith}
 use Rattle.std.proofs.Math.Path.{fun_ext}
 use Rattle.std.specs.Prelude.{nat_lt, option_map, option_and_then, if◌then◌else◌}
@@ -26,7 +26,7 @@ use Rattle.sequencer.specs.Laws.{AreKnown}
 use Rattle.sequencer.specs.Sequence.{SequencerView, IsAt, ComesTo}
 use Rattle.sequencer.proofs.Preparing.{last_held, last_none}
 
--- ---- the state behind an event
+-- ---- the state after an event
 
 -- it is sound, its floor is no lower, and its floor and its last leader are those of all that there is with the event
 pub record IsBehind (node : Node) (state : State) (event : Event) : Type 0 where
@@ -39,25 +39,25 @@ pub is_behind : AreKnown → (node : Node) (state : State) (event : Event) (sequ
     → Extends state.slots (grown node state event.message).slots → IsBehind node state event
 is_behind known node state event sequence comes ext =
     let later = grown node state event.message in
-    let behind = after node state event in
-    let low = floor_in node behind in
+    let reached = after node state event in
+    let low = floor_in node reached in
     let sound = known.sound_stays node state event comes.comes.node_is comes.comes.sound comes.comes.taken comes.comes.new in
     let whole : HoldsFrom 0 later.slots later.slots = record { placed = ext.placed_after; same = λ round author above. refl } in
     let from = (known.enough_after node state event 0 later.slots comes.comes.node_is comes.comes.sound comes.comes.taken comes.comes.new (omega arith) whole).afterwards in
-    let same = known.enough_now node behind low later.slots comes.comes.node_is sound (omega arith) from in
+    let same = known.enough_now node reached low later.slots comes.comes.node_is sound (omega arith) from in
     let stands = (known.state_stands node state event comes.comes.node_is comes.comes.sound comes.comes.taken comes.comes.new).floor in
     let floors = same.same_floor in
     record {
       sound = sound;
       rises = omega (arith, stands, floors);
       floors = floors;
-      lasts = elim (given_or_none (top (ledger_in node behind))) [
-        | inr none ↦ last_none (ledger_in node later) (same.same_top ∙ none) ∙ sym (last_none (ledger_in node behind) none)
+      lasts = elim (given_or_none (top (ledger_in node reached))) [
+        | inr none ↦ last_none (ledger_in node later) (same.same_top ∙ none) ∙ sym (last_none (ledger_in node reached) none)
         | inl found ↦
             let floor : low ≡ (2 * found.0 - 1) - node.charter.depth = ap (floor_of node) found.1 in
             ap (λ o. option_and_then (leader (ledger_in node later)) o) (same.same_top ∙ found.1)
             ∙ same.same_leader found.0 (omega (arith, floor))
-            ∙ sym (ap (λ o. option_and_then (leader (ledger_in node behind)) o) found.1)
+            ∙ sym (ap (λ o. option_and_then (leader (ledger_in node reached)) o) found.1)
       ];
     }
 
@@ -72,7 +72,7 @@ pub record IsGrownTo (node : Node) (state : State) (event : Event) (graph : DagV
   pub marked : (round author : ℕ) (c : Certificate) → floor_in node (grown node state event.message) ≤ round → slots_in graph round author ≡ Some c
       → marked_in graph round author ≡ is_past (ledger_in node (grown node state event.message)) (last_leader (ledger_in node (grown node state event.message))) c
 
--- what is held behind a drop was held, and lies no lower
+-- what is held after a drop was held, and lies no lower
 pub kept_above : (before later : DagView) (low round author : ℕ) (c : Certificate) → IsDropped before later low → slots_in later round author ≡ Some c
     → (low ≤ round) × (slots_in before round author ≡ Some c)
 kept_above before later low round author c dropped held =
@@ -124,7 +124,7 @@ greatest one other less = grind (arith, less)
 not_below : (one other : ℕ) → one ≤ other → nat_lt other one ≡ false
 not_below one other above = grind (arith, above)
 
--- without what lies below the new floor it is the DAG of the state behind the event
+-- without what lies below the new floor it is the DAG of the state after the event
 pub stands : (node : Node) (state : State) (event : Event) (before sequence : SequencerView) (graph : DagView) → ComesTo node state event before
     → IsBehind node state event → IsGraph graph → IsGrownTo node state event graph
     → IsDropped graph sequence.graph (floor_in node (grown node state event.message)) → sequence.coins ≡ (grown node state event.message).coins
@@ -132,10 +132,10 @@ pub stands : (node : Node) (state : State) (event : Event) (before sequence : Se
     → sequence.last ≡ option_map slot_of (last_leader (ledger_in node (grown node state event.message))) → IsAt node (after node state event) sequence
 stands node state event before sequence graph comes back sound is dropped coins order last =
     let later = grown node state event.message in
-    let behind = after node state event in
+    let reached = after node state event in
     let low = floor_in node later in
     let rises = back.rises in
-    let slots : slots_in sequence.graph ≡ behind.slots =
+    let slots : slots_in sequence.graph ≡ reached.slots =
     fun_ext (λ round. fun_ext (λ author.
     dropped.slots round author ∙ ap (λ (s : Slots). if nat_lt round low then None else s round author) is.slots)) in
     record {
@@ -153,5 +153,5 @@ stands node state event before sequence graph comes back sound is dropped coins 
           ∙ is.marked round author c kept.0 kept.1
           ∙ ap (λ o. is_past (ledger_in node later) o c) back.lasts
           ∙ past_stays node state event graph sequence.graph back comes.comes.node_is sound is dropped slots round author c held
-          (last_leader (ledger_in node behind)) (last_held node behind comes.comes.node_is back.sound);
+          (last_leader (ledger_in node reached)) (last_held node reached comes.comes.node_is back.sound);
     }

@@ -42,14 +42,14 @@ abbrev pub last_leader_at : Node → History → Option Certificate
 last_leader_at node history = last_or None (committed_at node history)
 
 -- a leader is held and reaches all that the one before it does, what is marked lies in the history of that one, and what the leader
--- orders behind it is what it orders at a history
+-- orders after it is what it orders at a history
 pub record OrdersAs (node : Node) (later : History) (graph : DagView) (previous : Option Certificate) (c : Certificate) : Type 0 where
   pub held : slots_in graph c.header.round c.header.author.0 ≡ Some c
   pub all : HasAllOf graph (leader_held graph (option_map slot_of previous)) c
   pub marked : IsMarkedBefore graph (c.header.round - graph.charter.depth) (leader_held graph (option_map slot_of previous))
   pub same_segment : (values : List ℕ) → segment (ledger_in graph values) (leader_held graph (option_map slot_of previous)) c ≡ segment (ledger_at node later) previous c
 
--- the newer leaders follow one on the other behind the last one from before, of which the marks are, and each of them orders what
+-- the newer leaders follow one on the other after the last one from before, of which the marks are, and each of them orders what
 -- it orders at the later history
 pub record OrdersAre (node : Node) (before later : History) (graph : DagView) : Type 0 where
   pub linked : AreLinked graph (option_map slot_of (last_leader_at node before)) (map slot_of (newer (ledger_at node later) (last_wave (ledger_at node before))))

@@ -15,7 +15,7 @@ use Rattle.dag.specs.declared.answers.Added.TheVariants.{New}
 use Rattle.tusk.specs.Chain.{ledger_in}
 use Rattle.sequencer.specs.Sequence.{SequencerView, IsAt, ComesTo}
 
--- an event that adds neither a certificate nor a coin leaves it at the state behind
+-- an event that adds neither a certificate nor a coin leaves it at the state after
 abbrev pub SequenceStays : Type 0
 SequenceStays = (node : Node) (state : State) (event : Event) (sequence : SequencerView) → ComesTo node state event sequence
     → certificate_of node state event.message ≡ None → as_coin event.message ≡ None → IsAt node (after node state event) sequence

@@ -57,7 +57,7 @@ pub record IsPrepared (node : Node) (state : State) (event : Event) (sequence : 
 
 -- ---- a commit
 
--- a DAG behind the commit of what was made: it has its marks, its base is the last leader's round or higher, and nothing is held at
+-- a DAG after the commit of what was made: it has its marks, its base is the last leader's round or higher, and nothing is held at
 -- more than the depth below that leader
 pub record IsCommitted (before after : DagView) (made : LengtheningView) : Type 0 where
   pub marked : DagView
@@ -76,7 +76,7 @@ CommitsTo before last (Some made) after new_last = IsCommitted before after made
 
 -- ---- what is made of a chain
 
--- what was made of leaders of these slots behind the last one
+-- what was made of leaders of these slots after the last one
 pub record IsMadeOfAll (graph : DagView) (last : Option (ℕ × Author)) (slots : List (ℕ × Author)) (made : LengtheningView) : Type 0 where
   pub digests : (coins : List ℕ) → AreLinked graph last slots → IsMarkedFor graph last slots
       → made.digests ≡ digests_of (segments (chain.ledger_in graph coins) (leader_held graph last) (leaders_in graph slots))

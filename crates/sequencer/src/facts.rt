@@ -3,7 +3,7 @@
 ghost use Rattle.sequencer.specs.ByHistory.{ChainsByHistory, OrdersByHistory};
 ghost use Rattle.sequencer.specs.Laws.{SequenceStays, CertificatesAreNew, IsLedgerOf, DagIsEnough, AreKnown};
 
-/// An event that adds neither a certificate nor a coin leaves a sequencer at the state behind it.
+/// An event that adds neither a certificate nor a coin leaves a sequencer at the state after it.
 pub fn sequence_stays()
     ensures { SequenceStays }
 {}
@@ -30,7 +30,7 @@ pub fn chains_by_history()
     ensures { ChainsByHistory }
 {}
 
-/// What each of these leaders orders there, behind the one before it, is what it orders at that history.
+/// What each of these leaders orders there, after the one before it, is what it orders at that history.
 pub fn orders_by_history()
     ensures { OrdersByHistory }
 {

@@ -22,7 +22,7 @@ impl Drop for Prepared {
 }
 
 impl Prepared {
-    // What leaders of these slots, the oldest first, add to the order behind the one that was committed last. `AllocError`
+    // What leaders of these slots, the oldest first, add to the order after the one that was committed last. `AllocError`
     // where an allocation failed.
     pub(crate) fn new(
         alloc: Global,

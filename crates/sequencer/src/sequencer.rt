@@ -79,7 +79,7 @@ fn wave_of(last: Option<(Round, Author)>) -> Option<u64>
     }
 }
 
-// Adds digests behind others, in room that is there.
+// Adds digests after others, in room that is there.
 fn add_all(digests: &mut Vec<Digest>, more: &[Digest])
     requires { vec_len digests.old + length more.now ≤ vec_capacity digests.old }
     ensures { digests.new.items ≡ digests.old.items ++ more.now }

@@ -27,9 +27,9 @@ pub enum Answer {
     OutNone,
     /// This goes out.
     Out(Output),
-    /// The order behind the settled records: the digests of its certificates.
+    /// The order after the settled records: the digests of its certificates.
     Order(Vec<Digest>),
-    /// The round behind the accepted records.
+    /// The round after the accepted records.
     Round(u64),
     /// The header that has the vote of an author and round.
     Voted(Option<Digest>),

@@ -69,7 +69,7 @@ fn left_by<R: Wait>(rt: &R, alloc: Global, script: &[u8]) -> Option<Left> {
     play(rt, alloc, &mut script, &mut io::sink(), &mut gathered).ok()
 }
 
-// The exit status behind an ending before the script's end.
+// The exit status after an ending before the script's end.
 fn status_of(ending: &Ending) -> u8 {
     match ending {
         Ending::BadCommand => 2,
@@ -149,7 +149,7 @@ fn read_settings<I: Read + Drop, W: Write>(
     Err(Ending::TooLong)
 }
 
-// Carries out the line that was read last, and those behind it.
+// Carries out the line that was read last, and those after it.
 fn obey_all<R: Wait, I: Read + Drop, W: Write>(
     rt: &R,
     alloc: Global,
@@ -169,7 +169,7 @@ fn obey_all<R: Wait, I: Read + Drop, W: Write>(
     Err(Ending::TooLong)
 }
 
-// Carries out the line that was read last; says whether there is one behind it.
+// Carries out the line that was read last; says whether there is one after it.
 fn obey<'a, R: Wait, I: Read + Drop, W: Write>(
     rt: &R,
     alloc: Global,

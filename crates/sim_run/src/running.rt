@@ -97,12 +97,12 @@ impl<'a> Running<'a> {
         self.node.collect(rt, &mut self.seat)
     }
 
-    /// The order behind the settled records.
+    /// The order after the settled records.
     pub fn order<R: Wait>(&mut self, rt: &R) -> Result<Vec<Digest>, Refusal> {
         self.node.order(rt, &mut self.seat, 0)
     }
 
-    /// The round behind the accepted records.
+    /// The round after the accepted records.
     pub fn round<R: Wait>(&mut self, rt: &R) -> u64 {
         self.node.round_now(rt, &mut self.seat)
     }

@@ -67,7 +67,7 @@ fn add_certificate(
     add_voters(lines, certificate.votes.as_slice())
 }
 
-// The voters behind a space, parted by commas, and the line's end.
+// The voters after a space, parted by commas, and the line's end.
 fn add_voters(lines: &mut String, votes: &[VoteEntry]) -> Result<(), AllocError> {
     let mut mark = ' ';
     for vote in votes {
@@ -86,7 +86,7 @@ fn add_order(lines: &mut String, labels: &Labels, digests: &[Digest]) -> Result<
     add_labels(lines, labels, digests)
 }
 
-// The labels of certificates, each behind a space, and the line's end.
+// The labels of certificates, each after a space, and the line's end.
 fn add_labels(lines: &mut String, labels: &Labels, digests: &[Digest]) -> Result<(), AllocError> {
     for digest in digests {
         lines.push(' ')?;

@@ -18,7 +18,7 @@ pub record AllMeet (ledger : Ledger) (wave : ℕ) (first : Certificate) (Counts 
   pub stays : (later : ℕ) (c d : Certificate) → Counts c → wave < later → leader ledger (suc later) ≡ Some d
       → reaches_in ledger c d ≡ true → Counts d
 
--- behind the leaders committed with the wave's come only leaders of later waves
+-- after the leaders committed with the wave's come only leaders of later waves
 pub joined : (ledger : Ledger) → 0 < size_in ledger → AreInPlace ledger.slots
     → (wave : ℕ) (first : Certificate) (Counts : Certificate → Type 0) → AllMeet ledger wave first Counts
     → (base : ℕ) → base ≤ wave → (higher : ℕ) (c : Certificate) → wave < higher → Counts c

@@ -90,7 +90,7 @@ newer_bare ledger all low base wave last is b inside =
       subst (IsFar low ledger.charter.depth) from.2 far,
     )
 
--- and they order what they do in all, behind a leader that was held
+-- and they order what they do in all, after a leader that was held
 pub segments_whole : (ledger : Ledger) (all : Slots) (low base wave : ℕ) (last : Certificate)
     → IsLifted ledger all low base wave last → (more : List ℕ) → (previous : Option Certificate)
     → WasHeld ledger.slots previous
@@ -133,7 +133,7 @@ meets ledger all low base wave last is more early from committed =
       },
     )
 
--- so its chain begins that of the last wave, behind which come the newer leaders
+-- so its chain begins that of the last wave, after which come the newer leaders
 pub chain_whole : (ledger : Ledger) (all : Slots) (low base wave : ℕ) (last : Certificate)
     → IsLifted ledger all low base wave last → (more : List ℕ) (early : ℕ) → base ≤ suc early → early < wave
     → is_directly_committed (grown (plain ledger) all more) (suc early) ≡ true

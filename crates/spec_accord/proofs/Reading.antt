@@ -12,7 +12,7 @@ use Rattle.spec_model.specs.Words.{Digest, HeaderBody}
 use Rattle.spec_accord.specs.Members.{Party, IsTold, header_text, HasVote, IsParty}
 use Rattle.spec_accord.proofs.Telling.{told_within}
 
--- what stands behind one letter is one
+-- what stands after one letter is one
 behind_letter : (letter : ℕ) (one other : List ℕ) → letter ∷ one ≡ letter ∷ other → one ≡ other
 behind_letter letter one other same = cc
 

@@ -53,7 +53,7 @@ parent_there slots placed floor round p above held =
           ]
     ]
 
--- what lies above that round behind one more event has its parents held
+-- what lies above that round after one more event has its parents held
 pub rooted_from : (node : Node) (history : History) (event : Event) → Adds node history event
     → AreRooted node.charter (slots node (history ++ event ∷ [])) (held_from (floor node history))
 rooted_from node history event adds round author c held above =

@@ -76,7 +76,7 @@ rounds_alike one all low is more previous last past held far (round ∷ rounds) 
     ∙ sym (filter-append (is_ordered_by one previous last) (round_of n one.slots round)
     (flat_map (round_of n one.slots) rounds))
 
--- what leaders of the part order one after the other, behind one of the part
+-- what leaders of the part order one after the other, after one of the part
 pub segments_alike : (one : Ledger) (all : Slots) (low : ℕ) → IsPart one.charter low one.slots all
     → (more : List ℕ) (previous : Option Certificate) (chain : List Certificate) → WasHeld one.slots previous
     → ((c : Certificate) → Contains chain c → IsIn one.slots c)

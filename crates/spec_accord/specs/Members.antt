@@ -32,7 +32,7 @@ abbrev pub bodies_in : History → List HeaderBody
 bodies_in history = map (λ header. header.body) (headers history)
     ++ map (λ certificate. certificate.header) (received history)
 
--- the two texts that are hashed of a header: its own behind the letter H, and its certificate's behind the letter C
+-- the two texts that are hashed of a header: its own after the letter H, and its certificate's after the letter C
 abbrev pub header_text : HeaderBody → List ℕ
 header_text body = 72 ∷ header_body body
 

@@ -95,7 +95,7 @@ where
     played(rt, config, player, &mut io::writer(rt))
 }
 
-/// Plays the cases, and prints the report of the lists behind them.
+/// Plays the cases, and prints the report of the lists after them.
 fn played<R, I, W>(
     rt: &R,
     config: &Config<HashSign>,

@@ -15,7 +15,7 @@ pub fn call_of(name: &str) -> Option<CallKind> {
     }
 }
 
-/// The texts before and behind the first blank; where there is none, the whole one and nothing.
+/// The texts before and after the first blank; where there is none, the whole one and nothing.
 pub fn parted(text: &str) -> (&str, &str) {
     text.split_once(' ').unwrap_or((text, ""))
 }

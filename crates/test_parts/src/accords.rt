@@ -61,7 +61,7 @@ impl Accords {
         }
     }
 
-    /// The depth, and behind it the stakes, parted by commas.
+    /// The depth, and after it the stakes, parted by commas.
     fn gather(&mut self, words: &str) -> Result<(), FormError> {
         let (depth, stakes) = parted(words, ' ');
         self.depth = depth.parse().unwrap_or(0);

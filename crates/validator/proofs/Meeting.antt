@@ -45,7 +45,7 @@ pub meets_at : (node : Node) (state : State) (event : Event) (tables : Tables) �
 meets_at node state event tables node_is within passed stands =
     record { node_is = node_is; sound = stands.sound; taken = record { message = within; passed = passed }; message = refl; at = stands.at }
 
--- behind a new one the tables are at the state behind
+-- after a new one the tables are at the state after
 pub behind : SoundStays → (node : Node) (state : State) (event : Event) (before later : Tables) (sign : Digest → Signature) (result : Result Step Refusal)
     → Meets node state event before event.message → node.sign ≡ sign → AnswersEvent before sign event result → GoOnBehind before later sign event → is_new_step result ≡ true
     → AreAtSound node later (after node state event)
@@ -53,7 +53,7 @@ behind stays node state event before later sign result meets signs answers goes 
     let there = answered_new (answered node state event) result (answers node state meets signs) new in
     record { sound = stays node state event meets.node_is meets.sound meets.taken there; at = goes node state meets signs there }
 
--- so they stand somewhere behind each
+-- so they stand somewhere after each
 pub stands : SoundStays → (node : Node) (event : Event) (before later : Tables) (sign : Digest → Signature) (result : Result Step Refusal)
     → ((state : State) → AreAtSound node before state → Meets node state event before event.message) → node.sign ≡ sign → AnswersEvent before sign event result
     → (is_new_step result ≡ true → GoOnBehind before later sign event) → (is_new_step result ≡ false → later ≡ before) → StandSomewhere node before → StandSomewhere node later
@@ -74,7 +74,7 @@ no_parents (message.Coin coin) header certificate = refl
 
 -- ---- histories
 
--- behind an event that was answered New at what is kept of a legal history
+-- after an event that was answered New at what is kept of a legal history
 pub goes_on : StateAnswers → StateFollows → SoundStays → OrderGrows → (node : Node) (history : History) (event : Event) (later : Tables) → IsLegal node history → IsTaken node event
     → is_new (answered node (kept node history) event) ≡ true → AreAtSound node later (after node (kept node history) event) → GoesOn node history event later
 goes_on answers follows stays grows node history event later legal taken new stands =

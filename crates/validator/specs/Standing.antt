@@ -33,7 +33,7 @@ pub record AreAtSound (node : Node) (tables : Tables) (state : State) : Type 0 w
 abbrev pub StandSomewhere : Node → Tables → Type 0
 StandSomewhere node tables = (state : State) × AreAtSound node tables state
 
--- behind a new event: the longer history is legal, tables stand at what is kept of it, and its order begins with that from before
+-- after a new event: the longer history is legal, tables stand at what is kept of it, and its order begins with that from before
 pub record GoesOn (node : Node) (history : History) (event : Event) (later : Tables) : Type 0 where
   pub legal : IsLegal node (history ++ event ∷ [])
   pub at : AreAtSound node later (kept node (history ++ event ∷ []))

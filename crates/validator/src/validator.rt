@@ -109,7 +109,7 @@ impl<'a, S: Sign> Validator<'a, S> {
         ensures setting { self.new.setting ≡ self.old.setting }
         // It doesn't know of Down.
         ensures never_down { IfErr result (λ refusal. refusal ≢ Refusal.Down) }
-        // Said of a legal history: where the tables are what is kept of it, the answer is that of admission, and behind a new
+        // Said of a legal history: where the tables are what is kept of it, the answer is that of admission, and after a new
         // event they are what is kept of the longer one, whose order begins with that from before.
         ensures admits { let node = node_of S.scheme self.old.setting in (history : History) → IsLegal node history
             → AreAtSound node self.old.tables (kept node history)

@@ -1,6 +1,6 @@
 //! Laws. The calls do nothing: each one's contract is a law.
 
-ghost use Rattle.admission.specs.Behind.{OthersStay};
+ghost use Rattle.admission.specs.After.{OthersStay};
 ghost use Rattle.admission.specs.Standing.{OthersAreReady, OneState};
 
 use crate::assemblies::others_come;

@@ -17,7 +17,7 @@ use std::thread::{self, Threads};
 use validator::Config;
 use wire::Author;
 
-// How many members there are. The batches of those behind the node's own are submitted, by a thread each.
+// How many members there are. The batches of those after the node's own are submitted, by a thread each.
 const MEMBERS: u16 = 4;
 
 // How many batches each thread submits.

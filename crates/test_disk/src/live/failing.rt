@@ -35,7 +35,7 @@ pub fn go_down<R: Wait>(rt: &R, alloc: Global, answer: &mut String) -> Result<()
 }
 
 /// A round with one record, in which the first call of a kind, of which this is the name in the plural, fails, then the second, and so
-/// on, until none does: what it answers, and how many records a stop behind it leaves that keeps all, and one that loses what isn't
+/// on, until none does: what it answers, and how many records a stop after it leaves that keeps all, and one that loses what isn't
 /// synced.
 pub fn fail_each<R: Wait>(
     rt: &R,

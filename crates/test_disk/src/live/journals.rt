@@ -20,7 +20,7 @@ pub fn records_of(alloc: Global, rest: &str) -> Result<Vec<Vec<u8>>, AllocError>
     Ok(records)
 }
 
-/// Opens a journal on a disk, says which records it gives, puts a group of these behind them, if there are any, and gives the disk
+/// Opens a journal on a disk, says which records it gives, puts a group of these after them, if there are any, and gives the disk
 /// back.
 pub fn tell_opening(
     alloc: Global,

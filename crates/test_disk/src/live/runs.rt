@@ -171,7 +171,7 @@ fn run_steps<R: Threads + Wait + Sync>(
     (ending.status(), disk)
 }
 
-// How many events the journal on a disk has, behind the configuration.
+// How many events the journal on a disk has, after the configuration.
 fn tell_events(alloc: Global, disk: &[u8], answer: &mut String) -> Told {
     match record_count(alloc, disk_with(alloc, disk)?) {
         None | Some(0) => answer.push_str("no events\n"),

@@ -12,7 +12,7 @@ use std::cell::Cell;
 use std::sync::Wait;
 use wire::{Message, Vote};
 
-/// A line behind `|` is one of the script. The other commands change how it is run, or run it.
+/// A line after `|` is one of the script. The other commands change how it is run, or run it.
 pub fn obey_script<R: Wait>(
     rt: &R,
     alloc: Global,

@@ -43,7 +43,7 @@ pub fn put_text(answer: &mut String, bytes: &[u8]) {
     put(answer, str::from_utf8(bytes).unwrap_or("no text\n"));
 }
 
-/// Adds a line of a number behind a word.
+/// Adds a line of a number after a word.
 pub fn put_number(answer: &mut String, word: &str, number: u64) {
     let _ = writeln!(answer, "{word} {number}");
 }

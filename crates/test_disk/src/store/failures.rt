@@ -1,4 +1,4 @@
-//! An opening or a script in which a call of the disk fails, and the openings on what a stop may leave behind it.
+//! An opening or a script in which a call of the disk fails, and the openings on what a stop may leave after it.
 
 use crate::memory::{failing_disk, stop_with};
 use crate::store::openings::opened;

@@ -66,7 +66,7 @@ fn alike(alloc: Global, count: u64, len: usize) -> Result<Vec<Vec<u8>>, AllocErr
     Ok(records)
 }
 
-/// Opens the journal on a disk, and puts a group of these records behind those that it gives, which are none where it
+/// Opens the journal on a disk, and puts a group of these records after those that it gives, which are none where it
 /// does not open. Gives the disk back.
 pub fn attempt(
     alloc: Global,
@@ -89,7 +89,7 @@ pub fn attempt(
     }
 }
 
-/// Opens the journal on a disk, and puts the group that these bytes are, of so many records, behind those that stand
+/// Opens the journal on a disk, and puts the group that these bytes are, of so many records, after those that stand
 /// there. Gives the disk back.
 fn append_written(
     alloc: Global,
@@ -145,7 +145,7 @@ fn append_group(journal: &mut Journal<MemDisk>, group: Option<Group>, text: &mut
     }
 }
 
-/// Puts how many records there are, and in full each of them behind the place of its gate.
+/// Puts how many records there are, and in full each of them after the place of its gate.
 pub fn put_records(text: &mut String, records: &[Record], in_full: bool) {
     put(text, ", records");
     put_number(text, records.len() as u64);

@@ -9,7 +9,7 @@ use std::collections::VecDeque;
 /// A node's world: events by their numbers, oldest first.
 #[derive(Drop)]
 pub struct Plain {
-    /// What this run began with, and behind it what it accepted.
+    /// What this run began with, and after it what it accepted.
     pub history: Vec<u64>,
     // How long the history was when this run began, and how much of it is taken and settled.
     began: usize,

@@ -397,7 +397,7 @@ fn moment_of(number: u64) -> Option<Moment> {
     }
 }
 
-/// Tells the disk to fail the call behind this moment of an append. The opening before it syncs once.
+/// Tells the disk to fail the call after this moment of an append. The opening before it syncs once.
 fn arm(disk: &mut MemDisk, failing: Option<Moment>) -> Told {
     match failing {
         Some(Moment::Taken) => disk.fail(CallKind::Write, 1),

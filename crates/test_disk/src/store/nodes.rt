@@ -124,7 +124,7 @@ impl Node {
         damages::changes(alloc, config, &self.file, *from..=*to, *values, answer)
     }
 
-    /// Carries out what the node is told, with a flush or a stop of these words behind each command, or else with calls of
+    /// Carries out what the node is told, with a flush or a stop of these words after each command, or else with calls of
     /// a kind that fail, or with writers that take no more than some of the bytes.
     fn drive(&self, words: &[Word], answer: &mut String) -> Told {
         let behind = lines_of(self.alloc, words)?;

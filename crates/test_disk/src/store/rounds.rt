@@ -98,7 +98,7 @@ fn write_two(own: &mut OwnBook<'_, HashSign>, journal: &mut Journal<MemDisk>, an
     }
 }
 
-/// Takes a second group and writes it, and settles it behind the first.
+/// Takes a second group and writes it, and settles it after the first.
 fn write_second(
     own: &mut OwnBook<'_, HashSign>,
     journal: &mut Journal<MemDisk>,

@@ -48,7 +48,7 @@ pub fn lines_of(alloc: Global, words: &[Word]) -> Result<Vec<Line>, AllocError> 
     Ok(lines)
 }
 
-/// The disk behind all commands, or that where they ended early, with the reason.
+/// The disk after all commands, or that where they ended early, with the reason.
 pub type Driven = Result<MemDisk, Failed<DriveError, MemDisk>>;
 
 /// Commands that a node carries out, one after the other, on a disk with a file.
@@ -58,7 +58,7 @@ pub struct Script<'a> {
     pub config: &'a Config<HashSign>,
     pub file: &'a [u8],
     pub lines: &'a [Line],
-    /// What is done behind each of the lines.
+    /// What is done after each of the lines.
     pub behind: &'a [Line],
 }
 
@@ -84,7 +84,7 @@ impl Script<'_> {
         Ok(())
     }
 
-    /// Tells what is written to a writer that fails behind so many bytes, for each number of bytes of the text. A line is
+    /// Tells what is written to a writer that fails after so many bytes, for each number of bytes of the text. A line is
     /// told wherever the answer becomes another one.
     pub fn tell_rooms(&self, text: &[u8], answer: &mut String) -> Told {
         let mut before = String::new(self.alloc);
@@ -154,7 +154,7 @@ impl Script<'_> {
         disk_with(self.alloc, self.file)
     }
 
-    /// Each line, and what is done behind it.
+    /// Each line, and what is done after it.
     pub fn spaced_lines(&self) -> Result<Vec<&Line>, AllocError> {
         let mut spaced = Vec::new(self.alloc);
         for line in self.lines {

@@ -142,7 +142,7 @@ fn add_value(values: &mut Vec<u8>, value: Option<&u8>) -> Told {
     }
 }
 
-/// Whether a stop may leave a file with this front, behind which the bytes are as they are read.
+/// Whether a stop may leave a file with this front, after which the bytes are as they are read.
 fn may_begin(alloc: Global, disk: &MemDisk, front: &[u8]) -> Result<bool, AllocError> {
     let mut bytes = front.to_vec(alloc)?;
     if let Some(rest) = disk.bytes().get(front.len()..) {

@@ -181,7 +181,7 @@ impl Tally {
     }
 }
 
-/// Tells counts, each behind its name.
+/// Tells counts, each after its name.
 fn tell_line(answer: &mut String, names: &[&str], counts: &[u64]) {
     for (place, count) in counts.iter().enumerate() {
         if place > 0 {

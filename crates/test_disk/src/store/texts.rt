@@ -50,7 +50,7 @@ fn tell_beside(text: &[u8], written: &[u8], answer: &mut String) {
     put(answer, "\n");
 }
 
-/// The text of a script behind what its file has, if all of it can be read.
+/// The text of a script after what its file has, if all of it can be read.
 fn text_of(script: &Script, node: &Node<HashSign>) -> Result<Option<Vec<u8>>, AllocError> {
     let alloc = script.alloc;
     let Some(history) = history_of(alloc, script.disk()?)? else {
@@ -63,7 +63,7 @@ fn text_of(script: &Script, node: &Node<HashSign>) -> Result<Option<Vec<u8>>, Al
     Ok(Some(text(alloc, node, history, commands)?))
 }
 
-/// The events of the journal on a disk, behind its configuration.
+/// The events of the journal on a disk, after its configuration.
 fn history_of(alloc: Global, disk: MemDisk) -> Result<Option<Vec<Event>>, AllocError> {
     match Journal::open(alloc, disk) {
         Ok((_, records)) => events_of(alloc, &records),
@@ -71,7 +71,7 @@ fn history_of(alloc: Global, disk: MemDisk) -> Result<Option<Vec<Event>>, AllocE
     }
 }
 
-/// The events of the records behind the first one.
+/// The events of the records after the first one.
 fn events_of(alloc: Global, records: &[Record]) -> Result<Option<Vec<Event>>, AllocError> {
     let mut history = Vec::new(alloc);
     for record in records.iter().skip(1) {

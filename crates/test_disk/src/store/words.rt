@@ -6,7 +6,7 @@ use diskmodel::CallKind;
 use std::alloc::{AllocError, Global};
 use test_cases::{bytes_of, write_hex};
 
-/// A word behind a command's name.
+/// A word after a command's name.
 #[derive(Drop)]
 pub enum Word {
     Number(u64),
@@ -84,12 +84,12 @@ pub fn put_other(answer: &mut String, number: u64, text: String, before: &mut St
     *before = text;
 }
 
-/// Adds a number behind a space.
+/// Adds a number after a space.
 pub fn put_number(text: &mut String, number: u64) {
     put_count(text, " ", number, "");
 }
 
-/// Adds bytes as digits, behind a space and an `x`.
+/// Adds bytes as digits, after a space and an `x`.
 pub fn put_bytes(text: &mut String, bytes: &[u8]) {
     put(text, " x");
     let _ = write_hex(text, bytes);

@@ -156,7 +156,7 @@ fn line(one: Side, other: Side, agreed: &Agreed, answer: &mut String) -> Result<
     writeln!(answer, "floors {first} {second}")
 }
 
-/// Adds the first four bytes of the SHA-256 of an order's digests, one behind the other.
+/// Adds the first four bytes of the SHA-256 of an order's digests, one after the other.
 fn write_sum(order: &[Digest], answer: &mut String) -> Result<(), AllocError> {
     let mut hasher = Sha256::new();
     for digest in order {

@@ -23,7 +23,7 @@ impl Made {
         }
     }
 
-    /// The headers of these words, of which each stands behind its parents.
+    /// The headers of these words, of which each stands after its parents.
     pub fn read(alloc: Global, words: &str) -> Result<Made, FormError> {
         let mut labels = Labels::new(alloc);
         label_genesis(alloc, &mut labels, MEMBERS)?;

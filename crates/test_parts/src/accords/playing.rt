@@ -31,7 +31,7 @@ pub struct Played {
 /// The signature under all votes; no signature is looked at, since a history may be legal whatever its signatures.
 const SIGNATURE: Signature = Signature([0; 64]);
 
-/// The history of these words, behind the member's number.
+/// The history of these words, after the member's number.
 pub fn play_words(
     alloc: Global,
     committee: Committee,
@@ -77,7 +77,7 @@ fn voters_from(node: &Node<HashSign>) -> MemberSet {
     voters
 }
 
-/// The member of a place behind another.
+/// The member of a place after another.
 fn after(own: u16, place: u16, size: u16) -> u16
     requires { 0 < size }
     ensures { result < size }

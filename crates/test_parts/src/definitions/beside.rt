@@ -1,4 +1,4 @@
-//! The tables of a node beside its history: what both answer an event, and what both hold and decide behind it.
+//! The tables of a node beside its history: what both answer an event, and what both hold and decide after it.
 
 use crate::definitions::looking::proposal_line;
 use crate::definitions::played::{Played, tell_kind};
@@ -88,7 +88,7 @@ pub fn answers_by_tables(played: &Played, events: &[Event]) -> Result<String, Al
     Ok(text)
 }
 
-/// Adds what tables answer an event, and gives those behind it.
+/// Adds what tables answer an event, and gives those after it.
 fn answer_next(
     played: &Played,
     tables: Tables,

@@ -48,7 +48,7 @@ pub fn line(word: &str, answer: &mut String) -> Result<(), AllocError> {
     writeln!(answer, "{word}")
 }
 
-/// A mark, and a word behind it.
+/// A mark, and a word after it.
 pub fn add(mark: &str, word: &str, answer: &mut String) -> Result<(), AllocError> {
     answer.push_str(mark)?;
     answer.push_str(word)

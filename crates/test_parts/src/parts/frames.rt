@@ -32,7 +32,7 @@ pub fn count_ways(alloc: Global, ways: u64, frame: &[u8], answer: &mut String) -
     list("good", &[good, ways], answer)
 }
 
-/// Whether the frame gives its body once and leaves nothing, cut behind each byte whose bit the number has.
+/// Whether the frame gives its body once and leaves nothing, cut after each byte whose bit the number has.
 fn is_one_body(alloc: Global, frame: &[u8], cuts: u64) -> Result<bool, WireError> {
     let (mut reader, mut bodies) = (FrameReader::new(alloc), Vec::new(alloc));
     feed_cut(&mut reader, frame, cuts, &mut bodies)?;

@@ -46,7 +46,7 @@ fn obey(
     }
 }
 
-// How a certificate comes into a DAG: with its digest, or without it, or by hand behind its answer.
+// How a certificate comes into a DAG: with its digest, or without it, or by hand after its answer.
 #[derive(Clone, Copy, PartialEq, Eq)]
 enum Way {
     Bare,

@@ -111,7 +111,7 @@ pub fn sign(byte: u64, bytes: &[u8], answer: &mut String) -> Told {
     list("taken", &[is_taken as u64], answer)
 }
 
-/// Tells whether the signature behind a digest is good for the key of 32 such bytes.
+/// Tells whether the signature after a digest is good for the key of 32 such bytes.
 pub fn verify(byte: u64, bytes: &[u8], answer: &mut String) -> Told {
     let signature = bytes.last_chunk::<64>().copied().unwrap_or([0; 64]);
     let is_good = HashVerify.verify(&key_of(byte), &digest_of(bytes), &Signature(signature));

@@ -19,7 +19,7 @@ pub fn written(alloc: Global, message: &Message) -> Result<Vec<u8>, AllocError> 
     encode(alloc, message)
 }
 
-/// Whether these bytes spell the message, as many as are foretold, and spell it behind others too.
+/// Whether these bytes spell the message, as many as are foretold, and spell it after others too.
 pub fn is_spelled(alloc: Global, message: &Message, bytes: &[u8]) -> Result<bool, AllocError> {
     let mut twice = written(alloc, message)?;
     let is_spelled = twice.as_slice() == bytes && encoded_len(message) == bytes.len();

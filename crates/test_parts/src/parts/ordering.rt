@@ -42,7 +42,7 @@ impl Ordering {
         self.committee = None;
     }
 
-    /// `committee` with its stakes, and behind a line what its file has beside them, or what is asked of one: `quorum`, or a
+    /// `committee` with its stakes, and after a line what its file has beside them, or what is asked of one: `quorum`, or a
     /// word of one of the tables, with what is done to that table.
     pub fn obey(&mut self, name: &str, words: &str, answer: &mut String) -> Told {
         if name == "committee" {

@@ -160,7 +160,7 @@ impl<'a> Playing<'a> {
         self.dag.drop_below(floor);
     }
 
-    // Whether each of these leaders orders, asked alone behind the one before it, what its beginning has behind that one's.
+    // Whether each of these leaders orders, asked alone after the one before it, what its beginning has after that one's.
     fn is_alike(
         &self,
         chain: &[(Round, Author)],
@@ -183,7 +183,7 @@ impl<'a> Playing<'a> {
         Ok(place == chain.len())
     }
 
-    // Whether a leader orders these behind the one before it.
+    // Whether a leader orders these after the one before it.
     fn orders(
         &self,
         leader: (Round, Author),
@@ -194,7 +194,7 @@ impl<'a> Playing<'a> {
         Ok(digests == Some(alone.as_slice()))
     }
 
-    // What each leader orders: what its beginning has behind that of the one before.
+    // What each leader orders: what its beginning has after that of the one before.
     fn tell_orders(&self, made: &[Lengthening], answer: &mut String) -> Told {
         let mut told = 0;
         for one in made {
@@ -209,8 +209,8 @@ impl<'a> Playing<'a> {
         Ok(())
     }
 
-    // How many references are read for each leader: by what its beginning has behind that of the one before, and where it is
-    // asked alone behind that one.
+    // How many references are read for each leader: by what its beginning has after that of the one before, and where it is
+    // asked alone after that one.
     fn tell_reads(
         &self,
         chain: &[(Round, Author)],

@@ -54,7 +54,7 @@ impl Tables {
         self.waiting = None;
     }
 
-    /// A command is a name, numbers, and behind a colon words that stand for bytes; ` = ` gives bytes a name.
+    /// A command is a name, numbers, and after a colon words that stand for bytes; ` = ` gives bytes a name.
     pub fn obey(&mut self, command: &str, answer: &mut String) -> Told {
         if let Some(text) = command.strip_prefix("line ") {
             return self.add_line(text);

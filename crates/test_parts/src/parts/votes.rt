@@ -40,7 +40,7 @@ fn vote_on(body: &HeaderBody, voter: Author, byte: u8) -> Vote
     }
 }
 
-// A vote as a word says it: the voter's number, and behind it `h`, `r` or `a` where the vote names another header, round or
+// A vote as a word says it: the voter's number, and after it `h`, `r` or `a` where the vote names another header, round or
 // author than the one of this body.
 fn vote_of(body: &HeaderBody, word: &str, byte: u8) -> Vote {
     let number = word.trim_end_matches(|c| c == 'h' || c == 'r' || c == 'a');

@@ -14,7 +14,7 @@ const SHOWN_BYTES: usize = 80;
 /// Bytes that have a name.
 pub type Names = BTreeMap<String, Vec<u8>>;
 
-/// The texts before and behind the first of these marks; where there is none, the whole one and nothing.
+/// The texts before and after the first of these marks; where there is none, the whole one and nothing.
 pub fn parted(text: &str, mark: char) -> (&str, &str) {
     text.split_once(mark).unwrap_or((text, ""))
 }
@@ -143,7 +143,7 @@ pub fn set_of(authors: &[u64]) -> MemberSet {
     set
 }
 
-/// Writes who is in a set, behind a name.
+/// Writes who is in a set, after a name.
 pub fn write_set(answer: &mut String, name: &str, set: &MemberSet) -> Told {
     answer.push_str(name)?;
     for member in 0..MAX_MEMBERS {

@@ -10,7 +10,7 @@ use Rattle.batchstore.specs.Answer.{is_member}
 use Rattle.batchstore.specs.Stock.{has_own, holds}
 use Rattle.admission.specs.Batches.{HasBatches, as_refusal}
 use Rattle.admission.proofs.Answering.{answered_as, after_as, ack_not_ours, ack_ours, not_refused}
-use Rattle.admission.proofs.Behind.{behind, ack_comes}
+use Rattle.admission.proofs.BatchesAfter.{state_after, ack_comes}
 use Rattle.admission.proofs.batches.take_ack.Goals as goal
 
 not_both : (member own : Bool) → own ≡ false → not (member && own) ≡ true
@@ -48,7 +48,7 @@ returns-in-Ok-New-clause-new c = λ new node state event came has.
     let own : has_own stock ack.batch ≡ true = true_from_ne_false (has_own stock ack.batch)
     (λ isnt. let bad = c.in-Ok-New.ensures.not_ours.1 (not_both (is_member stock ack.author.0) _ isnt) in absurd cc) in
     after_as (λ s. HasBatches node s c.ack.new.self) node state event (message.BatchAck ack) came
-    (subst (λ s. HasBatches node (behind node state (message.BatchAck ack)) s) (sym (c.in-Ok-New.ensures.new (ap (λ a. Ok a) c.in-Ok-New.field-0-is))) (ack_comes node state stock ack own has))
+    (subst (λ s. HasBatches node (state_after node state (message.BatchAck ack)) s) (sym (c.in-Ok-New.ensures.new (ap (λ a. Ok a) c.in-Ok-New.field-0-is))) (ack_comes node state stock ack own has))
 
 pub returns-in-Ok-Known-clause-answer : goal.returns-in-Ok-Known-clause-answer
 returns-in-Ok-Known-clause-answer c = λ node state event came has.

@@ -6,7 +6,7 @@ use Rattle.header.specs.declared.admission.Admission.TheVariants.{New, Known, Re
 use Rattle.admission.specs.Answers.{IsAnswer}
 use Rattle.admission.specs.Batches.{HasBatches, as_refusal}
 use Rattle.admission.proofs.Answering.{after_as, answered_by, batch_answered, held_digest, the_own}
-use Rattle.admission.proofs.Behind.{behind, batch_comes}
+use Rattle.admission.proofs.BatchesAfter.{state_after, batch_comes}
 use Rattle.admission.proofs.batches.take_batch.Goals as goal
 
 pub known_batch-requires : goal.known_batch-requires
@@ -54,7 +54,7 @@ returns-in-Ok-None-clause-new c = λ new node state event came has.
     let stock = c.args.batches.now in
     let batch = c.args.batch in
     after_as (λ s. HasBatches node s c.new_batch.new.batches) node state event (message.Batch batch) came
-    (subst (λ s. HasBatches node (behind node state (message.Batch batch)) s) (sym (c.new_batch.ensures.new new)) (batch_comes node state stock batch has))
+    (subst (λ s. HasBatches node (state_after node state (message.Batch batch)) s) (sym (c.new_batch.ensures.new new)) (batch_comes node state stock batch has))
 
 pub returns-in-Err-clause-answer : goal.returns-in-Err-clause-answer
 returns-in-Err-clause-answer c = λ node state event came has.

@@ -1,4 +1,4 @@
-use Rattle.admission.proofs.Behind.{batches_stay}
+use Rattle.admission.proofs.BatchesAfter.{batches_stay}
 use Rattle.admission.proofs.facts.batches_stay.Goals as goal
 
 pub returns : goal.returns

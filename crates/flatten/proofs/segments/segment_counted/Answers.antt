@@ -19,7 +19,7 @@ first c certificate held = record {
   unmarked = bare c.args.dag.now c.args.leader.0 c.new-taken.result.items c.new-taken.ensures.items;
 }
 
--- who is free behind what the leader before reaches
+-- who is free after what the leader before reaches
 left_free : (c : goal.After-drop-taken-2) → AreUnordered c.args.dag.now (leader_held c.args.dag.now c.args.previous)
     (lowest_in c.args.dag.now c.args.leader.0) c.args.leader.0 (is_free c.args.dag.now c.args.leader.0 c.take_past.new.taken.items)
     → (certificate : Certificate) → slots_in c.args.dag.now c.args.leader.0 c.args.leader.1.0 ≡ Some certificate

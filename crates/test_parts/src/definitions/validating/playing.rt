@@ -140,7 +140,7 @@ impl<'c> Playing<'c> {
         }
     }
 
-    /// The event of a line, behind three words.
+    /// The event of a line, after three words.
     fn event_in(&self, line: &str) -> Result<(Author, Message), FormError> {
         let mut rest = line;
         for _ in 0..3 {

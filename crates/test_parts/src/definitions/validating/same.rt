@@ -9,7 +9,7 @@ use std::alloc::{AllocError, Global};
 use validator::{Step, Validator};
 use wire::{Author, Digest, Header, Message, Output, Round, encode, encode_output};
 
-/// Outputs as bytes, one behind the other.
+/// Outputs as bytes, one after the other.
 fn bytes_of(alloc: Global, outputs: &[Output]) -> Result<Vec<u8>, AllocError> {
     let mut bytes = Vec::new(alloc);
     for output in outputs {
@@ -87,7 +87,7 @@ fn difference_but_proposal(
     }
 }
 
-/// Whether the votes of all rounds up to the one behind this are the same.
+/// Whether the votes of all rounds up to the one after this are the same.
 fn votes_are_same(
     node: &Node<HashSign>,
     validator: &Validator<'_, HashSign>,

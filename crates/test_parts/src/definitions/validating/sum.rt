@@ -64,7 +64,7 @@ impl Sum {
         }
     }
 
-    /// Adds what an event is answered, and what there is behind it.
+    /// Adds what an event is answered, and what there is after it.
     pub fn add_event(
         &mut self,
         validator: &Validator<'_, HashSign>,

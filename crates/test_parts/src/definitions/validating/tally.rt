@@ -84,7 +84,7 @@ impl Tally {
     }
 }
 
-/// A line of words, each with a number behind it, parted by commas.
+/// A line of words, each with a number after it, parted by commas.
 pub fn counts(list: &[(&str, u64)], answer: &mut String) -> Result<(), AllocError> {
     let mut mark = "";
     for (word, number) in list {

@@ -72,7 +72,7 @@ returns-clause-at c = λ node state event meets new.
     (vote_high others.high node state event tables vote meets new) in
     after_commit others node state event tables later made before comes meets.at (ap (changes_batches node) meets.message) (ap (is_peers_header node) meets.message)
     c.trim.ensures.own c.trim.ensures.batches at c.trim.ensures.sequencer c.floor-before.ensures c.trim.ensures.votes
-    (is.behind counted c.count.ensures later.headers (subst (λ (f : ℕ). IsForgotten counted later.headers f) at.floor
+    (is.after counted c.count.ensures later.headers (subst (λ (f : ℕ). IsForgotten counted later.headers f) at.floor
     (c.trim.ensures.headers (subst (λ (f : ℕ). IsForgotten counted counted f) (sym (c.floor-before.ensures ∙ meets.at.sequence.floor)) forgotten))))
 
 pub count-requires : goal.count-requires

@@ -26,7 +26,7 @@ returns c = λ node state event meets new.
       own = meets.at.own;
       batches = beside.batches (ap (changes_batches node) meets.message);
       votes = beside.votes (ap (is_peers_header node) meets.message);
-      headers = is.behind held c.count.ensures held (subst (λ (f : ℕ). IsForgotten held held f) (sym beside.floor) forgotten);
+      headers = is.after held c.count.ensures held (subst (λ (f : ℕ). IsForgotten held held f) (sym beside.floor) forgotten);
       sequence = beside.sequence;
     }
 

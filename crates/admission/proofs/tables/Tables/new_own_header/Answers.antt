@@ -35,8 +35,8 @@ returns-clause-at g c = λ node state event meets signs new.
     let forgotten = with_high tables.headers held _ header.body.round _ low.headers with (header_high others.high node state event tables header meets new) in
     record {
       own = meets.at.own;
-      batches = c.name_all.ensures.behind node state event meets.message mine new meets.at.batches;
+      batches = c.name_all.ensures.goes_on node state event meets.message mine new meets.at.batches;
       votes = beside.votes (ap (is_peers_header node) meets.message ∙ ap not mine);
-      headers = is.behind held with held (subst (λ (f : ℕ). IsForgotten held held f) (sym beside.floor) forgotten);
+      headers = is.after held with held (subst (λ (f : ℕ). IsForgotten held held f) (sym beside.floor) forgotten);
       sequence = beside.sequence;
     }

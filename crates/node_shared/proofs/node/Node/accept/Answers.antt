@@ -14,9 +14,9 @@ pub returns-in-Err-clause-submits : goal.returns-in-Err-clause-submits
 returns-in-Err-clause-submits g c =
     let first = c.see_all.ensures in
     let told = c.know_down.ensures in
-    let behind = c.know_down.new.locked.seat in
+    let afterwards = c.know_down.new.locked.seat in
     let seen = told.stays.seen ∙ first.seen ∙ ap (λ l. l.seat.view.seen) (sym first.locked) ∙ sym told.stays_locked.seen in
-    submits_refused c.args.self.now g.S.Sign.scheme behind c.know_down.new.locked.book c.know_down.new.locked.book c.args.event told.home
+    submits_refused c.args.self.now g.S.Sign.scheme afterwards c.know_down.new.locked.book c.know_down.new.locked.book c.args.event told.home
     c.args.seat.now.view c.know_down.new.seat.view _ (search rules) (c.requires.of.start ∙ sym told.home.of_node.start)
     (subst (λ l. Begins c.args.seat.now.view.seen l) (sym told.stays.seen ∙ seen) first.looked.more) seen (told.stays.same.mine ∙ first.looked.same.mine)
 
@@ -58,13 +58,13 @@ returns-then-receipt-clause-submits g c =
     let raised = c.raise.ensures in
     let last = c.catch_up.ensures in
     let mid = c.know_down.new.seat in
-    let behind = c.know_down.new.locked.seat in
+    let afterwards = c.know_down.new.locked.seat in
     let seen = told.stays.seen ∙ first.seen ∙ ap (λ l. l.seat.view.seen) (sym first.locked) ∙ sym told.stays_locked.seen in
-    submits_new c.args.self.now g.S.Sign.scheme behind c.know_down.new.locked.book c.accept.new.self c.args.event told.home (c.in-Ok.ensures.new c.if-receipt.true)
+    submits_new c.args.self.now g.S.Sign.scheme afterwards c.know_down.new.locked.book c.accept.new.self c.args.event told.home (c.in-Ok.ensures.new c.if-receipt.true)
     c.args.seat.now.view c.catch_up.new.other.view c.in-Ok.receipt (c.requires.of.start ∙ sym told.home.of_node.start)
     (subst (λ l. Begins c.args.seat.now.view.seen l) (sym told.stays.seen ∙ seen) first.looked.more) c.if-receipt.true c.in-Ok.ensures.ticket c.in-Ok.ensures.limit
-    (ap (λ s. s.view.seen) last.other ∙ raised.seen ∙ ap (λ l. l ++ mark mid.view.number g.C.Call.event ∷ []) seen ∙ ap (λ e. behind.view.seen ++ mark mid.view.number e ∷ []) c.requires.call
-    ∙ ap (λ n. behind.view.seen ++ mark n c.args.event ∷ []) (told.stays.same.number ∙ first.looked.same.number))
+    (ap (λ s. s.view.seen) last.other ∙ raised.seen ∙ ap (λ l. l ++ mark mid.view.number g.C.Call.event ∷ []) seen ∙ ap (λ e. afterwards.view.seen ++ mark mid.view.number e ∷ []) c.requires.call
+    ∙ ap (λ n. afterwards.view.seen ++ mark n c.args.event ∷ []) (told.stays.same.number ∙ first.looked.same.number))
     (ap (λ s. s.view.mine) last.other ∙ raised.mine ∙ ap (λ l. l ++ g.C.Call.event ∷ []) (told.stays.same.mine ∙ first.looked.same.mine)
     ∙ ap (λ e. c.args.seat.now.view.mine ++ e ∷ []) c.requires.call)
 

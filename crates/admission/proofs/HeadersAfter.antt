@@ -1,4 +1,4 @@
--- The table behind an event: what is forgotten there is what the state doesn't keep.
+-- The table after an event: what is forgotten there is what the state doesn't keep.
 use Rattle.std.proofs.Common.{◌≡◌, ℕ, Bool, true, false, Option, Some, None, refl, ap, sym, ◌∙◌, arith}
 use Rattle.std.specs.Prelude.{◌==◌, ◌&&◌, not, nat_le, option_map, option_and_then, if◌then◌else◌}
 use Rattle.std.specs.Option.{option_or}
@@ -15,7 +15,7 @@ use Rattle.spec_model.specs.Words.{Event, Header, Message, Vote}
 use Rattle.spec_machine.specs.Machine.{header_at, vote_at, grown, after}
 use Rattle.admission.specs.Headers.{AssembliesView, assembly_at, vote_in, IsForgotten, IsAt}
 use Rattle.spec_machine.specs.Laws.{FloorsAgree, Comes}
-use Rattle.admission.specs.HeaderLaws.{IsBehind, is_other}
+use Rattle.admission.specs.HeaderLaws.{IsTableAfter, is_other}
 
 -- a round is low exactly where it is no higher than the floor
 pub low_is : (floor round : ℕ) → is_low floor round ≡ nat_le round floor
@@ -45,10 +45,10 @@ forgotten_at node state headers later floor floors at less =
           ∙ ap (λ b. if b then None else state.counted round voter) (low round);
     }
 
--- so one at a state with all that an event adds is that behind the event
-pub behind : FloorsAgree → (node : Node) (state : State) (event : Event) (headers : AssembliesView) → Comes node state event → IsAt node (grown node state event.message) headers
-    → IsBehind node state event headers
-behind agree node state event headers step at later less =
+-- so one at a state with all that an event adds is that after the event
+pub table_after : FloorsAgree → (node : Node) (state : State) (event : Event) (headers : AssembliesView) → Comes node state event → IsAt node (grown node state event.message) headers
+    → IsTableAfter node state event headers
+table_after agree node state event headers step at later less =
     forgotten_at node (grown node state event.message) headers later (floor_in node (after node state event)) (agree node state event step) at less
 
 -- ---- other messages

@@ -1,4 +1,4 @@
--- What a store has behind a batch, an acknowledgement or an own header is what the state has behind the event.
+-- What a store has after a batch, an acknowledgement or an own header is what the state has after the event.
 use Rattle.std.proofs.Common.{◌≡◌, ℕ, Bool, true, false, cond, List, [], ◌∷◌, ◌++◌, map, Option, Some, None, inl, inr, refl, ap, sym, ◌∙◌}
 use Rattle.std.proofs.Math.Bool.{or-true, or-false}
 use Rattle.std.specs.Prelude.{◌==◌, ◌&&◌, ◌||◌, find, option_map}
@@ -29,9 +29,9 @@ use Rattle.admission.specs.Batches.{HasBatches, changes_batches}
 use Rattle.admission.specs.Laws.{BatchesStay}
 use Rattle.admission.proofs.Reading.{batch_of, first_made, of_made}
 
--- the state behind a message
-abbrev pub behind : Node → State → Message → State
-behind node state m = collected node (grown node state m)
+-- the state after a message
+abbrev pub state_after : Node → State → Message → State
+state_after node state m = collected node (grown node state m)
 
 -- ---- a new batch
 
@@ -46,7 +46,7 @@ nothing_more test None true x fails = fails
 nothing_more test None false x fails = refl
 
 pub batch_comes : (node : Node) (state : State) (stock : BatchStoreView) (batch : BatchView) → HasBatches node state stock
-    → HasBatches node (behind node state (message.Batch batch)) (with_batch stock batch)
+    → HasBatches node (state_after node state (message.Batch batch)) (with_batch stock batch)
 batch_comes node state stock batch has =
     let new : Held = record { batch = batch; acknowledged = no_members; named = false } in
     let said : (test : Held → Bool) (digest : Digest) → test new ≡ false
@@ -79,7 +79,7 @@ found_changed change same digest (h ∷ rest) =
     ∙ ap (cond (is_of digest h) (Some (change h))) (found_changed change same digest rest)
     ∙ first_made change (is_of digest h) h (find (is_of digest) rest)
 
--- what is said of the batch of a digest behind a change
+-- what is said of the batch of a digest after a change
 said_changed : (change : Held → Held) → ((h : Held) → (change h).batch ≡ h.batch) → (test : Held → Bool) (digest : Digest) (held : List Held)
     → option_map_or test (find (is_of digest) (map change held)) false ≡ option_map_or (λ h. test (change h)) (find (is_of digest) held) false
 said_changed change same test digest held =
@@ -132,7 +132,7 @@ acked_behind stock digest member own other voter =
     ]
 
 pub ack_comes : (node : Node) (state : State) (stock : BatchStoreView) (ack : BatchAck) → has_own stock ack.batch ≡ true → HasBatches node state stock
-    → HasBatches node (behind node state (message.BatchAck ack)) (with_ack stock ack.batch ack.author.0)
+    → HasBatches node (state_after node state (message.BatchAck ack)) (with_ack stock ack.batch ack.author.0)
 ack_comes node state stock ack own has =
     let change : Held → Held = acked_by ack.batch ack.author.0 in
     let keeps = ack_keeps ack.batch ack.author.0 in
@@ -196,7 +196,7 @@ named_behind stock references digest ours =
 
 pub names_come : (node : Node) (state : State) (stock : BatchStoreView) (header : Header) → is_own node header.body.author ≡ true
     → ((digest : Digest) → list_any (λ named. same_digest named.digest digest) header.body.batches ≡ true → has_own stock digest ≡ true)
-    → HasBatches node state stock → HasBatches node (behind node state (message.Header header)) (with_names stock header.body.batches)
+    → HasBatches node state stock → HasBatches node (state_after node state (message.Header header)) (with_names stock header.body.batches)
 names_come node state stock header mine ours has =
     let references = header.body.batches in
     let change : Held → Held = named_by stock.own references in
