@@ -9,7 +9,7 @@ use Rattle.wire.specs.Lists.{Begins}
 use Rattle.spec_world.specs.Promise.{WhatGoesOutAgrees}
 use Rattle.flusher.specs.Collected.{CollectedIsWithin, CollectedVotesAgree, given_as}
 
--- the first of some marked events, behind a history
+-- the first of some marked events, after a history
 first_begin : (start : History) (count : ℕ) (marked : List Marked) → Begins (start ++ events (take count marked)) (start ++ events marked)
 first_begin start count marked = record {
   rest = events (drop count marked);

@@ -29,7 +29,7 @@ module _ {S : Type 0} (node : NodeView S) (flush : FlushSeat) (of : IsFlushOf no
   pub settled_begins : Begins flush.seat.view.firm (taken_by flush)
   settled_begins = begins_take flush.seat.view.firm flush.seat.view.seen flush.taken of.begins (omega (arith, of.settled, of.rising))
 
-  -- the group is of what is behind
+  -- the group is of what is after
   pub group_behind : group_of flush ≡ records_behind flush.seat.view.firm (taken_by flush)
   group_behind = ap (λ (n : ℕ). map record_of (drop n (events (taken_by flush)))) of.settled
 

@@ -55,7 +55,7 @@ pub record IsFlusherOf {S D : Type 0} (scheme : Scheme S) (device : Device D) (n
 
 -- ---- what a round takes
 
--- the records of what is behind so much of a list
+-- the records of what is after so much of a list
 abbrev pub records_behind : List Marked → List Marked → List (List ℕ)
 records_behind settled all = map record_of (drop (length settled) (events all))
 
@@ -82,7 +82,7 @@ pub record TakesLongest (seen settled taken : List Marked) : Type 0 where
 abbrev pub HoldsEither : {S : Type 0} → Scheme S → NodeView S → List Marked → List Marked → List ℕ → Type 0
 HoldsEither scheme node settled taken left = Holds (node_of scheme node.setting) left (from_start node settled) ⊎ Holds (node_of scheme node.setting) left (from_start node taken)
 
--- the group has no place behind a journal of these bytes
+-- the group has no place after a journal of these bytes
 pub record HasNoRoom (content : List ℕ) (settled taken : List Marked) : Type 0 where
   pub some : length settled < length taken
   pub too_long : MAX_JOURNAL_BYTES < length content + length (group_bytes (records_behind settled taken))

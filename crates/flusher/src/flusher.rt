@@ -65,7 +65,7 @@ impl<D: Disk> Flusher<D> {
     }
 
     /// Takes a group of what the node accepted, adds it to the journal and settles it. The lock is held for the take and for the
-    /// settle, not while the disk is written. What the seat had seen is there to be taken; behind the round the seat knows what is
+    /// settle, not while the disk is written. What the seat had seen is there to be taken; after the round the seat knows what is
     /// settled, and where the round took the node down, that it is. The answer is how many records the group has; 0 where all was
     /// settled.
     ///

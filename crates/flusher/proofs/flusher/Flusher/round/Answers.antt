@@ -86,7 +86,8 @@ returns-clause-flusher g c =
                 (from_start c.args.node.now f)) (sym c.in-Ok.ensures.flush_firm) (had.holds up);
           })
     ] in
-    subst (λ f. IsFlusherOf g.S.Sign.scheme g.D.Disk.device c.args.node.now (record { journal = c.match-found.self.journal; seat = f; down = c.match-found.self.down })) (sym c.tell_settled.ensures.flush) is
+    subst (λ f. IsFlusherOf g.S.Sign.scheme g.D.Disk.device c.args.node.now
+    (record { journal = c.match-found.self.journal; seat = f; down = c.match-found.self.down })) (sym c.tell_settled.ensures.flush) is
 
 pub returns-clause-told : goal.returns-clause-told
 returns-clause-told g c =
