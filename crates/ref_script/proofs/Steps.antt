@@ -1,12 +1,15 @@
 -- One step more of a group, and of a desk.
-use Rattle.std.proofs.Common.{◌≡◌, ℕ, ◌+◌, ◌-◌, ◌<◌, ◌≤◌, suc, cond, true, false, List, [], ◌∷◌, ◌++◌, length, get_or, take, drop, map, filter, refl, sym, ap, ◌∙◌, arith, length-drop}
-use Rattle.std.proofs.lemmas.List.{drop_more, take_more, take-take, drop-drop, drop-take, take_all, drop_all, take-append-drop, take-append-le, drop-append-le, length-take-le}
+use Rattle.std.proofs.Common.{◌≡◌, ℕ, ◌+◌, ◌<◌, ◌≤◌, suc, cond, true, false, List, [], ◌∷◌, ◌++◌, length, get_or, take, drop, map, filter, refl, sym, ap, ◌∙◌, arith}
+use Rattle.std.proofs.lemmas.List.{drop_more, take_more, take-take, drop-take, take_all, drop_all, take-append-drop, take-append-le, length-take-le}
 use Rattle.std.proofs.lemmas.List.Elements.{filter_agree}
 use Rattle.std.proofs.lemmas.Bool.Decides.{leb_tells}
 use Rattle.std.specs.Prelude.{nat_le, nat_lt, not}
-use Rattle.spec_model.specs.Admitting.{admit}
+use Rattle.spec_machine.specs.After.{after_all}
+use Rattle.spec_machine.specs.Machine as machine
+use Rattle.spec_machine.specs.Machine.{answered}
 use Rattle.spec_model.specs.Histories.{History}
 use Rattle.spec_model.specs.Nodes.{Node}
+use Rattle.spec_model.specs.States.{State}
 use Rattle.spec_model.specs.Words.{Event, Output}
 use Rattle.header.specs.declared.admission.Admission.TheVariants.{New, Known, Refused}
 use Rattle.header.specs.declared.refusal.Refusal.{Refusal}
@@ -65,70 +68,64 @@ fill_ends (first ∷ rest) i less fits =
 late_is : (settled ticket : ℕ) → nat_lt settled ticket ≡ not (nat_le ticket settled)
 late_is settled ticket = grind (arith, leb_tells ticket settled, leb_tells (suc settled) ticket)
 
+-- ---- states
+
+pub after_none : (node : Node) (state : State) → after_all node state [] ≡ state
+unfolding after_all
+after_none node state = refl
+
+pub after_first : (node : Node) (state : State) (event : Event) (events : History) → after_all node state (event ∷ events) ≡ after_all node (machine.after node state event) events
+unfolding after_all
+after_first node state event events = refl
+
 -- ---- desks
 
--- the desk of a run that began with so many of these events, of which so many more are settled
-abbrev pub desk_at : History → ℕ → ℕ → List Waiting → Desk
-desk_at events began settled waiting = record {
-  began = take began events;
-  accepted = drop began events;
-  settled = take settled (drop began events);
-  waiting = waiting;
-}
+-- the desk of a run that began with a state and accepted these events, of which so many are settled
+abbrev pub desk_at : State → History → ℕ → List Waiting → Desk
+desk_at base accepted settled waiting = record { base = base; accepted = accepted; settled = take settled accepted; waiting = waiting }
 
 -- what isn't due waits for more than is settled
-pub left_is : (events : History) (began settled : ℕ) (waiting others : List Waiting) → began + settled ≤ length events
-    → filter (λ w. nat_lt settled w.ticket) others ≡ filter (λ w. not (is_due (desk_at events began settled waiting) w)) others
-left_is events began settled waiting others within =
-    let len : settled ≡ length (take settled (drop began events)) = sym (length-take-le settled (drop began events) (omega (arith, within, length-drop began events))) in
-    filter_agree (λ (w : Waiting). nat_lt settled w.ticket) (λ w. not (is_due (desk_at events began settled waiting) w))
+pub left_is : (base : State) (accepted : History) (settled : ℕ) (waiting others : List Waiting) → settled ≤ length accepted
+    → filter (λ w. nat_lt settled w.ticket) others ≡ filter (λ w. not (is_due (desk_at base accepted settled waiting) w)) others
+left_is base accepted settled waiting others within =
+    let len : settled ≡ length (take settled accepted) = sym (length-take-le settled accepted within) in
+    filter_agree (λ (w : Waiting). nat_lt settled w.ticket) (λ w. not (is_due (desk_at base accepted settled waiting) w))
     (λ w. late_is settled w.ticket ∙ ap (λ n. not (nat_le w.ticket n)) len) others
 
 -- a flush settles the next group
-pub flushed_is : (events : History) (began settled more : ℕ) (waiting : List Waiting) (group : History) → began + settled ≤ length events
-    → group ≡ group_of (drop (began + settled) events) → group ≡ take (length group) (drop (began + settled) events) → more ≡ length group
-    → desk_at events began (settled + more) waiting ≡ flushed (desk_at events began settled waiting)
-flushed_is events began settled more waiting group within is part len =
-    let accepted = drop began events in
-    let pending : drop (began + settled) events ≡ drop (length (take settled accepted)) accepted =
-    sym (drop-drop settled began events) ∙ ap (λ n. drop n accepted) (sym (length-take-le settled accepted (omega (arith, length-drop began events)))) in
+pub flushed_is : (base : State) (accepted : History) (settled more : ℕ) (waiting : List Waiting) (group : History) → settled ≤ length accepted
+    → group ≡ group_of (drop settled accepted) → group ≡ take (length group) (drop settled accepted) → more ≡ length group
+    → desk_at base accepted (settled + more) waiting ≡ flushed (desk_at base accepted settled waiting)
+flushed_is base accepted settled more waiting group within is part len =
+    let pending : drop settled accepted ≡ drop (length (take settled accepted)) accepted = ap (λ n. drop n accepted) (sym (length-take-le settled accepted within)) in
     let both : take (settled + more) accepted ≡ take settled accepted ++ group_of (drop (length (take settled accepted)) accepted) =
-    take_both settled more accepted
-    ∙ ap (λ l. take settled accepted ++ l) (ap (λ l. take more l) (drop-drop settled began events) ∙ ap (λ n. take n (drop (began + settled) events)) len ∙ sym part ∙ is ∙ ap group_of pending) in
-    (λ i. record { began = take began events; accepted = accepted; settled = both i; waiting = waiting })
+    take_both settled more accepted ∙ ap (λ l. take settled accepted ++ l) (ap (λ n. take n (drop settled accepted)) len ∙ sym part ∙ is ∙ ap group_of pending) in
+    (λ i. record { base = base; accepted = accepted; settled = both i; waiting = waiting })
 
 -- an event is answered where it is new
-pub new_is : (node : Node) (events : History) (began settled count : ℕ) (waiting : List Waiting) (event : Event) (outputs : List Output) → began + settled ≤ length events
-    → count ≡ length events - began → admit node events event ≡ New outputs
-    → desk_at (events ++ event ∷ []) began settled (waiting ++ ticketed (count + 1) outputs) ≡ after node (desk_at events began settled waiting) (take_in event)
+pub new_is : (node : Node) (base : State) (accepted : History) (settled count : ℕ) (waiting : List Waiting) (event : Event) (outputs : List Output) → settled ≤ length accepted
+    → count ≡ length accepted → answered node (after_all node base accepted) event ≡ New outputs
+    → desk_at base (accepted ++ event ∷ []) settled (waiting ++ ticketed (count + 1) outputs) ≡ after node (desk_at base accepted settled waiting) (take_in event)
 unfolding after
-new_is node events began settled count waiting event outputs within counts so =
-    let desk = desk_at events began settled waiting in
-    let accepted : drop began (events ++ event ∷ []) ≡ drop began events ++ event ∷ [] = drop-append-le began events (event ∷ []) (omega (arith, within)) in
-    let first : take settled (drop began (events ++ event ∷ [])) ≡ take settled (drop began events) =
-    ap (take settled) accepted ∙ take-append-le settled (drop began events) (event ∷ []) (omega (arith, within, length-drop began events)) in
-    let ticket : count ≡ length (drop began events) = counts ∙ sym (length-drop began events) in
+new_is node base accepted settled count waiting event outputs within counts so =
     (λ i. record {
-      began = take-append-le began events (event ∷ []) (omega (arith, within)) i;
-      accepted = accepted i;
-      settled = first i;
-      waiting = waiting ++ ticketed (ticket i + 1) outputs;
+      base = base;
+      accepted = accepted ++ event ∷ [];
+      settled = take-append-le settled accepted (event ∷ []) within i;
+      waiting = waiting ++ ticketed (counts i + 1) outputs;
     })
-    ∙ ap (with_answer desk event) (sym so ∙ ap (λ h. admit node h event) (sym (take-append-drop began events)))
+    ∙ ap (with_answer (desk_at base accepted settled waiting) event) (sym so)
 
 -- where it is known
-pub known_is : (node : Node) (events : History) (began settled count : ℕ) (waiting : List Waiting) (event : Event) (outputs : List Output)
-    → count ≡ length events - began → admit node events event ≡ Known outputs
-    → desk_at events began settled (waiting ++ ticketed count outputs) ≡ after node (desk_at events began settled waiting) (take_in event)
+pub known_is : (node : Node) (base : State) (accepted : History) (settled count : ℕ) (waiting : List Waiting) (event : Event) (outputs : List Output)
+    → count ≡ length accepted → answered node (after_all node base accepted) event ≡ Known outputs
+    → desk_at base accepted settled (waiting ++ ticketed count outputs) ≡ after node (desk_at base accepted settled waiting) (take_in event)
 unfolding after
-known_is node events began settled count waiting event outputs counts so =
-    let desk = desk_at events began settled waiting in
-    ap (λ n. record desk { waiting = waiting ++ ticketed n outputs }) (counts ∙ sym (length-drop began events))
-    ∙ ap (with_answer desk event) (sym so ∙ ap (λ h. admit node h event) (sym (take-append-drop began events)))
+known_is node base accepted settled count waiting event outputs counts so =
+    ap (λ n. record (desk_at base accepted settled waiting) { waiting = waiting ++ ticketed n outputs }) counts ∙ ap (with_answer (desk_at base accepted settled waiting) event) (sym so)
 
 -- where it is refused
-pub refused_is : (node : Node) (events : History) (began settled : ℕ) (waiting : List Waiting) (event : Event) (refusal : Refusal) → admit node events event ≡ Refused refusal
-    → desk_at events began settled waiting ≡ after node (desk_at events began settled waiting) (take_in event)
+pub refused_is : (node : Node) (base : State) (accepted : History) (settled : ℕ) (waiting : List Waiting) (event : Event) (refusal : Refusal)
+    → answered node (after_all node base accepted) event ≡ Refused refusal → desk_at base accepted settled waiting ≡ after node (desk_at base accepted settled waiting) (take_in event)
 unfolding after
-refused_is node events began settled waiting event refusal so =
-    ap (with_answer (desk_at events began settled waiting) event) (sym so ∙ ap (λ h. admit node h event) (sym (take-append-drop began events)))
+refused_is node base accepted settled waiting event refusal so = ap (with_answer (desk_at base accepted settled waiting) event) (sym so)

@@ -1,5 +1,6 @@
 -- What the program's commands, and what it has between two of them, are to the definitions.
-use Rattle.std.specs.Prelude.{take, drop}
+use Rattle.std.specs.Prelude.{take}
+use Rattle.ref_machine.specs.Tables.{state_of}
 use Rattle.ref_script.specs.declared.command.Command.{Command}
 use Rattle.ref_script.specs.declared.command.Command.TheVariants.{Event, Flush, Stop}
 use Rattle.ref_script.specs.declared.desk.Desk as declared
@@ -11,11 +12,11 @@ said (Event event) = script.take_in event
 said Flush = script.flush
 said Stop = script.stop
 
--- a desk: the run began with the first events, and of those after them, which it accepted, the first are settled
+-- a desk: the run began with the state that its tables are, and of the events that it accepted the first are settled
 abbrev pub desk_of : declared.Desk → script.Desk
 desk_of desk = record {
-  began = take desk.began desk.events.items;
-  accepted = drop desk.began desk.events.items;
-  settled = take desk.settled (drop desk.began desk.events.items);
+  base = state_of desk.base;
+  accepted = desk.accepted.items;
+  settled = take desk.settled desk.accepted.items;
   waiting = desk.waiting.items;
 }

@@ -1,8 +1,9 @@
 //! What there is between two commands.
 
-ghost use Rattle.std.specs.Prelude.{◌+◌, ◌≤◌, vec_len};
+ghost use Rattle.std.specs.Prelude.{◌≤◌, vec_len};
 
 use header::Event;
+use ref_machine::Tables;
 use std::marker::Model;
 use wire::Output;
 
@@ -24,13 +25,13 @@ impl Model for Waiting {
 /// What there is between two commands.
 #[derive(Drop)]
 pub struct Desk {
-    /// The events with which this run began, and after them those that it accepted.
-    pub events: Vec<Event>,
-    /// How many of them the run began with.
-    pub began: usize,
-    /// How many of those that it accepted are settled: the first ones.
+    /// The tables with which this run began.
+    pub base: Tables,
+    /// The events that it accepted.
+    pub accepted: Vec<Event>,
+    /// How many of them are settled: the first ones.
     pub settled: usize,
     /// The outputs that wait, oldest first.
     pub waiting: Vec<Waiting>,
-    ghost within: { began + settled ≤ vec_len events },
+    ghost within: { settled ≤ vec_len accepted },
 }

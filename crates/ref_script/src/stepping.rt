@@ -1,9 +1,10 @@
 //! What a command makes of what there is.
 
-ghost use Rattle.std.specs.Prelude.{◌≡◌, ◌++◌, IfOk, OnOk, drop, length};
-ghost use Rattle.spec_model.specs.Admitting.{admit};
-ghost use Rattle.spec_model.specs.Nodes.{node_view};
+ghost use Rattle.std.specs.Prelude.{◌≡◌, ◌++◌, IfOk, OnOk};
+ghost use Rattle.ref_machine.specs.Tables.{state_of};
 ghost use Rattle.ref_script.specs.Desks.{desk_of, said};
+ghost use Rattle.spec_machine.specs.After as machine;
+ghost use Rattle.spec_model.specs.Nodes.{node_view};
 ghost use Rattle.spec_world.specs.Steps as steps;
 ghost use Rattle.spec_world.specs.Text as script;
 
@@ -11,18 +12,37 @@ use crate::command::Command;
 use crate::desk::{Desk, Waiting};
 use crate::groups::group_of;
 use header::{Admission, Event, Node, Outputs};
-use ref_admission::runs::admit_last;
+use ref_machine::{Tables, after as after_one, answered};
 use sigface::Sign;
 use std::alloc::{AllocError, Global};
 
-/// A run that has just begun, with a history.
-pub fn desk_on(alloc: Global, history: Vec<Event>) -> Desk
-    ensures { desk_of result ≡ script.desk_on history.items }
+/// The tables after all of these events, the oldest of which comes first.
+///
+/// # Errors
+/// When memory runs out.
+pub fn after_all<S: Sign>(
+    alloc: Global,
+    node: &Node<S>,
+    base: &Tables,
+    events: &[Event],
+) -> Result<Tables, AllocError>
+    ensures { IfOk result (λ tables. state_of tables ≡ machine.after_all (node_view S.scheme node.now) (state_of base.now) events.now) }
+{
+    let mut tables = base.try_clone(alloc)?;
+    for event in events {
+        tables = after_one(alloc, node, tables, event)?;
+    }
+    Ok(tables)
+}
+
+/// A run that has just begun, with the state that these tables are.
+pub fn desk_on(alloc: Global, base: Tables) -> Desk
+    ensures { desk_of result ≡ script.desk_on (state_of base) }
 {
     Desk {
-        began: history.len(),
+        base,
+        accepted: Vec::new(alloc),
         settled: 0,
-        events: history,
         waiting: Vec::new(alloc),
     }
 }
@@ -51,23 +71,19 @@ fn with_event<S: Sign>(
 ) -> Result<Desk, AllocError>
     ensures { IfOk result (λ next. desk_of next ≡ script.after (node_view S.scheme node.now) (desk_of desk) (script.take_in event)) }
 {
-    let count = desk.events.len();
-    let accepted = count - desk.began;
-    desk.events.push(event)?;
-    match admit_last(alloc, node, &desk.events)? {
+    let count = desk.accepted.len();
+    let now = after_all(alloc, node, &desk.base, &desk.accepted)?;
+    match answered(alloc, node, &now, &event)? {
         Admission::New(outputs) => {
-            put_ticketed(&mut desk.waiting, accepted + 1, outputs)?;
+            desk.accepted.push(event)?;
+            put_ticketed(&mut desk.waiting, count + 1, outputs)?;
             Ok(desk)
         }
         Admission::Known(outputs) => {
-            desk.events.truncate(count);
-            put_ticketed(&mut desk.waiting, accepted, outputs)?;
+            put_ticketed(&mut desk.waiting, count, outputs)?;
             Ok(desk)
         }
-        Admission::Refused(_) => {
-            desk.events.truncate(count);
-            Ok(desk)
-        }
+        Admission::Refused(_) => Ok(desk),
     }
 }
 
@@ -75,18 +91,17 @@ fn with_event<S: Sign>(
 fn flushed(mut desk: Desk) -> Desk
     ensures { desk_of result ≡ script.flushed (desk_of desk) }
 {
-    let more = group_of(&desk.events[desk.began + desk.settled..]).len();
+    let more = group_of(&desk.accepted[desk.settled..]).len();
     desk.settled += more;
     desk
 }
 
 /// A run that has just begun with what was settled.
-fn stopped(alloc: Global, mut desk: Desk) -> Desk
-    ensures { desk_of result ≡ script.desk_on (script.settled_in (desk_of desk)) }
+fn stopped<S: Sign>(alloc: Global, node: &Node<S>, desk: Desk) -> Result<Desk, AllocError>
+    ensures { IfOk result (λ next. desk_of next ≡ script.desk_on (script.settled_in (node_view S.scheme node.now) (desk_of desk))) }
 {
-    let settled = desk.began + desk.settled;
-    desk.events.truncate(settled);
-    desk_on(alloc, desk.events)
+    let settled = after_all(alloc, node, &desk.base, &desk.accepted[..desk.settled])?;
+    Ok(desk_on(alloc, settled))
 }
 
 /// What a command makes of it, before anything is written.
@@ -105,6 +120,6 @@ pub fn after<S: Sign>(
     match command {
         Command::Event(event) => with_event(alloc, node, desk, event),
         Command::Flush => Ok(flushed(desk)),
-        Command::Stop => Ok(stopped(alloc, desk)),
+        Command::Stop => stopped(alloc, node, desk),
     }
 }

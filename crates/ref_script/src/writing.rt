@@ -1,18 +1,21 @@
 //! The text of a script.
 
 ghost use Rattle.std.specs.Prelude.{◌≡◌, IfOk, map};
+ghost use Rattle.spec_machine.specs.After.{after_all};
+ghost use Rattle.spec_machine.specs.Machine.{fresh};
 ghost use Rattle.spec_model.specs.Nodes.{node_view};
 ghost use Rattle.ref_script.specs.Desks.{said};
 ghost use Rattle.spec_world.specs.Text as script;
 
 use crate::command::Command;
 use crate::frames::{put_due, without_due};
-use crate::stepping::{after, desk_on};
+use crate::stepping::{after, after_all, desk_on};
 use header::{Event, Node};
+use ref_machine::fresh;
 use sigface::Sign;
 use std::alloc::{AllocError, Global};
 
-/// What a node whose run begins with a history writes for commands: after each of them the outputs that are due, in their
+/// What a node whose run begins with the state after these events writes for commands: after each of them the outputs that are due, in their
 /// order, each as a frame.
 ///
 /// # Errors
@@ -24,9 +27,10 @@ pub fn text<S: Sign>(
     history: Vec<Event>,
     commands: Vec<Command>,
 ) -> Result<Vec<u8>, AllocError>
-    ensures { IfOk result (λ written. written.items ≡ script.text (node_view S.scheme node.now) (script.desk_on history.items) (map said commands.items)) }
+    ensures { IfOk result (λ written. written.items ≡ script.text (node_view S.scheme node.now) (script.desk_on (after_all (node_view S.scheme node.now) (fresh (node_view S.scheme node.now)) history.items)) (map said commands.items)) }
 {
-    let mut desk = desk_on(alloc, history);
+    let base = after_all(alloc, node, &fresh(alloc, node)?, &history)?;
+    let mut desk = desk_on(alloc, base);
     let mut written = Vec::new(alloc);
     for command in commands {
         desk = after(alloc, node, desk, command)?;

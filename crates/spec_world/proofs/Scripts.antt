@@ -7,7 +7,11 @@ use Rattle.std.proofs.lemmas.List.{map-append, drop_at, take_at}
 use Rattle.std.proofs.lemmas.List.Elements.{All-head, All-tail, Contains-append_left, Contains-append_right, Contains-append_cases}
 use Rattle.journal.specs.Format.{FitsGroup}
 use Rattle.spec_laws.proofs.Lists.{Contains-nothing, Contains-first, Contains-later}
-use Rattle.spec_model.specs.Admitting.{admit, IsTaken}
+use Rattle.spec_machine.specs.After.{after_all}
+use Rattle.spec_machine.specs.Machine.{answered}
+use Rattle.spec_machine.proofs.AfterAll.{after_is_kept, answered_kept}
+use Rattle.spec_model.specs.Admitting.{admit, IsTaken, IsLegal}
+use Rattle.spec_model.specs.Giving.{kept}
 use Rattle.spec_model.specs.Histories.{History}
 use Rattle.spec_model.specs.Nodes.{Node, IsNode}
 use Rattle.spec_model.specs.Words.{Event}
@@ -16,7 +20,7 @@ use Rattle.header.specs.declared.admission.Admission.TheVariants.{New, Known, Re
 use Rattle.spec_records.specs.Records.{record_of}
 use Rattle.spec_world.specs.World.{Waiting, put_out, Given, World, events_of, content_in}
 use Rattle.spec_world.specs.Steps.{Move, accept, take_to, device_call, settle, release, restart, ticketed, with_new, with_known, with_given, IsAnswered, group_to, Leads, IsRun}
-use Rattle.spec_world.specs.Text.{Command, take_in, flush, stop, Desk, desk_on, all_in, settled_in, with_answer, group_of, flushed, after, is_due}
+use Rattle.spec_world.specs.Text.{Command, take_in, flush, stop, Desk, desk_on, state_in, settled_in, with_answer, group_of, flushed, after, is_due}
 use Rattle.spec_world.specs.Text.{due, without_due, frames, carried_out, text, desk_behind}
 use Rattle.wire.specs.Outputs.{frame_of}
 use Rattle.spec_world.specs.Scripts.{IsAtDesk, WentOut, IsTakenIn, ScriptsAreRuns, ScriptsBegin}
@@ -46,7 +50,7 @@ pub record Goes (node : Node) (world : World) (desk : Desk) (outputs : List Wait
   pub more : List Move
   pub later : World
   pub leads : Leads node world more later
-  pub at_desk : IsAtDesk later desk
+  pub at_desk : IsAtDesk node later desk
   pub went_out : WentOut world later outputs
 
 went_none : (world later : World) → later.given ≡ world.given → WentOut world later []
@@ -72,7 +76,7 @@ goes_join node world middle desk one two first second = record {
 }
 
 -- no move
-goes_nowhere : (node : Node) (world : World) (desk : Desk) → IsAtDesk world desk → Goes node world desk []
+goes_nowhere : (node : Node) (world : World) (desk : Desk) → IsAtDesk node world desk → Goes node world desk []
 goes_nowhere node world desk at = record { more = []; later = world; leads = refl; at_desk = at; went_out = went_none world world refl }
 
 -- ---- an event comes in
@@ -86,7 +90,7 @@ more_waits at_world at_desk more also waits same w inside =
       | inr new ↦ Contains-append_right at_world also w (subst (λ (l : List Waiting). Contains l w) (sym same) new)
     ]
 
-answer_goes : (node : Node) (world : World) (desk : Desk) (event : Event) (answer : Admission) → IsAtDesk world desk → IsTaken node event → admit node (world.began ++ world.accepted) event ≡ answer
+answer_goes : (node : Node) (world : World) (desk : Desk) (event : Event) (answer : Admission) → IsAtDesk node world desk → IsTaken node event → admit node (world.began ++ world.accepted) event ≡ answer
     → Goes node world (with_answer desk event answer) []
 answer_goes node world desk event (New outputs) at taken is =
     let later = with_new world event outputs in
@@ -96,7 +100,7 @@ answer_goes node world desk event (New outputs) at taken is =
       later = later;
       leads = (later, record { is_taken = taken; is = subst (λ (a : Admission). IsAnswered world event a later) (sym is) refl }, refl);
       at_desk = record {
-        began = at.began;
+        base = at.base;
         accepted = ap (λ (l : History). l ++ event ∷ []) at.accepted;
         settled = at.settled;
         groups = at.groups;
@@ -113,7 +117,7 @@ answer_goes node world desk event (Known outputs) at taken is =
       later = later;
       leads = (later, record { is_taken = taken; is = subst (λ (a : Admission). IsAnswered world event a later) (sym is) refl }, refl);
       at_desk = record {
-        began = at.began;
+        base = at.base;
         accepted = at.accepted;
         settled = at.settled;
         groups = at.groups;
@@ -126,11 +130,11 @@ answer_goes node world desk event (Refused refusal) at taken is = goes_nowhere n
 
 -- ---- what is pending is settled
 
-module _ (node : Node) (sound : IsNode node) (moves : List Move) (world : World) (run : IsRun node moves world) (desk : Desk) (at : IsAtDesk world desk) where
+module _ (node : Node) (sound : IsNode node) (moves : List Move) (world : World) (run : IsRun node moves world) (desk : Desk) (at : IsAtDesk node world desk) where
   -- with nothing more settled
   same_flushed : (group : History) → group ≡ [] → Goes node world (record desk { settled = desk.settled ++ group }) []
   same_flushed group none = goes_nowhere node world (record desk { settled = desk.settled ++ group }) (record {
-    began = at.began;
+    base = at.base;
     accepted = at.accepted;
     settled = at.settled ∙ sym (append-nil desk.settled) ∙ ap (λ (l : History). desk.settled ++ l) (sym none);
     groups = at.groups;
@@ -158,7 +162,7 @@ module _ (node : Node) (sound : IsNode node) (moves : List Move) (world : World)
         later = next;
         leads = made.1;
         at_desk = record {
-          began = is.began ∙ at.began;
+          base = ap (kept node) is.began ∙ at.base;
           accepted = is.accepted ∙ at.accepted;
           settled = is.settled ∙ front ∙ ap (λ (l : History). l ++ group) at.settled;
           groups = is.groups;
@@ -178,13 +182,16 @@ module _ (node : Node) (sound : IsNode node) (moves : List Move) (world : World)
 
   -- ---- the machine stops
 
-  stop_goes : Goes node world (desk_on (settled_in desk)) []
+  stop_goes : Goes node world (desk_on (settled_in node desk)) []
   stop_goes =
       let found = content_in world in
       let may = stops_are_possible node moves world sound run in
       let never = nothing_taken_back node moves world sound run in
       let is = never.stands found may in
-      let settled : is.0 ≡ settled_in desk = (never.recovered found is.0 may is.1).without_group at.groups ∙ (λ i. at.began i ++ at.settled i) in
+      let recovered = never.recovered found is.0 may is.1 in
+      let all : is.0 ≡ world.began ++ world.settled = recovered.without_group at.groups in
+      let settled : kept node is.0 ≡ settled_in node desk =
+      ap (kept node) all ∙ sym (after_is_kept node world.began world.settled (subst (IsLegal node) all recovered.legal)) ∙ (λ i. after_all node (at.base i) (at.settled i)) in
       let begun = runs_begin_with_what_stands node moves world found is.0 sound run may is.1 in
       let next = begun.0 in
       let step = begun.1 in
@@ -193,7 +200,7 @@ module _ (node : Node) (sound : IsNode node) (moves : List Move) (world : World)
         later = next;
         leads = (next, step, refl);
         at_desk = record {
-          began = begun.2 ∙ settled;
+          base = ap (kept node) begun.2 ∙ settled;
           accepted = ap (λ (w : World). w.accepted) step.is;
           settled = ap (λ (w : World). w.settled) step.is;
           groups = ap (λ (w : World). w.groups) step.is;
@@ -207,14 +214,16 @@ module _ (node : Node) (sound : IsNode node) (moves : List Move) (world : World)
   after_goes : (command : Command) → IsTakenIn node command → Goes node world (after node desk command) []
   unfolding after
   after_goes (take_in event) taken =
-      answer_goes node world desk event (admit node (all_in desk) event) at taken (λ i. admit node (at.began i ++ at.accepted i) event)
+      let legal = (run_stands node moves world sound run).legal in
+      answer_goes node world desk event (answered node (state_in node desk) event) at taken
+      (answered_kept node world.began world.accepted event legal taken ∙ (λ i. answered node (after_all node (at.base i) (at.accepted i)) event))
   after_goes flush taken = flush_goes
   after_goes stop taken = stop_goes
 
 -- ---- what is due goes out
 
 -- one output
-release_goes : (node : Node) (world : World) (desk : Desk) (w : Waiting) → IsAtDesk world desk → Contains desk.waiting w → w.ticket ≤ length desk.settled → Goes node world desk (w ∷ [])
+release_goes : (node : Node) (world : World) (desk : Desk) (w : Waiting) → IsAtDesk node world desk → Contains desk.waiting w → w.ticket ≤ length desk.settled → Goes node world desk (w ∷ [])
 release_goes node world desk w at waits ready =
     let history = world.began ++ take w.ticket world.accepted in
     let later = with_given world (put_out w.output) history in
@@ -222,12 +231,12 @@ release_goes node world desk w at waits ready =
       more = release w ∷ [];
       later = later;
       leads = (later, record { waits = at.waits w waits; ready = subst (λ (l : History). w.ticket ≤ length l) (sym at.settled) ready; is = refl }, refl);
-      at_desk = record { began = at.began; accepted = at.accepted; settled = at.settled; groups = at.groups; phase = at.phase; waits = at.waits };
+      at_desk = record { base = at.base; accepted = at.accepted; settled = at.settled; groups = at.groups; phase = at.phase; waits = at.waits };
       went_out = record { more = record { outgoing = put_out w.output; history = history } ∷ []; given = refl; are = refl };
     }
 
 -- and one after the other
-releases_go : (node : Node) (world : World) (desk : Desk) (outputs : List Waiting) → IsAtDesk world desk
+releases_go : (node : Node) (world : World) (desk : Desk) (outputs : List Waiting) → IsAtDesk node world desk
     → ((w : Waiting) → Contains outputs w → Contains desk.waiting w × (w.ticket ≤ length desk.settled))
     → Goes node world desk outputs
 releases_go node world desk [] at each = goes_nowhere node world desk at
@@ -238,9 +247,9 @@ releases_go node world desk (w ∷ outputs) at each =
     (releases_go node first.later desk outputs first.at_desk (λ other inside. each other (Contains-later w outputs other inside)))
 
 -- they no longer wait at the desk
-without_waits : (world : World) (desk : Desk) → IsAtDesk world desk → IsAtDesk world (without_due desk)
-without_waits world desk at = record {
-  began = at.began;
+without_waits : (node : Node) (world : World) (desk : Desk) → IsAtDesk node world desk → IsAtDesk node world (without_due desk)
+without_waits node world desk at = record {
+  base = at.base;
   accepted = at.accepted;
   settled = at.settled;
   groups = at.groups;
@@ -248,16 +257,16 @@ without_waits world desk at = record {
   waits = λ w inside. at.waits w (picked_of (λ (one : Waiting). not (is_due desk one)) desk.waiting w inside).0;
 }
 
-due_goes : (node : Node) (world : World) (desk : Desk) → IsAtDesk world desk → Goes node world (without_due desk) (due desk)
+due_goes : (node : Node) (world : World) (desk : Desk) → IsAtDesk node world desk → Goes node world (without_due desk) (due desk)
 due_goes node world desk at =
     let each : (w : Waiting) → Contains (due desk) w → Contains desk.waiting w × (w.ticket ≤ length desk.settled) =
     λ w inside. let picked = picked_of (λ (one : Waiting). is_due desk one) desk.waiting w inside in (picked.0, leb-true w.ticket (length desk.settled) picked.1) in
     let out = releases_go node world desk (due desk) at each in
-    record { more = out.more; later = out.later; leads = out.leads; at_desk = without_waits out.later desk out.at_desk; went_out = out.went_out }
+    record { more = out.more; later = out.later; leads = out.leads; at_desk = without_waits node out.later desk out.at_desk; went_out = out.went_out }
 
 -- ---- commands
 
-command_goes : (node : Node) (sound : IsNode node) (moves : List Move) (world : World) (run : IsRun node moves world) (desk : Desk) (command : Command) → IsAtDesk world desk → IsTakenIn node command
+command_goes : (node : Node) (sound : IsNode node) (moves : List Move) (world : World) (run : IsRun node moves world) (desk : Desk) (command : Command) → IsAtDesk node world desk → IsTakenIn node command
     → Goes node world (carried_out node desk command) (due (after node desk command))
 command_goes node sound moves world run desk command at taken =
     let first = after_goes node sound moves world run desk at command taken in
@@ -270,7 +279,7 @@ pub record GoesWith (node : Node) (world : World) (desk : Desk) (commands : List
   pub goes : Goes node world (desk_behind node desk commands) outputs
   pub is_text : frames outputs ≡ text node desk commands
 
-commands_go : (node : Node) (sound : IsNode node) (moves : List Move) (world : World) (run : IsRun node moves world) (desk : Desk) (commands : List Command) → IsAtDesk world desk
+commands_go : (node : Node) (sound : IsNode node) (moves : List Move) (world : World) (run : IsRun node moves world) (desk : Desk) (commands : List Command) → IsAtDesk node world desk
     → All (IsTakenIn node) commands → GoesWith node world desk commands
 unfolding text desk_behind
 commands_go node sound moves world run desk [] at taken = record { outputs = []; goes = goes_nowhere node world desk at; is_text = refl }
@@ -302,4 +311,4 @@ scripts_are_runs node moves world desk commands sound run at taken =
     }
 
 pub scripts_begin : ScriptsBegin
-scripts_begin bytes began given = record { began = refl; accepted = refl; settled = refl; groups = refl; phase = refl; waits = λ w inside. absurd (Contains-nothing w inside) }
+scripts_begin node bytes began given = record { base = refl; accepted = refl; settled = refl; groups = refl; phase = refl; waits = λ w inside. absurd (Contains-nothing w inside) }

@@ -1,6 +1,7 @@
 -- That every text of a script is what some run gives out.
 use Rattle.std.specs.Prelude.{◌≡◌, ⊤, ℕ, List, [], ◌++◌, map, All, Contains}
 use Rattle.spec_model.specs.Admitting.{IsTaken}
+use Rattle.spec_model.specs.Giving.{kept}
 use Rattle.spec_model.specs.Histories.{History}
 use Rattle.spec_model.specs.Nodes.{Node, IsNode}
 use Rattle.spec_world.specs.World.{not_begun, Waiting, put_out, Given, World, run_on}
@@ -8,9 +9,9 @@ use Rattle.spec_world.specs.Steps.{Move, Leads, IsRun}
 use Rattle.spec_world.specs.Text.{Command, take_in, Desk, desk_on, frames, text, desk_behind}
 
 -- a world stands where a script's desk does
-pub record IsAtDesk (world : World) (desk : Desk) : Type 0 where
-  -- both began with the same, and accepted and settled the same
-  pub began : world.began ≡ desk.began
+pub record IsAtDesk (node : Node) (world : World) (desk : Desk) : Type 0 where
+  -- the desk's base is what is kept of the history that the world's run began with; both accepted and settled the same
+  pub base : kept node world.began ≡ desk.base
   pub accepted : world.accepted ≡ desk.accepted
   pub settled : world.settled ≡ desk.settled
   -- no group is on its way
@@ -37,17 +38,17 @@ pub record GivesOutText (node : Node) (moves : List Move) (world : World) (desk 
   pub run : IsRun node (moves ++ more) later
   -- more moves lead from the one world to the other
   pub leads : Leads node world more later
-  pub at_desk : IsAtDesk later (desk_behind node desk commands)
+  pub at_desk : IsAtDesk node later (desk_behind node desk commands)
   pub outputs : List Waiting
   pub went_out : WentOut world later outputs
   pub is_text : frames outputs ≡ text node desk commands
 
 -- wherever a run stands at a desk, it goes on and gives out the text of any commands whose events the node takes
 abbrev pub ScriptsAreRuns : Type 0
-ScriptsAreRuns = (node : Node) (moves : List Move) (world : World) (desk : Desk) (commands : List Command) → IsNode node → IsRun node moves world → IsAtDesk world desk
+ScriptsAreRuns = (node : Node) (moves : List Move) (world : World) (desk : Desk) (commands : List Command) → IsNode node → IsRun node moves world → IsAtDesk node world desk
     → All (IsTakenIn node) commands → GivesOutText node moves world desk commands
 
--- a run that has just begun stands at the desk on its history: on an empty disk that is the one of no event, and after a stop that of
--- what it left
+-- a run that has just begun stands at the desk on what is kept of its history: on an empty disk that is the one of no event, and after
+-- a stop that of what it left
 abbrev pub ScriptsBegin : Type 0
-ScriptsBegin = (bytes : List ℕ) (began : History) (given : List Given) → IsAtDesk (run_on bytes began given) (desk_on began)
+ScriptsBegin = (node : Node) (bytes : List ℕ) (began : History) (given : List Given) → IsAtDesk node (run_on bytes began given) (desk_on (kept node began))

@@ -3,9 +3,11 @@ use Rattle.std.specs.Prelude.{ℕ, ◌+◌, nat_le, ◌&&◌, not, Bool, List, [
 use Rattle.std.specs.List.{filter, flat_map}
 use Rattle.journal.specs.Format.{body_len}
 use Rattle.journal.specs.declared.layout.TheConstants.{MAX_GROUP_BYTES, MAX_GROUP_RECORDS}
-use Rattle.spec_model.specs.Admitting.{admit}
+use Rattle.spec_machine.specs.After.{after_all}
+use Rattle.spec_machine.specs.Machine.{answered}
 use Rattle.spec_model.specs.Histories.{History}
 use Rattle.spec_model.specs.Nodes.{Node}
+use Rattle.spec_model.specs.States.{State}
 use Rattle.spec_model.specs.Words.{Event}
 use Rattle.header.specs.declared.admission.Admission.{Admission}
 use Rattle.header.specs.declared.admission.Admission.TheVariants.{New, Known, Refused}
@@ -21,24 +23,24 @@ pub data Command : Type 0 where
   flush : Command
   stop : Command
 
--- What there is between two commands: what this run began with, the events that it accepted, those of them that are settled, and the
--- outputs that wait, each with its ticket.
+-- What there is between two commands: the base of this run, which is the state that it began with, the events that it accepted, those
+-- of them that are settled, and the outputs that wait, each with its ticket.
 pub record Desk : Type 0 where
-  pub began : History
+  pub base : State
   pub accepted : History
   pub settled : History
   pub waiting : List Waiting
 
 -- a run that has just begun
-abbrev pub desk_on : History → Desk
-desk_on history = record { began = history; accepted = []; settled = []; waiting = [] }
+abbrev pub desk_on : State → Desk
+desk_on base = record { base = base; accepted = []; settled = []; waiting = [] }
 
--- all that the run began with and accepted, and of that what is settled
-abbrev pub all_in : Desk → History
-all_in desk = desk.began ++ desk.accepted
+-- the state after all that the run accepted, and after what of that is settled
+abbrev pub state_in : Node → Desk → State
+state_in node desk = after_all node desk.base desk.accepted
 
-abbrev pub settled_in : Desk → History
-settled_in desk = desk.began ++ desk.settled
+abbrev pub settled_in : Node → Desk → State
+settled_in node desk = after_all node desk.base desk.settled
 
 -- ---- what a command makes of it
 
@@ -71,9 +73,9 @@ flushed desk = record desk { settled = desk.settled ++ group_of (drop (length de
 
 -- what the command makes of it, before anything is written
 unfoldable pub after : Node → Desk → Command → Desk
-after node desk (take_in event) = with_answer desk event (admit node (all_in desk) event)
+after node desk (take_in event) = with_answer desk event (answered node (state_in node desk) event)
 after node desk flush = flushed desk
-after node desk stop = desk_on (settled_in desk)
+after node desk stop = desk_on (settled_in node desk)
 
 -- ---- what is written
 

@@ -90,7 +90,7 @@ pub fn scripts_are_runs()
     ensures { ScriptsAreRuns }
 {}
 
-/// A run that has just begun stands at the desk of a script that begins with its history.
+/// A run that has just begun stands at the desk of a script that begins with what is kept of its history.
 pub fn scripts_begin()
     ensures { ScriptsBegin }
 {}
