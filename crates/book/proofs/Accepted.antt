@@ -1,12 +1,8 @@
 -- What comes of an event.
 use Rattle.std.proofs.Common.{◌≡◌, ◌≢◌, ◌⊎◌, ℕ, ◌+◌, ◌≤◌, List, [], ◌∷◌, ◌++◌, length, inl, inr, refl, sym, ap, ◌∙◌, subst, arith}
 use Rattle.std.proofs.lemmas.Bool.{true≢false}
-use Rattle.spec_laws.specs.Laws.{OutputsGiven}
-use Rattle.spec_machine.specs.Machine.{answered}
-use Rattle.spec_model.specs.Admitting.{admit, is_new, IsLegal, IsTaken}
-use Rattle.spec_model.specs.Giving.{kept}
-use Rattle.spec_model.specs.Histories.{History}
-use Rattle.spec_model.specs.Holdings.{order}
+use Rattle.spec_machine.specs.Machine.{answered, after}
+use Rattle.spec_model.specs.Admitting.{is_new, IsTaken}
 use Rattle.spec_model.specs.Nodes.{Node}
 use Rattle.spec_model.specs.States.{State}
 use Rattle.spec_model.specs.Words.{Event, Output}
@@ -17,33 +13,33 @@ use Rattle.header.specs.declared.refusal.Refusal.TheVariants as refusal
 use Rattle.spec_records.specs.Records.{record_of}
 use Rattle.spec_world.specs.World.{Waiting}
 use Rattle.spec_world.specs.Steps.{ticketed}
-use Rattle.validator.specs.Standing.{AreAtSound, GoesOn}
+use Rattle.validator.specs.Standing.{AreAtSound}
 use Rattle.book.specs.declared.book.TheConstants.{MAX_ACCEPTED}
-use Rattle.book.specs.Book.{BookView, Run, history_in, TakesNew, TakesKnown, MayRefuse, HasPlace}
+use Rattle.book.specs.Book.{BookView, Run, state_in, TakesNew, TakesKnown, MayRefuse, HasPlace}
 use Rattle.book.proofs.Accepting.{IsNoted, stands_new, stands_known}
 
--- what is answered at each legal history at which the validator stands
+-- what is answered at each state at which the validator stands
 abbrev pub Answers : {S : Type 0} → Node → BookView S → Event → (Admission → Type 0) → Type 0
-Answers node book event P = (history : History) → IsLegal node history → AreAtSound node book.validator.tables (kept node history) → P (admit node history event)
+Answers node book event P = (state : State) → AreAtSound node book.validator.tables state → P (answered node state event)
 
 module _ {S : Type 0} (node : Node) (before later : BookView S) (event : Event) (outputs : List Output) where
-  pub takes_new : OutputsGiven → IsTaken node event → Answers node before event (λ answer. answer ≡ New outputs)
-      → ((history : History) → IsLegal node history → AreAtSound node before.validator.tables (kept node history) → GoesOn node history event later.validator.tables)
+  pub takes_new : IsTaken node event → Answers node before event (λ answer. answer ≡ New outputs)
+      → ((state : State) → AreAtSound node before.validator.tables state → AreAtSound node later.validator.tables (after node state event))
       → later.pending ≡ before.pending ++ record_of event ∷ [] → later.queue ≡ before.queue ++ ticketed (before.accepted + 1) outputs
       → later.accepted ≡ before.accepted + 1 → later.taken ≡ before.taken → later.settled ≡ before.settled → later.ordered ≡ before.ordered → later.down ≡ before.down
       → (from to : ℕ) → IsNoted before.reached later.reached (before.accepted + 1) from to
-      → ((history : History) → AreAtSound node before.validator.tables (kept node history) → from ≡ length (order node history))
-      → ((history : History) → AreAtSound node later.validator.tables (kept node history) → to ≡ length (order node history))
+      → ((state : State) → AreAtSound node before.validator.tables state → from ≡ length state.order)
+      → ((state : State) → AreAtSound node later.validator.tables state → to ≡ length state.order)
       → TakesNew node before later event
-  takes_new given taken_by answers goes pending queue accepted taken settled ordered down from to noted froms tos = record {
+  takes_new taken_by answers goes pending queue accepted taken settled ordered down from to noted froms tos = record {
     taken_by = taken_by;
     outputs = outputs;
-    answer = λ run at. answers (history_in run) at.legal at.at;
+    answer = λ run at. answers (state_in node run) at.at;
     stands = λ run at.
-        let on = goes (history_in run) at.legal at.at in
-        let noted' = subst (λ n. IsNoted before.reached later.reached (before.accepted + 1) n (length (order node (history_in run ++ event ∷ [])))) (froms (history_in run) at.at)
-        (subst (λ n. IsNoted before.reached later.reached (before.accepted + 1) from n) (tos (history_in run ++ event ∷ []) on.at) noted) in
-        stands_new given node run before later event outputs at (answers (history_in run) at.legal at.at) on pending queue accepted taken settled ordered noted';
+        let on = goes (state_in node run) at.at in
+        let noted' = subst (λ n. IsNoted before.reached later.reached (before.accepted + 1) n (length (after node (state_in node run) event).order)) (froms (state_in node run) at.at)
+        (subst (λ n. IsNoted before.reached later.reached (before.accepted + 1) from n) (tos (after node (state_in node run) event) on) noted) in
+        stands_new node run before later event outputs taken_by at (answers (state_in node run) at.at) on pending queue accepted taken settled ordered noted';
     queue = queue;
     pending = pending;
     accepted = accepted;
@@ -52,14 +48,14 @@ module _ {S : Type 0} (node : Node) (before later : BookView S) (event : Event) 
     down = down;
   }
 
-  pub takes_known : OutputsGiven → IsTaken node event → Answers node before event (λ answer. answer ≡ Known outputs) → later
+  pub takes_known : IsTaken node event → Answers node before event (λ answer. answer ≡ Known outputs) → later
       ≡ record before { queue = before.queue ++ ticketed before.accepted outputs }
       → TakesKnown node before later event
-  takes_known given taken_by answers is = record {
+  takes_known taken_by answers is = record {
     taken_by = taken_by;
     outputs = outputs;
-    answer = λ run at. answers (history_in run) at.legal at.at;
-    stands = λ run at. stands_known given node run before later event outputs at (answers (history_in run) at.legal at.at) is;
+    answer = λ run at. answers (state_in node run) at.at;
+    stands = λ run at. stands_known node run before later event outputs taken_by at (answers (state_in node run) at.at) is;
     is = is;
   }
 
@@ -84,7 +80,7 @@ queue_alone before later queue validator pending queue_is reached accepted taken
 
 -- why it may be refused
 pub may_refuse : {S : Type 0} (node : Node) (run : Run) (book : BookView S) (event : Event) (why : Refusal) → (why ≡ refusal.Memory)
-    ⊎ (admit node (history_in run) event ≡ Refused why) → why ≢ refusal.Down
+    ⊎ (answered node (state_in node run) event ≡ Refused why) → why ≢ refusal.Down
     → MayRefuse node run book event why
 may_refuse node run book event refusal.Memory comes up = tt
 may_refuse node run book event refusal.Down comes up = absurd (up refl)

@@ -3,20 +3,20 @@ use Rattle.std.proofs.Common.{◌≡◌, ◌≢◌, ℕ, ◌+◌, ◌≤◌, ◌
 use Rattle.std.specs.Prelude.{All}
 use Rattle.std.proofs.lemmas.List.{length_push, drop-append-le, map-append}
 use Rattle.std.proofs.lemmas.List.Elements.{All-weaker, All-append, All-cons, All-nil}
-use Rattle.spec_laws.specs.Laws.{OutputsGiven}
-use Rattle.spec_model.specs.Admitting.{admit, IsLegal}
-use Rattle.spec_model.specs.Giving.{kept}
-use Rattle.spec_model.specs.Holdings.{order}
+use Rattle.spec_machine.specs.Machine.{answered, after}
+use Rattle.spec_machine.proofs.AfterAll.{legal_push_after}
+use Rattle.spec_model.specs.Admitting.{is_new, IsTaken}
 use Rattle.spec_model.specs.Nodes.{Node}
+use Rattle.spec_model.specs.States.{State}
 use Rattle.spec_model.specs.Words.{Event, Output}
 use Rattle.header.specs.declared.admission.Admission.TheVariants.{New, Known}
 use Rattle.spec_records.specs.Records.{record_of}
 use Rattle.spec_world.specs.Steps.{ticketed}
-use Rattle.validator.specs.Standing.{AreAtSound, GoesOn}
+use Rattle.validator.specs.Standing.{AreAtSound}
 use Rattle.book.specs.declared.reached.Reached.{Reached}
 use Rattle.book.specs.Queue.{length_at, TicketsRise}
-use Rattle.book.specs.Book.{BookView, Run, IsDue, Stands, history_in, history_to, with_accepted}
-use Rattle.book.proofs.Due.{begins_length, history_stays, history_now, history_more, due_new, due_known, rise_new}
+use Rattle.book.specs.Book.{BookView, Run, IsDue, Stands, state_in, state_to, with_accepted}
+use Rattle.book.proofs.Due.{begins_length, state_stays, state_now, state_more, due_new, due_known, rise_new}
 use Rattle.book.proofs.Lengths.{UpTo, cases_eq, cases_le, not_there, there, stays}
 
 -- what is said of a longer order: one more stands at the end where its length is another one
@@ -52,22 +52,23 @@ now_said before later count from to first noted upto said =
           (All-weaker (λ r. r.ticket ≤ count) (λ r. r.ticket ≤ count + 1) (λ r is. omega (arith, is)) before upto) (omega arith)
     ]
 
-module _ {S : Type 0} (given : OutputsGiven) (node : Node) (run : Run) (before later : BookView S) (event : Event) (outputs : List Output) (at : Stands node run before) where
+module _ {S : Type 0} (node : Node) (run : Run) (before later : BookView S) (event : Event) (outputs : List Output) (taken_by : IsTaken node event) (at : Stands node run before) where
   -- after a new event
-  pub stands_new : admit node (history_in run) event ≡ New outputs → GoesOn node (history_in run) event later.validator.tables
+  pub stands_new : answered node (state_in node run) event ≡ New outputs → AreAtSound node later.validator.tables (after node (state_in node run) event)
       → later.pending ≡ before.pending ++ record_of event ∷ [] → later.queue ≡ before.queue ++ ticketed (before.accepted + 1) outputs
       → later.accepted ≡ before.accepted + 1 → later.taken ≡ before.taken → later.settled ≡ before.settled → later.ordered ≡ before.ordered
-      → IsNoted before.reached later.reached (before.accepted + 1) (length (order node (history_in run))) (length (order node (history_in run ++ event ∷ [])))
+      → IsNoted before.reached later.reached (before.accepted + 1) (length (state_in node run).order) (length (after node (state_in node run) event).order)
       → Stands node (with_accepted run event) later
   stands_new is goes pending queue accepted taken settled ordered noted =
+      let legal = legal_push_after node run.base run.accepted event at.legal taken_by (ap is_new is) in
       let long : length (run.accepted ++ event ∷ []) ≡ length run.accepted + 1 = length_push run.accepted event in
       let within : length run.taken ≤ length run.accepted = begins_length run.taken run.accepted at.taken_begins in
-      let noted' = subst (λ n. IsNoted before.reached later.reached (n + 1) (length (order node (history_in run))) (length (order node (history_in run ++ event ∷ [])))) at.accepted noted in
-      let from : length_at (length run.accepted) before.ordered before.reached ≡ length (order node (history_in run)) =
-      at.lengths (length run.accepted) (omega (arith, within, begins_length run.settled run.taken at.settled_begins)) (omega arith) ∙ ap (λ h. length (order node h)) (history_now run) in
+      let noted' = subst (λ n. IsNoted before.reached later.reached (n + 1) (length (state_in node run).order) (length (after node (state_in node run) event).order)) at.accepted noted in
+      let from : length_at (length run.accepted) before.ordered before.reached ≡ length (state_in node run).order =
+      at.lengths (length run.accepted) (omega (arith, within, begins_length run.settled run.taken at.settled_begins)) (omega arith) ∙ ap (λ (s : State). length s.order) (state_now node run) in
       record {
-        legal = subst (IsLegal node) (sym (history_more run event)) goes.legal;
-        at = subst (λ h. AreAtSound node later.validator.tables (kept node h)) (sym (history_more run event)) goes.at;
+        legal = legal;
+        at = subst (AreAtSound node later.validator.tables) (sym (state_more node run event)) goes;
         taken_begins = record { rest = at.taken_begins.rest ++ event ∷ []; parts = ap (λ l. l ++ event ∷ []) at.taken_begins.parts ∙ append_assoc run.taken at.taken_begins.rest (event ∷ []) };
         settled_begins = at.settled_begins;
         pending = pending ∙ ap (λ l. l ++ record_of event ∷ []) at.pending ∙ sym (map-append record_of (drop (length run.taken) run.accepted) (event ∷ []))
@@ -76,7 +77,7 @@ module _ {S : Type 0} (given : OutputsGiven) (node : Node) (run : Run) (before l
         taken = taken ∙ at.taken;
         settled = settled ∙ at.settled;
         due = subst (All (IsDue node (with_accepted run event))) (sym (queue ∙ ap (λ n. before.queue ++ ticketed (n + 1) outputs) at.accepted))
-            (due_new given node run event outputs before.queue is at.due);
+            (due_new node run event outputs before.queue legal is at.due);
         rising = subst TicketsRise (sym (queue ∙ ap (λ n. before.queue ++ ticketed (n + 1) outputs) at.accepted))
             (rise_new node run (length run.accepted + 1) outputs before.queue (omega arith) at.due at.rising);
         ordered = ordered ∙ at.ordered;
@@ -85,23 +86,23 @@ module _ {S : Type 0} (given : OutputsGiven) (node : Node) (run : Run) (before l
       }
     where
       said : (count : ℕ) → length run.settled ≤ count → count ≤ length run.accepted + 1
-          → IsNoted before.reached later.reached (length run.accepted + 1) (length (order node (history_in run))) (length (order node (history_in run ++ event ∷ [])))
-          → length_at (length run.accepted) before.ordered before.reached ≡ length (order node (history_in run))
-          → length_at count before.ordered later.reached ≡ length (order node (history_to count (with_accepted run event)))
+          → IsNoted before.reached later.reached (length run.accepted + 1) (length (state_in node run).order) (length (after node (state_in node run) event).order)
+          → length_at (length run.accepted) before.ordered before.reached ≡ length (state_in node run).order
+          → length_at count before.ordered later.reached ≡ length (state_to node count (with_accepted run event)).order
       said count low high noted' from =
           elim (cases_le count (length run.accepted)) [
             | inl old ↦ lower_stays before.reached later.reached (length run.accepted + 1) _ _ before.ordered count noted' (omega (arith, old)) ∙ at.lengths count low old
-                ∙ ap (λ h. length (order node h)) (sym (history_stays run event count old))
+                ∙ ap (λ (s : State). length s.order) (sym (state_stays node run event count old))
             | inr new ↦
                 let here : count ≡ length run.accepted + 1 = omega (arith, high, new) in
-                let whole : history_to count (with_accepted run event) ≡ history_in run ++ event ∷ [] =
-                ap (λ n. history_to n (with_accepted run event)) (omega (arith, here, length_push run.accepted event)) ∙ history_now (with_accepted run event) ∙ history_more run event in
+                let whole : state_to node count (with_accepted run event) ≡ after node (state_in node run) event =
+                ap (λ n. state_to node n (with_accepted run event)) (omega (arith, here, length_push run.accepted event)) ∙ state_now node (with_accepted run event) ∙ state_more node run event in
                 ap (λ n. length_at n before.ordered later.reached) here ∙ now_said before.reached later.reached (length run.accepted) _ _ before.ordered noted' at.tickets from
-                ∙ ap (λ h. length (order node h)) (sym whole)
+                ∙ ap (λ (s : State). length s.order) (sym whole)
           ]
 
   -- after a known one
-  pub stands_known : admit node (history_in run) event ≡ Known outputs → later ≡ record before { queue = before.queue ++ ticketed before.accepted outputs } → Stands node run later
+  pub stands_known : answered node (state_in node run) event ≡ Known outputs → later ≡ record before { queue = before.queue ++ ticketed before.accepted outputs } → Stands node run later
   stands_known is same = subst (Stands node run) (sym same) (record {
     legal = at.legal;
     at = at.at;
@@ -111,7 +112,7 @@ module _ {S : Type 0} (given : OutputsGiven) (node : Node) (run : Run) (before l
     accepted = at.accepted;
     taken = at.taken;
     settled = at.settled;
-    due = subst (All (IsDue node run)) (sym (ap (λ n. before.queue ++ ticketed n outputs) at.accepted)) (due_known given node run event outputs before.queue is at.due);
+    due = subst (All (IsDue node run)) (sym (ap (λ n. before.queue ++ ticketed n outputs) at.accepted)) (due_known node run event outputs before.queue at.legal taken_by is at.due);
     rising = subst TicketsRise (sym (ap (λ n. before.queue ++ ticketed n outputs) at.accepted)) (rise_new node run (length run.accepted) outputs before.queue (omega arith) at.due at.rising);
     ordered = at.ordered;
     lengths = at.lengths;

@@ -3,19 +3,18 @@ use Rattle.std.proofs.Common.{◌≡◌, ℕ, zero, suc, ◌+◌, ◌≤◌, Lis
 use Rattle.std.specs.Prelude.{All}
 use Rattle.std.proofs.lemmas.List.{take_all, drop_at, take_at, take-map, drop-take, take-append-le, take-append-drop, length-take-le, length-append, drop-map, length-map, length-drop}
 use Rattle.std.proofs.lemmas.List.Elements.{All-nil, All-weaker, All-tail}
-use Rattle.spec_model.specs.Admitting.{IsLegal}
-use Rattle.spec_model.specs.Giving.{kept}
+use Rattle.spec_machine.specs.After.{after_all}
+use Rattle.spec_machine.proofs.AfterAll.{after_none, legal_none}
 use Rattle.spec_model.specs.Histories.{History}
 use Rattle.wire.specs.Lists.{Begins}
-use Rattle.spec_model.specs.Holdings.{order}
-use Rattle.spec_model.specs.Nodes.{Node}
+use Rattle.spec_model.specs.Nodes.{Node, IsNode}
+use Rattle.spec_model.specs.States.{State}
 use Rattle.spec_records.specs.Records.{record_of}
-use Rattle.spec_world.specs.World.{Waiting, put_out}
-use Rattle.spec_world.specs.Promise.{GoesOut}
+use Rattle.spec_world.specs.World.{Waiting}
 use Rattle.validator.specs.Standing.{AreAtSound}
 use Rattle.book.specs.Queue.{length_at, TicketsRise}
 use Rattle.book.specs.Pending.{IsLongestBeginning}
-use Rattle.book.specs.Book.{BookView, Run, IsDue, Stands, run_on, with_taken, with_settled}
+use Rattle.book.specs.Book.{BookView, Run, GoesOutAfter, IsDue, Stands, run_on, with_taken, with_settled}
 use Rattle.book.proofs.Due.{begins_length}
 use Rattle.book.proofs.Lengths.{UpTo}
 
@@ -51,12 +50,13 @@ begins_trans one two three first second = record {
 }
 
 -- what is due depends on what was accepted alone
-due_same : (node : Node) (run other : Run) (queue : List Waiting) → other.began ≡ run.began → other.accepted ≡ run.accepted → All (IsDue node run) queue → All (IsDue node other) queue
-due_same node run other queue began accepted due =
+due_same : (node : Node) (run other : Run) (queue : List Waiting) → other.base ≡ run.base → other.accepted ≡ run.accepted → All (IsDue node run) queue → All (IsDue node other) queue
+due_same node run other queue base accepted due =
     All-weaker (IsDue node run) (IsDue node other)
     (λ w is. record {
       within = subst (λ l. w.ticket ≤ length l) (sym accepted) is.within;
-      goes_out = subst (λ h. GoesOut node h (put_out w.output)) (sym (ap (λ l. l ++ take w.ticket other.accepted) began ∙ ap (λ l. run.began ++ take w.ticket l) accepted)) is.goes_out;
+      goes_out = subst (λ (s : State). GoesOutAfter node s (take w.ticket other.accepted) w.output) (sym base)
+          (subst (λ (l : History). GoesOutAfter node run.base (take w.ticket l) w.output) (sym accepted) is.goes_out);
     }) queue due
 
 module _ {S : Type 0} (node : Node) (run : Run) (before later : BookView S) (at : Stands node run before) where
@@ -129,7 +129,7 @@ module _ {S : Type 0} (node : Node) (run : Run) (before later : BookView S) (at 
         due = due_same node run (with_settled run (length group)) before.queue refl refl at.due;
         rising = at.rising;
         ordered = ordered ∙ ap (λ n. length_at n before.ordered before.reached) is ∙ at.lengths count (omega arith) (omega (arith, within, high))
-            ∙ ap (λ l. length (order node (run.began ++ l))) first;
+            ∙ ap (λ (l : History). length (after_all node run.base l).order) first;
         lengths = λ c low top. lengths c (omega (arith, low, number, is)) ∙ at.lengths c (omega (arith, low, number)) top;
         tickets = tickets (length run.accepted) at.tickets;
       })
@@ -175,26 +175,26 @@ stands_released {S} node run before later first rest parts same at =
     })
 
 -- at first
-pub stands_first : {S : Type 0} (node : Node) (began : History) (book : BookView S) → IsLegal node began → AreAtSound node book.validator.tables (kept node began)
-    → book.pending ≡ [] → book.queue ≡ [] → book.accepted ≡ 0 → book.taken ≡ 0 → book.settled ≡ 0 → book.reached ≡ [] → book.ordered ≡ length (order node began) → Stands node (run_on began) book
-stands_first node began book legal at pending queue accepted taken settled reached ordered =
-    let same : began ++ [] ≡ began = append-nil began in
+pub stands_first : {S : Type 0} (node : Node) (base : State) (book : BookView S) → IsNode node → AreAtSound node book.validator.tables base
+    → book.pending ≡ [] → book.queue ≡ [] → book.accepted ≡ 0 → book.taken ≡ 0 → book.settled ≡ 0 → book.reached ≡ [] → book.ordered ≡ length base.order → Stands node (run_on base) book
+stands_first node base book node_is at pending queue accepted taken settled reached ordered =
+    let same : after_all node base [] ≡ base = after_none node base in
     record {
-      legal = subst (IsLegal node) (sym same) legal;
-      at = subst (λ h. AreAtSound node book.validator.tables (kept node h)) (sym same) at;
+      legal = legal_none node base node_is at.sound;
+      at = subst (AreAtSound node book.validator.tables) (sym same) at;
       taken_begins = take_begins 0 [];
       settled_begins = take_begins 0 [];
       pending = pending;
       accepted = accepted;
       taken = taken;
       settled = settled;
-      due = subst (All (IsDue node (run_on began))) (sym queue) (All-nil (IsDue node (run_on began)));
+      due = subst (All (IsDue node (run_on base))) (sym queue) (All-nil (IsDue node (run_on base)));
       rising = subst TicketsRise (sym queue) tt;
-      ordered = ordered ∙ ap (λ h. length (order node h)) (sym same);
-      lengths = λ count low high. ap (length_at count book.ordered) reached ∙ ordered ∙ ap (λ h. length (order node h)) (sym (first count));
+      ordered = ordered ∙ ap (λ (s : State). length s.order) (sym same);
+      lengths = λ count low high. ap (length_at count book.ordered) reached ∙ ordered ∙ ap (λ (s : State). length s.order) (sym (first count));
       tickets = subst (UpTo 0) (sym reached) (All-nil (λ r. r.ticket ≤ 0));
     }
   where
-    first : (count : ℕ) → began ++ take count [] ≡ began
-    first zero = append-nil began
-    first (suc count) = append-nil began
+    first : (count : ℕ) → after_all node base (take count []) ≡ base
+    first zero = after_none node base
+    first (suc count) = after_none node base

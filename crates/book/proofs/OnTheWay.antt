@@ -8,6 +8,7 @@ use Rattle.std.proofs.lemmas.Grind.{flat_map-append}
 use Rattle.spec_model.specs.Histories.{History}
 use Rattle.wire.specs.Lists.{Begins}
 use Rattle.spec_model.specs.Nodes.{Node}
+use Rattle.spec_model.specs.States.{State}
 use Rattle.spec_model.specs.Words.{Event}
 use Rattle.header.specs.declared.refusal.Refusal.{Refusal}
 use Rattle.spec_records.specs.Records.{record_of}
@@ -25,8 +26,8 @@ begins_length one other begins = omega (arith, ap length begins.parts, length-ap
 
 module _ {S : Type 0} (node : Node) where
   -- at first there are none
-  pub way_first : (began : History) (book : BookView S) → Stands node (run_on began) book → AreOnTheWay node book []
-  way_first began book at = record { run = run_on began; stands = at; are = refl }
+  pub way_first : (base : State) (book : BookView S) → Stands node (run_on base) book → AreOnTheWay node book []
+  way_first base book at = record { run = run_on base; stands = at; are = refl }
 
   -- they stay where the runs stay
   pub way_same : (before later : BookView S) (groups : List (List (List ℕ))) → ((run : Run) → Stands node run before → Stands node run later)

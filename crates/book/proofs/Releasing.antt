@@ -4,17 +4,19 @@ use Rattle.std.specs.Prelude.{All, Option, Some, None, is_some, MatchOption}
 use Rattle.std.proofs.lemmas.Bool.{true≢false}
 use Rattle.std.proofs.lemmas.List.{take-append-drop, take-append-le, take_at, drop-append-le, nil_from_length, length-drop}
 use Rattle.std.proofs.lemmas.List.Elements.{All-head}
-use Rattle.spec_laws.specs.Laws.{GivenGrows, OrderGrows}
+use Rattle.spec_laws.specs.Laws.{GivenGrows}
 use Rattle.wire.specs.Lists.{Begins}
-use Rattle.spec_laws.proofs.Legal.{legal-begins}
+use Rattle.spec_machine.specs.After.{after_all, IsLegalAfter}
+use Rattle.spec_machine.proofs.AfterAll.{after_append, after_joins, legal_again, order_grows_after}
 use Rattle.spec_model.specs.Admitting.{IsLegal}
-use Rattle.spec_model.specs.Giving.{MayGive}
-use Rattle.spec_model.specs.Holdings.{order}
+use Rattle.spec_model.specs.Giving.{kept, MayGive}
+use Rattle.spec_model.specs.Histories.{History}
 use Rattle.spec_model.specs.Nodes.{Node}
+use Rattle.spec_model.specs.States.{State}
 use Rattle.spec_model.specs.Words.{Digest, Output}
 use Rattle.spec_world.specs.World.{Waiting}
 use Rattle.book.specs.Queue.{settled_head}
-use Rattle.book.specs.Book.{BookView, Run, IsDue, Stands, history_in, history_to, settled_in, GoesOutSettled}
+use Rattle.book.specs.Book.{BookView, Run, IsDue, Stands, state_in, settled_in, GoesOutSettled}
 use Rattle.book.proofs.Due.{begins_length}
 use Rattle.book.proofs.Lengths.{cases_le}
 use Rattle.book.proofs.Queueing.{ticket_settled}
@@ -47,18 +49,18 @@ module _ {S : Type 0} (node : Node) (run : Run) (book : BookView S) (at : Stands
   accepted_is : run.accepted ≡ run.settled ++ (at.settled_begins.rest ++ at.taken_begins.rest)
   accepted_is = at.taken_begins.parts ∙ ap (λ l. l ++ at.taken_begins.rest) at.settled_begins.parts ∙ append_assoc run.settled at.settled_begins.rest at.taken_begins.rest
 
-  whole_is : history_in run ≡ settled_in run ++ (at.settled_begins.rest ++ at.taken_begins.rest)
-  whole_is = ap (λ l. run.began ++ l) accepted_is ∙ sym (append_assoc run.began run.settled (at.settled_begins.rest ++ at.taken_begins.rest))
+  -- it is legal after the base, and so is the rest after that
+  legal_parts : IsLegalAfter node run.base run.settled × IsLegalAfter node (settled_in node run) (at.settled_begins.rest ++ at.taken_begins.rest)
+  legal_parts = (after_joins node run.base run.settled (at.settled_begins.rest ++ at.taken_begins.rest)).parts (subst (IsLegalAfter node run.base) accepted_is at.legal)
 
-  legal_settled : IsLegal node (settled_in run)
-  legal_settled = legal-begins node (settled_in run) (at.settled_begins.rest ++ at.taken_begins.rest) (subst (IsLegal node) whole_is at.legal)
+  whole_is : state_in node run ≡ after_all node (settled_in node run) (at.settled_begins.rest ++ at.taken_begins.rest)
+  whole_is = ap (after_all node run.base) accepted_is ∙ after_append node run.base run.settled (at.settled_begins.rest ++ at.taken_begins.rest)
 
-  -- what its first settled records hold
-  to_settled : (ticket : ℕ) → ticket ≤ length run.settled → settled_in run ≡ history_to ticket run ++ drop ticket run.settled
+  -- its first events
+  to_settled : (ticket : ℕ) → ticket ≤ length run.settled → run.settled ≡ take ticket run.accepted ++ drop ticket run.settled
   to_settled ticket within =
       let same : take ticket run.accepted ≡ take ticket run.settled = ap (take ticket) accepted_is ∙ take-append-le ticket run.settled (at.settled_begins.rest ++ at.taken_begins.rest) within in
-      ap (λ l. run.began ++ l) (sym (take-append-drop ticket run.settled)) ∙ sym (append_assoc run.began (take ticket run.settled) (drop ticket run.settled))
-      ∙ ap (λ l. (run.began ++ l) ++ drop ticket run.settled) (sym same)
+      sym (take-append-drop ticket run.settled) ∙ ap (λ (l : History). l ++ drop ticket run.settled) (sym same)
 
   pub goes_out_settled : GivenGrows → (ticket : ℕ) (output : Output) (later : List Waiting) → book.queue
       ≡ record { ticket = ticket; output = output } ∷ later → ticket ≤ book.settled → GoesOutSettled node run output
@@ -70,17 +72,21 @@ module _ {S : Type 0} (node : Node) (run : Run) (book : BookView S) (at : Stands
         ticket = ticket;
         settled = low;
         goes_out = due.goes_out;
-        may = subst (λ h. MayGive node h output) (sym (to_settled ticket low))
-            (grows node (history_to ticket run) (drop ticket run.settled) output (subst (IsLegal node) (to_settled ticket low) legal_settled) due.goes_out.1);
+        may = λ history legal keeps.
+            let longer : IsLegal node (history ++ run.settled) = legal_again node history run.settled legal (subst (λ (s : State). IsLegalAfter node s run.settled) (sym keeps) legal_parts.0) in
+            let is : history ++ run.settled ≡ (history ++ take ticket run.accepted) ++ drop ticket run.settled =
+            ap (λ (l : History). history ++ l) (to_settled ticket low) ∙ sym (append_assoc history (take ticket run.accepted) (drop ticket run.settled)) in
+            subst (λ (h : History). MayGive node h output) (sym is)
+            (grows node (history ++ take ticket run.accepted) (drop ticket run.settled) output (subst (IsLegal node) is longer) (due.goes_out.may history legal keeps));
       }
 
   -- what is read of the whole order, up to where it is settled
-  pub reads : OrderGrows → (whole : List Digest) (from end start : ℕ) → whole ≡ order node (history_in run) → end ≡ min (length whole) book.ordered → start ≡ min end from
-      → take (end - start) (drop start whole) ≡ drop from (order node (settled_in run))
-  reads grows whole from end start is end_is start_is =
-      let settled = order node (settled_in run) in
-      let begins : Begins settled whole = subst (Begins settled) (ap (order node) (sym whole_is) ∙ sym is)
-      (grows node (settled_in run) (at.settled_begins.rest ++ at.taken_begins.rest) (subst (IsLegal node) whole_is at.legal)) in
+  pub reads : (whole : List Digest) (from end start : ℕ) → whole ≡ (state_in node run).order → end ≡ min (length whole) book.ordered → start ≡ min end from
+      → take (end - start) (drop start whole) ≡ drop from (settled_in node run).order
+  reads whole from end start is end_is start_is =
+      let settled = (settled_in node run).order in
+      let begins : Begins settled whole = subst (Begins settled) (ap (λ (s : State). s.order) (sym whole_is) ∙ sym is)
+      (order_grows_after node (settled_in node run) (at.settled_begins.rest ++ at.taken_begins.rest) legal_parts.1).order in
       let long = begins_length settled whole begins in
       let ends : end ≡ length settled = omega (arith, end_is, long, at.ordered) in
       parts_of settled begins.rest whole begins.parts from end start ends start_is

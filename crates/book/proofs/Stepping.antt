@@ -5,6 +5,12 @@ use Rattle.std.proofs.lemmas.Bool.{cases_Bool, leb-true}
 use Rattle.std.proofs.lemmas.List.{append-nil, take_all, take_at, length-map}
 use Rattle.std.proofs.lemmas.List.Elements.{All-append, All-weaker, All-head, All-tail, All-contains_itself, Contains-append_left, Contains-append_right}
 use Rattle.journal.specs.Format.{FitsGroup, file_with}
+use Rattle.header.specs.declared.admission.Admission.{Admission}
+use Rattle.header.specs.declared.admission.Admission.TheVariants.{New, Known}
+use Rattle.spec_machine.specs.Machine.{answered}
+use Rattle.spec_machine.proofs.AfterAll.{answered_kept, legal_again}
+use Rattle.spec_model.specs.Admitting.{admit, IsLegal, IsTaken}
+use Rattle.spec_model.specs.Giving.{kept}
 use Rattle.spec_model.specs.Histories.{History}
 use Rattle.spec_model.specs.Nodes.{Node, IsNode}
 use Rattle.spec_model.specs.Words.{Event, Output}
@@ -13,7 +19,7 @@ use Rattle.spec_world.specs.World.{World, Waiting, not_begun, gate_synced, event
 use Rattle.spec_world.specs.Steps.{Move, accept, settle, release, ticketed, with_new, with_known, with_given, group_to, IsAnswered, IsRun}
 use Rattle.spec_world.proofs.GoingOn.{groups_settle}
 use Rattle.spec_world.proofs.Groups.{first_and_others, taken_more}
-use Rattle.book.specs.Book.{BookView, Run, Stands, with_taken, with_settled, TakesNew, TakesKnown, releasable}
+use Rattle.book.specs.Book.{BookView, Run, Stands, state_in, with_taken, with_settled, TakesNew, TakesKnown, releasable}
 use Rattle.book.specs.Queue.{settled_head}
 use Rattle.book.specs.OnTheWay.{Flushes, GoesDown}
 use Rattle.book.specs.Pending.{IsLongestBeginning}
@@ -39,15 +45,22 @@ head_of false settled (first ∷ rest) output is =
     ]
 
 module _ {S : Type 0} (node : Node) (world : World) (before later : BookView S) (is_of : IsOf node world before) where
+  -- what the state answers the world's history does
+  answers : (event : Event) (answer : Admission) → IsTaken node event → answered node (state_in node (run_of node world)) event ≡ answer → admit node (world.began ++ world.accepted) event ≡ answer
+  answers event answer taken is =
+      let legal = legal_again node world.began world.accepted is_of.began is_of.stands.legal in
+      answered_kept node world.began world.accepted event legal taken ∙ is
+
   accepts : (event : Event) → TakesNew node before later event ⊎ TakesKnown node before later event → Moves node world (accept event) later
   accepts event (inl new) =
       let next = with_new world event new.outputs in
       let queue : later.queue ≡ before.queue ++ ticketed (length world.accepted + 1) new.outputs = new.queue ∙ ap (λ n. before.queue ++ ticketed (n + 1) new.outputs) is_of.stands.accepted in
       record {
         next = next;
-        step = record { is_taken = new.taken_by; is = subst (λ a. IsAnswered world event a next) (sym (new.answer (run_of world) is_of.stands)) refl };
+        step = record { is_taken = new.taken_by; is = subst (λ a. IsAnswered world event a next) (sym (answers event (New new.outputs) new.taken_by (new.answer (run_of node world) is_of.stands))) refl };
         is_of = record {
-          stands = new.stands (run_of world) is_of.stands;
+          began = is_of.began;
+          stands = new.stands (run_of node world) is_of.stands;
           waits = subst (All (Contains next.waiting)) (sym queue) (waits_more world.waiting before.queue (ticketed (length world.accepted + 1) new.outputs) is_of.waits);
         };
       }
@@ -57,9 +70,10 @@ module _ {S : Type 0} (node : Node) (world : World) (before later : BookView S) 
       ap (λ (b : BookView S). b.queue) known.is ∙ ap (λ n. before.queue ++ ticketed n known.outputs) is_of.stands.accepted in
       record {
         next = next;
-        step = record { is_taken = known.taken_by; is = subst (λ a. IsAnswered world event a next) (sym (known.answer (run_of world) is_of.stands)) refl };
+        step = record { is_taken = known.taken_by; is = subst (λ a. IsAnswered world event a next) (sym (answers event (Known known.outputs) known.taken_by (known.answer (run_of node world) is_of.stands))) refl };
         is_of = record {
-          stands = known.stands (run_of world) is_of.stands;
+          began = is_of.began;
+          stands = known.stands (run_of node world) is_of.stands;
           waits = subst (All (Contains next.waiting)) (sym queue) (waits_more world.waiting before.queue (ticketed (length world.accepted) known.outputs) is_of.waits);
         };
       }
@@ -69,7 +83,7 @@ module _ {S : Type 0} (node : Node) (world : World) (before later : BookView S) 
   takes group longest is =
       let count = length (taken_in world) + length group in
       let events = group_to world count in
-      let records : group ≡ map record_of events = records_taken node (run_of world) before later is_of.stands group longest in
+      let records : group ≡ map record_of events = records_taken node (run_of node world) before later is_of.stands group longest in
       let fits : FitsGroup (map record_of events) = subst FitsGroup records longest.fits in
       let some : 1 ≤ length events = omega (arith, fits.some, length-map events record_of) in
       let next : World = record world { groups = world.groups ++ events ∷ [] } in
@@ -79,7 +93,8 @@ module _ {S : Type 0} (node : Node) (world : World) (before later : BookView S) 
           next = next;
           step = record { fits = fits; is = refl };
           is_of = record {
-            stands = subst (λ (l : History). Stands node (record (run_of world) { taken = l }) later) (sym all) (stands_taken node (run_of world) before later is_of.stands group longest is);
+            began = is_of.began;
+            stands = subst (λ (l : History). Stands node (record (run_of node world) { taken = l }) later) (sym all) (stands_taken node (run_of node world) before later is_of.stands group longest is);
             waits = subst (λ (b : BookView S). All (Contains world.waiting) b.queue) (sym is) is_of.waits;
           };
         };
@@ -88,7 +103,7 @@ module _ {S : Type 0} (node : Node) (world : World) (before later : BookView S) 
         records = records;
       }
 
-  settles : (group : List (List ℕ)) → world.phase ≡ gate_synced → group_in world ≡ group → Stands node (with_settled (run_of world) (length group)) later → later.queue ≡ before.queue
+  settles : (group : List (List ℕ)) → world.phase ≡ gate_synced → group_in world ≡ group → Stands node (with_settled (run_of node world) (length group)) later → later.queue ≡ before.queue
       → Moves node world settle later
   settles group done is stands queue =
       let more = first_of world.groups in
@@ -102,13 +117,14 @@ module _ {S : Type 0} (node : Node) (world : World) (before later : BookView S) 
         next = record world { settled = some; groups = drop 1 world.groups; phase = not_begun };
         step = record { done = done; is = refl };
         is_of = record {
-          stands = subst (λ (l : History). Stands node (record (run_of world) { settled = some; taken = l }) later) all
-              (subst (λ (l : History). Stands node (record (run_of world) { settled = l }) later) settled stands);
+          began = is_of.began;
+          stands = subst (λ (l : History). Stands node (record (run_of node world) { settled = some; taken = l }) later) all
+              (subst (λ (l : History). Stands node (record (run_of node world) { settled = l }) later) settled stands);
           waits = subst (All (Contains world.waiting)) (sym queue) is_of.waits;
         };
       }
 
-  releases : (output : Output) → releasable before ≡ Some output → later ≡ record before { queue = drop 1 before.queue } → Stands node (run_of world) later
+  releases : (output : Output) → releasable before ≡ Some output → later ≡ record before { queue = drop 1 before.queue } → Stands node (run_of node world) later
       → (ticket : ℕ) × Moves node world (release (record { ticket = ticket; output = output })) later
   releases output is later_is stands =
       let head = head_of before.down before.settled before.queue output is in
@@ -123,6 +139,7 @@ module _ {S : Type 0} (node : Node) (world : World) (before later : BookView S) 
             is = refl;
           };
           is_of = record {
+            began = is_of.began;
             stands = stands;
             waits = subst (All (Contains world.waiting)) (sym (ap (λ (b : BookView S). b.queue) later_is ∙ ap (drop 1) head.2)) (All-tail (Contains world.waiting) first head.1 waits);
           };
@@ -132,9 +149,9 @@ module _ {S : Type 0} (node : Node) (world : World) (before later : BookView S) 
 -- ---- a round of one owner
 
 -- the run after a group that is taken and settled where no other is on its way
-run_there : (world next : World) (group count : ℕ) → world.groups ≡ [] → count ≡ length world.settled + group → next.began ≡ world.began → next.accepted ≡ world.accepted
-    → next.settled ≡ take count world.accepted → next.groups ≡ [] → with_settled (with_taken (run_of world) group) group ≡ run_of next
-run_there world next group count none is began accepted settled idle =
+run_there : (node : Node) (world next : World) (group count : ℕ) → world.groups ≡ [] → count ≡ length world.settled + group → next.began ≡ world.began → next.accepted ≡ world.accepted
+    → next.settled ≡ take count world.accepted → next.groups ≡ [] → with_settled (with_taken (run_of node world) group) group ≡ run_of node next
+run_there node world next group count none is began accepted settled idle =
     let all : taken_in world ≡ world.settled = ap (λ (l : List History). world.settled ++ events_of l) none ∙ append-nil world.settled in
     let number : length (taken_in world) + group ≡ count = omega (arith, ap length all, is) in
     let taken : take (length (taken_in world) + group) world.accepted ≡ take count world.accepted = ap (λ n. take n world.accepted) number in
@@ -142,7 +159,7 @@ run_there world next group count none is began accepted settled idle =
     (λ i. take (sym is i) (taken i)) ∙ take_all count (take count world.accepted) (omega (arith, length-take count world.accepted)) in
     let later : taken_in next ≡ next.settled = ap (λ (l : List History). next.settled ++ events_of l) idle ∙ append-nil next.settled in
     (λ i. record {
-      began = sym began i;
+      base = ap (kept node) (sym began) i;
       accepted = sym accepted i;
       taken = (taken ∙ sym settled ∙ sym later) i;
       settled = (again ∙ sym settled) i;
@@ -155,18 +172,19 @@ module _ {S : Type 0} (node : Node) (moves : List Move) (world : World) (before 
       let all : taken_in world ≡ world.settled = ap (λ (l : List History). world.settled ++ events_of l) none ∙ append-nil world.settled in
       let number : length (taken_in world) + length flush.group ≡ length world.settled + count = omega (arith, ap length all, flush.counts) in
       let records : flush.group ≡ map record_of (group_to world (length world.settled + count)) =
-      records_taken node (run_of world) before later is_of.stands flush.group flush.takes ∙ ap (λ (n : ℕ). map record_of (group_to world n)) number in
+      records_taken node (run_of node world) before later is_of.stands flush.group flush.takes ∙ ap (λ (n : ℕ). map record_of (group_to world n)) number in
       let there = groups_settle node moves world (length world.settled + count) sound run none (subst FitsGroup records flush.takes.fits) in
       let next = there.0 in
       let settled = there.2 in
-      let runs = run_there world next (length flush.group) (length world.settled + count) none (omega (arith, flush.counts)) settled.began settled.accepted settled.settled settled.groups in
+      let runs = run_there node world next (length flush.group) (length world.settled + count) none (omega (arith, flush.counts)) settled.began settled.accepted settled.settled settled.groups in
       let queue : later.queue ≡ before.queue = ap (λ (b : BookView S). b.queue) flush.is in
       record {
         next = next;
         leads = there.1;
         settled = settled;
         is_of = record {
-          stands = subst (λ (r : Run). Stands node r later) runs (flush.stands (run_of world) is_of.stands);
+          began = subst (IsLegal node) (sym settled.began) is_of.began;
+          stands = subst (λ (r : Run). Stands node r later) runs (flush.stands (run_of node world) is_of.stands);
           waits = subst (λ (l : List Waiting). All (Contains l) later.queue) (sym settled.waiting) (subst (All (Contains world.waiting)) (sym queue) is_of.waits);
         };
         content = λ file. settled.content ∙ (λ i. file_with (file i) (sym records i)) ∙ sym flush.written;
@@ -185,7 +203,8 @@ fails {S} node world before later is_of down =
         next = next;
         step = takes.moves.step;
         is_of = record {
-          stands = subst (Stands node (run_of next)) (sym same) (record {
+          began = takes.moves.is_of.began;
+          stands = subst (Stands node (run_of node next)) (sym same) (record {
             legal = stands.legal;
             at = stands.at;
             taken_begins = stands.taken_begins;

@@ -1,21 +1,20 @@
--- The book: what a run accepted, what of it was taken and settled, and what may go out.
+-- The book: the state that a run began with, what it accepted, what of that was taken and settled, and what may go out.
 use Rattle.std.specs.Prelude.{◌≡◌, ◌⊎◌, ⊤, ℕ, ◌+◌, ◌≤◌, List, [], ◌∷◌, ◌++◌, length, map, take, drop, Option, None, Bool, true, false, IsTrue, ◌<◌, All, if◌then◌else◌}
-use Rattle.spec_model.specs.Admitting.{admit, is_new, IsLegal, IsTaken}
+use Rattle.spec_model.specs.Admitting.{is_new, IsLegal, IsTaken}
 use Rattle.spec_model.specs.Giving.{kept, MayGive}
 use Rattle.spec_model.specs.Histories.{History}
 use Rattle.wire.specs.Lists.{Begins}
-use Rattle.spec_model.specs.Holdings.{order}
 use Rattle.spec_model.specs.Nodes.{Node}
 use Rattle.spec_model.specs.States.{State}
+use Rattle.spec_machine.specs.After.{after_all, IsLegalAfter, WasPutOutAfter}
 use Rattle.spec_machine.specs.Machine.{answered}
 use Rattle.spec_model.specs.Words.{Event, Output}
 use Rattle.header.specs.declared.admission.Admission.TheVariants.{New, Known, Refused}
 use Rattle.header.specs.declared.refusal.Refusal.{Refusal}
 use Rattle.header.specs.declared.refusal.Refusal.TheVariants.{Memory, Down, StoreFull}
 use Rattle.spec_records.specs.Records.{record_of}
-use Rattle.spec_world.specs.World.{Waiting, put_out}
+use Rattle.spec_world.specs.World.{Waiting}
 use Rattle.spec_world.specs.Steps.{ticketed}
-use Rattle.spec_world.specs.Promise.{GoesOut}
 use Rattle.validator.specs.Standing as validator
 use Rattle.book.specs.declared.book.TheConstants.{MAX_ACCEPTED}
 use Rattle.book.specs.declared.reached.Reached.{Reached}
@@ -41,26 +40,26 @@ pub record BookView (S : Type 0) : Type 0 where
 
 -- ---- runs
 
--- what a run began with, and what it accepted, took for the disk and settled there
+-- a run: its base, which is the state that it began with, and the events that it accepted, took for the disk and settled
 pub record Run : Type 0 where
-  pub began : History
+  pub base : State
   pub accepted : History
   pub taken : History
   pub settled : History
 
 -- a run that has accepted nothing
-abbrev pub run_on : History → Run
-run_on began = record { began = began; accepted = []; taken = []; settled = [] }
+abbrev pub run_on : State → Run
+run_on base = record { base = base; accepted = []; taken = []; settled = [] }
 
--- all that a run began with and accepted, and of it what the first of these records hold, and what is settled
-abbrev pub history_in : Run → History
-history_in run = run.began ++ run.accepted
+-- the state after all that a run accepted, after the first of these events, and after what is settled
+abbrev pub state_in : Node → Run → State
+state_in node run = after_all node run.base run.accepted
 
-abbrev pub history_to : ℕ → Run → History
-history_to count run = run.began ++ take count run.accepted
+abbrev pub state_to : Node → ℕ → Run → State
+state_to node count run = after_all node run.base (take count run.accepted)
 
-abbrev pub settled_in : Run → History
-settled_in run = run.began ++ run.settled
+abbrev pub settled_in : Node → Run → State
+settled_in node run = after_all node run.base run.settled
 
 -- with one more event accepted; with so many of the accepted ones taken, or settled
 abbrev pub with_accepted : Run → Event → Run
@@ -72,18 +71,25 @@ with_taken run count = record run { taken = take (length run.taken + count) run.
 abbrev pub with_settled : Run → ℕ → Run
 with_settled run count = record run { settled = take (length run.settled + count) run.taken }
 
--- an output that waits may be given out after the records that its ticket counts
+-- an output goes out after events from a state on, which are legal: they put it out, and it may be given out at each legal history
+-- that keeps the state, with these events
+pub record GoesOutAfter (node : Node) (base : State) (events : History) (output : Output) : Type 0 where
+  pub legal : IsLegalAfter node base events
+  pub put : WasPutOutAfter node base events output
+  pub may : (history : History) → IsLegal node history → kept node history ≡ base → MayGive node (history ++ events) output
+
+-- an output that waits goes out after the events that its ticket counts
 pub record IsDue (node : Node) (run : Run) (waiting : Waiting) : Type 0 where
   pub within : waiting.ticket ≤ length run.accepted
-  pub goes_out : GoesOut node (history_to waiting.ticket run) (put_out waiting.output)
+  pub goes_out : GoesOutAfter node run.base (take waiting.ticket run.accepted) waiting.output
 
--- A book stands at a run. What is settled was taken, and what was taken was accepted, in that order, and all of it is legal after
--- what the run began with; the validator stands there; the pending records are those of what was accepted and not taken; the
--- numbers are the lengths; each output may be given out after its ticket, and tickets don't fall; and the lengths of the order are
--- those after the records of their numbers.
+-- A book stands at a run. What is settled was taken, and what was taken was accepted, in that order, and all of it is legal after the
+-- base; the validator stands at the state after it; the pending records are those of what was accepted and not taken; the numbers are
+-- the lengths; each output goes out after what its ticket counts, and tickets don't fall; and the lengths of the order are those after
+-- so many events.
 pub record Stands {S : Type 0} (node : Node) (run : Run) (book : BookView S) : Type 0 where
-  pub legal : IsLegal node (history_in run)
-  pub at : validator.AreAtSound node book.validator.tables (kept node (history_in run))
+  pub legal : IsLegalAfter node run.base run.accepted
+  pub at : validator.AreAtSound node book.validator.tables (state_in node run)
   pub taken_begins : Begins run.taken run.accepted
   pub settled_begins : Begins run.settled run.taken
   pub pending : book.pending ≡ map record_of (drop (length run.taken) run.accepted)
@@ -92,8 +98,8 @@ pub record Stands {S : Type 0} (node : Node) (run : Run) (book : BookView S) : T
   pub settled : book.settled ≡ length run.settled
   pub due : All (IsDue node run) book.queue
   pub rising : TicketsRise book.queue
-  pub ordered : book.ordered ≡ length (order node (settled_in run))
-  pub lengths : (count : ℕ) → length run.settled ≤ count → count ≤ length run.accepted → length_at count book.ordered book.reached ≡ length (order node (history_to count run))
+  pub ordered : book.ordered ≡ length (settled_in node run).order
+  pub lengths : (count : ℕ) → length run.settled ≤ count → count ≤ length run.accepted → length_at count book.ordered book.reached ≡ length (state_to node count run).order
   pub tickets : All (λ reached. reached.ticket ≤ length run.accepted) book.reached
 
 -- ---- what comes of an event
@@ -102,7 +108,7 @@ pub record Stands {S : Type 0} (node : Node) (run : Run) (book : BookView S) : T
 pub record TakesNew {S : Type 0} (node : Node) (before later : BookView S) (event : Event) : Type 0 where
   pub taken_by : IsTaken node event
   pub outputs : List Output
-  pub answer : (run : Run) → Stands node run before → admit node (history_in run) event ≡ New outputs
+  pub answer : (run : Run) → Stands node run before → answered node (state_in node run) event ≡ New outputs
   pub stands : (run : Run) → Stands node run before → Stands node (with_accepted run event) later
   pub queue : later.queue ≡ before.queue ++ ticketed (before.accepted + 1) outputs
   pub pending : later.pending ≡ before.pending ++ record_of event ∷ []
@@ -115,13 +121,13 @@ pub record TakesNew {S : Type 0} (node : Node) (before later : BookView S) (even
 pub record TakesKnown {S : Type 0} (node : Node) (before later : BookView S) (event : Event) : Type 0 where
   pub taken_by : IsTaken node event
   pub outputs : List Output
-  pub answer : (run : Run) → Stands node run before → admit node (history_in run) event ≡ Known outputs
+  pub answer : (run : Run) → Stands node run before → answered node (state_in node run) event ≡ Known outputs
   pub stands : (run : Run) → Stands node run before → Stands node run later
   pub is : later ≡ record before { queue = before.queue ++ ticketed before.accepted outputs }
 
 -- an event would be new, and the run has accepted as much as it may
 abbrev pub IsFull : {S : Type 0} → Node → Run → BookView S → Event → Type 0
-IsFull node run book event = IsTrue (is_new (admit node (history_in run) event)) × (book.accepted ≡ MAX_ACCEPTED)
+IsFull node run book event = IsTrue (is_new (answered node (state_in node run) event)) × (book.accepted ≡ MAX_ACCEPTED)
 
 -- the run may accept more, or the event wouldn't be new at a state at which the validator stands
 abbrev pub HasPlace : {S : Type 0} → Node → BookView S → Event → Type 0
@@ -134,8 +140,8 @@ HasPlace node book event = (book.accepted < MAX_ACCEPTED) ⊎ IsOld
 abbrev pub MayRefuse : {S : Type 0} → Node → Run → BookView S → Event → Refusal → Type 0
 MayRefuse node run book event Memory = ⊤
 MayRefuse node run book event Down = book.down ≡ true
-MayRefuse node run book event StoreFull = (admit node (history_in run) event ≡ Refused StoreFull) ⊎ IsFull node run book event
-MayRefuse node run book event refusal = admit node (history_in run) event ≡ Refused refusal
+MayRefuse node run book event StoreFull = (answered node (state_in node run) event ≡ Refused StoreFull) ⊎ IsFull node run book event
+MayRefuse node run book event refusal = answered node (state_in node run) event ≡ Refused refusal
 
 -- ---- what goes out
 
@@ -147,12 +153,13 @@ releasable book = if book.down then None else settled_head book.settled book.que
 abbrev pub SettlesNext : {S : Type 0} → Node → BookView S → List (List ℕ) → Type 0
 SettlesNext node book group = (run : Run) × Stands node run book × Begins group (map record_of (drop (length run.settled) run.taken))
 
--- an output was put out after settled records, and may be given out there and after all that is settled
+-- an output goes out after the settled events that its ticket counts, and may be given out at each legal history that keeps the base,
+-- with all that is settled
 pub record GoesOutSettled (node : Node) (run : Run) (output : Output) : Type 0 where
   pub ticket : ℕ
   pub settled : ticket ≤ length run.settled
-  pub goes_out : GoesOut node (history_to ticket run) (put_out output)
-  pub may : MayGive node (settled_in run) output
+  pub goes_out : GoesOutAfter node run.base (take ticket run.accepted) output
+  pub may : (history : History) → IsLegal node history → kept node history ≡ run.base → MayGive node (history ++ run.settled) output
 
 -- a book stands at each run at which it stood before
 abbrev pub StandsAsBefore : {S : Type 0} → Node → BookView S → BookView S → Type 0

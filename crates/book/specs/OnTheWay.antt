@@ -1,15 +1,10 @@
 -- The groups that a book handed over and that aren't settled yet.
 use Rattle.std.specs.Prelude.{◌≡◌, ◌⊎◌, ℕ, ◌+◌, ◌≤◌, true, List, [], ◌∷◌, length, map, drop}
-use Rattle.spec_model.specs.Admitting.{IsLegal}
-use Rattle.spec_model.specs.Giving.{kept}
-use Rattle.spec_model.specs.Histories.{History}
 use Rattle.spec_model.specs.Nodes.{Node}
 use Rattle.spec_records.specs.Records.{record_of}
 use Rattle.journal.specs.Format.{file_with, group_bytes, stands}
 use Rattle.journal.specs.Journal.{stands_with}
 use Rattle.journal.specs.declared.layout.TheConstants.{MAX_JOURNAL_BYTES}
-use Rattle.admission.specs.declared.tables.Tables.{Tables}
-use Rattle.validator.specs.Standing.{AreAtSound}
 use Rattle.book.specs.Book.{BookView, Run, Stands, with_taken, with_settled}
 use Rattle.book.specs.Pending.{IsLongestBeginning, all_records}
 
@@ -22,12 +17,6 @@ pub record AreOnTheWay {S : Type 0} (node : Node) (book : BookView S) (groups : 
 -- a book stands at a run, whatever that is
 abbrev pub StandsSomewhere : {S : Type 0} → Node → BookView S → Type 0
 StandsSomewhere node book = (run : Run) × Stands node run book
-
--- there is a legal history at which a node's tables stand
-pub record StandsAtLegal (node : Node) (tables : Tables) : Type 0 where
-  pub history : History
-  pub legal : IsLegal node history
-  pub at : AreAtSound node tables (kept node history)
 
 -- a group has room after these bytes of a disk
 abbrev pub HasRoomFor : List (List ℕ) → List ℕ → Type 0

@@ -1,5 +1,7 @@
 -- What a book does is a step of its world.
 use Rattle.std.specs.Prelude.{◌≡◌, ◌⊎◌, ℕ, ◌+◌, List, [], ◌∷◌, ◌++◌, length, map, drop, Some, All, Contains}
+use Rattle.spec_model.specs.Admitting.{IsLegal}
+use Rattle.spec_model.specs.Giving.{kept}
 use Rattle.spec_model.specs.Histories.{History}
 use Rattle.spec_model.specs.Nodes.{Node, IsNode}
 use Rattle.spec_model.specs.Words.{Event, Output}
@@ -11,13 +13,14 @@ use Rattle.book.specs.Book.{BookView, Run, Stands, with_settled, TakesNew, Takes
 use Rattle.book.specs.OnTheWay.{Flushes, GoesDown}
 use Rattle.book.specs.Pending.{IsLongestBeginning}
 
--- the run of a world
-abbrev pub run_of : World → Run
-run_of world = record { began = world.began; accepted = world.accepted; taken = taken_in world; settled = world.settled }
+-- the run of a world: its base is what is kept of the history that the world's run began with
+abbrev pub run_of : Node → World → Run
+run_of node world = record { base = kept node world.began; accepted = world.accepted; taken = taken_in world; settled = world.settled }
 
--- a book is that of a world: it stands at its run, and what it queues waits there
+-- a book is that of a world: it stands at its run, what that began with is legal, and what it queues waits there
 pub record IsOf {S : Type 0} (node : Node) (world : World) (book : BookView S) : Type 0 where
-  pub stands : Stands node (run_of world) book
+  pub began : IsLegal node world.began
+  pub stands : Stands node (run_of node world) book
   pub waits : All (Contains world.waiting) book.queue
 
 -- a move leads from a world to one whose book this is
@@ -46,12 +49,12 @@ TakeIsAStep S = (node : Node) (world : World) (before later : BookView S) (group
 -- the first group on its way in the world, once its gate is synced, is settled there
 abbrev pub SettleIsAStep : Type 0 → Type 0
 SettleIsAStep S = (node : Node) (world : World) (before later : BookView S) (group : List (List ℕ)) → IsOf node world before → world.phase ≡ gate_synced → group_in world ≡ group
-    → Stands node (with_settled (run_of world) (length group)) later → later.queue ≡ before.queue → Moves node world settle later
+    → Stands node (with_settled (run_of node world) (length group)) later → later.queue ≡ before.queue → Moves node world settle later
 
 -- what is released goes out there
 abbrev pub ReleaseIsAStep : Type 0 → Type 0
 ReleaseIsAStep S = (node : Node) (world : World) (before later : BookView S) (output : Output) → IsOf node world before → releasable before ≡ Some output
-    → later ≡ record before { queue = drop 1 before.queue } → Stands node (run_of world) later
+    → later ≡ record before { queue = drop 1 before.queue } → Stands node (run_of node world) later
     → (ticket : ℕ) × Moves node world (release (record { ticket = ticket; output = output })) later
 
 -- a round of one owner that settled a group: it is taken, the four device calls are made, and it is settled. A disk that had these bytes

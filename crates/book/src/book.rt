@@ -93,26 +93,24 @@ impl<'a, S: Sign> Model for Book<'a, S> {
 impl<'a, S: Sign> Book<'a, S> {
     ghost use Rattle.std.specs.Prelude.{◌≢◌, ◌⊎◌, ◌∷◌, [], ◌++◌, ◌+◌, ◌≤◌, true, false, length, map, take, drop, IsTrue, IsNone, Ok, IfOk, IfErr, IfSome, OnErr, IsErrOf, ◌↔◌, is_some, if◌then◌else◌, List, ℕ};
     ghost use Rattle.header.specs.Checks.{fault_of, accepts_all};
-    ghost use Rattle.spec_model.specs.Giving.{kept};
-    ghost use Rattle.spec_model.specs.Holdings.{order as order_of, round as round_of};
-    ghost use Rattle.spec_model.specs.Histories.{History};
+    ghost use Rattle.spec_machine.specs.Machine.{round_in};
+    ghost use Rattle.spec_model.specs.States.{State};
     ghost use Rattle.wire.specs.Lists.{Begins};
-    ghost use Rattle.spec_model.specs.Admitting.{IsLegal};
     ghost use Rattle.validator.specs.Setting.{node_of};
     ghost use Rattle.validator.specs.Standing.{AreAtSound};
     ghost use Rattle.book.specs.Pending.{IsLongestBeginning};
-    ghost use Rattle.book.specs.Book.{Run, Stands, StandsAsBefore, run_on, history_in, settled_in, with_taken, with_settled, TakesNew, TakesKnown, MayRefuse, IsFull, HasPlace, releasable, SettlesNext, GoesOutSettled};
+    ghost use Rattle.book.specs.Book.{Run, Stands, StandsAsBefore, run_on, state_in, settled_in, with_taken, with_settled, TakesNew, TakesKnown, MayRefuse, IsFull, HasPlace, releasable, SettlesNext, GoesOutSettled};
 
     /// A book over this validator that has accepted nothing.
     pub fn new(alloc: Global, validator: Validator<'a, S>) -> Book<'a, S>
-        ensures stands { let node = node_of S.scheme validator.entry.setting in (began : History) → IsLegal node began
-            → AreAtSound node validator.entry.tables (kept node began)
-            → Stands node (run_on began) result }
+        ensures stands { let node = node_of S.scheme validator.entry.setting in (base : State) → AreAtSound node validator.entry.tables base
+            → Stands node (run_on base) result }
         ensures validator { result.validator ≡ validator.entry }
         ensures pending { result.pending ≡ [] }
         ensures queue { result.queue ≡ [] }
         ensures up { result.down ≡ false }
     {
+        validator.limits_hold();
         let ordered = validator.order().len() as u64;
         Book {
             alloc,
@@ -158,7 +156,6 @@ impl<'a, S: Sign> Book<'a, S> {
         ensures err { OnErr result (self.new ≡ self.old) }
         ensures setting { self.new.validator.setting ≡ self.old.validator.setting }
     {
-        spec_laws::outputs_given();
         event.message().limits_hold();
         if self.down {
             return Err(Refusal::Down);
@@ -316,7 +313,7 @@ impl<'a, S: Sign> Book<'a, S> {
     /// The validator's round, after all that was accepted.
     pub fn round_now(&self) -> u64
         ensures { let node = node_of S.scheme self.now.validator.setting in (run : Run) → Stands node run self.now
-            → result ≡ round_of node (history_in run) }
+            → result ≡ round_in node (state_in node run) }
     {
         self.validator.round()
     }
@@ -328,11 +325,10 @@ impl<'a, S: Sign> Book<'a, S> {
     /// `Down` where the book is down, `Memory` where an allocation failed.
     pub fn order(&self, from: u64) -> Result<Vec<Digest>, Refusal>
         ensures order { let node = node_of S.scheme self.now.validator.setting in IfOk result (λ digests. (run : Run) → Stands node run self.now
-            → digests.items ≡ drop from (order_of node (settled_in run))) }
+            → digests.items ≡ drop from (settled_in node run).order) }
         ensures down { IsErrOf result Refusal.Down ↔ IsTrue self.now.down }
         ensures errors { IfErr result (λ refusal. (refusal ≡ Refusal.Down) ⊎ (refusal ≡ Refusal.Memory)) }
     {
-        spec_laws::order_grows();
         if self.down {
             return Err(Refusal::Down);
         }

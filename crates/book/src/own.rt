@@ -49,27 +49,24 @@ impl<'a, S: Sign> OwnBook<'a, S> {
     ghost use Rattle.spec_records.specs.Records.{record_of};
     ghost use Rattle.validator.specs.Setting.{node_of};
     ghost use Rattle.validator.specs.Standing.{AreAtSound};
-    ghost use Rattle.book.specs.Book.{Run, Stands, StandsAsBefore, run_on, with_settled, SettlesNext, TakesNew, TakesKnown, MayRefuse, GoesOutSettled, releasable, history_in, settled_in};
+    ghost use Rattle.book.specs.Book.{Run, Stands, StandsAsBefore, run_on, with_settled, SettlesNext, TakesNew, TakesKnown, MayRefuse, GoesOutSettled, releasable, state_in, settled_in};
     ghost use Rattle.book.specs.declared.book.TheConstants.{MAX_ACCEPTED};
-    ghost use Rattle.spec_model.specs.Admitting.{IsLegal};
-    ghost use Rattle.spec_model.specs.Giving.{kept};
-    ghost use Rattle.spec_model.specs.Histories.{History};
+    ghost use Rattle.spec_machine.specs.Machine.{round_in};
+    ghost use Rattle.spec_model.specs.States.{State};
     ghost use Rattle.wire.specs.Lists.{Begins};
-    ghost use Rattle.spec_model.specs.Holdings.{order as order_of, round as round_of};
-    ghost use Rattle.book.specs.OnTheWay.{AreOnTheWay, Flushes, FindsNoRoom, FailsWithRoom, IsWithOrWithout, StandsAtLegal};
+    ghost use Rattle.book.specs.OnTheWay.{AreOnTheWay, Flushes, FindsNoRoom, FailsWithRoom, IsWithOrWithout};
     ghost use Rattle.book.specs.Pending.{IsLongestBeginning};
 
-    /// A book that has accepted nothing, over a validator that stands at a history.
+    /// A book over this validator that has accepted nothing.
     pub fn new(alloc: Global, validator: Validator<'a, S>) -> OwnBook<'a, S>
-        requires { StandsAtLegal (node_of S.scheme validator.setting) validator.tables }
-        ensures stands { let node = node_of S.scheme validator.entry.setting in (began : History) → IsLegal node began
-            → AreAtSound node validator.entry.tables (kept node began)
-            → Stands node (run_on began) result }
+        ensures stands { let node = node_of S.scheme validator.entry.setting in (base : State) → AreAtSound node validator.entry.tables base
+            → Stands node (run_on base) result }
         ensures validator { result.validator ≡ validator.entry }
         ensures pending { result.pending ≡ [] }
         ensures queue { result.queue ≡ [] }
         ensures up { result.down ≡ false }
     {
+        validator.limits_hold();
         OwnBook {
             book: Book::new(alloc, validator),
         }
@@ -240,7 +237,7 @@ impl<'a, S: Sign> OwnBook<'a, S> {
     /// The validator's round, after all that was accepted.
     pub fn round_now(&self) -> u64
         ensures { let node = node_of S.scheme self.now.validator.setting in (run : Run) → Stands node run self.now
-            → result ≡ round_of node (history_in run) }
+            → result ≡ round_in node (state_in node run) }
     {
         self.book.round_now()
     }
@@ -251,7 +248,7 @@ impl<'a, S: Sign> OwnBook<'a, S> {
     /// `Down` where the book is down, `Memory` where an allocation failed.
     pub fn order(&self, from: u64) -> Result<Vec<Digest>, Refusal>
         ensures order { let node = node_of S.scheme self.now.validator.setting in IfOk result (λ digests. (run : Run) → Stands node run self.now
-            → digests.items ≡ drop from (order_of node (settled_in run))) }
+            → digests.items ≡ drop from (settled_in node run).order) }
         ensures down { IsErrOf result Refusal.Down ↔ IsTrue self.now.down }
         ensures errors { IfErr result (λ refusal. (refusal ≡ Refusal.Down) ⊎ (refusal ≡ Refusal.Memory)) }
     {

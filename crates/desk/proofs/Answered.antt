@@ -82,7 +82,7 @@ module _ {S D : Type 0} (node : Node) (device : Device D) (before later : DeskVi
       fails_as (inr is_device) world is =
           let found = fails (ap (λ (e : FlushError). Err e) is_device) in
           goes_down node device world before is up law later found.0 (λ bytes may.
-          told_either node device (steps.run_of world) before.book before.journal is.is_of_world.stands (is.is_of.up up) found.0.group later.book.pending found.0.takes bytes (left bytes may))
+          told_either node device (steps.run_of node world) before.book before.journal is.is_of_world.stands (is.is_of.up up) found.0.group later.book.pending found.0.takes bytes (left bytes may))
 
 -- at Ok a journal is alive
 pub alive_at_ok : {D : Type 0} (device : Device D) (journal : Journal D) (answer : Result ℕ FlushError) → IsErrOf answer errors.Device ⊎ IsAlive device journal

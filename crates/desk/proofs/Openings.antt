@@ -1,46 +1,39 @@
 -- A desk that is opened.
-use Rattle.std.proofs.Common.{◌≡◌, ◌≢◌, ℕ, ◌≤◌, false, inl, inr, List, [], ◌++◌, Result, Ok, Err, refl, sym, ap, ◌∙◌, append-nil}
+use Rattle.std.proofs.Common.{◌≡◌, ◌≢◌, ℕ, ◌≤◌, false, inl, inr, List, [], Ok, Err, refl, sym, ap, ◌∙◌}
 use Rattle.admission.specs.declared.tables.Tables.{Tables}
 use Rattle.book.specs.Book as book
-use Rattle.book.specs.OnTheWay.{StandsAtLegal}
 use Rattle.diskmodel.specs.Disk.{Device}
 use Rattle.journal.specs.Format.{stands}
 use Rattle.journal.specs.Journal.{disk_of, IsAlive}
 use Rattle.journal.specs.declared.error.JournalError.{JournalError}
-use Rattle.journal.specs.declared.error.JournalError.TheVariants as errors
 use Rattle.journal.specs.declared.journal.Journal.{Journal}
 use Rattle.journal.specs.declared.error.Failed.{Failed}
 use Rattle.opening.specs.Laws.{IsOpening}
 use Rattle.opening.specs.Told.{told, StandsAt}
-use Rattle.spec_model.specs.Admitting.{IsLegal}
-use Rattle.spec_model.specs.Giving.{kept}
-use Rattle.spec_model.specs.Histories.{History}
+use Rattle.spec_machine.proofs.AfterAll.{after_none}
 use Rattle.spec_model.specs.Nodes.{Node}
+use Rattle.spec_model.specs.States.{State}
 use Rattle.validator.specs.Standing.{AreAtSound}
 use Rattle.desk.specs.Desk.{IsOpened, IsNotOpened}
 use Rattle.desk.proofs.Standing.{left_firm}
 
--- tables that stand at what was read
-pub legal_of : (node : Node) (read : Result History JournalError) (tables : Tables) → StandsAt node read tables → StandsAtLegal node tables
-legal_of node read tables at = record { history = at.history; legal = at.legal; at = at.at }
-
 -- a new book over what an opening gives
 pub opened_of : {S D : Type 0} (node : Node) (device : Device D) (bytes : List ℕ) (tables : Tables) (one : book.BookView S) (journal : Journal D) → StandsAt node (told node bytes) tables
-    → ((began : History) → IsLegal node began → AreAtSound node tables (kept node began) → book.Stands node (book.run_on began) one)
+    → ((base : State) → AreAtSound node tables base → book.Stands node (book.run_on base) one)
     → one.queue ≡ [] → one.down ≡ false → IsAlive device journal → stands (device.content (disk_of journal)) ≢ Ok [] → told node (device.content (disk_of journal)) ≡ told node bytes
     → IsOpened node device bytes (record { book = one; journal = journal })
 opened_of node device bytes tables one journal at stands_at queue up alive configured same =
-    let told_as : told node (device.content (disk_of journal)) ≡ Ok (at.history ++ []) = same ∙ at.is_read ∙ ap Ok (sym (append-nil at.history)) in
+    let told_as : told node (device.content (disk_of journal)) ≡ Ok (book.settled_in node (book.run_on at.state)) = same ∙ at.is_read ∙ ap Ok (sym (after_none node at.state)) in
     record {
-      history = at.history;
+      state = at.state;
       told_first = at.is_read;
       up = up;
       alive = alive;
       waits = queue;
       is_of = record {
-        stands_at = stands_at at.history at.legal at.at;
+        stands_at = stands_at at.state at.at;
         up = λ _. record { configured = configured; told_as = told_as; settled = refl };
-        left = left_firm node device (book.run_on at.history) journal told_as alive;
+        left = left_firm node device (book.run_on at.state) journal told_as alive;
       };
     }
 
@@ -57,8 +50,8 @@ not_opened_of node device disk_in disk failed at counts = record {
 }
 
 -- a book that stands at a run that has done nothing has taken what it settled
-pub nothing_taken : {S : Type 0} (node : Node) (history : History) (one : book.BookView S) → book.Stands node (book.run_on history) one → one.taken ≡ one.settled
-nothing_taken node history one at = at.taken ∙ sym at.settled
+pub nothing_taken : {S : Type 0} (node : Node) (base : State) (one : book.BookView S) → book.Stands node (book.run_on base) one → one.taken ≡ one.settled
+nothing_taken node base one at = at.taken ∙ sym at.settled
 
 -- an opening that failed after a stop of the machine
 pub stopped_of : (node : Node) (error : JournalError) (found : List ℕ) (before possible left : List ℕ → Type 0)

@@ -11,9 +11,10 @@ use Rattle.journal.specs.declared.journal.Journal.{Journal}
 use Rattle.opening.specs.Told.{told}
 use Rattle.opening.proofs.Longer.{told_more, some_more}
 use Rattle.opening.proofs.Telling.{told_same}
-use Rattle.spec_laws.proofs.Legal.{legal-begins}
-use Rattle.spec_model.specs.Admitting.{IsLegal}
+use Rattle.spec_machine.specs.After.{after_all, IsLegalAfter}
+use Rattle.spec_machine.proofs.AfterAll.{after_append, after_joins}
 use Rattle.spec_model.specs.Histories.{History}
+use Rattle.spec_model.specs.States.{State}
 use Rattle.wire.specs.Lists.{Begins}
 use Rattle.spec_model.specs.Nodes.{Node}
 use Rattle.spec_records.specs.Records.{record_of}
@@ -38,8 +39,8 @@ module _ {S D : Type 0} (node : Node) (device : Device D) (run : book.Run) (befo
   abbrev file : List ℕ
   file = device.content (disk_of old)
 
-  abbrev with_count : ℕ → History
-  with_count count = run.began ++ take (length run.taken + count) run.accepted
+  abbrev with_count : ℕ → State
+  with_count count = after_all node run.base (take (length run.taken + count) run.accepted)
 
   -- what bytes with that group more are told as
   pub told_with : (group rest : List (List ℕ)) → IsLongestBeginning before.pending group rest → (bytes : List ℕ) → stands bytes ≡ stands_with file group
@@ -47,24 +48,22 @@ module _ {S D : Type 0} (node : Node) (device : Device D) (run : book.Run) (befo
   told_with group rest longest bytes with_it =
       let count = length run.taken + length group in
       let events = take (length group) (drop (length run.taken) run.accepted) in
-      let more : take count run.accepted ≡ run.taken ++ events = taken_more run.taken run.accepted (length group) at.taken_begins in
+      let more : take count run.accepted ≡ run.settled ++ events =
+      taken_more run.taken run.accepted (length group) at.taken_begins ∙ ap (λ (l : History). l ++ events) up.settled in
       let records : group ≡ map record_of events =
       sym (take_at group rest (length group) refl) ∙ ap (take (length group)) (sym longest.parts ∙ at.pending) ∙ take-map record_of (length group) (drop (length run.taken) run.accepted) in
-      let whole : (run.began ++ run.settled) ++ events ≡ with_count (length group) =
-      append_assoc run.began run.settled events ∙ ap (λ (l : History). run.began ++ (l ++ events)) (sym up.settled) ∙ ap (λ (l : History). run.began ++ l) (sym more) in
-      let parts : run.began ++ run.accepted ≡ with_count (length group) ++ drop count run.accepted =
-      ap (λ (l : History). run.began ++ l) (sym (take-append-drop count run.accepted)) ∙ sym (append_assoc run.began (take count run.accepted) (drop count run.accepted)) in
-      let legal : IsLegal node (with_count (length group)) = legal-begins node (with_count (length group)) (drop count run.accepted) (subst (IsLegal node) parts at.legal) in
-      told_more node file bytes (run.began ++ run.settled) up.configured up.told_as events (with_it ∙ ap (stands_with file) records) (subst (IsLegal node) (sym whole) legal)
-      ∙ ap Ok whole
+      let legal : IsLegalAfter node run.base (run.settled ++ events) = subst (IsLegalAfter node run.base) more
+      ((after_joins node run.base (take count run.accepted) (drop count run.accepted)).parts (subst (IsLegalAfter node run.base) (sym (take-append-drop count run.accepted)) at.legal)).0 in
+      told_more node file bytes (book.settled_in node run) up.configured up.told_as events (with_it ∙ ap (stands_with file) records) ((after_joins node run.base run.settled events).parts legal).1
+      ∙ ap Ok (sym (after_append node run.base run.settled events) ∙ ap (after_all node run.base) (sym more))
 
   -- and it still has the configuration
   pub configured_with : (group : List (List ℕ)) (bytes : List ℕ) → stands bytes ≡ stands_with file group → stands bytes ≢ Ok []
-  configured_with group bytes with_it = some_more node file bytes (run.began ++ run.settled) up.configured up.told_as group with_it
+  configured_with group bytes with_it = some_more node file bytes (book.settled_in node run) up.configured up.told_as group with_it
 
   -- whatever a stop leaves while that group is added is told as what is settled, or with the group
   pub told_either : (group rest : List (List ℕ)) → IsLongestBeginning before.pending group rest → (bytes : List ℕ) → IsWithOrWithout before.pending file bytes
-      → (told node bytes ≡ Ok (book.settled_in run)) ⊎ (told node bytes ≡ Ok (with_count (length group)))
+      → (told node bytes ≡ Ok (book.settled_in node run)) ⊎ (told node bytes ≡ Ok (with_count (length group)))
   told_either group rest longest bytes (inl same) = inl (told_same node bytes file same ∙ up.told_as)
   told_either group rest longest bytes (inr with_it) =
       let pending = drop (length run.taken) run.accepted in
@@ -74,7 +73,7 @@ module _ {S D : Type 0} (node : Node) (device : Device D) (run : book.Run) (befo
       inr (told_with with_it.0 with_it.1 with_it.2 bytes with_it.3 ∙ ap (λ (n : ℕ). Ok (with_count n)) same)
 
 -- what a firm disk leaves is told as what is settled
-pub left_firm : {D : Type 0} (node : Node) (device : Device D) (run : book.Run) (journal : Journal D) → told node (device.content (disk_of journal)) ≡ Ok (book.settled_in run)
+pub left_firm : {D : Type 0} (node : Node) (device : Device D) (run : book.Run) (journal : Journal D) → told node (device.content (disk_of journal)) ≡ Ok (book.settled_in node run)
     → IsAlive device journal → IsLeft node device run journal
 left_firm {D} node device run journal told_as alive bytes left = inl (ap (told node) (alive.firm bytes left) ∙ told_as)
 

@@ -1,5 +1,5 @@
 -- A desk in its world after each call.
-use Rattle.std.proofs.Common.{◌≡◌, ◌⊎◌, ℕ, ◌+◌, ◌≤◌, true, false, inl, inr, List, [], ◌∷◌, ◌++◌, length, take, drop, Result, Ok, refl, sym, ap, ◌∙◌, subst, arith, append-nil}
+use Rattle.std.proofs.Common.{◌≡◌, ◌⊎◌, ℕ, ◌+◌, ◌≤◌, true, false, inl, inr, List, [], ◌∷◌, ◌++◌, length, take, drop, Result, Ok, refl, sym, ap, ◌∙◌, subst, arith, append-nil, append_assoc}
 use Rattle.std.specs.Prelude.{All, Contains, Some}
 use Rattle.std.proofs.lemmas.Bool.{cases_Bool, true≢false}
 use Rattle.std.proofs.lemmas.List.{length-map}
@@ -11,9 +11,16 @@ use Rattle.journal.specs.Format.{stands}
 use Rattle.journal.specs.Journal.{disk_of, IsAlive, stands_with}
 use Rattle.journal.specs.declared.error.JournalError.{JournalError}
 use Rattle.opening.specs.Told.{told}
-use Rattle.spec_model.specs.Admitting.{admit}
+use Rattle.spec_laws.proofs.Legal.{legal-begins}
+use Rattle.spec_machine.specs.After.{after_all}
+use Rattle.spec_machine.specs.Laws.{StartsFresh}
+use Rattle.spec_machine.proofs.AfterAll.{after_is_kept, legal_again}
+use Rattle.spec_model.specs.Admitting.{admit, IsTaken, IsLegal}
+use Rattle.spec_model.specs.Giving.{kept as kept_in}
 use Rattle.spec_model.specs.Histories.{History}
 use Rattle.spec_model.specs.Nodes.{Node, IsNode}
+use Rattle.spec_model.specs.States.{State}
+use Rattle.wire.specs.Lists.{Begins}
 use Rattle.spec_model.specs.Words.{Event, Output}
 use Rattle.header.specs.declared.admission.Admission.{Admission}
 use Rattle.header.specs.declared.admission.Admission.TheVariants.{New, Known, Refused}
@@ -26,7 +33,7 @@ use Rattle.spec_world.proofs.GoingOn.{stops_are_possible, runs_begin_with_what_s
 use Rattle.spec_world.proofs.Groups.{taken_more}
 use Rattle.spec_world.proofs.Histories.{settled_stands}
 use Rattle.spec_world.proofs.Law.{nothing_taken_back}
-use Rattle.desk.specs.Desk.{DeskView, IsUp, IsLeft, IsOf, IsOpened}
+use Rattle.desk.specs.Desk.{DeskView, taken_in as taken_state, IsUp, IsLeft, IsOf, IsOpened}
 use Rattle.desk.specs.AtWorld.{HasTaken, IsAt, LeadsTo, IsStop}
 use Rattle.desk.proofs.Runs.{leads_one}
 use Rattle.spec_world.proofs.Scripts.{leads_join, run_more}
@@ -57,7 +64,7 @@ none_taken world idle = ap (λ (l : List History). world.settled ++ events_of l)
 
 module _ {S D : Type 0} (node : Node) (device : Device D) (world : World) (before : DeskView S D) (is : IsAt node device world before) (up : before.book.down ≡ false) where
   abbrev run : book.Run
-  run = steps.run_of world
+  run = steps.run_of node world
 
   idle : world.groups ≡ []
   idle = is.idle up
@@ -72,14 +79,15 @@ module _ {S D : Type 0} (node : Node) (device : Device D) (world : World) (befor
       let still = is.is_of.up up in
       let leads = leads_one node world move next step in
       let none : next.groups ≡ [] = kept.groups ∙ idle in
-      let settled : next.began ++ next.settled ≡ world.began ++ world.settled = (λ i. kept.began i ++ kept.settled i) in
-      let taken : next.began ++ taken_in next ≡ world.began ++ taken_in world = (λ i. kept.began i ++ (none_taken next none ∙ kept.settled ∙ sym (none_taken world idle)) i) in
-      let is_up : IsUp node device (steps.run_of next) later.journal = subst (IsUp node device (steps.run_of next)) (sym same) (record {
+      let settled : book.settled_in node (steps.run_of node next) ≡ book.settled_in node run = (λ i. after_all node (kept_in node (kept.began i)) (kept.settled i)) in
+      let taken : taken_state node (steps.run_of node next) ≡ taken_state node run =
+      (λ i. after_all node (kept_in node (kept.began i)) ((none_taken next none ∙ kept.settled ∙ sym (none_taken world idle)) i)) in
+      let is_up : IsUp node device (steps.run_of node next) later.journal = subst (IsUp node device (steps.run_of node next)) (sym same) (record {
         configured = still.configured;
         told_as = still.told_as ∙ ap Ok (sym settled);
         settled = none_taken next none;
       }) in
-      let left : IsLeft node device (steps.run_of next) later.journal = subst (IsLeft node device (steps.run_of next)) (sym same) (λ bytes may.
+      let left : IsLeft node device (steps.run_of node next) later.journal = subst (IsLeft node device (steps.run_of node next)) (sym same) (λ bytes may.
       elim (is.is_of.left bytes may) [ inl so ↦ inl (so ∙ ap Ok (sym settled)) | inr with_it ↦ inr (with_it ∙ ap Ok (sym taken)) ]) in
       record {
         next = next;
@@ -115,7 +123,7 @@ module _ {S D : Type 0} (node : Node) (device : Device D) (world : World) (befor
       )
 
   pub reads : LeadsTo node device world (read_order ∷ []) before
-  reads = stays before read_order _ refl (record { began = refl; settled = refl; groups = refl }) (record { stands = is.is_of_world.stands; waits = is.is_of_world.waits }) up refl
+  reads = stays before read_order _ refl (record { began = refl; settled = refl; groups = refl }) (record { began = is.is_of_world.began; stands = is.is_of_world.stands; waits = is.is_of_world.waits }) up refl
 
   -- ---- a round
 
@@ -130,9 +138,9 @@ module _ {S D : Type 0} (node : Node) (device : Device D) (world : World) (befor
       let at = is.is_of_world.stands in
       let with_it = ap stands new_is ∙ flush.records ∙ ap (λ (l : List ℕ). stands_with l flush.group) (sym old_is) in
       let number : length (taken_in world) + length flush.group ≡ length world.settled + count = omega (arith, ap length (none_taken world idle), flush.counts) in
-      let all : world.began ++ take (length (taken_in world) + length flush.group) world.accepted ≡ next.began ++ next.settled =
-      (λ i. sym settled.began i ++ take (number i) world.accepted) ∙ ap (λ (l : History). next.began ++ l) (sym settled.settled) in
-      let told_as : told node (device.content (disk_of later.journal)) ≡ Ok (next.began ++ next.settled) =
+      let all : after_all node (kept_in node world.began) (take (length (taken_in world) + length flush.group) world.accepted) ≡ book.settled_in node (steps.run_of node next) =
+      (λ i. after_all node (kept_in node (sym settled.began i)) (take (number i) world.accepted)) ∙ ap (after_all node (kept_in node next.began)) (sym settled.settled) in
+      let told_as : told node (device.content (disk_of later.journal)) ≡ Ok (book.settled_in node (steps.run_of node next)) =
       told_with node device run before.book before.journal at still flush.group later.book.pending flush.takes (device.content (disk_of later.journal)) with_it ∙ ap Ok all in
       record {
         next = next;
@@ -149,7 +157,7 @@ module _ {S D : Type 0} (node : Node) (device : Device D) (world : World) (befor
               told_as = told_as;
               settled = none_taken next settled.groups;
             };
-            left = left_firm node device (steps.run_of next) later.journal told_as alive;
+            left = left_firm node device (steps.run_of node next) later.journal told_as alive;
           };
           idle = λ _. settled.groups;
           taken = λ down. absurd (true≢false (sym down ∙ ap (λ (b : book.BookView S). b.down) flush.is ∙ up));
@@ -158,7 +166,8 @@ module _ {S D : Type 0} (node : Node) (device : Device D) (world : World) (befor
 
   pub goes_down : steps.FailIsAStep S → (later : DeskView S D) (down : GoesDown node before.book later.book)
       → ((bytes : List ℕ) → device.outcome (disk_of later.journal) bytes
-      → (told node bytes ≡ Ok (world.began ++ world.settled)) ⊎ (told node bytes ≡ Ok (world.began ++ take (length (taken_in world) + length down.group) world.accepted)))
+      → (told node bytes ≡ Ok (book.settled_in node run))
+      ⊎ (told node bytes ≡ Ok (after_all node (kept_in node world.began) (take (length (taken_in world) + length down.group) world.accepted))))
       → (count : ℕ) × LeadsTo node device world (take_to count ∷ []) later
   goes_down law later down left =
       let takes = law node world before.book later.book is.is_of_world down in
@@ -185,8 +194,8 @@ module _ {S D : Type 0} (node : Node) (device : Device D) (world : World) (befor
               stands_at = moves.is_of.stands;
               up = λ off. absurd (true≢false (sym is_down ∙ off));
               left = λ bytes may. elim (left bytes may) [
-                | inl so ↦ inl (so ∙ (λ i. Ok (sym began i ++ sym settled i)))
-                | inr with_it ↦ inr (with_it ∙ (λ i. Ok (sym began i ++ sym taken i)))
+                | inl so ↦ inl (so ∙ (λ i. Ok (after_all node (kept_in node (sym began i)) (sym settled i))))
+                | inr with_it ↦ inr (with_it ∙ (λ i. Ok (after_all node (kept_in node (sym began i)) (sym taken i))))
               ];
             };
             idle = λ off. absurd (true≢false (sym is_down ∙ off));
@@ -234,31 +243,62 @@ calls_four node world sound has =
       stands = subst (λ (b : List ℕ). StandsFor node b (world.began ++ taken_in world)) bytes (subst (StandsFor node (content_in last)) all (as_journal settled.holds));
     }
 
-ok_is : (one other : History) → ◌≡◌ {A = Result History JournalError} (Ok one) (Ok other) → one ≡ other
+ok_is : (one other : State) → ◌≡◌ {A = Result State JournalError} (Ok one) (Ok other) → one ≡ other
 ok_is one other same = cc
 
+-- what follows in a world's run is legal after what that began with, and what is kept of both is the state after it
+record IsWithin (node : Node) (world : World) (events : History) : Type 0 where
+  legal : IsLegal node (world.began ++ events)
+  keeps : after_all node (kept_in node world.began) events ≡ kept_in node (world.began ++ events)
+
+within : {S : Type 0} (node : Node) (world : World) (one : book.BookView S) → steps.IsOf node world one → (events : History) → Begins events world.accepted → IsWithin node world events
+within node world one of events begins =
+    let all : IsLegal node (world.began ++ world.accepted) = legal_again node world.began world.accepted of.began of.stands.legal in
+    let parts : world.began ++ world.accepted ≡ (world.began ++ events) ++ begins.rest =
+    ap (λ (l : History). world.began ++ l) begins.parts ∙ sym (append_assoc world.began events begins.rest) in
+    let legal : IsLegal node (world.began ++ events) = legal-begins node (world.began ++ events) begins.rest (subst (IsLegal node) parts all) in
+    record { legal = legal; keeps = after_is_kept node world.began events legal }
+
+begins_trans : {X : Type 0} (one two three : List X) → Begins one two → Begins two three → Begins one three
+begins_trans one two three first second = record {
+  rest = first.rest ++ second.rest;
+  parts = second.parts ∙ ap (λ l. l ++ second.rest) first.parts ∙ append_assoc one first.rest second.rest;
+}
+
 module _ {S D : Type 0} (node : Node) (device : Device D) where
-  -- a desk that was opened is at a world that begins with what it was opened on
+  -- a desk that was opened is at a world that begins with a history of which what it was opened on is told as kept
   pub opened_at : (bytes : List ℕ) (desk : DeskView S D) → IsNode node → IsOpened node device bytes desk → (moves : List Move) (world : World) → IsRun node moves world
-      → (history : History) → told node bytes ≡ Ok history → world ≡ run_on world.bytes_at_start history world.given → IsAt node device world desk
-  opened_at bytes desk sound opened moves world run history is same =
-      let first : opened.history ≡ history = ok_is opened.history history (sym opened.told_first ∙ is) in
-      let runs : book.run_on opened.history ≡ steps.run_of world = ap book.run_on first ∙ sym (ap steps.run_of same) in
-      let of : IsOf node device (steps.run_of world) desk = subst (λ (r : book.Run). IsOf node device r desk) runs opened.is_of in
+      → (history : History) → IsLegal node history → told node bytes ≡ Ok (kept_in node history) → world ≡ run_on world.bytes_at_start history world.given → IsAt node device world desk
+  opened_at bytes desk sound opened moves world run history legal is same =
+      let first : opened.state ≡ kept_in node history = ok_is opened.state (kept_in node history) (sym opened.told_first ∙ is) in
+      let runs : book.run_on opened.state ≡ steps.run_of node world = ap book.run_on first ∙ sym (ap (steps.run_of node) same) in
+      let of : IsOf node device (steps.run_of node world) desk = subst (λ (r : book.Run). IsOf node device r desk) runs opened.is_of in
       record {
         sound = sound;
         moves = moves;
         run = run;
-        is_of_world = record { stands = of.stands_at; waits = subst (All (Contains world.waiting)) (sym opened.waits) (All-nil (Contains world.waiting)) };
+        is_of_world = record {
+          began = subst (IsLegal node) (sym (ap (λ (w : World). w.began) same)) legal;
+          stands = of.stands_at;
+          waits = subst (All (Contains world.waiting)) (sym opened.waits) (All-nil (Contains world.waiting));
+        };
         is_of = of;
         idle = λ _. ap (λ (w : World). w.groups) same;
         taken = λ down. absurd (true≢false (sym down ∙ opened.up));
       }
 
+  -- which is legal, being a run's
+  pub opened_at_begun : (bytes : List ℕ) (desk : DeskView S D) → IsNode node → IsOpened node device bytes desk → (moves : List Move) (world : World) → IsRun node moves world
+      → (history : History) → told node bytes ≡ Ok (kept_in node history) → world ≡ run_on world.bytes_at_start history world.given → IsAt node device world desk
+  opened_at_begun bytes desk sound opened moves world run history is same =
+      let all : world.began ++ world.accepted ≡ history = ap (λ (w : World). w.began ++ w.accepted) same ∙ append-nil history in
+      opened_at bytes desk sound opened moves world run history (subst (IsLegal node) all (nothing_taken_back node moves world sound run).in_order.legal) is same
+
   -- a run that begins on what a stop leaves in a world
   restarts : (bytes : List ℕ) (desk : DeskView S D) → IsNode node → IsOpened node device bytes desk → (moves : List Move) (world : World) → IsRun node moves world
-      → (history : History) → told node bytes ≡ Ok history → StandsFor node (content_in world) history → LeadsTo node device world (restart (content_in world) ∷ []) desk
-  restarts bytes desk sound opened moves world run history is stands =
+      → (history : History) → IsLegal node history → told node bytes ≡ Ok (kept_in node history) → StandsFor node (content_in world) history
+      → LeadsTo node device world (restart (content_in world) ∷ []) desk
+  restarts bytes desk sound opened moves world run history legal is stands =
       let found = content_in world in
       let there = runs_begin_with_what_stands node moves world found history sound run (stops_are_possible node moves world sound run) stands in
       let next = there.0 in
@@ -268,7 +308,7 @@ module _ {S D : Type 0} (node : Node) (device : Device D) where
       record {
         next = next;
         leads = leads;
-        is_at = opened_at bytes desk sound opened (moves ++ restart found ∷ []) next (run_more node moves (restart found ∷ []) world next run leads) history is same;
+        is_at = opened_at bytes desk sound opened (moves ++ restart found ∷ []) next (run_more node moves (restart found ∷ []) world next run leads) history legal is same;
       }
 
   -- the moves of a stop lead to a desk that was opened on what it left
@@ -276,10 +316,22 @@ module _ {S D : Type 0} (node : Node) (device : Device D) where
       → (desk : DeskView S D) → IsOpened node device bytes desk → (moves : List Move) × IsStop world moves × LeadsTo node device world moves desk
   stops world before is bytes may desk opened = elim (cases_Bool before.book.down) [ inl so ↦ down so | inr off ↦ up off ]
     where
-      at_once : told node bytes ≡ Ok (world.began ++ world.settled) → StandsFor node (content_in world) (world.began ++ world.settled)
+      of : steps.IsOf node world before.book
+      of = is.is_of_world
+
+      settled : IsWithin node world world.settled
+      settled = within node world before.book of world.settled (begins_trans world.settled (taken_in world) world.accepted of.stands.settled_begins of.stands.taken_begins)
+
+      taken : IsWithin node world (taken_in world)
+      taken = within node world before.book of (taken_in world) of.stands.taken_begins
+
+      at_once : told node bytes ≡ Ok (book.settled_in node (steps.run_of node world)) → StandsFor node (content_in world) (world.began ++ world.settled)
           → (moves : List Move) × IsStop world moves × LeadsTo node device world moves desk
-      at_once told_as stands =
-          (restart (content_in world) ∷ [], (content_in world, inl refl), restarts bytes desk is.sound opened is.moves world is.run (world.began ++ world.settled) told_as stands)
+      at_once told_as stands = (
+        restart (content_in world) ∷ [],
+        (content_in world, inl refl),
+        restarts bytes desk is.sound opened is.moves world is.run (world.began ++ world.settled) settled.legal (told_as ∙ ap Ok settled.keeps) stands,
+      )
 
       up : before.book.down ≡ false → (moves : List Move) × IsStop world moves × LeadsTo node device world moves desk
       up off =
@@ -287,16 +339,16 @@ module _ {S D : Type 0} (node : Node) (device : Device D) where
           let stands = settled_stands node is.moves world is.sound is.run idle in
           elim (is.is_of.left bytes may) [
             | inl so ↦ at_once so stands
-            | inr with_it ↦ at_once (with_it ∙ ap (λ (l : History). Ok (world.began ++ l)) (none_taken world idle)) stands
+            | inr with_it ↦ at_once (with_it ∙ ap (λ (l : History). Ok (after_all node (kept_in node world.began) l)) (none_taken world idle)) stands
           ]
 
-      stopped : HasTaken node world → told node bytes ≡ Ok (world.began ++ taken_in world) → (moves : List Move) × IsStop world moves × LeadsTo node device world moves desk
+      stopped : HasTaken node world → told node bytes ≡ Ok (taken_state node (steps.run_of node world)) → (moves : List Move) × IsStop world moves × LeadsTo node device world moves desk
       stopped has told_as =
           let four = calls_four node world is.sound has in
           let calls = device_call ∷ device_call ∷ device_call ∷ device_call ∷ [] in
           let found = content_in four.next in
           let run = run_more node is.moves calls world four.next is.run four.leads in
-          let to = restarts bytes desk is.sound opened (is.moves ++ calls) four.next run (world.began ++ taken_in world) told_as four.stands in (
+          let to = restarts bytes desk is.sound opened (is.moves ++ calls) four.next run (world.began ++ taken_in world) taken.legal (told_as ∙ ap Ok taken.keeps) four.stands in (
             device_call ∷ device_call ∷ device_call ∷ device_call ∷ restart found ∷ [],
             (found, inr refl),
             record {
@@ -311,17 +363,18 @@ module _ {S D : Type 0} (node : Node) (device : Device D) where
           let has = is.taken so in
           let stands = settled_stands node has.moves has.before is.sound has.run has.idle in
           let same : content_in has.before ≡ content_in world = sym (ap content_in has.taken.is) in
-          let settled : has.before.began ++ has.before.settled ≡ world.began ++ world.settled = sym (ap (λ (w : World). w.began ++ w.settled) has.taken.is) in
+          let all : has.before.began ++ has.before.settled ≡ world.began ++ world.settled = sym (ap (λ (w : World). w.began ++ w.settled) has.taken.is) in
           elim (is.is_of.left bytes may) [
-            | inl found ↦ at_once found (subst (λ (b : List ℕ). StandsFor node b (world.began ++ world.settled)) same (subst (StandsFor node (content_in has.before)) settled stands))
+            | inl found ↦ at_once found (subst (λ (b : List ℕ). StandsFor node b (world.began ++ world.settled)) same (subst (StandsFor node (content_in has.before)) all stands))
             | inr with_it ↦ stopped has with_it
           ]
 
-told_nothing : (node : Node) → told node [] ≡ Ok []
-told_nothing node = told_records node [] [] (stands_short [] (omega arith)) ∙ journal_nil node
+told_nothing : StartsFresh → (node : Node) → told node [] ≡ Ok (kept_in node [])
+told_nothing starts node = told_records node [] [] (stands_short [] (omega arith)) ∙ journal_nil node ∙ ap Ok (sym (starts node))
 
 -- a desk that was opened on an empty disk is at the world that begins there
-pub begins : {S D : Type 0} (node : Node) (device : Device D) (desk : DeskView S D) → IsNode node → AreKeys node → IsOpened node device [] desk
+pub begins : {S D : Type 0} → StartsFresh → (node : Node) (device : Device D) (desk : DeskView S D) → IsNode node → AreKeys node → IsOpened node device [] desk
     → IsAt node device (run_on (first_bytes node) [] []) desk
-begins {S} {D} node device desk sound keys opened =
-    opened_at node device [] desk sound opened [] (run_on (first_bytes node) [] []) (runs_begin node sound keys) [] (told_nothing node) refl
+begins {S} {D} starts node device desk sound keys opened =
+    opened_at node device [] desk sound opened [] (run_on (first_bytes node) [] []) (runs_begin node sound keys) [] (record { sound = sound; taken = All-nil (IsTaken node); new = refl })
+    (told_nothing starts node) refl

@@ -23,7 +23,7 @@ pub record IsAt {S D : Type 0} (node : Node) (device : Device D) (world : World)
   pub moves : List Move
   pub run : IsRun node moves world
   pub is_of_world : book.IsOf node world desk.book
-  pub is_of : IsOf node device (book.run_of world) desk
+  pub is_of : IsOf node device (book.run_of node world) desk
   pub idle : desk.book.down ≡ false → world.groups ≡ []
   pub taken : desk.book.down ≡ true → HasTaken node world
 

@@ -1,5 +1,5 @@
 -- A node with one owner: what contracts see of it, and of which run it is.
-use Rattle.std.specs.Prelude.{◌≡◌, ◌≢◌, ◌⊎◌, ℕ, false, List, [], ◌++◌, Ok}
+use Rattle.std.specs.Prelude.{◌≡◌, ◌≢◌, ◌⊎◌, ℕ, false, List, [], Ok}
 use Rattle.diskmodel.specs.Disk.{Device}
 use Rattle.book.specs.Book as book
 use Rattle.journal.specs.Format.{stands}
@@ -9,8 +9,9 @@ use Rattle.journal.specs.declared.error.JournalError.TheVariants as errors
 use Rattle.journal.specs.declared.error.JournalError.TheVariants.{Full}
 use Rattle.journal.specs.declared.journal.Journal.{Journal}
 use Rattle.opening.specs.Told.{told, Tells, IsToldAsOneOf, KeepsRecords}
-use Rattle.spec_model.specs.Histories.{History}
+use Rattle.spec_machine.specs.After.{after_all}
 use Rattle.spec_model.specs.Nodes.{Node}
+use Rattle.spec_model.specs.States.{State}
 
 -- its book and its journal
 pub record DeskView (S D : Type 0) : Type 0 where
@@ -22,20 +23,20 @@ pub record IsSound {S D : Type 0} (device : Device D) (desk : DeskView S D) : Ty
   pub alive : desk.book.down ≡ false → IsAlive device desk.journal
   pub settled : desk.book.down ≡ false → desk.book.taken ≡ desk.book.settled
 
--- all that was taken after what a run began with
-abbrev pub taken_of : book.Run → History
-taken_of run = run.began ++ run.taken
+-- the state after all that a run took
+abbrev pub taken_in : Node → book.Run → State
+taken_in node run = after_all node run.base run.taken
 
--- while it is up, its disk has the node's configuration and is told as what is settled, which is all that was taken
+-- while it is up, its disk has the node's configuration and is told as the state after what is settled, which is all that was taken
 pub record IsUp {D : Type 0} (node : Node) (device : Device D) (run : book.Run) (journal : Journal D) : Type 0 where
   pub configured : stands (device.content (disk_of journal)) ≢ Ok []
-  pub told_as : told node (device.content (disk_of journal)) ≡ Ok (book.settled_in run)
+  pub told_as : told node (device.content (disk_of journal)) ≡ Ok (book.settled_in node run)
   pub settled : run.taken ≡ run.settled
 
--- whatever a stop leaves of its disk is told as what is settled, or as all that was taken
+-- whatever a stop leaves of its disk is told as the state after what is settled, or after all that was taken
 abbrev pub IsLeft : {D : Type 0} → Node → Device D → book.Run → Journal D → Type 0
 IsLeft node device run journal = (bytes : List ℕ) → device.outcome (disk_of journal) bytes
-    → (told node bytes ≡ Ok (book.settled_in run)) ⊎ (told node bytes ≡ Ok (taken_of run))
+    → (told node bytes ≡ Ok (book.settled_in node run)) ⊎ (told node bytes ≡ Ok (taken_in node run))
 
 -- A desk is that of a run: the book stands there, and the disk has what is settled. Where it went down, a stop leaves that, or what was on
 -- the way too.
@@ -46,12 +47,12 @@ pub record IsOf {S D : Type 0} (node : Node) (device : Device D) (run : book.Run
 
 -- it was opened on these bytes: it is that of a run that begins with what they are told as, and nothing waits
 pub record IsOpened {S D : Type 0} (node : Node) (device : Device D) (before : List ℕ) (desk : DeskView S D) : Type 0 where
-  pub history : History
-  pub told_first : told node before ≡ Ok history
+  pub state : State
+  pub told_first : told node before ≡ Ok state
   pub up : desk.book.down ≡ false
   pub alive : IsAlive device desk.journal
   pub waits : desk.book.queue ≡ []
-  pub is_of : IsOf node device (book.run_on history) desk
+  pub is_of : IsOf node device (book.run_on state) desk
 
 -- It was not opened: the error is what the bytes are told as, unless memory or the disk failed; and what a stop leaves is told as one
 -- outcome from before, and is one byte for byte, or has the records of one, or where these are none the configuration alone.

@@ -46,14 +46,12 @@ impl<'a, S: Sign, D: Disk> Desk<'a, S, D> {
     ghost use Rattle.diskmodel.specs.Disk.{AtEachMoment, TellsFault};
     ghost use Rattle.header.specs.Checks.{fault_of, accepts_all};
     ghost use Rattle.journal.specs.Journal.{disk_of, TellsFaultBack, IsAlive};
-    ghost use Rattle.book.specs.Book.{Run, Stands, StandsAsBefore, TakesNew, TakesKnown, MayRefuse, GoesOutSettled, releasable, history_in, settled_in};
+    ghost use Rattle.book.specs.Book.{Run, Stands, StandsAsBefore, TakesNew, TakesKnown, MayRefuse, GoesOutSettled, releasable, state_in, settled_in};
     ghost use Rattle.book.specs.OnTheWay.{Flushes, FindsNoRoom, FailsWithRoom, IsWithOrWithout};
     ghost use Rattle.book.specs.declared.book.TheConstants.{MAX_ACCEPTED};
-    ghost use Rattle.spec_model.specs.Admitting.{admit};
-    ghost use Rattle.spec_model.specs.Holdings.{order as order_of, round as round_of};
-    ghost use Rattle.spec_model.specs.Proposing.{propose as propose_of};
-    ghost use Rattle.spec_machine.specs.Machine.{is_missing_parents};
+    ghost use Rattle.spec_machine.specs.Machine.{is_ready, proposed, round_in};
     ghost use Rattle.spec_world.specs.Steps.{accept as accept_event, take_to, device_call, settle, read_order, release as release_output};
+    ghost use Rattle.spec_model.specs.Giving.{kept};
     ghost use Rattle.spec_model.specs.Histories.{History};
     ghost use Rattle.spec_world.specs.Runs.{HasJustBegun};
     ghost use Rattle.spec_world.specs.World.{World};
@@ -75,9 +73,9 @@ impl<'a, S: Sign, D: Disk> Desk<'a, S, D> {
         ensures setting { IfOk result (λ desk. desk.book.validator.setting ≡ config.now) }
         ensures ok { IfOk result (λ desk. IsOpened (node_of S.scheme config.now) D.device (D.device.content disk) desk) }
         ensures err { IfErr result (λ failed. IsNotOpened (node_of S.scheme config.now) failed.error (D.device.content disk) (D.device.outcome disk) (D.device.outcome failed.disk)) }
-        // It stands in each world in which a run has just begun with what the disk is read as. Each legal history begins some run.
+        // It stands in each world in which a run has just begun whose history keeps what the disk is read as. Each legal history begins some run.
         ensures world { let node = node_of S.scheme config.now in IfOk result (λ desk. (world : World) (history : History) → HasJustBegun node world history
-            → told node (D.device.content disk) ≡ Ok history → IsAt node D.device world desk) }
+            → told node (D.device.content disk) ≡ Ok (kept node history) → IsAt node D.device world desk) }
         // Its errors, and what a stop at any moment of it leaves.
         ensures opening { IsOpening (node_of S.scheme config.now) D.device (λ desk. disk_of desk.journal) disk result }
     {
@@ -173,7 +171,7 @@ impl<'a, S: Sign, D: Disk> Desk<'a, S, D> {
     /// `Down` exactly where the desk is down, `Memory` where an allocation failed.
     pub fn order(&self, from: u64) -> Result<Vec<Digest>, Refusal>
         ensures order { let node = node_of S.scheme self.now.book.validator.setting in IfOk result (λ digests. (run : Run) → Stands node run self.now.book
-            → digests.items ≡ drop from (order_of node (settled_in run))) }
+            → digests.items ≡ drop from (settled_in node run).order) }
         ensures down { IsErrOf result Refusal.Down ↔ IsTrue self.now.book.down }
         ensures errors { IfErr result (λ refusal. (refusal ≡ Refusal.Down) ⊎ (refusal ≡ Refusal.Memory)) }
         // In the world the settled order may be read.
@@ -186,7 +184,7 @@ impl<'a, S: Sign, D: Disk> Desk<'a, S, D> {
     /// The validator's round, after all that was accepted.
     pub fn round_now(&self) -> u64
         ensures { let node = node_of S.scheme self.now.book.validator.setting in (run : Run) → Stands node run self.now.book
-            → result ≡ round_of node (history_in run) }
+            → result ≡ round_in node (state_in node run) }
     {
         self.book.round_now()
     }
@@ -195,7 +193,7 @@ impl<'a, S: Sign, D: Disk> Desk<'a, S, D> {
     pub fn ready(&self, event: &Checked) -> bool
         requires passed { fault_of self.now.book.validator.setting.charter accepts_all event.now ≡ None }
         ensures { let node = node_of S.scheme self.now.book.validator.setting in (run : Run) → Stands node run self.now.book
-            → result ≡ not (is_missing_parents (admit node (history_in run) event.now)) }
+            → result ≡ is_ready node (state_in node run) event.now }
     {
         self.book.validator().ready(event)
     }
@@ -204,7 +202,7 @@ impl<'a, S: Sign, D: Disk> Desk<'a, S, D> {
     /// `Round::MAX`. `AllocError` where an allocation failed.
     pub fn propose(&self) -> Result<Option<Header>, AllocError>
         ensures { let node = node_of S.scheme self.now.book.validator.setting in IfOk result (λ found. (run : Run) → Stands node run self.now.book
-            → found ≡ propose_of node (history_in run)) }
+            → found ≡ proposed node (state_in node run)) }
     {
         self.book.validator().propose()
     }

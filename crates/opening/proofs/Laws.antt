@@ -13,9 +13,16 @@ use Rattle.journal.specs.Format.{stands}
 use Rattle.journal.specs.declared.error.JournalError.{JournalError}
 use Rattle.journal.specs.declared.error.JournalError.TheVariants.{Damaged}
 use Rattle.journal.specs.declared.record.Record.{Record}
+use Rattle.spec_machine.specs.After.{after_all, IsLegalAfter}
+use Rattle.spec_machine.specs.Laws.{StartsFresh}
+use Rattle.spec_machine.specs.Machine.{fresh}
+use Rattle.spec_machine.specs.Sound.{IsSound}
+use Rattle.spec_machine.proofs.AfterAll.{kept_is_sound, after_is_kept, legal_after, legal_again}
 use Rattle.spec_model.specs.Admitting.{IsTaken, IsLegal}
+use Rattle.spec_model.specs.Giving.{kept}
 use Rattle.spec_model.specs.Histories.{History}
 use Rattle.spec_model.specs.Nodes.{Node, IsNode}
+use Rattle.spec_model.specs.States.{State}
 use Rattle.spec_records.specs.Records.{stakes_of, configuration_of, CanTell}
 use Rattle.journal.specs.declared.version.Version.{Version}
 use Rattle.journal.specs.declared.version.Version.TheVariants.{First, Second}
@@ -23,8 +30,8 @@ use Rattle.wire.specs.Fields as fields
 use Rattle.wire.specs.declared.keys.Key.{Key}
 use Rattle.spec_world.specs.Promise.{NothingTakenBack}
 use Rattle.spec_world.specs.Runs.{AreKeys}
-use Rattle.spec_world.specs.World.{bytes_of, journal_of, Holds, StandsFor, as_journal, as_new}
-use Rattle.opening.specs.Laws.{ToldStandsFor, WhatStandsIsTold, WorldsAreTold}
+use Rattle.spec_world.specs.World.{bytes_of, journal_of, Holds, as_journal, as_new}
+use Rattle.opening.specs.Laws.{IsOfBytes, ToldStandsFor, WhatStandsIsTold, WorldsAreTold}
 use Rattle.opening.specs.Told.{IsText, stakes_size, shaped_version, is_alone, can_tell, is_own, mismatch, first_fault, unless, read_events, read_journal, told}
 use Rattle.opening.proofs.Configured.{all_pass, all_passed, tells_of, told_of, shaped_is}
 use Rattle.opening.proofs.GroupTexts.{OnlyGroups, stands_texts}
@@ -70,21 +77,28 @@ free node first events is =
 
 -- ---- what bytes are told as
 
-ok_is : (one other : History) → ◌≡◌ {A = Result History JournalError} (Ok one) (Ok other) → one ≡ other
+ok_is : (one other : State) → ◌≡◌ {A = Result State JournalError} (Ok one) (Ok other) → one ≡ other
 ok_is one other same = cc
 
-no_ok : (error : JournalError) (history : History) → ◌≡◌ {A = Result History JournalError} (Err error) (Ok history) → ⊥
-no_ok error history same = cc
+no_ok : (error : JournalError) (state : State) → ◌≡◌ {A = Result State JournalError} (Err error) (Ok state) → ⊥
+no_ok error state same = cc
 
--- a reading after no fault gave a history
-unless_ok : (fault : Option JournalError) (read : Result History ℕ) (history : History) → unless fault read ≡ Ok history → (fault ≡ None) × (read ≡ Ok history)
-unless_ok (Some error) read history is = absurd (no_ok error history is)
-unless_ok None (Ok found) history is = (refl, ap Ok (ok_is found history is))
-unless_ok None (Err place) history is = absurd (no_ok (Damaged place) history is)
+-- a reading after no fault gave a state
+unless_ok : (fault : Option JournalError) (read : Result State ℕ) (state : State) → unless fault read ≡ Ok state → (fault ≡ None) × (read ≡ Ok state)
+unless_ok (Some error) read state is = absurd (no_ok error state is)
+unless_ok None (Ok found) state is = (refl, ap Ok (ok_is found state is))
+unless_ok None (Err place) state is = absurd (no_ok (Damaged place) state is)
 
--- the events of a journal are after its configuration, alone in the first group
+-- the empty history is legal, and the fresh state is sound
+legal_empty : (node : Node) → IsNode node → IsLegal node []
+legal_empty node sound = record { sound = sound; taken = All-nil (IsTaken node); new = refl }
+
+fresh_sound : StartsFresh → (node : Node) → IsNode node → IsSound node (fresh node)
+fresh_sound starts node sound = subst (IsSound node) (starts node) (kept_is_sound node [] (legal_empty node sound))
+
+-- the events of a journal come after its configuration, alone in the first group
 held : (node : Node) (bytes : List ℕ) (history : History) (first : Record) (events : List Record) → stands bytes ≡ Ok (first ∷ events) → HasNoFault node first events
-    → AreEvents node [] events history → Holds node bytes history
+    → AreEvents node (fresh node) events history → Holds node bytes history
 held node bytes history first events stands_for is are = record {
   records = first ∷ events;
   stands_for = stands_for;
@@ -95,30 +109,43 @@ held node bytes history first events stands_for is are = record {
   can_tell = tells_of is.version node.charter is.tells;
 }
 
--- what a history that was found is
-abbrev Found : Node → List ℕ → History → Type 0
-Found node bytes history = StandsFor node bytes history × IsLegal node history
+-- events that are read from the fresh state on are a legal history, of which the state after them is kept
+read_history : StartsFresh → (node : Node) (state : State) (events : List Record) (history : History) → IsNode node → AreEvents node (fresh node) events history
+    → state ≡ after_all node (fresh node) history → IsLegal node history × (kept node history ≡ state)
+read_history starts node state events history sound are is =
+    let empty = legal_empty node sound in
+    let from : IsLegalAfter node (fresh node) history = record { node_is = sound; sound = fresh_sound starts node sound; taken = are.taken; new = are.new } in
+    let legal : IsLegal node history = legal_again node [] history empty (subst (λ (s : State). IsLegalAfter node s history) (sym (starts node)) from) in
+    (legal, sym (after_is_kept node [] history legal) ∙ ap (λ (s : State). after_all node s history) (starts node) ∙ sym is)
 
-pub found_records : (node : Node) (bytes : List ℕ) (history : History) (records : List Record) → IsNode node → All IsText (drop 1 records)
-    → stands bytes ≡ Ok records → read_journal node records ≡ Ok history
-    → Found node bytes history
-found_records node bytes history [] sound texts stands_for is =
-    let empty : [] ≡ history = ok_is [] history (sym (journal_nil node) ∙ is) in
-    (as_new stands_for (sym empty), subst (IsLegal node) empty (record { sound = sound; taken = All-nil (IsTaken node); new = refl }))
-found_records node bytes history (first ∷ events) sound texts stands_for is =
-    let found = unless_ok (first_fault node first events) (read_events node [] events) history (sym (journal_cons node first events) ∙ is) in
-    let more = read_back node [] history events texts found.1 in
-    let behind : AreEvents node [] events history = subst (AreEvents node [] events) (sym more.parts) more.are in
-    (as_journal (held node bytes history first events stands_for (no_fault node first events found.0) behind), record { sound = sound; taken = behind.taken; new = behind.new })
+pub found_records : StartsFresh → (node : Node) (bytes : List ℕ) (state : State) (records : List Record) → IsNode node → All IsText (drop 1 records)
+    → stands bytes ≡ Ok records → read_journal node records ≡ Ok state
+    → IsOfBytes node bytes state
+found_records starts node bytes state [] sound texts stands_for is = record {
+  history = [];
+  stands_for = as_new stands_for refl;
+  legal = legal_empty node sound;
+  keeps = starts node ∙ ok_is (fresh node) state (sym (journal_nil node) ∙ is);
+}
+found_records starts node bytes state (first ∷ events) sound texts stands_for is =
+    let found = unless_ok (first_fault node first events) (read_events node (fresh node) events) state (sym (journal_cons node first events) ∙ is) in
+    let more = read_back node (fresh node) state events texts found.1 in
+    let read = read_history starts node state events more.events sound more.are more.parts in
+    record {
+      history = more.events;
+      stands_for = as_journal (held node bytes more.events first events stands_for (no_fault node first events found.0) more.are);
+      legal = read.0;
+      keeps = read.1;
+    }
 
-found_by : OnlyGroups → (node : Node) (bytes : List ℕ) (history : History) (read : Result (List Record) ℕ) → IsNode node → AreBytes bytes → stands bytes ≡ read → told node bytes ≡ Ok history
-    → Found node bytes history
-found_by only node bytes history (Ok records) sound are stands_for is =
-    found_records node bytes history records sound (All-drop IsText 1 records (stands_texts only bytes records are stands_for)) stands_for (sym (told_records node bytes records stands_for) ∙ is)
-found_by only node bytes history (Err place) sound are stands_for is = absurd (no_ok (Damaged place) history (sym (told_damaged node bytes place stands_for) ∙ is))
+found_by : StartsFresh → OnlyGroups → (node : Node) (bytes : List ℕ) (state : State) (read : Result (List Record) ℕ) → IsNode node → AreBytes bytes → stands bytes ≡ read
+    → told node bytes ≡ Ok state → IsOfBytes node bytes state
+found_by starts only node bytes state (Ok records) sound are stands_for is =
+    found_records starts node bytes state records sound (All-drop IsText 1 records (stands_texts only bytes records are stands_for)) stands_for (sym (told_records node bytes records stands_for) ∙ is)
+found_by starts only node bytes state (Err place) sound are stands_for is = absurd (no_ok (Damaged place) state (sym (told_damaged node bytes place stands_for) ∙ is))
 
-pub told_stands_for : OnlyGroups → ToldStandsFor
-told_stands_for only node bytes history sound are is = found_by only node bytes history (stands bytes) sound are refl is
+pub told_stands_for : StartsFresh → OnlyGroups → ToldStandsFor
+told_stands_for starts only node bytes state sound are is = found_by starts only node bytes state (stands bytes) sound are refl is
 
 -- ---- what stands is told
 
@@ -150,15 +177,16 @@ configuration_shape version node sound keys =
     let both = length-append (flat_map (λ (key : Key). key.0) charter.keys) (stakes_of version charter.stakes) in
     shaped_is version charter node.own (omega (arith, sound.charter.size)) (omega (arith, long, stakes, both))
 
-told_new : (node : Node) (bytes : List ℕ) (history : History) → stands bytes ≡ Ok [] → history ≡ [] → told node bytes ≡ Ok history
-told_new node bytes history none empty = told_records node bytes [] none ∙ journal_nil node ∙ ap Ok (sym empty)
+told_new : StartsFresh → (node : Node) (bytes : List ℕ) (history : History) → stands bytes ≡ Ok [] → history ≡ [] → told node bytes ≡ Ok (kept node history)
+told_new starts node bytes history none empty = told_records node bytes [] none ∙ journal_nil node ∙ ap Ok (sym (starts node) ∙ ap (kept node) (sym empty))
 
-told_held : (version : Version) (node : Node) (bytes : List ℕ) (history : History) (records : List Record) → AreKeys node → IsLegal node history → stands bytes ≡ Ok records
-    → bytes_of records ≡ journal_of version node history → All (λ (one : Record). 0 < one.gate) (drop 1 records) → CanTell version node.charter → told node bytes ≡ Ok history
-told_held version node bytes history [] keys legal stands_for are alone can = absurd (omega (arith, ap length are))
-told_held version node bytes history (first ∷ events) keys legal stands_for are alone can =
+told_held : StartsFresh → (version : Version) (node : Node) (bytes : List ℕ) (history : History) (records : List Record) → AreKeys node → IsLegal node history → stands bytes ≡ Ok records
+    → bytes_of records ≡ journal_of version node history → All (λ (one : Record). 0 < one.gate) (drop 1 records) → CanTell version node.charter → told node bytes ≡ Ok (kept node history)
+told_held starts version node bytes history [] keys legal stands_for are alone can = absurd (omega (arith, ap length are))
+told_held starts version node bytes history (first ∷ events) keys legal stands_for are alone can =
     let own : first.bytes ≡ configuration_of version node.charter node.own = ap (λ (l : List (List ℕ)). get_or l 0 []) are in
-    let behind : AreEvents node [] events history = record { same = ap (λ (l : List (List ℕ)). drop 1 l) are; taken = legal.taken; new = legal.new } in
+    let from : IsLegalAfter node (fresh node) history = subst (λ (s : State). IsLegalAfter node s history) (starts node) (legal_after node [] history legal) in
+    let behind : AreEvents node (fresh node) events history = record { same = ap (λ (l : List (List ℕ)). drop 1 l) are; taken = from.taken; new = from.new } in
     let is : HasNoFault node first events = record {
       version = version;
       shape = ap shaped_version own ∙ configuration_shape version node legal.sound keys;
@@ -167,22 +195,24 @@ told_held version node bytes history (first ∷ events) keys legal stands_for ar
       own = own;
     } in
     told_records node bytes (first ∷ events) stands_for ∙ journal_cons node first events
-    ∙ ok_told (first_fault node first events) (read_events node [] events) history (free node first events is) (read_whole node [] events history legal.sound behind)
+    ∙ ok_told (first_fault node first events) (read_events node (fresh node) events) (after_all node (fresh node) history) (free node first events is) (read_whole node (fresh node) events history legal.sound behind)
+    ∙ ap Ok (ap (λ (s : State). after_all node s history) (sym (starts node)) ∙ after_is_kept node [] history legal)
 
-pub what_stands_is_told : WhatStandsIsTold
-what_stands_is_told node bytes history keys (as_journal holds) legal = told_held holds.version node bytes history holds.records keys legal holds.stands_for holds.are holds.alone holds.can_tell
-what_stands_is_told node bytes history keys (as_new none empty) legal = told_new node bytes history none empty
+pub what_stands_is_told : StartsFresh → WhatStandsIsTold
+what_stands_is_told starts node bytes history keys (as_journal holds) legal =
+    told_held starts holds.version node bytes history holds.records keys legal holds.stands_for holds.are holds.alone holds.can_tell
+what_stands_is_told starts node bytes history keys (as_new none empty) legal = told_new starts node bytes history none empty
 
 -- ---- the worlds
 
-pub worlds_are_told : NothingTakenBack → WorldsAreTold
-worlds_are_told kept_all node moves world bytes sound keys run may =
+pub worlds_are_told : StartsFresh → NothingTakenBack → WorldsAreTold
+worlds_are_told starts kept_all node moves world bytes sound keys run may =
     let never = kept_all node moves world sound run in
     let found = never.stands bytes may in
     let recovered = never.recovered bytes found.0 may found.1 in
     record {
       history = found.0;
-      is_told = what_stands_is_told node bytes found.0 keys found.1 recovered.legal;
+      is_told = what_stands_is_told starts node bytes found.0 keys found.1 recovered.legal;
       stands_for = found.1;
       recovered = recovered;
     }

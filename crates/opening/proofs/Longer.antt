@@ -1,9 +1,10 @@
 -- What bytes are told as with a group of new events more.
 use Rattle.std.proofs.Common.{◌≡◌, ◌≢◌, ℕ, ◌-◌, ◌<◌, ◌≤◌, ◌^◌, Bool, true, false, cond, inl, inr, List, [], ◌∷◌, ◌++◌, length, map, Option, Some}
-use Rattle.std.proofs.Common.{None, Result, Ok, Err, refl, sym, ap, ◌∙◌, subst, arith, append_assoc, append-nil}
-use Rattle.std.specs.Prelude.{nat_lt}
+use Rattle.std.proofs.Common.{None, Result, Ok, Err, refl, sym, ap, ◌∙◌, arith}
+use Rattle.std.specs.Prelude.{All, nat_lt}
 use Rattle.std.specs.Int.{w16, to_be_bytes, from_be_bytes}
-use Rattle.std.proofs.lemmas.Bool.{cases_Bool, cases_lt, and_from, lt-ltb, ltb-true}
+use Rattle.std.proofs.lemmas.Bool.{cases_Bool, cases_lt, and_parts, and_from, lt-ltb, ltb-true}
+use Rattle.std.proofs.lemmas.List.Elements.{All-head, All-tail}
 use Rattle.std.proofs.lemmas.List.Folds.{list_all-append}
 use Rattle.std.proofs.lemmas.Nat.{from_be_bytes-to_be_bytes_2}
 use Rattle.committee.specs.Charter.{Charter, IsCharter}
@@ -14,10 +15,12 @@ use Rattle.journal.specs.declared.error.JournalError.{JournalError}
 use Rattle.journal.specs.declared.error.JournalError.TheVariants.{Damaged}
 use Rattle.journal.specs.declared.record.Record.{Record}
 use Rattle.journal.proofs.Walks.{stands_short}
-use Rattle.spec_laws.proofs.Legal.{legal-begins, legal-last, Adds}
-use Rattle.spec_model.specs.Admitting.{IsTaken, IsLegal}
+use Rattle.spec_machine.specs.After.{after_all, each_new_after, IsLegalAfter}
+use Rattle.spec_machine.specs.Machine.{after, answered, fresh}
+use Rattle.spec_model.specs.Admitting.{is_new, IsTaken}
 use Rattle.spec_model.specs.Histories.{History}
 use Rattle.spec_model.specs.Nodes.{Node, IsNode}
+use Rattle.spec_model.specs.States.{State}
 use Rattle.spec_model.specs.Words.{Event}
 use Rattle.spec_records.specs.Records.{record_of}
 use Rattle.journal.specs.declared.version.Version.{Version}
@@ -57,47 +60,47 @@ event_written node event sound taken =
 
 -- ---- readings
 
-ok_history : (a b : History) → ◌≡◌ {A = Result History ℕ} (Ok a) (Ok b) → a ≡ b
-ok_history a b same = cc
+ok_state : (a b : State) → ◌≡◌ {A = Result State ℕ} (Ok a) (Ok b) → a ≡ b
+ok_state a b same = cc
 
-failed_read : (place : ℕ) (history : History) → ◌≡◌ {A = Result History ℕ} (Err place) (Ok history) → ⊥
-failed_read place history same = cc
+failed_read : (place : ℕ) (state : State) → ◌≡◌ {A = Result State ℕ} (Err place) (Ok state) → ⊥
+failed_read place state same = cc
 
-read_first : (node : Node) (history later : History) (first : Record) (one other : List Record) → read_events node history (first ∷ one) ≡ Ok later
-    → (r : Result History ℕ) → read_event node history first ≡ r
-    → ((next : History) → read_events node next one ≡ Ok later → read_events node next (one ++ other) ≡ read_events node later other)
-    → read_events node history (first ∷ one ++ other) ≡ read_events node later other
-read_first node history later first one other is (Ok next) e goes = read_ok node history next first (one ++ other) e ∙ goes next (sym (read_ok node history next first one e) ∙ is)
-read_first node history later first one other is (Err place) e goes = absurd (failed_read place later (sym (read_err node history first one place e) ∙ is))
+read_first : (node : Node) (state later : State) (first : Record) (one other : List Record) → read_events node state (first ∷ one) ≡ Ok later
+    → (r : Result State ℕ) → read_event node state first ≡ r
+    → ((next : State) → read_events node next one ≡ Ok later → read_events node next (one ++ other) ≡ read_events node later other)
+    → read_events node state (first ∷ one ++ other) ≡ read_events node later other
+read_first node state later first one other is (Ok next) e goes = read_ok node state next first (one ++ other) e ∙ goes next (sym (read_ok node state next first one e) ∙ is)
+read_first node state later first one other is (Err place) e goes = absurd (failed_read place later (sym (read_err node state first one place e) ∙ is))
 
 -- a reading goes on after what was read
-read_append : (node : Node) (history later : History) (one other : List Record) → read_events node history one ≡ Ok later → read_events node history (one ++ other) ≡ read_events node later other
-read_append node history later [] other is = ap (λ (h : History). read_events node h other) (ok_history history later (sym (read_nil node history) ∙ is))
-read_append node history later (first ∷ one) other is =
-    read_first node history later first one other is (read_event node history first) refl (λ next. read_append node next later one other)
+read_append : (node : Node) (state later : State) (one other : List Record) → read_events node state one ≡ Ok later → read_events node state (one ++ other) ≡ read_events node later other
+read_append node state later [] other is = ap (λ (s : State). read_events node s other) (ok_state state later (sym (read_nil node state) ∙ is))
+read_append node state later (first ∷ one) other is =
+    read_first node state later first one other is (read_event node state first) refl (λ next. read_append node next later one other)
 
 -- the records of new events are read as these events
-read_written : (node : Node) (gate : ℕ) (history more : History) → IsLegal node (history ++ more) → read_events node history (kept gate (map record_of more)) ≡ Ok (history ++ more)
-read_written node gate history [] legal = read_nil node history ∙ ap Ok (sym (append-nil history))
-read_written node gate history (event ∷ more) legal =
-    let whole : (history ++ event ∷ []) ++ more ≡ history ++ event ∷ more = append_assoc history (event ∷ []) more in
-    let longer : IsLegal node ((history ++ event ∷ []) ++ more) = subst (IsLegal node) (sym whole) legal in
-    let adds : Adds node history event = legal-last node history event (legal-begins node (history ++ event ∷ []) more longer) in
-    let found : Some event ≡ event_in node.charter (record_of event) = sym (event_written node event legal.sound adds.taken) in
-    let first : read_event node history (kept_at gate (record_of event)) ≡ Ok (history ++ event ∷ []) = read_new node history (kept_at gate (record_of event)) event found adds.new in
-    read_ok node history (history ++ event ∷ []) (kept_at gate (record_of event)) (kept gate (map record_of more)) first
-    ∙ read_written node gate (history ++ event ∷ []) more longer ∙ ap Ok whole
+read_written : (node : Node) (gate : ℕ) (state : State) (more : History) → IsNode node → All (IsTaken node) more → each_new_after node state more ≡ true
+    → read_events node state (kept gate (map record_of more)) ≡ Ok (after_all node state more)
+unfolding after_all each_new_after
+read_written node gate state [] sound taken new = read_nil node state
+read_written node gate state (event ∷ more) sound taken new =
+    let parts = and_parts (is_new (answered node state event)) (each_new_after node (after node state event) more) new in
+    let found : Some event ≡ event_in node.charter (record_of event) = sym (event_written node event sound (All-head (IsTaken node) event more taken)) in
+    let first : read_event node state (kept_at gate (record_of event)) ≡ Ok (after node state event) = read_new node state (kept_at gate (record_of event)) event found parts.0 in
+    read_ok node state (after node state event) (kept_at gate (record_of event)) (kept gate (map record_of more)) first
+    ∙ read_written node gate (after node state event) more sound (All-tail (IsTaken node) event more taken) parts.1
 
 -- ---- a first record without a fault
 
 -- what was read without a fault
-unless_ok : (fault : Option JournalError) (read : Result History ℕ) (history : History) → unless fault read ≡ Ok history → (fault ≡ None) × (read ≡ Ok history)
-unless_ok (Some error) read history is = absurd (cc)
-unless_ok None (Ok found) history is = (refl, is_found found history is)
+unless_ok : (fault : Option JournalError) (read : Result State ℕ) (state : State) → unless fault read ≡ Ok state → (fault ≡ None) × (read ≡ Ok state)
+unless_ok (Some error) read state is = absurd (cc)
+unless_ok None (Ok found) state is = (refl, is_found found state is)
   where
-    is_found : (a b : History) → ◌≡◌ {A = Result History JournalError} (Ok a) (Ok b) → ◌≡◌ {A = Result History ℕ} (Ok a) (Ok b)
+    is_found : (a b : State) → ◌≡◌ {A = Result State JournalError} (Ok a) (Ok b) → ◌≡◌ {A = Result State ℕ} (Ok a) (Ok b)
     is_found a b same = cc
-unless_ok None (Err place) history is = absurd (cc)
+unless_ok None (Err place) state is = absurd (cc)
 
 alone_true : (alone : Bool) (version : Option Version) (own : Version → Bool) (place : ℕ) → by_version own (cond alone version None) place ≡ None → alone ≡ true
 alone_true true version own place none = refl
@@ -127,8 +130,8 @@ record IsBehind (bytes : List ℕ) : Type 0 where
   pub is : stands bytes ≡ Ok (first ∷ events)
   pub long : 2 ≤ length bytes
 
-some_records : (node : Node) (bytes : List ℕ) (history : History) → stands bytes ≢ Ok [] → told node bytes ≡ Ok history → IsBehind bytes
-some_records node bytes history some is = by_records (stands bytes) refl
+some_records : (node : Node) (bytes : List ℕ) (state : State) → stands bytes ≢ Ok [] → told node bytes ≡ Ok state → IsBehind bytes
+some_records node bytes state some is = by_records (stands bytes) refl
   where
     by_records : (r : Result (List Record) ℕ) → stands bytes ≡ r → IsBehind bytes
     by_records (Ok []) e = absurd (some e)
@@ -140,12 +143,12 @@ some_records node bytes history some is = by_records (stands bytes) refl
     }
     by_records (Err place) e = absurd (failed (sym (told_damaged node bytes place e) ∙ is))
       where
-        failed : ◌≡◌ {A = Result History JournalError} (Err (Damaged place)) (Ok history) → ⊥
+        failed : ◌≡◌ {A = Result State JournalError} (Err (Damaged place)) (Ok state) → ⊥
         failed same = cc
 
-module _ (node : Node) (before later : List ℕ) (history : History) (some : stands before ≢ Ok []) (is : told node before ≡ Ok history) where
+module _ (node : Node) (before later : List ℕ) (state : State) (some : stands before ≢ Ok []) (is : told node before ≡ Ok state) where
   abbrev now : IsBehind before
-  now = some_records node before history some is
+  now = some_records node before state some is
 
   abbrev gate : ℕ
   gate = length before - 1
@@ -155,17 +158,17 @@ module _ (node : Node) (before later : List ℕ) (history : History) (some : sta
   stands_later group with_it = with_it ∙ ap (with_group gate group) now.is
 
   -- and is told so
-  pub told_more : (more : History) → stands later ≡ stands_with before (map record_of more) → IsLegal node (history ++ more) → told node later ≡ Ok (history ++ more)
+  pub told_more : (more : History) → stands later ≡ stands_with before (map record_of more) → IsLegalAfter node state more → told node later ≡ Ok (after_all node state more)
   told_more more with_it legal =
       let group = map record_of more in
-      let was = unless_ok (first_fault node now.first now.events) (read_events node [] now.events) history
+      let was = unless_ok (first_fault node now.first now.events) (read_events node (fresh node) now.events) state
       (sym (told_records node before (now.first ∷ now.events) now.is ∙ journal_cons node now.first now.events) ∙ is) in
       let behind : 0 < gate = omega (arith, now.long) in
       told_records node later (now.first ∷ (now.events ++ kept gate group)) (stands_later group with_it)
       ∙ journal_cons node now.first (now.events ++ kept gate group)
-      ∙ ok_told (first_fault node now.first (now.events ++ kept gate group)) (read_events node [] (now.events ++ kept gate group)) (history ++ more)
+      ∙ ok_told (first_fault node now.first (now.events ++ kept gate group)) (read_events node (fresh node) (now.events ++ kept gate group)) (after_all node state more)
       (no_fault_more node now.first now.events gate group behind was.0)
-      (read_append node [] history now.events (kept gate group) was.1 ∙ read_written node gate history more legal)
+      (read_append node (fresh node) state now.events (kept gate group) was.1 ∙ read_written node gate state more legal.node_is legal.taken legal.new)
 
   -- and still has records
   pub some_more : (group : List (List ℕ)) → stands later ≡ stands_with before group → stands later ≢ Ok []

@@ -1,4 +1,4 @@
--- What an opening answers where its bytes are told as a history.
+-- What an opening answers where its bytes are told as a state.
 use Rattle.std.proofs.Common.{◌≡◌, ◌≢◌, inl, inr, List, [], ◌∷◌, ℕ, ◌-◌, length, drop, Result, Ok, Err, refl, sym, ap, ◌∙◌, subst}
 use Rattle.std.specs.Prelude.{All}
 use Rattle.std.proofs.lemmas.List.Elements.{All-nil}
@@ -10,8 +10,13 @@ use Rattle.journal.specs.declared.version.Version.TheVariants.{Second}
 use Rattle.journal.specs.declared.error.JournalError.{JournalError}
 use Rattle.journal.specs.declared.error.JournalError.TheVariants.{Memory, Device, Damaged, ConfigMismatch, Full}
 use Rattle.journal.specs.declared.record.Record.{Record}
+use Rattle.spec_machine.specs.Laws.{StartsFresh}
+use Rattle.spec_model.specs.Admitting.{IsLegal}
+use Rattle.spec_model.specs.Giving.{kept}
 use Rattle.spec_model.specs.Histories.{History}
-use Rattle.spec_model.specs.Nodes.{Node}
+use Rattle.spec_model.specs.Nodes.{Node, IsNode}
+use Rattle.spec_model.specs.States.{State}
+use Rattle.validator.specs.Standing.{AreAtSound}
 use Rattle.spec_world.specs.World.{StandsFor, as_journal, as_new}
 use Rattle.opening.specs.Laws.{StandsForAt, HoldsAt, IsNoRefusal}
 use Rattle.opening.specs.Told.{IsText, HasTexts, told, Tells, StandsAt, IsToldAsOneOf, KeepsOrBegins, KeepsRecords}
@@ -20,22 +25,22 @@ use Rattle.opening.proofs.Telling.{told_records, told_damaged, told_same, as_one
 use Rattle.admission.specs.declared.tables.Tables.{Tables}
 
 -- the tables stand where the bytes stand, if the records after the first are bytes
-pub stands_for_at : (node : Node) (bytes : List ℕ) (records : List Record) (tables : Tables) → stands bytes ≡ Ok records → All IsText (drop 1 records) → StandsAt node (told node bytes) tables
-    → StandsForAt node bytes tables
-stands_for_at node bytes records tables is texts at =
-    let found = found_records node bytes at.history records at.legal.sound texts is (sym (told_records node bytes records is) ∙ at.is_read) in
-    record { history = at.history; stands_for = found.0; legal = at.legal; at = at.at }
+pub stands_for_at : StartsFresh → (node : Node) (bytes : List ℕ) (records : List Record) (tables : Tables) → IsNode node → stands bytes ≡ Ok records → All IsText (drop 1 records)
+    → StandsAt node (told node bytes) tables → StandsForAt node bytes tables
+stands_for_at starts node bytes records tables sound is texts at =
+    let found = found_records starts node bytes at.state records sound texts is (sym (told_records node bytes records is) ∙ at.is_read) in
+    record { history = found.history; stands_for = found.stands_for; legal = found.legal; at = subst (AreAtSound node tables) (sym found.keeps) at.at }
 
-clash : (error : JournalError) (history : History) (read : Result History JournalError) → read ≡ Ok history → read ≡ Err error → ⊥
-clash error history read one other = cc
+clash : (error : JournalError) (state : State) (read : Result State JournalError) → read ≡ Ok state → read ≡ Err error → ⊥
+clash error state read one other = cc
 
--- what is told as a history is not refused
-pub no_refusal : (error : JournalError) (history : History) (read : Result History JournalError) → read ≡ Ok history → (error ≢ Device → Tells error read) → IsNoRefusal error
-no_refusal Memory history read is tells = inr refl
-no_refusal Device history read is tells = inl refl
-no_refusal (Damaged place) history read is tells = absurd (clash (Damaged place) history read is (tells (λ same. cc)))
-no_refusal ConfigMismatch history read is tells = absurd (clash ConfigMismatch history read is (tells (λ same. cc)))
-no_refusal Full history read is tells = absurd (clash Full history read is (tells (λ same. cc)))
+-- what is told as a state is not refused
+pub no_refusal : (error : JournalError) (state : State) (read : Result State JournalError) → read ≡ Ok state → (error ≢ Device → Tells error read) → IsNoRefusal error
+no_refusal Memory state read is tells = inr refl
+no_refusal Device state read is tells = inl refl
+no_refusal (Damaged place) state read is tells = absurd (clash (Damaged place) state read is (tells (λ same. cc)))
+no_refusal ConfigMismatch state read is tells = absurd (clash ConfigMismatch state read is (tells (λ same. cc)))
+no_refusal Full state read is tells = absurd (clash Full state read is (tells (λ same. cc)))
 
 records_are : (one other : List Record) → ◌≡◌ {A = Result (List Record) ℕ} (Ok one) (Ok other) → one ≡ other
 records_are one other same = cc
@@ -52,14 +57,23 @@ pub same_texts : (later : List ℕ) (records : List Record) → stands later ≡
 same_texts later records is texts other found = subst (λ (l : List Record). All IsText (drop 1 l)) (records_are records other (sym is ∙ found)) texts
 
 -- bytes with a record are a journal of what they are told as
-module _ (node : Node) (later : List ℕ) (tables : Tables) (at : StandsAt node (told node later) tables) (texts : HasTexts later) (some : stands later ≢ Ok []) where
-  as_held : (found : StandsFor node later at.history) → HoldsAt node later tables
-  as_held (as_journal held) = record { history = at.history; told_as = at.is_read; holds = held; legal = at.legal; at = at.at }
-  as_held (as_new none empty) = absurd (some none)
+module _ (starts : StartsFresh) (node : Node) (later : List ℕ) (tables : Tables) (sound : IsNode node) (at : StandsAt node (told node later) tables) (texts : HasTexts later)
+    (some : stands later ≢ Ok []) where
+  as_held : (history : History) → IsLegal node history → kept node history ≡ at.state → (found : StandsFor node later history) → HoldsAt node later tables
+  as_held history legal keeps (as_journal held) = record {
+    history = history;
+    told_as = at.is_read ∙ ap Ok (sym keeps);
+    holds = held;
+    legal = legal;
+    at = subst (AreAtSound node tables) (sym keeps) at.at;
+  }
+  as_held history legal keeps (as_new none empty) = absurd (some none)
 
   by_reading : (read : Result (List Record) ℕ) → stands later ≡ read → HoldsAt node later tables
-  by_reading (Ok records) is = as_held (found_records node later at.history records at.legal.sound (texts records is) is (sym (told_records node later records is) ∙ at.is_read)).0
-  by_reading (Err place) is = absurd (clash (Damaged place) at.history (told node later) at.is_read (told_damaged node later place is))
+  by_reading (Ok records) is =
+      let found = found_records starts node later at.state records sound (texts records is) is (sym (told_records node later records is) ∙ at.is_read) in
+      as_held found.history found.legal found.keeps found.stands_for
+  by_reading (Err place) is = absurd (clash (Damaged place) at.state (told node later) at.is_read (told_damaged node later place is))
 
   pub holds_at : HoldsAt node later tables
   holds_at = by_reading (stands later) refl

@@ -6,24 +6,22 @@ use Rattle.std.specs.Option.{option_map_or}
 use Rattle.std.specs.Str.{bytes_eq}
 use Rattle.std.proofs.lemmas.Bool.{cases_Bool, and_from, cond-true, cond-false, lt-ltb, le-ltb, eq-eqb, ne_eqb}
 use Rattle.std.proofs.lemmas.Slice.Eq.{bytes_eq-Decides}
-use Rattle.std.proofs.lemmas.List.Elements.{All-nil}
 use Rattle.committee.specs.Charter.{Charter}
 use Rattle.journal.specs.Format.{kept_at, stands, FailsAs}
 use Rattle.journal.specs.Journal.{with_group, IsBeforeOrAfter, StandsAsOneOf}
 use Rattle.journal.specs.declared.error.JournalError.{JournalError}
 use Rattle.journal.specs.declared.error.JournalError.TheVariants.{Memory, Device, Damaged, ConfigMismatch, Full}
 use Rattle.journal.specs.declared.record.Record.{Record}
-use Rattle.spec_model.specs.Admitting.{admit, is_new, IsTaken, IsLegal}
-use Rattle.spec_model.specs.Giving.{kept}
-use Rattle.spec_model.specs.Histories.{History}
-use Rattle.spec_model.specs.Nodes.{Node, IsNode}
+use Rattle.spec_model.specs.Admitting.{is_new}
+use Rattle.spec_model.specs.Nodes.{Node}
+use Rattle.spec_model.specs.States.{State}
 use Rattle.spec_model.specs.Words.{Author, Event, Message}
 use Rattle.header.specs.declared.admission.Admission.{Admission}
 use Rattle.header.specs.declared.refusal.Refusal.{Refusal}
 use Rattle.admission.specs.Answers.{IsAnswer, is_new_step}
 use Rattle.admission.specs.declared.step.Step.{Step}
 use Rattle.admission.specs.declared.step.Step.TheVariants.{New, Known}
-use Rattle.spec_machine.specs.Machine.{fresh}
+use Rattle.spec_machine.specs.Machine.{after, answered, fresh}
 use Rattle.spec_records.specs.Records.{configuration_of, CanTell}
 use Rattle.journal.specs.declared.version.Version.{Version}
 use Rattle.admission.specs.declared.tables.Tables.{Tables}
@@ -78,29 +76,29 @@ unread_none charter sender wire.BadRound read faults other = ap (checked_in char
 -- ---- a reading of records
 
 -- a record without an event is at fault
-pub read_none : (node : Node) (history : History) (one : Record) → None ≡ event_in node.charter one.bytes → read_event node history one ≡ Err one.gate
+pub read_none : (node : Node) (state : State) (one : Record) → None ≡ event_in node.charter one.bytes → read_event node state one ≡ Err one.gate
 unfolding read_event
-read_none node history one none =
-    ap (λ (o : Option Event). option_map_or (λ event. option_map_or (λ later. Ok later) (with_new node history event) (Err one.gate)) o (Err one.gate)) (sym none)
+read_none node state one none =
+    ap (λ (o : Option Event). option_map_or (λ event. option_map_or (λ later. Ok later) (with_new node state event) (Err one.gate)) o (Err one.gate)) (sym none)
 
--- an event is read by what admission answers
-read_by : (node : Node) (history : History) (one : Record) (event : Event) → Some event ≡ event_in node.charter one.bytes
-    → read_event node history one ≡ option_map_or (λ (later : History). Ok later) (with_new node history event) (Err one.gate)
+-- an event is read by what the state answers
+read_by : (node : Node) (state : State) (one : Record) (event : Event) → Some event ≡ event_in node.charter one.bytes
+    → read_event node state one ≡ option_map_or (λ (later : State). Ok later) (with_new node state event) (Err one.gate)
 unfolding read_event
-read_by node history one event some =
-    ap (λ (o : Option Event). option_map_or (λ event. option_map_or (λ later. Ok later) (with_new node history event) (Err one.gate)) o (Err one.gate)) (sym some)
+read_by node state one event some =
+    ap (λ (o : Option Event). option_map_or (λ event. option_map_or (λ later. Ok later) (with_new node state event) (Err one.gate)) o (Err one.gate)) (sym some)
 
-pub read_new : (node : Node) (history : History) (one : Record) (event : Event) → Some event ≡ event_in node.charter one.bytes
-    → is_new (admit node history event) ≡ true → read_event node history one ≡ Ok (history ++ event ∷ [])
-read_new node history one event some new =
-    read_by node history one event some
-    ∙ ap (λ (b : Bool). option_map_or (λ (later : History). Ok later) (cond b (Some (history ++ event ∷ [])) None) (Err one.gate)) new
+pub read_new : (node : Node) (state : State) (one : Record) (event : Event) → Some event ≡ event_in node.charter one.bytes
+    → is_new (answered node state event) ≡ true → read_event node state one ≡ Ok (after node state event)
+read_new node state one event some new =
+    read_by node state one event some
+    ∙ ap (λ (b : Bool). option_map_or (λ (later : State). Ok later) (cond b (Some (after node state event)) None) (Err one.gate)) new
 
-pub read_old : (node : Node) (history : History) (one : Record) (event : Event) → Some event ≡ event_in node.charter one.bytes
-    → is_new (admit node history event) ≡ false → read_event node history one ≡ Err one.gate
-read_old node history one event some old =
-    read_by node history one event some
-    ∙ ap (λ (b : Bool). option_map_or (λ (later : History). Ok later) (cond b (Some (history ++ event ∷ [])) None) (Err one.gate)) old
+pub read_old : (node : Node) (state : State) (one : Record) (event : Event) → Some event ≡ event_in node.charter one.bytes
+    → is_new (answered node state event) ≡ false → read_event node state one ≡ Err one.gate
+read_old node state one event some old =
+    read_by node state one event some
+    ∙ ap (λ (b : Bool). option_map_or (λ (later : State). Ok later) (cond b (Some (after node state event)) None) (Err one.gate)) old
 
 -- what came of an event says whether it is new
 pub new_answer : (answer : Admission) (step : Result Step Refusal) → IsAnswer answer step → is_new_step step ≡ true → is_new answer ≡ true
@@ -114,7 +112,7 @@ old_answer answer (Ok (Known outputs)) is old = ap is_new is
 old_answer answer (Err refusal) (inl memory) old = absurd (old memory)
 old_answer answer (Err refusal) (inr refused) old = ap is_new refused
 
-pub fails_by : (error : JournalError) (read : Result History ℕ) (gate : ℕ) → (error ≢ Memory → (error ≡ Damaged gate) × (read ≡ Err gate)) → FailsAs error read
+pub fails_by : (error : JournalError) (read : Result State ℕ) (gate : ℕ) → (error ≢ Memory → (error ≡ Damaged gate) × (read ≡ Err gate)) → FailsAs error read
 fails_by Memory read gate is = tt
 fails_by (Damaged place) read gate is =
     let found : (Damaged place ≡ Damaged gate) × (read ≡ Err gate) = is (λ same. cc) in
@@ -126,34 +124,28 @@ fails_by Full read gate is = let found : (Full ≡ Damaged gate) × (read ≡ Er
 
 -- ---- one record after the other
 
-pub read_nil : (node : Node) (history : History) → read_events node history [] ≡ Ok history
+pub read_nil : (node : Node) (state : State) → read_events node state [] ≡ Ok state
 unfolding read_events
-read_nil node history = refl
+read_nil node state = refl
 
-pub read_ok : (node : Node) (history later : History) (one : Record) (rest : List Record) → read_event node history one ≡ Ok later
-    → read_events node history (one ∷ rest) ≡ read_events node later rest
+pub read_ok : (node : Node) (state later : State) (one : Record) (rest : List Record) → read_event node state one ≡ Ok later
+    → read_events node state (one ∷ rest) ≡ read_events node later rest
 unfolding read_events
-read_ok node history later one rest is = ap (go_on (λ l. read_events node l rest)) is
+read_ok node state later one rest is = ap (go_on (λ l. read_events node l rest)) is
 
-pub read_err : (node : Node) (history : History) (one : Record) (rest : List Record) (place : ℕ) → read_event node history one ≡ Err place
-    → read_events node history (one ∷ rest) ≡ Err place
+pub read_err : (node : Node) (state : State) (one : Record) (rest : List Record) (place : ℕ) → read_event node state one ≡ Err place
+    → read_events node state (one ∷ rest) ≡ Err place
 unfolding read_events
-read_err node history one rest place is = ap (go_on (λ l. read_events node l rest)) is
+read_err node state one rest place is = ap (go_on (λ l. read_events node l rest)) is
 
--- a history was reached after so many of the records, and tables stand there
+-- a state was reached after so many of the records, and tables stand there
 pub record IsReached (node : Node) (records : List Record) (count : ℕ) (tables : Tables) : Type 0 where
-  pub history : History
-  pub legal : IsLegal node history
-  pub at : AreAtSound node tables (kept node history)
-  pub rest : read_events node [] records ≡ read_events node history (drop count records)
+  pub state : State
+  pub at : AreAtSound node tables state
+  pub rest : read_events node (fresh node) records ≡ read_events node state (drop count records)
 
-pub reached_first : (node : Node) (records : List Record) (tables : Tables) → IsNode node → kept node [] ≡ fresh node → AreAtSound node tables (fresh node) → IsReached node records 0 tables
-reached_first node records tables sound starts at = record {
-  history = [];
-  legal = record { sound = sound; taken = All-nil (IsTaken node); new = refl };
-  at = subst (AreAtSound node tables) (sym starts) at;
-  rest = refl;
-}
+pub reached_first : (node : Node) (records : List Record) (tables : Tables) → AreAtSound node tables (fresh node) → IsReached node records 0 tables
+reached_first node records tables at = record { state = fresh node; at = at; rest = refl }
 
 pub here : (records : List Record) (count : ℕ) (one : Record) → count < length records → one ≡ get_or records count one → drop count records ≡ one ∷ drop (count + 1) records
 here records count one within is =
@@ -161,41 +153,39 @@ here records count one within is =
     drop-cons records count one within ∙ (λ i. sym is i ∷ drop (more i) records)
 
 pub reached_next : (node : Node) (records : List Record) (count : ℕ) (one : Record) (tables later : Tables) → drop count records ≡ one ∷ drop (count + 1) records
-    → ((history : History) → IsLegal node history → AreAtSound node tables (kept node history) → StandsAt node (read_event node history one) later)
+    → ((state : State) → AreAtSound node tables state → StandsAt node (read_event node state one) later)
     → IsReached node records count tables → IsReached node records (count + 1) later
 reached_next node records count one tables later is stands reached =
-    let next = stands reached.history reached.legal reached.at in
+    let next = stands reached.state reached.at in
     record {
-      history = next.history;
-      legal = next.legal;
+      state = next.state;
       at = next.at;
-      rest = reached.rest ∙ ap (read_events node reached.history) is ∙ read_ok node reached.history next.history one (drop (count + 1) records) next.is_read;
+      rest = reached.rest ∙ ap (read_events node reached.state) is ∙ read_ok node reached.state next.state one (drop (count + 1) records) next.is_read;
     }
 
 pub reached_end : (node : Node) (records : List Record) (count : ℕ) (tables : Tables) → drop count records ≡ [] → IsReached node records count tables
-    → StandsAt node (read_events node [] records) tables
+    → StandsAt node (read_events node (fresh node) records) tables
 reached_end node records count tables none reached = record {
-  history = reached.history;
-  is_read = reached.rest ∙ ap (read_events node reached.history) none ∙ read_nil node reached.history;
-  legal = reached.legal;
+  state = reached.state;
+  is_read = reached.rest ∙ ap (read_events node reached.state) none ∙ read_nil node reached.state;
   at = reached.at;
 }
 
 -- an error of a record is that of them all
-pub fails_on : (node : Node) (history : History) (one : Record) (rest : List Record) (error : JournalError)
-    → FailsAs error (read_event node history one) → FailsAs error (read_events node history (one ∷ rest))
-fails_on node history one rest Memory fails = tt
-fails_on node history one rest (Damaged gate) fails = read_err node history one rest gate fails
-fails_on node history one rest Device fails = absurd fails
-fails_on node history one rest ConfigMismatch fails = absurd fails
-fails_on node history one rest Full fails = absurd fails
+pub fails_on : (node : Node) (state : State) (one : Record) (rest : List Record) (error : JournalError)
+    → FailsAs error (read_event node state one) → FailsAs error (read_events node state (one ∷ rest))
+fails_on node state one rest Memory fails = tt
+fails_on node state one rest (Damaged gate) fails = read_err node state one rest gate fails
+fails_on node state one rest Device fails = absurd fails
+fails_on node state one rest ConfigMismatch fails = absurd fails
+fails_on node state one rest Full fails = absurd fails
 
 pub fails_there : (node : Node) (records : List Record) (count : ℕ) (one : Record) (tables : Tables) (error : JournalError) → drop count records ≡ one ∷ drop (count + 1) records
-    → ((history : History) → IsLegal node history → AreAtSound node tables (kept node history) → FailsAs error (read_event node history one))
-    → IsReached node records count tables → FailsAs error (read_events node [] records)
+    → ((state : State) → AreAtSound node tables state → FailsAs error (read_event node state one))
+    → IsReached node records count tables → FailsAs error (read_events node (fresh node) records)
 fails_there node records count one tables error is fails reached =
-    subst (FailsAs error) (ap (read_events node reached.history) (sym is) ∙ sym reached.rest)
-    (fails_on node reached.history one (drop (count + 1) records) error (fails reached.history reached.legal reached.at))
+    subst (FailsAs error) (ap (read_events node reached.state) (sym is) ∙ sym reached.rest)
+    (fails_on node reached.state one (drop (count + 1) records) error (fails reached.state reached.at))
 
 -- ---- a journal
 
@@ -220,28 +210,28 @@ pub fault_none : (node : Node) (first : Record) (events : List Record) (version 
 fault_none node first events version own is own_is so = fault_own node first events version is ∙ ap mismatch (sym own_is ∙ so)
 
 -- an error of a reading of records is that of the journal after a first record without a fault
-pub fails_told : (fault : Option JournalError) (read : Result History ℕ) (error : JournalError) → fault ≡ None → FailsAs error read → Tells error (unless fault read)
+pub fails_told : (fault : Option JournalError) (read : Result State ℕ) (error : JournalError) → fault ≡ None → FailsAs error read → Tells error (unless fault read)
 fails_told fault read Memory none fails = tt
 fails_told fault read (Damaged gate) none fails = ap (λ (f : Option JournalError). unless f read) none ∙ ap or_damaged fails
 fails_told fault read Device none fails = absurd fails
 fails_told fault read ConfigMismatch none fails = absurd fails
 fails_told fault read Full none fails = absurd fails
 
-pub fault_told : (fault : Option JournalError) (read : Result History ℕ) (error : JournalError) → (error ≢ Memory → fault ≡ Some error) → Tells error (unless fault read)
+pub fault_told : (fault : Option JournalError) (read : Result State ℕ) (error : JournalError) → (error ≢ Memory → fault ≡ Some error) → Tells error (unless fault read)
 fault_told fault read Memory is = tt
 fault_told fault read (Damaged gate) is = ap (λ (f : Option JournalError). unless f read) (is (λ same. cc))
 fault_told fault read Device is = ap (λ (f : Option JournalError). unless f read) (is (λ same. cc))
 fault_told fault read ConfigMismatch is = ap (λ (f : Option JournalError). unless f read) (is (λ same. cc))
 fault_told fault read Full is = ap (λ (f : Option JournalError). unless f read) (is (λ same. cc))
 
-pub ok_told : (fault : Option JournalError) (read : Result History ℕ) (history : History) → fault ≡ None → read ≡ Ok history → unless fault read ≡ Ok history
-ok_told fault read history none is = ap (λ (f : Option JournalError). unless f read) none ∙ ap or_damaged is
+pub ok_told : (fault : Option JournalError) (read : Result State ℕ) (state : State) → fault ≡ None → read ≡ Ok state → unless fault read ≡ Ok state
+ok_told fault read state none is = ap (λ (f : Option JournalError). unless f read) none ∙ ap or_damaged is
 
-pub journal_nil : (node : Node) → read_journal node [] ≡ Ok []
+pub journal_nil : (node : Node) → read_journal node [] ≡ Ok (fresh node)
 unfolding read_journal
 journal_nil node = refl
 
-pub journal_cons : (node : Node) (first : Record) (events : List Record) → read_journal node (first ∷ events) ≡ unless (first_fault node first events) (read_events node [] events)
+pub journal_cons : (node : Node) (first : Record) (events : List Record) → read_journal node (first ∷ events) ≡ unless (first_fault node first events) (read_events node (fresh node) events)
 unfolding read_journal
 journal_cons node first events = refl
 
@@ -258,45 +248,44 @@ unfolding told
 told_damaged node bytes place is = ap (told_by node) is
 
 -- a reading that is another one
-pub tells_same : (error : JournalError) (one other : Result History JournalError) → one ≡ other → Tells error one → Tells error other
+pub tells_same : (error : JournalError) (one other : Result State JournalError) → one ≡ other → Tells error one → Tells error other
 tells_same error one other same tells = subst (Tells error) same tells
 
 -- a first record with a fault
 pub behind_fault : (node : Node) (first : Record) (events : List Record) (error : JournalError) → first_fault node first events ≡ Some error → read_journal node (first ∷ events) ≡ Err error
 unfolding read_journal
-behind_fault node first events error is = ap (λ (f : Option JournalError). unless f (read_events node [] events)) is
+behind_fault node first events error is = ap (λ (f : Option JournalError). unless f (read_events node (fresh node) events)) is
 
 -- where the first record has no fault tables stand at what the others have
-stands_unless : (node : Node) (fault : Option JournalError) (read : Result History ℕ) (told_is : Result History JournalError) (tables : Tables)
+stands_unless : (node : Node) (fault : Option JournalError) (read : Result State ℕ) (told_is : Result State JournalError) (tables : Tables)
     → told_is ≡ unless fault read → fault ≡ None → StandsAt node read tables → StandsAt node told_is tables
 stands_unless node fault read told_is tables is none stands = record {
-  history = stands.history;
-  is_read = is ∙ ok_told fault read stands.history none stands.is_read;
-  legal = stands.legal;
+  state = stands.state;
+  is_read = is ∙ ok_told fault read stands.state none stands.is_read;
   at = stands.at;
 }
 
-pub stands_behind : (node : Node) (first : Record) (events : List Record) (tables : Tables) → first_fault node first events ≡ None → StandsAt node (read_events node [] events) tables
+pub stands_behind : (node : Node) (first : Record) (events : List Record) (tables : Tables) → first_fault node first events ≡ None → StandsAt node (read_events node (fresh node) events) tables
     → StandsAt node (read_journal node (first ∷ events)) tables
-stands_behind node first events tables none stands = stands_unless node (first_fault node first events) (read_events node [] events)
+stands_behind node first events tables none stands = stands_unless node (first_fault node first events) (read_events node (fresh node) events)
     (read_journal node (first ∷ events)) tables (journal_cons node first events) none stands
 
 -- without records the others are none
-fresh_is : (node : Node) → read_journal node [] ≡ unless None (read_events node [] [])
-fresh_is node = journal_nil node ∙ ap (unless None) (sym (read_nil node []))
+fresh_is : (node : Node) → read_journal node [] ≡ unless None (read_events node (fresh node) [])
+fresh_is node = journal_nil node ∙ ap (unless None) (sym (read_nil node (fresh node)))
 
-pub stands_fresh : (node : Node) (tables : Tables) → StandsAt node (read_events node [] []) tables → StandsAt node (read_journal node []) tables
-stands_fresh node tables stands = stands_unless node None (read_events node [] []) (read_journal node []) tables (fresh_is node) refl stands
+pub stands_fresh : (node : Node) (tables : Tables) → StandsAt node (read_events node (fresh node) []) tables → StandsAt node (read_journal node []) tables
+stands_fresh node tables stands = stands_unless node None (read_events node (fresh node) []) (read_journal node []) tables (fresh_is node) refl stands
 
 -- an error of the others
-pub fails_behind : (node : Node) (first : Record) (events : List Record) (error : JournalError) → first_fault node first events ≡ None → FailsAs error (read_events node [] events)
+pub fails_behind : (node : Node) (first : Record) (events : List Record) (error : JournalError) → first_fault node first events ≡ None → FailsAs error (read_events node (fresh node) events)
     → Tells error (read_journal node (first ∷ events))
-fails_behind node first events error none fails = tells_same error _ _ (sym (journal_cons node first events)) (fails_told (first_fault node first events) (read_events node [] events) error none fails)
+fails_behind node first events error none fails = tells_same error _ _ (sym (journal_cons node first events)) (fails_told (first_fault node first events) (read_events node (fresh node) events) error none fails)
 
-pub fails_fresh : (node : Node) (error : JournalError) → FailsAs error (read_events node [] []) → Tells error (read_journal node [])
-fails_fresh node error fails = tells_same error _ _ (sym (fresh_is node)) (fails_told None (read_events node [] []) error refl fails)
+pub fails_fresh : (node : Node) (error : JournalError) → FailsAs error (read_events node (fresh node) []) → Tells error (read_journal node [])
+fails_fresh node error fails = tells_same error _ _ (sym (fresh_is node)) (fails_told None (read_events node (fresh node) []) error refl fails)
 
-pub fails_not : (error : JournalError) (read : Result History ℕ) → FailsAs error read → (error ≢ Device) × (error ≢ Full)
+pub fails_not : (error : JournalError) (read : Result State ℕ) → FailsAs error read → (error ≢ Device) × (error ≢ Full)
 fails_not Memory read fails = ((λ same. cc), (λ same. cc))
 fails_not (Damaged gate) read fails = ((λ same. cc), (λ same. cc))
 fails_not Device read fails = absurd fails
@@ -319,8 +308,8 @@ told_written version node before behind place tells shape none written =
     let one = kept_at place (configuration_of version node.charter node.own) in
     let own : is_own node one.bytes version ≡ true = and_from (can_tell version node.charter) (bytes_eq one.bytes one.bytes) tells (bytes_same one.bytes) in
     let free : first_fault node one [] ≡ None = fault_none node one [] version (is_own node one.bytes version) shape refl own in
-    told_records node behind (one ∷ []) written ∙ journal_cons node one [] ∙ ap (λ (f : Option JournalError). unless f (read_events node [] [])) free
-    ∙ ap or_damaged (read_nil node [])
+    told_records node behind (one ∷ []) written ∙ journal_cons node one [] ∙ ap (λ (f : Option JournalError). unless f (read_events node (fresh node) [])) free
+    ∙ ap or_damaged (read_nil node (fresh node))
     ∙ sym (told_records node before [] none ∙ journal_nil node)
 
 -- so does whatever a stop leaves while it is written
@@ -357,5 +346,5 @@ pub keeps_same : (version : Version) (node : Node) (file mid left : List ℕ) �
 keeps_same version node file mid left same (inl (records, before, after)) = inl (records, sym same ∙ before, after)
 keeps_same version node file mid left same (inr (none, begun)) = inr (sym same ∙ none, begun)
 
-pub stands_same : (node : Node) (one other : Result History JournalError) (tables : Tables) → one ≡ other → StandsAt node one tables → StandsAt node other tables
+pub stands_same : (node : Node) (one other : Result State JournalError) (tables : Tables) → one ≡ other → StandsAt node one tables → StandsAt node other tables
 stands_same node one other tables same stands = subst (λ r. StandsAt node r tables) same stands

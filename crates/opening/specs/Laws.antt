@@ -10,6 +10,7 @@ use Rattle.spec_model.specs.Admitting.{IsLegal}
 use Rattle.spec_model.specs.Giving.{kept}
 use Rattle.spec_model.specs.Histories.{History}
 use Rattle.spec_model.specs.Nodes.{Node, IsNode}
+use Rattle.spec_model.specs.States.{State}
 use Rattle.opening.specs.Told.{told, Tells, IsToldAsOneOf, KeepsRecords}
 use Rattle.admission.specs.declared.tables.Tables.{Tables}
 use Rattle.validator.specs.Standing.{AreAtSound}
@@ -20,24 +21,31 @@ use Rattle.spec_world.specs.World.{World, Holds, StandsFor, MayStop}
 
 -- ---- the laws
 
--- what bytes are told as is a legal history for which they stand
-abbrev pub ToldStandsFor : Type 0
-ToldStandsFor = (node : Node) (bytes : List ℕ) (history : History) → IsNode node → AreBytes bytes → told node bytes ≡ Ok history
-    → StandsFor node bytes history × IsLegal node history
+-- a state is what is kept of a legal history for which bytes stand
+pub record IsOfBytes (node : Node) (bytes : List ℕ) (state : State) : Type 0 where
+  pub history : History
+  pub stands_for : StandsFor node bytes history
+  pub legal : IsLegal node history
+  pub keeps : kept node history ≡ state
 
--- and each legal history for which bytes stand is what they are told as
+-- what bytes are told as is such a state
+abbrev pub ToldStandsFor : Type 0
+ToldStandsFor = (node : Node) (bytes : List ℕ) (state : State) → IsNode node → AreBytes bytes → told node bytes ≡ Ok state
+    → IsOfBytes node bytes state
+
+-- and what is kept of each legal history for which bytes stand is what they are told as
 abbrev pub WhatStandsIsTold : Type 0
 WhatStandsIsTold = (node : Node) (bytes : List ℕ) (history : History) → AreKeys node → StandsFor node bytes history → IsLegal node history
-    → told node bytes ≡ Ok history
+    → told node bytes ≡ Ok (kept node history)
 
--- bytes are told as what the world promises to be found again
+-- bytes are told as what is kept of a history that the world promises to be found again
 pub record IsFound (node : Node) (world : World) (bytes : List ℕ) : Type 0 where
   pub history : History
-  pub is_told : told node bytes ≡ Ok history
+  pub is_told : told node bytes ≡ Ok (kept node history)
   pub stands_for : StandsFor node bytes history
   pub recovered : IsRecovered node world history
 
--- whatever a stop leaves in a world of the node is told as such a history
+-- whatever a stop leaves in a world of the node is told so
 abbrev pub WorldsAreTold : Type 0
 WorldsAreTold = (node : Node) (moves : List Move) (world : World) (bytes : List ℕ) → IsNode node → AreKeys node → IsRun node moves world
     → MayStop world bytes → IsFound node world bytes
@@ -51,10 +59,10 @@ pub record StandsForAt (node : Node) (bytes : List ℕ) (tables : Tables) : Type
   pub legal : IsLegal node history
   pub at : AreAtSound node tables (kept node history)
 
--- bytes are a journal of the node with a legal history, which they are told as, and tables stand at what is kept of it
+-- bytes are a journal of the node with a legal history, they are told as what is kept of it, and tables stand there
 pub record HoldsAt (node : Node) (bytes : List ℕ) (tables : Tables) : Type 0 where
   pub history : History
-  pub told_as : told node bytes ≡ Ok history
+  pub told_as : told node bytes ≡ Ok (kept node history)
   pub holds : Holds node bytes history
   pub legal : IsLegal node history
   pub at : AreAtSound node tables (kept node history)
@@ -66,9 +74,9 @@ pub record IsLeft (node : Node) (bytes : List ℕ) : Type 0 where
   pub run : IsRun node moves world
   pub may_stop : MayStop world bytes
 
--- all of that is told as a history
+-- all of that is told as a state
 abbrev pub AreLeftTold : Node → Type 0
-AreLeftTold node = (bytes : List ℕ) → IsLeft node bytes → (history : History) × (told node bytes ≡ Ok history)
+AreLeftTold node = (bytes : List ℕ) → IsLeft node bytes → (state : State) × (told node bytes ≡ Ok state)
 
 -- only the disk or the memory failed
 abbrev pub IsNoRefusal : JournalError → Type 0

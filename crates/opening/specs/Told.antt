@@ -1,5 +1,5 @@
--- What the bytes of a node's journal are told as: the events that they have, or why they are none of this node's.
-use Rattle.std.specs.Prelude.{◌≡◌, ◌≢◌, ◌⊎◌, All, ℕ, ◌+◌, ◌*◌, ◌==◌, ◌&&◌, not, nat_lt, Bool, true, List, [], ◌∷◌, ◌++◌, length, drop, Option, Some}
+-- What the bytes of a node's journal are told as: the state after the events that they have, or why they are none of this node's.
+use Rattle.std.specs.Prelude.{◌≡◌, ◌≢◌, ◌⊎◌, All, ℕ, ◌+◌, ◌*◌, ◌==◌, ◌&&◌, not, nat_lt, Bool, true, List, [], ◌∷◌, length, drop, Option, Some}
 use Rattle.std.specs.Prelude.{None, is_none, Result, Ok, Err, slice_index, if◌then◌else◌}
 use Rattle.std.specs.Int.{w16, from_be_bytes}
 use Rattle.std.specs.List.{list_all}
@@ -15,10 +15,10 @@ use Rattle.journal.specs.Journal.{HaveSameRecords}
 use Rattle.journal.specs.declared.error.JournalError.{JournalError}
 use Rattle.journal.specs.declared.error.JournalError.TheVariants.{Memory, Damaged, ConfigMismatch}
 use Rattle.journal.specs.declared.record.Record.{Record}
-use Rattle.spec_model.specs.Admitting.{admit, is_new, IsLegal}
-use Rattle.spec_model.specs.Giving.{kept}
-use Rattle.spec_model.specs.Histories.{History}
+use Rattle.spec_machine.specs.Machine.{after, answered, fresh}
+use Rattle.spec_model.specs.Admitting.{is_new}
 use Rattle.spec_model.specs.Nodes.{Node}
+use Rattle.spec_model.specs.States.{State}
 use Rattle.spec_model.specs.Words.{Author, Event, Message}
 use Rattle.header.specs.declared.refusal.Refusal.{Refusal}
 use Rattle.header.specs.declared.refusal.Refusal.TheVariants as refusals
@@ -58,24 +58,24 @@ event_in charter bytes =
     else if not (slice_index bytes 0 == EVENT) then None
     else checked_in charter (sender_in bytes) (message_of (drop FRONT_BYTES bytes))
 
--- a history with an event more, which has to be new
-abbrev pub with_new : Node → History → Event → Option History
-with_new node history event = if is_new (admit node history event) then Some (history ++ event ∷ []) else None
+-- the state after an event, which has to be new there
+abbrev pub with_new : Node → State → Event → Option State
+with_new node state event = if is_new (answered node state event) then Some (after node state event) else None
 
--- a history with a record's event more, or the place of the record's group
-unfoldable pub read_event : Node → History → Record → Result History ℕ
-read_event node history kept =
-    option_map_or (λ event. option_map_or (λ later. Ok later) (with_new node history event) (Err kept.gate)) (event_in node.charter kept.bytes) (Err kept.gate)
+-- the state after a record's event, or the place of the record's group
+unfoldable pub read_event : Node → State → Record → Result State ℕ
+read_event node state kept =
+    option_map_or (λ event. option_map_or (λ later. Ok later) (with_new node state event) (Err kept.gate)) (event_in node.charter kept.bytes) (Err kept.gate)
 
 -- a reading after another one, whose place stands if it has none
-abbrev pub go_on : (History → Result History ℕ) → Result History ℕ → Result History ℕ
-go_on read (Ok history) = read history
+abbrev pub go_on : (State → Result State ℕ) → Result State ℕ → Result State ℕ
+go_on read (Ok state) = read state
 go_on read (Err place) = Err place
 
--- a history with the events of records in turn, or the place of the first record at fault
-unfoldable pub read_events : Node → History → List Record → Result History ℕ
-read_events node history [] = Ok history
-read_events node history (kept ∷ rest) = go_on (λ later. read_events node later rest) (read_event node history kept)
+-- the state after the events of records in turn, or the place of the first record at fault
+unfoldable pub read_events : Node → State → List Record → Result State ℕ
+read_events node state [] = Ok state
+read_events node state (kept ∷ rest) = go_on (λ later. read_events node later rest) (read_event node state kept)
 
 -- ---- the configuration
 
@@ -136,27 +136,27 @@ abbrev pub first_fault : Node → Record → List Record → Option JournalError
 first_fault node first events = option_map_or (λ version. mismatch (is_own node first.bytes version)) (first_version first events) (Some (Damaged first.gate))
 
 -- what was read, or damage at its place
-abbrev pub or_damaged : Result History ℕ → Result History JournalError
-or_damaged (Ok history) = Ok history
+abbrev pub or_damaged : Result State ℕ → Result State JournalError
+or_damaged (Ok state) = Ok state
 or_damaged (Err place) = Err (Damaged place)
 
 -- the same, unless there is a fault before it
-abbrev pub unless : Option JournalError → Result History ℕ → Result History JournalError
+abbrev pub unless : Option JournalError → Result State ℕ → Result State JournalError
 unless (Some error) read = Err error
 unless None read = or_damaged read
 
--- the events of a journal's records, or why they are none. Without a record there is no event
-unfoldable pub read_journal : Node → List Record → Result History JournalError
-read_journal node [] = Ok []
-read_journal node (first ∷ events) = unless (first_fault node first events) (read_events node [] events)
+-- the state after the events of a journal's records, or why they are none. Without a record it is the fresh one
+unfoldable pub read_journal : Node → List Record → Result State JournalError
+read_journal node [] = Ok (fresh node)
+read_journal node (first ∷ events) = unless (first_fault node first events) (read_events node (fresh node) events)
 
 -- what reading the groups gave
-abbrev pub told_by : Node → Result (List Record) ℕ → Result History JournalError
+abbrev pub told_by : Node → Result (List Record) ℕ → Result State JournalError
 told_by node (Ok records) = read_journal node records
 told_by node (Err place) = Err (Damaged place)
 
--- the events of a journal's bytes, or why they are none
-unfoldable pub told : Node → List ℕ → Result History JournalError
+-- the state after the events of a journal's bytes, or why they are none
+unfoldable pub told : Node → List ℕ → Result State JournalError
 told node bytes = told_by node (stands bytes)
 
 -- ---- what the calls answer
@@ -166,12 +166,11 @@ abbrev pub Tells : {X : Type 0} → JournalError → Result X JournalError → T
 Tells Memory read = Unit {0}
 Tells error read = read ≡ Err error
 
--- a reading gave a legal history, and tables stand at what is kept of it
-pub record StandsAt {E : Type 0} (node : Node) (read : Result History E) (tables : Tables) : Type 0 where
-  pub history : History
-  pub is_read : read ≡ Ok history
-  pub legal : IsLegal node history
-  pub at : AreAtSound node tables (kept node history)
+-- a reading gave a sound state, and tables stand at it
+pub record StandsAt {E : Type 0} (node : Node) (read : Result State E) (tables : Tables) : Type 0 where
+  pub state : State
+  pub is_read : read ≡ Ok state
+  pub at : AreAtSound node tables state
 
 -- what came of an event says that it isn't new
 abbrev pub IsOld : Result Step Refusal → Type 0

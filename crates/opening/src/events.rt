@@ -3,9 +3,8 @@
 ghost use Rattle.std.specs.Prelude.{◌≡◌, ◌≢◌, [], true, None, All, IfOk, IfErr, IfSome, OnOk};
 ghost use Rattle.header.specs.Checks.{fault_of, accepts_all};
 ghost use Rattle.journal.specs.Format.{FailsAs};
-ghost use Rattle.spec_model.specs.Admitting.{IsLegal};
-ghost use Rattle.spec_model.specs.Giving.{kept};
-ghost use Rattle.spec_model.specs.Histories.{History};
+ghost use Rattle.spec_machine.specs.Machine.{fresh};
+ghost use Rattle.spec_model.specs.States.{State};
 ghost use Rattle.admission.specs.Answers.{is_new_step};
 ghost use Rattle.validator.specs.Setting.{node_of};
 ghost use Rattle.validator.specs.Standing.{AreAtSound};
@@ -74,12 +73,10 @@ fn take_event<S: Sign>(
     one: &Record,
 ) -> Result<(), JournalError>
     ensures setting { validator.new.setting ≡ validator.old.setting }
-    ensures ok { let node = node_of S.scheme validator.old.setting in OnOk result ((history : History) → IsLegal node history
-        → AreAtSound node validator.old.tables (kept node history)
-        → StandsAt node (read_event node history one.now) validator.new.tables) }
-    ensures err { let node = node_of S.scheme validator.old.setting in IfErr result (λ error. (history : History) → IsLegal node history
-        → AreAtSound node validator.old.tables (kept node history)
-        → FailsAs error (read_event node history one.now)) }
+    ensures ok { let node = node_of S.scheme validator.old.setting in OnOk result ((state : State) → AreAtSound node validator.old.tables state
+        → StandsAt node (read_event node state one.now) validator.new.tables) }
+    ensures err { let node = node_of S.scheme validator.old.setting in IfErr result (λ error. (state : State) → AreAtSound node validator.old.tables state
+        → FailsAs error (read_event node state one.now)) }
 {
     let found = event_of(alloc, validator.committee(), one.bytes.as_slice())?;
     let Some(event) = found else {
@@ -116,12 +113,10 @@ pub fn replay<'a, S: Sign>(
     records: &[Record],
 ) -> Result<Validator<'a, S>, JournalError>
     ensures setting { IfOk result (λ validator. validator.setting ≡ config.now) }
-    ensures ok { let node = node_of S.scheme config.now in IfOk result (λ validator. StandsAt node (read_events node [] records.now) validator.tables) }
-    ensures err { IfErr result (λ error. FailsAs error (read_events (node_of S.scheme config.now) [] records.now)) }
+    ensures ok { let node = node_of S.scheme config.now in IfOk result (λ validator. StandsAt node (read_events node (fresh node) records.now) validator.tables) }
+    ensures err { let node = node_of S.scheme config.now in IfErr result (λ error. FailsAs error (read_events node (fresh node) records.now)) }
     ensures texts { OnOk result (All IsText records.now) }
 {
-    spec_machine::starts_fresh();
-    config.limits_hold();
     let mut validator = Validator::new(alloc, config)?;
     for one in records {
         is_text(one);

@@ -40,9 +40,9 @@ pub fn reopen<'a, S: Sign, D: Disk>(
     ensures alive { IfOk result (λ opened. IsAlive D.device opened.1) }
     ensures configured { IfOk result (λ opened. stands (D.device.content (disk_of opened.1)) ≢ Ok []) }
 
-    // It stands at the history for which the bytes stand.
+    // It stands at what is kept of a history for which the bytes stand.
     ensures stands_for { IfOk result (λ opened. StandsForAt (node_of S.scheme config.now) (D.device.content disk) opened.0.tables) }
-    // The disk has the node's journal of it then.
+    // The disk has the node's journal of one then.
     ensures holds { IfOk result (λ opened. HoldsAt (node_of S.scheme config.now) (D.device.content (disk_of opened.1)) opened.0.tables) }
 
     // Its errors, and what a stop at any moment of it leaves.
@@ -50,6 +50,8 @@ pub fn reopen<'a, S: Sign, D: Disk>(
     // Only a failure of the disk leaves other bytes than there were, but for those after the closed gate.
     ensures unchanged { IfErr result (λ failed. failed.error ≢ JournalError.Device → (D.device.content failed.disk ≡ D.device.content disk) ⊎ IsClosedUp (D.device.content disk) (D.device.content failed.disk)) }
 {
+    spec_machine::starts_fresh();
+    config.limits_hold();
     outcomes_are_told(config);
     let (mut journal, records) = Journal::open(alloc, disk)?;
     match validator_on(alloc, config, &mut journal, &records) {
@@ -61,7 +63,7 @@ pub fn reopen<'a, S: Sign, D: Disk>(
     }
 }
 
-// Whatever a stop leaves in a world of this node is told as a history. It looks at the keys, and does nothing.
+// Whatever a stop leaves in a world of this node is told as a state. It looks at the keys, and does nothing.
 fn outcomes_are_told<S: Sign>(config: &Config<S>)
     ensures { AreLeftTold (node_of S.scheme config.now) }
 {

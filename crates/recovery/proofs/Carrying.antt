@@ -7,8 +7,8 @@ use Rattle.std.specs.Io.KnownBytes.{Appends}
 use Rattle.std.proofs.lemmas.List.{map-append, take-append-drop}
 use Rattle.std.proofs.lemmas.List.Elements.{All-head, All-tail}
 use Rattle.journal.specs.declared.journal.Journal.{Journal}
-use Rattle.spec_model.specs.Histories.{History}
 use Rattle.spec_model.specs.Nodes.{Node}
+use Rattle.spec_model.specs.States.{State}
 use Rattle.spec_world.specs.Text as script
 use Rattle.book.specs.Book.{BookView}
 use Rattle.committee.specs.Charter.{Charter}
@@ -24,44 +24,44 @@ use Rattle.diskmodel.specs.Disk.{Device}
 -- the first of the commands were carried out
 pub record IsCarriedOut {S D : Type 0} (node : Node) (device : Device D) (before : List ℕ) (done : List script.Command) (book : BookView S)
     (journal : Journal D) (old new : Option (List ℕ)) : Type 0 where
-  pub history : History
-  pub told_first : told node before ≡ Ok history
-  pub is_of : IsOf node device (script.desk_behind node (script.desk_on history) done) book journal
-  pub writes : Appends old new (script.text node (script.desk_on history) done)
+  pub state : State
+  pub told_first : told node before ≡ Ok state
+  pub is_of : IsOf node device (script.desk_behind node (script.desk_on state) done) book journal
+  pub writes : Appends old new (script.text node (script.desk_on state) done)
 
 module _ {S D : Type 0} (node : Node) (device : Device D) (before : List ℕ) where
   -- none at first
   pub first_carried : (book : BookView S) (journal : Journal D) (old : Option (List ℕ)) → IsOpenedOf node device before book journal → IsCarriedOut node device before [] book journal old old
   first_carried book journal old opened = record {
-    history = opened.history;
+    state = opened.state;
     told_first = opened.told_first;
-    is_of = subst (λ (d : script.Desk). IsOf node device d book journal) (sym (desk_nil node (script.desk_on opened.history))) opened.is_of;
-    writes = subst (Appends old old) (sym (text_nil node (script.desk_on opened.history))) (Appends-nil old);
+    is_of = subst (λ (d : script.Desk). IsOf node device d book journal) (sym (desk_nil node (script.desk_on opened.state))) opened.is_of;
+    writes = subst (Appends old old) (sym (text_nil node (script.desk_on opened.state))) (Appends-nil old);
   }
 
   module _ (done : List script.Command) (next : script.Command) (book : BookView S) (journal : Journal D) (old mid : Option (List ℕ))
       (so_far : IsCarriedOut node device before done book journal old mid) where
     abbrev desk : script.Desk
-    desk = script.desk_behind node (script.desk_on so_far.history) done
+    desk = script.desk_behind node (script.desk_on so_far.state) done
 
     -- one more
     pub next_carried : (later : BookView S) (new_journal : Journal D) (new : Option (List ℕ)) → IsOf node device (script.carried_out node desk next) later new_journal
         → Appends mid new (script.frames (script.due (script.after node desk next))) → IsCarriedOut node device before (done ++ next ∷ []) later new_journal old new
     next_carried later new_journal new is appends = record {
-      history = so_far.history;
+      state = so_far.state;
       told_first = so_far.told_first;
-      is_of = subst (λ (d : script.Desk). IsOf node device d later new_journal) (sym (desk_push node (script.desk_on so_far.history) done next)) is;
-      writes = subst (Appends old new) (sym (text_push node (script.desk_on so_far.history) done next))
-          (Appends-trans old mid new (script.text node (script.desk_on so_far.history) done) (script.frames (script.due (script.after node desk next))) so_far.writes appends);
+      is_of = subst (λ (d : script.Desk). IsOf node device d later new_journal) (sym (desk_push node (script.desk_on so_far.state) done next)) is;
+      writes = subst (Appends old new) (sym (text_push node (script.desk_on so_far.state) done next))
+          (Appends-trans old mid new (script.text node (script.desk_on so_far.state) done) (script.frames (script.due (script.after node desk next))) so_far.writes appends);
     }
 
     -- the next one failed
     pub cut_short : (commands rest : List script.Command) (error : DriveError) (later : List ℕ) (left : List ℕ → Type 0) (new : Option (List ℕ)) → commands ≡ done ++ next ∷ rest
         → Breaks node desk next error later left → AppendsPart error mid new (script.frames (script.due (script.after node desk next))) → IsCutShort node commands error before later left old new
     cut_short commands rest error later left new parts breaks appends =
-        let text_done = script.text node (script.desk_on so_far.history) done in
+        let text_done = script.text node (script.desk_on so_far.state) done in
         record {
-          history = so_far.history;
+          state = so_far.state;
           told_first = so_far.told_first;
           done = done;
           next = next;
@@ -72,12 +72,12 @@ module _ {S D : Type 0} (node : Node) (device : Device D) (before : List ℕ) wh
           no_less = record { rest = appends.part; parts = refl };
           no_more = record {
             rest = appends.begins.rest;
-            parts = text_push node (script.desk_on so_far.history) done next ∙ ap (λ (l : List ℕ). text_done ++ l) appends.begins.parts ∙ sym (append_assoc text_done appends.part appends.begins.rest);
+            parts = text_push node (script.desk_on so_far.state) done next ∙ ap (λ (l : List ℕ). text_done ++ l) appends.begins.parts ∙ sym (append_assoc text_done appends.part appends.begins.rest);
           };
           less = λ output.
               let more = appends.less output in
               let due = script.frames (script.due (script.after node desk next)) in
-              omega (arith, more, length-append text_done appends.part, length-append text_done due, ap length (text_push node (script.desk_on so_far.history) done next));
+              omega (arith, more, length-append text_done appends.part, length-append text_done due, ap length (text_push node (script.desk_on so_far.state) done next));
           nothing = λ disk. ap (λ (l : List ℕ). text_done ++ l) (appends.none disk) ∙ append-nil text_done;
           breaks = breaks;
         }
@@ -87,10 +87,10 @@ module _ {S D : Type 0} (node : Node) (device : Device D) (before : List ℕ) wh
       → IsCarriedOut node device before done book journal old new
       → HasRun node commands before (device.content (disk_of journal)) (device.outcome (disk_of journal)) old new
   all_carried commands done book journal old new same so_far = record {
-    history = so_far.history;
+    state = so_far.state;
     told_first = so_far.told_first;
-    writes = subst (λ (l : List script.Command). Appends old new (script.text node (script.desk_on so_far.history) l)) (sym same) so_far.writes;
-    told_later = so_far.is_of.told_as ∙ ap (λ (l : List script.Command). Ok (script.settled_in (script.desk_behind node (script.desk_on so_far.history) l))) (sym same);
+    writes = subst (λ (l : List script.Command). Appends old new (script.text node (script.desk_on so_far.state) l)) (sym same) so_far.writes;
+    told_later = so_far.is_of.told_as ∙ ap (λ (l : List script.Command). Ok (script.settled_in node (script.desk_behind node (script.desk_on so_far.state) l))) (sym same);
     firm = so_far.is_of.alive.firm;
   }
 

@@ -4,8 +4,8 @@ use Rattle.diskmodel.specs.Disk.{Device}
 use Rattle.journal.specs.declared.error.JournalError.{JournalError}
 use Rattle.journal.specs.declared.error.JournalError.TheVariants as errors
 use Rattle.journal.specs.declared.journal.Journal.{Journal}
-use Rattle.spec_model.specs.Histories.{History}
 use Rattle.spec_model.specs.Nodes.{Node}
+use Rattle.spec_model.specs.States.{State}
 use Rattle.spec_world.specs.Text.{Desk, desk_on, settled_in, stop, after}
 use Rattle.book.specs.Book.{BookView}
 use Rattle.recovery.specs.Faults.{ended_by}
@@ -18,7 +18,7 @@ use Rattle.recovery.specs.declared.driving.DriveError.TheVariants.{Full}
 use Rattle.desk.specs.Desk as desks
 use Rattle.opening.proofs.Opened.{no_refusal}
 
-pub ok_is : (one other : History) → ◌≡◌ {A = Result History JournalError} (Ok one) (Ok other) → one ≡ other
+pub ok_is : (one other : State) → ◌≡◌ {A = Result State JournalError} (Ok one) (Ok other) → one ≡ other
 ok_is one other same = cc
 
 -- a script ends as full only where the journal is full
@@ -37,7 +37,7 @@ only_device (errors.Damaged place) same = absurd (cc)
 only_device errors.ConfigMismatch same = absurd (cc)
 only_device errors.Full same = absurd (cc)
 
-after_stop : (node : Node) (desk : Desk) → after node desk stop ≡ desk_on (settled_in desk)
+after_stop : (node : Node) (desk : Desk) → after node desk stop ≡ desk_on (settled_in node desk)
 unfolding after
 after_stop node desk = refl
 
@@ -47,7 +47,7 @@ module _ {S D : Type 0} (node : Node) (device : Device D) where
   opened_of bytes desk opened =
       let up = opened.is_of.up opened.up in
       record {
-        history = opened.history;
+        state = opened.state;
         told_first = opened.told_first;
         is_of = record {
           stands_at = opened.is_of.stands_at;
@@ -59,11 +59,11 @@ module _ {S D : Type 0} (node : Node) (device : Device D) where
         };
       }
 
-  module _ (desk : Desk) (bytes : List ℕ) (is : told node bytes ≡ Ok (settled_in desk)) where
+  module _ (desk : Desk) (bytes : List ℕ) (is : told node bytes ≡ Ok (settled_in node desk)) where
     -- what is settled begins the next run
     pub stopped_of : (book : BookView S) (journal : Journal D) → IsOpenedOf node device bytes book journal → IsOf node device (after node desk stop) book journal
     stopped_of book journal opened =
-        let same : opened.history ≡ settled_in desk = ok_is opened.history (settled_in desk) (sym opened.told_first ∙ is) in
+        let same : opened.state ≡ settled_in node desk = ok_is opened.state (settled_in node desk) (sym opened.told_first ∙ is) in
         subst (λ (d : Desk). IsOf node device d book journal) (ap desk_on same ∙ sym (after_stop node desk)) opened.is_of
 
 -- where nothing is refused a stop ends for want of memory, or by a fault of the disk
@@ -73,11 +73,11 @@ ends_stop cause (inr memory) = subst (λ (e : JournalError). MayEnd stop (ended_
 
 -- A stop after which the node isn't opened: what it left is told as what is settled, which no opening refuses.
 pub stop_breaks : (node : Node) (desk : Desk) (error : DriveError) (bytes later : List ℕ) (possible left : List ℕ → Type 0) → possible bytes
-    → ((found : List ℕ) → possible found → told node found ≡ Ok (settled_in desk)) → IsNotOpened node error bytes possible left → Breaks node desk stop error later left
+    → ((found : List ℕ) → possible found → told node found ≡ Ok (settled_in node desk)) → IsNotOpened node error bytes possible left → Breaks node desk stop error later left
 stop_breaks node desk error bytes later possible left found_now only not_opened = record {
   left = λ found may. let one = not_opened.left found may in inl (one.2 ∙ only one.0 one.1);
   errors = subst (MayEnd stop) (sym not_opened.is)
-      (ends_stop not_opened.cause (no_refusal not_opened.cause (settled_in desk) (told node bytes) (only bytes found_now) not_opened.tells));
+      (ends_stop not_opened.cause (no_refusal not_opened.cause (settled_in node desk) (told node bytes) (only bytes found_now) not_opened.tells));
   full = λ same. absurd (not_opened.never_full (only_full not_opened.cause (sym not_opened.is ∙ same)));
 }
 

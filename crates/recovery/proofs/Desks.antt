@@ -1,6 +1,6 @@
 -- A book and a journal after each command.
 use Rattle.std.proofs.Common.{◌≡◌, ◌≢◌, ℕ, suc, ◌+◌, ◌<◌, ◌≤◌, true, false, ◌⊎◌, inl, inr, List, [], ◌∷◌, ◌++◌, length, take, drop, map, Result, Ok}
-use Rattle.std.proofs.Common.{Err, refl, sym, ap, ◌∙◌, subst, arith, append_assoc, append-nil}
+use Rattle.std.proofs.Common.{Err, refl, sym, ap, ◌∙◌, subst, arith, append-nil}
 use Rattle.std.specs.Prelude.{IsErrOf, IfOk, IfErr, OnErr}
 use Rattle.std.proofs.lemmas.Bool.{cases_Bool, true≢false}
 use Rattle.std.proofs.Math.Nat.{lt_of_not-le}
@@ -9,8 +9,9 @@ use Rattle.journal.specs.Format.{group_bytes, stands}
 use Rattle.journal.specs.Journal.{disk_of, IsAlive, stands_with}
 use Rattle.journal.specs.declared.journal.Journal.{Journal}
 use Rattle.journal.specs.declared.layout.TheConstants.{MAX_JOURNAL_BYTES}
-use Rattle.spec_laws.proofs.Legal.{legal-begins}
-use Rattle.spec_model.specs.Admitting.{admit, IsLegal}
+use Rattle.spec_machine.specs.After.{IsLegalAfter}
+use Rattle.spec_machine.specs.Machine.{answered}
+use Rattle.spec_machine.proofs.AfterAll.{after_append, after_joins}
 use Rattle.spec_model.specs.Histories.{History}
 use Rattle.wire.specs.Lists.{Begins}
 use Rattle.spec_model.specs.Nodes.{Node}
@@ -21,7 +22,7 @@ use Rattle.header.specs.declared.refusal.Refusal.{Refusal}
 use Rattle.header.specs.declared.refusal.Refusal.TheVariants.{Memory, Down, StoreFull}
 use Rattle.spec_records.specs.Records.{record_of}
 use Rattle.spec_world.specs.Steps.{ticketed}
-use Rattle.spec_world.specs.Text.{Command, take_in, flush, Desk, settled_in, with_answer, group_of, flushed, after}
+use Rattle.spec_world.specs.Text.{Command, take_in, flush, Desk, state_in, settled_in, with_answer, group_of, flushed, after}
 use Rattle.book.specs.declared.book.TheConstants.{MAX_ACCEPTED}
 use Rattle.book.specs.declared.book.Receipt.{Receipt}
 use Rattle.book.specs.OnTheWay.{Flushes, FindsNoRoom, IsWithOrWithout}
@@ -36,7 +37,7 @@ use Rattle.desk.proofs.Groups.{group_is, group_none}
 use Rattle.opening.proofs.Telling.{told_same}
 use Rattle.diskmodel.specs.Disk.{Device}
 
-after_take_in : (node : Node) (desk : Desk) (event : Event) → after node desk (take_in event) ≡ with_answer desk event (admit node (desk.began ++ desk.accepted) event)
+after_take_in : (node : Node) (desk : Desk) (event : Event) → after node desk (take_in event) ≡ with_answer desk event (answered node (state_in node desk) event)
 unfolding after
 after_take_in node desk event = refl
 
@@ -50,7 +51,7 @@ module _ {S D : Type 0} (node : Node) (device : Device D) (desk : Desk) (before 
 
   -- ---- events
 
-  answered_as : (event : Event) (answer : Admission) → admit node (desk.began ++ desk.accepted) event ≡ answer → Later (with_answer desk event answer) → Later (after node desk (take_in event))
+  answered_as : (event : Event) (answer : Admission) → answered node (state_in node desk) event ≡ answer → Later (with_answer desk event answer) → Later (after node desk (take_in event))
   answered_as event answer same at = subst Later (sym (after_take_in node desk event ∙ ap (with_answer desk event) same)) at
 
   -- after a new event
@@ -79,7 +80,7 @@ module _ {S D : Type 0} (node : Node) (device : Device D) (desk : Desk) (before 
 
   -- why it is refused, where neither memory nor room is wanting
   refused_as : (event : Event) (refusal : Refusal) → refusal ≢ Memory → before.accepted < MAX_ACCEPTED → MayRefuse node (run_of desk) before event refusal
-      → admit node (desk.began ++ desk.accepted) event ≡ Refused refusal
+      → answered node (state_in node desk) event ≡ Refused refusal
   refused_as event Memory other room may = absurd (other refl)
   refused_as event Down other room may = absurd (true≢false (sym may ∙ is.up))
   refused_as event StoreFull other room (inl refused) = refused
@@ -130,23 +131,20 @@ module _ {S D : Type 0} (node : Node) (device : Device D) (desk : Desk) (before 
     settled_are : take (length desk.settled + length group) desk.accepted ≡ desk.settled ++ events
     settled_are = settled_more desk.settled desk.accepted (length group) is.stands_at.taken_begins ∙ ap (λ (l : History). desk.settled ++ l) (sym events_are)
 
-    whole : (desk.began ++ desk.settled) ++ events ≡ desk.began ++ (desk.settled ++ events)
-    whole = append_assoc desk.began desk.settled events
-
-    legal : IsLegal node ((desk.began ++ desk.settled) ++ events)
+    -- they are legal after what is settled
+    legal : IsLegalAfter node (settled_in node desk) events
     legal =
         let count = length desk.settled + length group in
-        let parts : desk.began ++ desk.accepted ≡ (desk.began ++ take count desk.accepted) ++ drop count desk.accepted =
-        ap (λ (l : History). desk.began ++ l) (sym (take-append-drop count desk.accepted)) ∙ sym (append_assoc desk.began (take count desk.accepted) (drop count desk.accepted)) in
-        subst (IsLegal node) (ap (λ (l : History). desk.began ++ l) settled_are ∙ sym whole)
-        (legal-begins node (desk.began ++ take count desk.accepted) (drop count desk.accepted) (subst (IsLegal node) parts is.stands_at.legal))
+        let all = subst (IsLegalAfter node desk.base) (sym (take-append-drop count desk.accepted)) is.stands_at.legal in
+        let first = ((after_joins node desk.base (take count desk.accepted) (drop count desk.accepted)).parts all).0 in
+        ((after_joins node desk.base desk.settled events).parts (subst (IsLegalAfter node desk.base) settled_are first)).1
 
     -- what bytes with the group more are told as
-    pub told_flushed : (bytes : List ℕ) → stands bytes ≡ stands_with (device.content (disk_of old)) group → told node bytes ≡ Ok (settled_in (flushed desk))
+    pub told_flushed : (bytes : List ℕ) → stands bytes ≡ stands_with (device.content (disk_of old)) group → told node bytes ≡ Ok (settled_in node (flushed desk))
     told_flushed bytes with_it =
-        told_more node (device.content (disk_of old)) bytes (desk.began ++ desk.settled) is.configured is.told_as events
+        told_more node (device.content (disk_of old)) bytes (settled_in node desk) is.configured is.told_as events
         (with_it ∙ ap (stands_with (device.content (disk_of old))) group_are) legal
-        ∙ ap Ok whole
+        ∙ ap Ok (sym (after_append node desk.base desk.settled events))
 
     -- after the flush
     pub flushed_is : (later : BookView S) (new : Journal D) → Stands node (with_settled (with_taken (run_of desk) (length group)) (length group)) later
@@ -156,22 +154,22 @@ module _ {S D : Type 0} (node : Node) (device : Device D) (desk : Desk) (before 
         let count = length desk.settled + length group in
         let twice : take count (take count desk.accepted) ≡ desk.settled ++ events = take-take count count desk.accepted (omega arith) ∙ settled_are in
         let runs : with_settled (with_taken (run_of desk) (length group)) (length group) ≡ run_of (flushed desk) =
-        (λ i. record { began = desk.began; accepted = desk.accepted; taken = settled_are i; settled = twice i }) in
+        (λ i. record { base = desk.base; accepted = desk.accepted; taken = settled_are i; settled = twice i }) in
         subst (λ (d : Desk). IsOf node device d later new) (sym (after_flush node desk)) (record {
           stands_at = subst (λ (r : Run). Stands node r later) runs stands;
           waits = queue ∙ is.waits;
           up = down ∙ is.up;
           alive = alive;
-          configured = some_more node (device.content (disk_of old)) (device.content (disk_of new)) (desk.began ++ desk.settled) is.configured is.told_as group with_it;
+          configured = some_more node (device.content (disk_of old)) (device.content (disk_of new)) (settled_in node desk) is.configured is.told_as group with_it;
           told_as = told_flushed (device.content (disk_of new)) with_it;
         })
 
   -- whatever a stop leaves while a group is written
   pub left_by_flush : (bytes : List ℕ) → IsWithOrWithout before.pending (device.content (disk_of old)) bytes
-      → (told node bytes ≡ Ok (settled_in desk)) ⊎ (told node bytes ≡ Ok (settled_in (after node desk flush)))
+      → (told node bytes ≡ Ok (settled_in node desk)) ⊎ (told node bytes ≡ Ok (settled_in node (after node desk flush)))
   left_by_flush bytes (inl same) = inl (told_same node bytes (device.content (disk_of old)) same ∙ is.told_as)
   left_by_flush bytes (inr with_it) =
-      inr (told_flushed (record before { pending = with_it.1 }) with_it.0 with_it.2 bytes with_it.3 ∙ ap (λ (d : Desk). Ok (settled_in d)) (sym (after_flush node desk)))
+      inr (told_flushed (record before { pending = with_it.1 }) with_it.0 with_it.2 bytes with_it.3 ∙ ap (λ (d : Desk). Ok (settled_in node d)) (sym (after_flush node desk)))
 
   -- after a round that settled a group
   pub flushes_is : (later : BookView S) (new : Journal D) (old_bytes new_bytes : List ℕ) (count : ℕ) → device.content (disk_of old) ≡ old_bytes
@@ -188,7 +186,7 @@ module _ {S D : Type 0} (node : Node) (device : Device D) (desk : Desk) (before 
       let empty : events ≡ [] = group_none pending (sym is.stands_at.pending ∙ none) in
       let same : flushed desk
       ≡ desk = (λ i. record {
-        began = desk.began;
+        base = desk.base;
         accepted = desk.accepted;
         settled =
             (ap (λ (l : History). desk.settled ++ l) empty ∙ append-nil desk.settled) i;
@@ -197,7 +195,7 @@ module _ {S D : Type 0} (node : Node) (device : Device D) (desk : Desk) (before 
       subst (λ (d : Desk). IsOf node device d before old) (sym (after_flush node desk ∙ same)) is
 
   -- a firm disk is told as what is settled
-  pub left_firm : (bytes : List ℕ) → device.outcome (disk_of old) bytes → told node bytes ≡ Ok (settled_in desk)
+  pub left_firm : (bytes : List ℕ) → device.outcome (disk_of old) bytes → told node bytes ≡ Ok (settled_in node desk)
   left_firm bytes left = ap (told node) (is.alive.firm bytes left) ∙ is.told_as
 
 -- ---- what comes of an event

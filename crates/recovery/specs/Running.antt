@@ -1,6 +1,7 @@
 -- That what is written is what runs of the node give out.
 use Rattle.std.specs.Prelude.{◌≡◌, ⊤, ℕ, List, Option, Ok}
 use Rattle.std.specs.Io.KnownBytes.{Appends}
+use Rattle.spec_model.specs.Giving.{kept}
 use Rattle.spec_model.specs.Histories.{History}
 use Rattle.wire.specs.Lists.{Begins}
 use Rattle.spec_model.specs.Nodes.{Node}
@@ -23,20 +24,20 @@ pub record HasBegun (node : Node) (history : History) (moves : List Move) (world
   pub run : IsRun node moves world
   pub is : world ≡ run_on world.bytes_at_start history world.given
 
--- each run of the node that has just begun with what bytes are told as
+-- each run of the node that has just begun with a history of which what is kept is what bytes are told as
 abbrev pub EachRunOn : Node → List ℕ → (History → List Move → World → Type 0) → Type 0
-EachRunOn node before P = (history : History) (moves : List Move) (world : World) → told node before ≡ Ok history → HasBegun node history moves world → P history moves world
+EachRunOn node before P = (history : History) (moves : List Move) (world : World) → told node before ≡ Ok (kept node history) → HasBegun node history moves world → P history moves world
 
 -- it goes on as commands say, and what goes out on the way is what a writer got, as frames
 pub record GivesOut (node : Node) (commands : List script.Command) (old new : Option (List ℕ)) (history : History) (moves : List Move) (world : World) : Type 0 where
-  pub goes_on : GivesOutText node moves world (script.desk_on history) commands
+  pub goes_on : GivesOutText node moves world (script.desk_on (kept node history)) commands
   pub writes : Appends old new (script.frames goes_on.outputs)
 
 -- it goes on as some of the commands say, and what a writer got is a beginning of what goes out on the way
 pub record GivesOutNoLess (node : Node) (commands : List script.Command) (old new : Option (List ℕ)) (history : History) (moves : List Move) (world : World) : Type 0 where
   pub some : List script.Command
   pub are_first : Begins some commands
-  pub goes_on : GivesOutText node moves world (script.desk_on history) some
+  pub goes_on : GivesOutText node moves world (script.desk_on (kept node history)) some
   pub written : List ℕ
   pub writes : Appends old new written
   pub begins : Begins written (script.frames goes_on.outputs)

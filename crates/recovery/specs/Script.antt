@@ -12,9 +12,9 @@ use Rattle.journal.specs.declared.error.JournalError.{JournalError}
 use Rattle.journal.specs.declared.error.JournalError.TheVariants as journal
 use Rattle.journal.specs.declared.journal.Journal.{Journal}
 use Rattle.journal.specs.declared.layout.TheConstants.{MAX_JOURNAL_BYTES}
-use Rattle.spec_model.specs.Histories.{History}
 use Rattle.wire.specs.Lists.{Begins}
 use Rattle.spec_model.specs.Nodes.{Node}
+use Rattle.spec_model.specs.States.{State}
 use Rattle.spec_records.specs.Records.{record_of}
 use Rattle.spec_world.specs.Text as script
 use Rattle.recovery.specs.Faults.{ended_by}
@@ -46,38 +46,38 @@ Passes charter other = ⊤
 
 -- the run of a book whose owner settles all that it takes
 abbrev pub run_of : script.Desk → Run
-run_of desk = record { began = desk.began; accepted = desk.accepted; taken = desk.settled; settled = desk.settled }
+run_of desk = record { base = desk.base; accepted = desk.accepted; taken = desk.settled; settled = desk.settled }
 
 -- A book and a journal are those of a script's desk: the book stands at its run and queues the outputs that wait there, the journal can be
--- added to, and its disk has the configuration and is told as what is settled.
+-- added to, and its disk has the configuration and is told as the state after what is settled.
 pub record IsOf {S D : Type 0} (node : Node) (device : Device D) (desk : script.Desk) (book : BookView S) (journal : Journal D) : Type 0 where
   pub stands_at : Stands node (run_of desk) book
   pub waits : book.queue ≡ desk.waiting
   pub up : book.down ≡ false
   pub alive : IsAlive device journal
   pub configured : stands (device.content (disk_of journal)) ≢ Ok []
-  pub told_as : told node (device.content (disk_of journal)) ≡ Ok (script.settled_in desk)
+  pub told_as : told node (device.content (disk_of journal)) ≡ Ok (script.settled_in node desk)
 
 -- whichever script's desk the first one is of, the second is of what this makes of it
 abbrev pub Follows : {S D : Type 0} → Node → Device D → (script.Desk → script.Desk) → DeskView S D → DeskView S D → Type 0
 Follows node device next before later =
     (desk : script.Desk) → IsOf node device desk before.book before.journal → IsOf node device (next desk) later.book later.journal
 
--- they are those of a run that began with what the disk was told as
+-- they are those of a run that began with the state that the disk was told as
 pub record IsOpenedOf {S D : Type 0} (node : Node) (device : Device D) (before : List ℕ) (book : BookView S) (journal : Journal D) : Type 0 where
-  pub history : History
-  pub told_first : told node before ≡ Ok history
-  pub is_of : IsOf node device (script.desk_on history) book journal
+  pub state : State
+  pub told_first : told node before ≡ Ok state
+  pub is_of : IsOf node device (script.desk_on state) book journal
 
 -- ---- how a script ends
 
--- It was carried out: what is written is its text, after what the disk was told as. The disk is told as what is settled then, and no stop
--- changes that.
+-- It was carried out: what is written is its text, from the state that the disk was told as. The disk is told as the state after what is
+-- settled then, and no stop changes that.
 pub record HasRun (node : Node) (commands : List script.Command) (before later : List ℕ) (outcome : List ℕ → Type 0) (old new : Option (List ℕ)) : Type 0 where
-  pub history : History
-  pub told_first : told node before ≡ Ok history
-  pub writes : Appends old new (script.text node (script.desk_on history) commands)
-  pub told_later : told node later ≡ Ok (script.settled_in (script.desk_behind node (script.desk_on history) commands))
+  pub state : State
+  pub told_first : told node before ≡ Ok state
+  pub writes : Appends old new (script.text node (script.desk_on state) commands)
+  pub told_later : told node later ≡ Ok (script.settled_in node (script.desk_behind node (script.desk_on state) commands))
   pub firm : LeavesOnly later outcome
 
 -- The node was not opened: the error is what the bytes are told as, unless memory or the disk failed; and what a stop leaves is told as
@@ -114,10 +114,10 @@ MayEnd command Full = command ≡ script.flush
 MayEnd command (Damaged place) = ⊥
 MayEnd command ConfigMismatch = ⊥
 
--- A command failed at a desk: what a stop leaves is told as what is settled there, or after the command.
+-- A command failed at a desk: what a stop leaves is told as the state after what is settled there, or after the command.
 pub record Breaks (node : Node) (desk : script.Desk) (command : script.Command) (error : DriveError) (content : List ℕ) (outcome : List ℕ → Type 0) : Type 0 where
   pub left : (bytes : List ℕ) → outcome bytes
-      → (told node bytes ≡ Ok (script.settled_in desk)) ⊎ (told node bytes ≡ Ok (script.settled_in (script.after node desk command)))
+      → (told node bytes ≡ Ok (script.settled_in node desk)) ⊎ (told node bytes ≡ Ok (script.settled_in node (script.after node desk command)))
   pub errors : MayEnd command error
   pub full : error ≡ Full → HasNoRoom desk command content
 
@@ -129,16 +129,16 @@ BreaksOff node device command before error disk =
 -- Some of the commands were carried out, and the next one failed: what is written is the text of these, and a beginning of what the next
 -- one writes, not the whole of it where the writer failed, and nothing of it where that ended at the disk.
 pub record IsCutShort (node : Node) (commands : List script.Command) (error : DriveError) (before later : List ℕ) (outcome : List ℕ → Type 0) (old new : Option (List ℕ)) : Type 0 where
-  pub history : History
-  pub told_first : told node before ≡ Ok history
+  pub state : State
+  pub told_first : told node before ≡ Ok state
   pub done : List script.Command
   pub next : script.Command
   pub rest : List script.Command
   pub parts : commands ≡ done ++ next ∷ rest
   pub written : List ℕ
   pub writes : Appends old new written
-  pub no_less : Begins (script.text node (script.desk_on history) done) written
-  pub no_more : Begins written (script.text node (script.desk_on history) (done ++ next ∷ []))
-  pub less : error ≡ Output → length written < length (script.text node (script.desk_on history) (done ++ next ∷ []))
-  pub nothing : EndsAtDisk error → written ≡ script.text node (script.desk_on history) done
-  pub breaks : Breaks node (script.desk_behind node (script.desk_on history) done) next error later outcome
+  pub no_less : Begins (script.text node (script.desk_on state) done) written
+  pub no_more : Begins written (script.text node (script.desk_on state) (done ++ next ∷ []))
+  pub less : error ≡ Output → length written < length (script.text node (script.desk_on state) (done ++ next ∷ []))
+  pub nothing : EndsAtDisk error → written ≡ script.text node (script.desk_on state) done
+  pub breaks : Breaks node (script.desk_behind node (script.desk_on state) done) next error later outcome

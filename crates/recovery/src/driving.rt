@@ -100,15 +100,15 @@ pub fn drive<'a, S: Sign, D: StopDisk, W: Write>(
     requires passed { All (Passes config.now.charter) commands.items }
     requires few { vec_len commands ≤ MAX_ACCEPTED }
 
-    // What is written is the text of the script after what the disk was told as.
+    // What is written is the text of the script, from the state that the disk was told as.
     ensures ok { IfOk result (λ left. HasRun (node_of S.scheme config.now) (script_of commands.items) (D.device.content disk) (D.device.content left) (D.device.outcome left) (W.contents writer.old) (W.contents writer.new)) }
 
     // Else nothing was carried out, or some of the commands and a part of the next one.
     ensures err { let node = node_of S.scheme config.now in IfErr result (λ failed. IsUnopened node failed.error (D.device.content disk) (D.device.outcome disk) (D.device.outcome failed.disk) (W.contents writer.old) (W.contents writer.new)
         ⊎ IsCutShort node (script_of commands.items) failed.error (D.device.content disk) (D.device.content failed.disk) (D.device.outcome failed.disk) (W.contents writer.old) (W.contents writer.new)) }
 
-    // It is what runs of the node give out: each that has just begun with what the disk was told as goes on by the commands, and
-    // what goes out on the way is what is written, as frames. At an error that is a beginning of what so goes out.
+    // It is what runs of the node give out: each that has just begun with a history of which what is kept is what the disk was
+    // told as goes on by the commands, and what goes out on the way is what is written, as frames. At an error that is a beginning of what so goes out.
     ensures given_out { let node = node_of S.scheme config.now in OnOk result (EachRunOn node (D.device.content disk) (GivesOut node (script_of commands.items) (W.contents writer.old) (W.contents writer.new))) }
     ensures given_out_err { let node = node_of S.scheme config.now in OnErr result (EachRunOn node (D.device.content disk) (GivesOutNoLess node (script_of commands.items) (W.contents writer.old) (W.contents writer.new))) }
 

@@ -1,14 +1,10 @@
 -- Groups on the way of a book whose setting is known by another name.
-use Rattle.std.proofs.Common.{◌≡◌, ℕ, List, ◌∷◌, ◌++◌, [], Option, Some, refl, sym, subst, arith}
+use Rattle.std.proofs.Common.{◌≡◌, ℕ, List, ◌∷◌, ◌++◌, [], Option, Some, refl, sym, subst}
 use Rattle.std.specs.Prelude.{IfSome}
-use Rattle.spec_model.specs.Nodes.{Node, IsNode}
-use Rattle.spec_model.specs.Giving.{kept}
-use Rattle.spec_machine.specs.Machine.{fresh}
-use Rattle.admission.specs.declared.tables.Tables.{Tables}
+use Rattle.spec_model.specs.Nodes.{Node}
 use Rattle.validator.specs.Setting.{ConfigView, node_of}
-use Rattle.validator.specs.Standing.{AreAtSound}
 use Rattle.book.specs.Book.{BookView, SettlesNext}
-use Rattle.book.specs.OnTheWay.{AreOnTheWay, StandsAtLegal}
+use Rattle.book.specs.OnTheWay.{AreOnTheWay}
 use Rattle.book.proofs.OnTheWay.{way_settles}
 use Rattle.sigface.specs.declared.pair.HashSign.{HashSign}
 use Rattle.sigface.specs.contracts.pair.HashSignSign.TheImpl.{scheme-value}
@@ -48,13 +44,3 @@ taken_alone before later found group is setting way none =
 -- the only group on the way is settled next
 pub settles_alone : (book : BookView HashSign) (group synced : List (List ℕ)) → synced ≡ group → Way book (group ∷ []) → SettlesNext (node_in book.validator.setting) book synced
 settles_alone book group synced is way = subst (λ (g : List (List ℕ)). SettlesNext (node_in book.validator.setting) book g) (sym is) (settles_here book.validator.setting book group [] refl way)
-
--- a fresh validator stands at the empty history
-pub stands_fresh : (config setting : ConfigView HashSign) (tables : Tables) → setting ≡ config → IsNode (node_in config) → kept (node_in config) []
-    ≡ fresh (node_in config) → AreAtSound (node_in config) tables (fresh (node_in config)) → StandsAtLegal (node_in setting) tables
-stands_fresh config setting tables is node first at =
-    subst (λ (s : ConfigView HashSign). StandsAtLegal (node_in s) tables) (sym is) (record {
-      history = [];
-      legal = record { sound = node; taken = λ k d inside. absurd (omega arith); new = refl };
-      at = subst (λ state. AreAtSound (node_in config) tables state) (sym first) at;
-    })

@@ -43,10 +43,7 @@ pub fn own_book(
     alloc: Global,
     config: &Config<HashSign>,
 ) -> Result<OwnBook<'_, HashSign>, AllocError> {
-    spec_machine::starts_fresh();
-    config.limits_hold();
-    let validator = Validator::new(alloc, config)?;
-    Ok(OwnBook::new(alloc, validator))
+    Ok(OwnBook::new(alloc, Validator::new(alloc, config)?))
 }
 
 impl Store<'_> {

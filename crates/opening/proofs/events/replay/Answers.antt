@@ -4,9 +4,7 @@ use Rattle.std.proofs.lemmas.List.{take_all, drop_all}
 use Rattle.std.proofs.lemmas.List.Elements.{All-nil, All-more}
 use Rattle.std.proofs.lemmas.Result.{err_from_is_err_and}
 use Rattle.journal.specs.Format.{FailsAs}
-use Rattle.spec_model.specs.Admitting.{IsLegal}
-use Rattle.spec_model.specs.Giving.{kept}
-use Rattle.spec_model.specs.Histories.{History}
+use Rattle.spec_model.specs.States.{State}
 use Rattle.validator.specs.Setting.{node_of}
 use Rattle.validator.specs.Standing.{AreAtSound}
 use Rattle.opening.specs.Told.{IsText, read_event, StandsAt}
@@ -18,7 +16,7 @@ loop-one-init g c =
     let node = node_of g.S.Sign.scheme c.args.config.now in
     record {
       setting = c.in_ok-validator.ensures.setting;
-      reached = reached_first node c.args.records.now c.in_ok-validator.validator.tables c.limits_hold.ensures (c.starts_fresh.ensures node) c.in_ok-validator.ensures.at;
+      reached = reached_first node c.args.records.now c.in_ok-validator.validator.tables c.in_ok-validator.ensures.at;
       texts = All-nil IsText;
     }
 
@@ -30,9 +28,8 @@ loop-one-preserved g c =
     record {
       setting = c.take_event.ensures.setting ∙ c.loop-one.invariant.setting;
       reached = reached_next node c.args.records.now c.loop-one.one-index one c.loop-one.validator.tables c.take_event.new.validator.tables rest
-          (subst (λ s. (history : History) → IsLegal (node_of g.S.Sign.scheme s) history
-          → AreAtSound (node_of g.S.Sign.scheme s) c.loop-one.validator.tables (kept (node_of g.S.Sign.scheme s) history)
-          → StandsAt (node_of g.S.Sign.scheme s) (read_event (node_of g.S.Sign.scheme s) history one) c.take_event.new.validator.tables)
+          (subst (λ s. (state : State) → AreAtSound (node_of g.S.Sign.scheme s) c.loop-one.validator.tables state
+          → StandsAt (node_of g.S.Sign.scheme s) (read_event (node_of g.S.Sign.scheme s) state one) c.take_event.new.validator.tables)
           c.loop-one.invariant.setting c.in_ok-take_event.ensures.ok)
           c.loop-one.invariant.reached;
       texts = All-more IsText c.args.records.now c.loop-one.one-index one (omega arith) c.loop-one.invariant.texts (subst IsText c.one-item.is c.is_text.ensures);
@@ -46,9 +43,8 @@ returns-in_err-take_event-clause-err g c =
     let p = err_from_is_err_and c.from_residual-in_err-take_event.result c.from_residual-in_err-take_event.ensures.1 in
     rw (p.1, p.2)
     (fails_there node c.args.records.now c.loop-one.one-index one c.loop-one.validator.tables c.in_err-take_event.field-0.0 rest
-    (subst (λ s. (history : History) → IsLegal (node_of g.S.Sign.scheme s) history
-    → AreAtSound (node_of g.S.Sign.scheme s) c.loop-one.validator.tables (kept (node_of g.S.Sign.scheme s) history)
-    → FailsAs c.in_err-take_event.field-0.0 (read_event (node_of g.S.Sign.scheme s) history one))
+    (subst (λ s. (state : State) → AreAtSound (node_of g.S.Sign.scheme s) c.loop-one.validator.tables state
+    → FailsAs c.in_err-take_event.field-0.0 (read_event (node_of g.S.Sign.scheme s) state one))
     c.loop-one.invariant.setting c.in_err-take_event.ensures.err)
     c.loop-one.invariant.reached)
 

@@ -23,7 +23,7 @@ returns-in-Ok-clause-stands_for g c =
     let file = g.D.Disk.device.content c.args.disk in
     let mid = g.D.Disk.device.content (disk_of c.in_ok-journal.journal) in
     let tables = c.in-Ok.validator.tables in
-    stands_for_at node file c.in_ok-journal.records.items tables c.in_ok-journal.ensures.records
+    stands_for_at c.starts_fresh.ensures node file c.in_ok-journal.records.items tables c.limits_hold.ensures c.in_ok-journal.ensures.records
     (subst (λ records. All IsText (drop 1 records)) c.deref.ensures.value c.in-Ok.ensures.texts)
     (stands_same node (told node mid) (told node file) tables (told_same node mid file c.in_ok-journal.ensures.same) c.in-Ok.ensures.stands)
 
@@ -33,7 +33,7 @@ returns-in-Ok-clause-holds g c =
     let mid = g.D.Disk.device.content (disk_of c.in_ok-journal.journal) in
     let later = g.D.Disk.device.content (disk_of c.validator_on.new.journal) in
     let tables = c.in-Ok.validator.tables in
-    holds_at node later tables (stands_same node (told node mid) (told node later) tables (sym c.in-Ok.ensures.same) c.in-Ok.ensures.stands) c.in-Ok.ensures.texts_left c.in-Ok.ensures.configured
+    holds_at c.starts_fresh.ensures node later tables c.limits_hold.ensures (stands_same node (told node mid) (told node later) tables (sym c.in-Ok.ensures.same) c.in-Ok.ensures.stands) c.in-Ok.ensures.texts_left c.in-Ok.ensures.configured
 
 pub returns-in-Ok-clause-same : goal.returns-in-Ok-clause-same
 returns-in-Ok-clause-same g c =

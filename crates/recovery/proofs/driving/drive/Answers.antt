@@ -75,7 +75,7 @@ returns-in_err-desk-2-clause-err g c =
     let turn = YieldsList-turn chain done c.loop-command.command-iterator c.loop-command.yielded_by c.next.result c.next.new.self next c.in-Some.is c.next.ensures.steps in
     let front = sym (map-id done) ∙ YieldsList-so_far chain done c.loop-command.command-iterator c.loop-command.yielded_by in
     let so_far = c.loop-command.invariant.so_far in
-    let desk = script.desk_behind node (script.desk_on so_far.history) (script_of done) in
+    let desk = script.desk_behind node (script.desk_on so_far.state) (script_of done) in
     let p = err_from_is_err_and c.from_residual-in_err-desk-2.result c.from_residual-in_err-desk-2.ensures.1 in
     rw (p.1, p.2)
     (inr (cut_short node g.D.Disk.device before (script_of done) (said next) c.loop-command.desk.book c.loop-command.desk.journal
@@ -96,12 +96,12 @@ returns-in_err-desk-2-clause-given_out_err g c =
     let turn = YieldsList-turn chain done c.loop-command.command-iterator c.loop-command.yielded_by c.next.result c.next.new.self next c.in-Some.is c.next.ensures.steps in
     let front = sym (map-id done) ∙ YieldsList-so_far chain done c.loop-command.command-iterator c.loop-command.yielded_by in
     let so_far = c.loop-command.invariant.so_far in
-    let desk = script.desk_behind node (script.desk_on so_far.history) (script_of done) in
+    let desk = script.desk_behind node (script.desk_on so_far.state) (script_of done) in
     let passed = passes_at c.args.config.now.charter commands (length done) next c.requires.passed turn.0 turn.1 in
     let taken = All-push (IsTakenIn node) (script_of done) (said next) c.loop-command.invariant.taken (taken_in node next passed c.limits_hold.ensures) in
     let p = err_from_is_err_and c.from_residual-in_err-desk-2.result c.from_residual-in_err-desk-2.ensures.1 in
     rw p.1
-    (cut_given node so_far.is_of.stands_at.legal.sound g.D.Disk.device before (script_of done) (said next) c.loop-command.desk.book c.loop-command.desk.journal
+    (cut_given node so_far.is_of.stands_at.legal.node_is g.D.Disk.device before (script_of done) (said next) c.loop-command.desk.book c.loop-command.desk.journal
     (g.W.Write.contents c.args.writer.now) (g.W.Write.contents c.loop-command.writer) (g.W.Write.contents c.carry_out.new.writer) so_far
     (script_of commands) (script_of (drop (length done + 1) commands)) c.in_err-desk-2.field-0.0.error
     (script_parts commands done next front turn.0 turn.1) (c.in_err-desk-2.ensures.writes_part desk so_far.is_of) taken)
@@ -122,7 +122,7 @@ loop-command-preserved g c =
     let done = c.loop-command.yielded in
     let next = c.in-Some.command in
     let so_far = c.loop-command.invariant.so_far in
-    let desk = script.desk_behind node (script.desk_on so_far.history) (script_of done) in
+    let desk = script.desk_behind node (script.desk_on so_far.state) (script_of done) in
     let old = g.W.Write.contents c.args.writer.now in
     let later = c.in_ok-desk-2.desk in
     let commands = c.args.commands.items in
@@ -169,7 +169,7 @@ returns-clause-given_out g c =
     let so_far = c.loop-command.invariant.so_far in
     let desk = c.loop-command.desk in
     let run = all_carried node g.D.Disk.device before (script_of commands) (script_of done) desk.book desk.journal old new whole so_far in
-    run_given node so_far.is_of.stands_at.legal.sound (script_of commands) before (g.D.Disk.device.content (disk_of desk.journal)) (g.D.Disk.device.outcome (disk_of desk.journal)) old new
+    run_given node so_far.is_of.stands_at.legal.node_is (script_of commands) before (g.D.Disk.device.content (disk_of desk.journal)) (g.D.Disk.device.outcome (disk_of desk.journal)) old new
     (subst (All (IsTakenIn node)) (sym whole) c.loop-command.invariant.taken) run
 
 pub returns-clause-cause : goal.returns-clause-cause

@@ -8,11 +8,9 @@ use Rattle.std.specs.Prelude.{Ok}
 use Rattle.admission.specs.Answers.{IsAnswer, is_new_step}
 use Rattle.admission.specs.declared.step.Step.{Step}
 use Rattle.spec_machine.specs.Machine.{answered}
-use Rattle.spec_model.specs.Admitting.{admit, IsTaken}
-use Rattle.spec_model.specs.Giving.{kept}
-use Rattle.spec_model.specs.Histories.{History}
-use Rattle.spec_model.specs.Holdings.{order}
+use Rattle.spec_model.specs.Admitting.{IsTaken}
 use Rattle.spec_model.specs.Nodes.{Node}
+use Rattle.spec_model.specs.States.{State}
 use Rattle.spec_model.specs.Words.{Digest, Event, Message, Output}
 use Rattle.spec_records.specs.Records.{record_of}
 use Rattle.spec_world.specs.World.{Waiting}
@@ -23,7 +21,7 @@ use Rattle.book.specs.declared.queue.Queued.{Queued}
 use Rattle.book.specs.declared.reached.Reached.{Reached}
 use Rattle.book.specs.Queue.{queue_of}
 use Rattle.book.specs.Showing.{shown_of}
-use Rattle.book.specs.Book.{BookView, Run, Stands, history_in, TakesNew, TakesKnown, MayRefuse, HasPlace}
+use Rattle.book.specs.Book.{BookView, Run, Stands, state_in, TakesNew, TakesKnown, MayRefuse, HasPlace}
 use Rattle.book.proofs.Accepting.{IsNoted}
 use Rattle.book.proofs.Accepted.{takes_new, takes_known, queue_alone, may_refuse, one_more}
 use Rattle.book.proofs.book.Book.accept.Goals as goal
@@ -82,15 +80,15 @@ returns-in-Ok-New-clause-new g c = λ yes.
       λ same. c.note_order.ensures.same same ∙ c.make_room.ensures.reached,
       λ other. c.note_order.ensures.other other ∙ ap (λ (l : List Reached). l ++ record { ticket = b.accepted + 1; length = length to } ∷ []) c.make_room.ensures.reached,
     ) in
-    let tos = subst (λ (s : ConfigView g.row.S.Denot). (history : History) → AreAtSound (node_of g.S.Sign.scheme s) c.step.new.self.tables (kept (node_of g.S.Sign.scheme s) history)
-    → to ≡ order (node_of g.S.Sign.scheme s) history) c.step.ensures.setting c.order.ensures.scratch in
+    let tos = subst (λ (s : ConfigView g.row.S.Denot). (state : State) → AreAtSound (node_of g.S.Sign.scheme s) c.step.new.self.tables state
+    → to ≡ state.order) c.step.ensures.setting c.order.ensures.at in
     subst (λ (s : BookView g.row.S.Denot). TakesNew (node_of g.S.Sign.scheme s.validator.setting) s later event) c.self.view_is
-    (takes_new node before later event outputs c.outputs_given.ensures taken_by
-    (λ history legal at. subst (λ (st : Step). IsAnswer (admit node history event) (Ok st)) c.in-Ok-New.field-0-is
-    (c.in-Ok-New.ensures.admits history legal at))
-    (λ history legal at. c.in-Ok-New.ensures.longer (ap (λ (st : Step). is_new_step (Ok st)) c.in-Ok-New.field-0-is) history legal at)
-    c.in_ok-make_room.ensures.ok queue refl refl refl refl refl (length from) (length to) noted (λ history at. ap (λ (l : List Digest). length l) (c.order-ordered.ensures.scratch history at))
-    (λ history at. ap (λ (l : List Digest). length l) (tos history at)))
+    (takes_new node before later event outputs taken_by
+    (λ state at. subst (λ (st : Step). IsAnswer (answered node state event) (Ok st)) c.in-Ok-New.field-0-is
+    (c.in-Ok-New.ensures.answer state at))
+    (λ state at. c.in-Ok-New.ensures.at (ap (λ (st : Step). is_new_step (Ok st)) c.in-Ok-New.field-0-is) state at)
+    c.in_ok-make_room.ensures.ok queue refl refl refl refl refl (length from) (length to) noted (λ state at. ap (λ (l : List Digest). length l) (c.order-ordered.ensures.at state at))
+    (λ state at. ap (λ (l : List Digest). length l) (tos state at)))
 
 pub returns-in-Ok-Known-clause-known : goal.returns-in-Ok-Known-clause-known
 returns-in-Ok-Known-clause-known g c = λ no.
@@ -118,9 +116,9 @@ returns-in-Ok-Known-clause-known g c = λ no.
     } in
     let queue_is = c.enqueue-in-Ok-Known.ensures.queue ∙ ap (λ (l : List Queued). queue_of l ++ ticketed b.accepted outputs) c.make_room.ensures.queue in
     subst (λ (s : BookView g.row.S.Denot). TakesKnown (node_of g.S.Sign.scheme s.validator.setting) s later event) c.self.view_is
-    (takes_known node before later event outputs c.outputs_given.ensures taken_by
-    (λ history legal at. subst (λ (st : Step). IsAnswer (admit node history event) (Ok st)) c.in-Ok-Known.field-0-is
-    (c.in-Ok-Known.ensures.admits history legal at))
+    (takes_known node before later event outputs taken_by
+    (λ state at. subst (λ (st : Step). IsAnswer (answered node state event) (Ok st)) c.in-Ok-Known.field-0-is
+    (c.in-Ok-Known.ensures.answer state at))
     (queue_alone before later queue (c.in-Ok-Known.ensures.same (ap (λ (st : Step). is_new_step (Ok st)) c.in-Ok-Known.field-0-is))
     (c.take_back.ensures b.pending (record_of event) c.in_ok-make_room.ensures.ok) queue_is c.make_room.ensures.reached refl refl refl refl refl))
 
@@ -132,7 +130,7 @@ returns-in-Err-clause-refused g c =
     let before : BookView g.row.S.Denot = shown_of b in
     subst (λ (s : BookView g.row.S.Denot). (run : Run) → Stands (node_of g.S.Sign.scheme s.validator.setting) run s
     → MayRefuse (node_of g.S.Sign.scheme s.validator.setting) run s event c.in-Err.refusal) c.self.view_is
-    (λ run at. may_refuse node run before event c.in-Err.refusal (c.in-Err.ensures.admits (history_in run) at.legal at.at) c.in-Err.ensures.never_down)
+    (λ run at. may_refuse node run before event c.in-Err.refusal (c.in-Err.ensures.answer (state_in node run) at.at) c.in-Err.ensures.never_down)
 
 pub returns-in-Ok-New-clause-setting : goal.returns-in-Ok-New-clause-setting
 returns-in-Ok-New-clause-setting g c = c.step.ensures.setting ∙ ap (λ (s : BookView g.row.S.Denot). s.validator.setting) c.self.view_is

@@ -10,7 +10,7 @@ use Rattle.book.proofs.Flushing.{stands_first}
 use Rattle.book.proofs.book.Book.new.Goals as goal
 
 pub returns-clause-stands : goal.returns-clause-stands
-returns-clause-stands g c = λ began legal at.
+returns-clause-stands g c = λ base at.
     let node : Node = node_of g.S.Sign.scheme c.args.validator.setting in
     let whole : List Digest = c.order.result.now in
     let book : BookView g.row.S.Denot =
@@ -26,5 +26,5 @@ returns-clause-stands g c = λ began legal at.
       reached = c.new-3.result.items;
       down = false;
     } in
-    stands_first node began book legal at c.new.ensures (ap (λ (l : List Queued). queue_of l) c.new-2.ensures.items) refl refl refl
-    c.new-3.ensures.items (ap (λ (l : List Digest). length l) (c.order.ensures.scratch began at))
+    stands_first node base book c.limits_hold.ensures.node at c.new.ensures (ap (λ (l : List Queued). queue_of l) c.new-2.ensures.items) refl refl refl
+    c.new-3.ensures.items (ap (λ (l : List Digest). length l) (c.order.ensures.at base at))

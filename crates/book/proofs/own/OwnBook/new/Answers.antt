@@ -9,4 +9,4 @@ pub invariant_of-result : goal.invariant_of-result
 invariant_of-result g c =
     let book : BookView g.row.S.Denot = c.new.result in
     subst (λ (v : ValidatorView g.row.S.Denot). StandsSomewhere (node_of g.S.Sign.scheme v.setting) book) (sym c.new.ensures.validator)
-    (run_on c.requires.history, c.new.ensures.stands c.requires.history c.requires.legal c.requires.at)
+    (run_on c.limits_hold.ensures.sound.0, c.new.ensures.stands c.limits_hold.ensures.sound.0 c.limits_hold.ensures.sound.1)

@@ -1,7 +1,6 @@
 use Rattle.std.proofs.Common.{◌≡◌, [], ◌∷◌, drop, subst}
 use Rattle.std.specs.Prelude.{IfOk, OnOk}
 use Rattle.book.specs.Book.{Run, Stands, settled_in}
-use Rattle.spec_model.specs.Holdings.{order}
 use Rattle.spec_world.specs.Steps.{read_order}
 use Rattle.spec_world.specs.World.{World}
 use Rattle.validator.specs.Setting.{node_of}
@@ -13,7 +12,7 @@ use Rattle.desk.proofs.desk.Desk.order.Goals as goal
 pub returns-clause-order : goal.returns-clause-order
 returns-clause-order g c =
     subst (λ (d : DeskView g.row.S.Denot g.row.D.Denot). IfOk c.order.result (λ digests. (run : Run) → Stands (node_of g.S.Sign.scheme d.book.validator.setting) run d.book
-    → digests.items ≡ drop c.args.from (order (node_of g.S.Sign.scheme d.book.validator.setting) (settled_in run)))) c.self.view_is
+    → digests.items ≡ drop c.args.from (settled_in (node_of g.S.Sign.scheme d.book.validator.setting) run).order)) c.self.view_is
     c.order.ensures.order
 
 pub returns-clause-step : goal.returns-clause-step

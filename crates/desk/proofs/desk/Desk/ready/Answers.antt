@@ -1,9 +1,7 @@
-use Rattle.std.proofs.Common.{◌≡◌, not, subst}
-use Rattle.book.specs.Book.{Run, Stands, history_in}
-use Rattle.spec_machine.specs.Machine.{is_missing_parents}
-use Rattle.spec_model.specs.Admitting.{admit, IsLegal}
-use Rattle.spec_model.specs.Giving.{kept}
-use Rattle.spec_model.specs.Histories.{History}
+use Rattle.std.proofs.Common.{◌≡◌, subst}
+use Rattle.book.specs.Book.{Run, Stands, state_in}
+use Rattle.spec_machine.specs.Machine.{is_ready}
+use Rattle.spec_model.specs.States.{State}
 use Rattle.validator.specs.Setting.{node_of}
 use Rattle.validator.specs.Standing.{ValidatorView, AreAtSound}
 use Rattle.desk.specs.Desk.{DeskView}
@@ -11,9 +9,8 @@ use Rattle.desk.proofs.desk.Desk.ready.Goals as goal
 
 pub returns : goal.returns
 returns g c =
-    let at = subst (λ (v : ValidatorView g.row.S.Denot). (history : History) → IsLegal (node_of g.S.Sign.scheme v.setting) history
-    → AreAtSound (node_of g.S.Sign.scheme v.setting) v.tables (kept (node_of g.S.Sign.scheme v.setting) history)
-    → c.ready.result ≡ not (is_missing_parents (admit (node_of g.S.Sign.scheme v.setting) history c.args.event.now))) c.validator.ensures c.ready.ensures.history in
+    let at = subst (λ (v : ValidatorView g.row.S.Denot). (state : State) → AreAtSound (node_of g.S.Sign.scheme v.setting) v.tables state
+    → c.ready.result ≡ is_ready (node_of g.S.Sign.scheme v.setting) state c.args.event.now) c.validator.ensures c.ready.ensures.at in
     subst (λ (d : DeskView g.row.S.Denot g.row.D.Denot). (run : Run) → Stands (node_of g.S.Sign.scheme d.book.validator.setting) run d.book
-    → c.ready.result ≡ not (is_missing_parents (admit (node_of g.S.Sign.scheme d.book.validator.setting) (history_in run) c.args.event.now))) c.self.view_is
-    (λ run stands. at (history_in run) stands.legal stands.at)
+    → c.ready.result ≡ is_ready (node_of g.S.Sign.scheme d.book.validator.setting) (state_in (node_of g.S.Sign.scheme d.book.validator.setting) run) c.args.event.now) c.self.view_is
+    (λ run stands. at (state_in (node_of g.S.Sign.scheme c.self.inside.book.validator.setting) run) stands.at)
