@@ -1,19 +1,21 @@
 -- What a flush seat has taken, and what that comes to on a disk.
-use Rattle.std.proofs.Common.{◌≡◌, inl, inr, ℕ, ◌+◌, ◌<◌, List, length, map, take, drop, refl, sym, ap, ◌∙◌, subst, arith}
-use Rattle.std.specs.Prelude.{All, Option, None, IsNone}
-use Rattle.std.proofs.lemmas.List.{take_at, take-map, drop_at, length-take-le}
-use Rattle.std.proofs.lemmas.List.Elements.{All-drop, All-take}
+use Rattle.std.proofs.Common.{◌≡◌, inl, inr, ℕ, ◌+◌, ◌<◌, List, ◌++◌, length, map, take, drop, refl, sym, ap, ◌∙◌, subst, arith}
+use Rattle.std.specs.Prelude.{Option, None, IsNone}
+use Rattle.std.proofs.lemmas.List.{take_at, take-map, take-append-drop, length-take-le}
 use Rattle.journal.specs.Format.{group_bytes}
 use Rattle.journal.specs.declared.layout.TheConstants.{MAX_JOURNAL_BYTES}
 use Rattle.book.specs.Pending.{IsLongestBeginning}
-use Rattle.spec_model.specs.Admitting.{IsTaken, IsLegal}
+use Rattle.spec_machine.specs.After.{IsLegalAfter}
+use Rattle.spec_machine.proofs.AfterAll.{after_joins}
+use Rattle.spec_model.specs.Histories.{History}
 use Rattle.spec_model.specs.Nodes.{Node}
+use Rattle.spec_model.specs.States.{State}
 use Rattle.wire.specs.Lists.{Begins}
 use Rattle.spec_records.specs.Records.{record_of}
 use Rattle.node_seats.specs.Views.{events}
 use Rattle.node_seats.specs.declared.view.Marked.{Marked}
 use Rattle.node_seats.proofs.Beginnings.{begins_take, take_begins}
-use Rattle.node_shared.specs.Home.{NodeView, IsFlushOf, TakesNext, taken_by, group_of, seen_by}
+use Rattle.node_shared.specs.Home.{NodeView, IsFlushOf, TakesNext, taken_by, group_of}
 use Rattle.node_shared.specs.declared.flush_seat.FlushSeat.{FlushSeat}
 use Rattle.flusher.specs.Rounds.{records_behind, TakesLongest, HasNoRoom}
 
@@ -33,13 +35,13 @@ module _ {S : Type 0} (node : NodeView S) (flush : FlushSeat) (of : IsFlushOf no
   pub group_behind : group_of flush ≡ records_behind flush.seat.view.firm (taken_by flush)
   group_behind = ap (λ (n : ℕ). map record_of (drop n (events (taken_by flush)))) of.settled
 
-  -- the events that are taken passed the checks
-  pub taken_events : (of_node : Node) → IsLegal of_node (seen_by flush.seat) → All (IsTaken of_node) (events (taken_by flush))
-  taken_events of_node legal =
-      let seen : All (IsTaken of_node) (events flush.seat.view.seen) =
-      subst (All (IsTaken of_node)) (drop_at flush.seat.view.start (events flush.seat.view.seen) (length flush.seat.view.start) refl)
-      (All-drop (IsTaken of_node) (length flush.seat.view.start) (seen_by flush.seat) legal.taken) in
-      subst (All (IsTaken of_node)) (take-map (λ (one : Marked). one.event) flush.taken flush.seat.view.seen) (All-take (IsTaken of_node) flush.taken (events flush.seat.view.seen) seen)
+  -- the events that are taken are legal where all that was seen is
+  pub taken_legal : (member : Node) (base : State) → IsLegalAfter member base (events flush.seat.view.seen) → IsLegalAfter member base (events (taken_by flush))
+  taken_legal member base legal =
+      let seen = events flush.seat.view.seen in
+      let all : IsLegalAfter member base (take flush.taken seen ++ drop flush.taken seen) = subst (IsLegalAfter member base) (sym (take-append-drop flush.taken seen)) legal in
+      subst (IsLegalAfter member base) (take-map (λ (one : Marked). one.event) flush.taken flush.seat.view.seen)
+      ((after_joins member base (take flush.taken seen) (drop flush.taken seen)).parts all).0
 
   -- what a round takes
   pub takes_none : (seen : List Marked) → Begins seen flush.seat.view.seen → flush.taken ≡ flush.settled → flush.seat.view.firm ≡ flush.seat.view.seen

@@ -5,6 +5,8 @@ use Rattle.journal.specs.Format.{group_bytes}
 use Rattle.journal.specs.Journal.{disk_of, IsAlive}
 use Rattle.journal.specs.declared.journal.Journal.{Journal}
 use Rattle.journal.specs.declared.layout.TheConstants.{MAX_JOURNAL_BYTES}
+use Rattle.spec_model.specs.Admitting.{IsLegal}
+use Rattle.spec_model.specs.Giving.{kept}
 use Rattle.spec_model.specs.Histories.{History}
 use Rattle.wire.specs.Lists.{Begins}
 use Rattle.spec_records.specs.Records.{record_of}
@@ -14,7 +16,7 @@ use Rattle.validator.specs.Setting.{node_of}
 use Rattle.node_seats.specs.Sights.{SeatView}
 use Rattle.node_seats.specs.Views.{events, IsSame}
 use Rattle.node_seats.specs.declared.view.Marked.{Marked}
-use Rattle.node_shared.specs.Home.{NodeView, IsFlushOf, taken_by}
+use Rattle.node_shared.specs.Home.{NodeView, IsBase, IsFlushOf, taken_by}
 use Rattle.node_shared.specs.declared.flush_seat.FlushSeat.{FlushSeat}
 use Rattle.book.specs.declared.own.error.FlushError.{FlushError}
 use Rattle.book.specs.declared.own.error.FlushError.TheVariants as errors
@@ -41,9 +43,12 @@ settled_in flusher = (seat_of flusher).seat.view.firm
 abbrev pub taken_in : {D : Type 0} → Flusher D → List Marked
 taken_in flusher = taken_by (seat_of flusher)
 
--- a history from where a node began
-abbrev pub from_start : {S : Type 0} → NodeView S → List Marked → History
-from_start node marked = node.start ++ events marked
+-- the bytes of a disk are the node's journal with a history that keeps a base of it, and then with these events; all of that is legal
+pub record HoldsAfter {S : Type 0} (scheme : Scheme S) (node : NodeView S) (marked : List Marked) (content : List ℕ) : Type 0 where
+  pub began : History
+  pub base : IsBase scheme node (kept (node_of scheme node.setting) began)
+  pub legal : IsLegal (node_of scheme node.setting) (began ++ events marked)
+  pub holds : Holds (node_of scheme node.setting) content (began ++ events marked)
 
 -- A flusher is a node's: its seat is, and unless it took the node down it has taken no more than is settled, and its journal can be
 -- added to and has exactly that.
@@ -51,11 +56,11 @@ pub record IsFlusherOf {S D : Type 0} (scheme : Scheme S) (device : Device D) (n
   pub seat : IsFlushOf node (seat_of flusher)
   pub rests : is_down flusher ≡ false → (seat_of flusher).taken ≡ (seat_of flusher).settled
   pub alive : is_down flusher ≡ false → IsAlive device (journal_of flusher)
-  pub holds : is_down flusher ≡ false → Holds (node_of scheme node.setting) (device.content (disk_of (journal_of flusher))) (from_start node (settled_in flusher))
+  pub holds : is_down flusher ≡ false → HoldsAfter scheme node (settled_in flusher) (device.content (disk_of (journal_of flusher)))
 
 -- ---- what a round takes
 
--- the records of what is after so much of a list
+-- the records of what comes after so much of a list
 abbrev pub records_behind : List Marked → List Marked → List (List ℕ)
 records_behind settled all = map record_of (drop (length settled) (events all))
 
@@ -80,9 +85,9 @@ pub record TakesLongest (seen settled taken : List Marked) : Type 0 where
 
 -- the bytes of a disk are the node's journal with what was settled before the round, or with what the round took
 abbrev pub HoldsEither : {S : Type 0} → Scheme S → NodeView S → List Marked → List Marked → List ℕ → Type 0
-HoldsEither scheme node settled taken left = Holds (node_of scheme node.setting) left (from_start node settled) ⊎ Holds (node_of scheme node.setting) left (from_start node taken)
+HoldsEither scheme node settled taken left = HoldsAfter scheme node settled left ⊎ HoldsAfter scheme node taken left
 
--- the group has no place after a journal of these bytes
+-- the group has no room after a journal of these bytes
 pub record HasNoRoom (content : List ℕ) (settled taken : List Marked) : Type 0 where
   pub some : length settled < length taken
   pub too_long : MAX_JOURNAL_BYTES < length content + length (group_bytes (records_behind settled taken))

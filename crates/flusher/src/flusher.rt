@@ -6,12 +6,13 @@ ghost use Rattle.journal.specs.Format.{group_bytes};
 ghost use Rattle.journal.specs.Journal.{disk_of, IsAlive};
 ghost use Rattle.journal.specs.declared.layout.TheConstants.{MAX_JOURNAL_BYTES};
 ghost use Rattle.wire.specs.Lists.{Begins};
-ghost use Rattle.spec_model.specs.Admitting.{IsLegal};
-ghost use Rattle.spec_world.specs.World.{Holds};
+ghost use Rattle.spec_machine.specs.After.{IsLegalAfter};
+ghost use Rattle.spec_model.specs.States.{State};
 ghost use Rattle.validator.specs.Setting.{node_of};
 ghost use Rattle.node_seats.specs.Plays.{with_down};
-ghost use Rattle.node_shared.specs.Home.{IsOf, IsFlushOf, group_of, seen_by};
-ghost use Rattle.flusher.specs.Rounds.{journal_of, seat_of, is_down, settled_in, taken_in, from_start, IsFlusherOf, HoldsEither, GoesDown, IsToldOf, TakesAndSettles, TellsRoom, StaysAsIs};
+ghost use Rattle.node_seats.specs.Views.{events};
+ghost use Rattle.node_shared.specs.Home.{IsBase, IsOf, IsFlushOf, group_of};
+ghost use Rattle.flusher.specs.Rounds.{journal_of, seat_of, is_down, settled_in, taken_in, IsFlusherOf, HoldsAfter, HoldsEither, GoesDown, IsToldOf, TakesAndSettles, TellsRoom, StaysAsIs};
 
 use book::FlushError;
 use diskmodel::Disk;
@@ -128,8 +129,8 @@ impl<D: Disk> Flusher<D> {
         requires flush_seat { IsFlushOf node.now (seat_of self.old) }
         requires up { is_down self.old ≡ false }
         requires alive { IsAlive D.device (journal_of self.old) }
-        requires holds { Holds (node_of S.scheme node.now.setting) (D.device.content (disk_of (journal_of self.old))) (from_start node.now (settled_in self.old)) }
-        requires legal { IsLegal (node_of S.scheme node.now.setting) (seen_by (seat_of self.old).seat) }
+        requires holds { HoldsAfter S.scheme node.now (settled_in self.old) (D.device.content (disk_of (journal_of self.old))) }
+        requires legal { (base : State) → IsBase S.scheme node.now base → IsLegalAfter (node_of S.scheme node.now.setting) base (events (seat_of self.old).seat.view.seen) }
         requires group { group ≡ group_of (seat_of self.old) }
         requires of { IsOf node.now seat.old }
         ensures flusher { IsFlusherOf S.scheme D.device node.now self.new }

@@ -2,14 +2,15 @@
 
 ghost use Rattle.flusher.specs.Collected.{CollectedIsWithin, CollectedVotesAgree};
 
+use sigface::Sign;
 use spec_world::what_goes_out_agrees;
 
 /// What callers collected doesn't contradict itself, whatever a stop leaves: after a round that covers their seats each history for
-/// which that stands has all that they know as settled. An output goes out within it, so by `what_goes_out_agrees` of `spec_world`
-/// no two votes differ for one author and round, and each order begins every later one.
-pub fn collected_agrees()
-    ensures within { CollectedIsWithin }
-    ensures votes { CollectedVotesAgree }
+/// which that stands has all that they know as settled, after one that keeps a base. An output goes out within it, so by
+/// `what_goes_out_agrees` of `spec_world` no two votes differ for one author and round, and each order begins every later one.
+pub fn collected_agrees<S: Sign>()
+    ensures within { CollectedIsWithin S }
+    ensures votes { CollectedVotesAgree S }
 {
     what_goes_out_agrees();
 }

@@ -1,46 +1,53 @@
--- The history at which a node begins after an opening.
-use Rattle.std.proofs.Common.{◌≡◌, ℕ, List, [], inr, sym, subst, ap, ◌∙◌}
+-- Where a node begins after an opening.
+use Rattle.std.proofs.Common.{◌≡◌, ℕ, List, [], length, inr, sym, subst, ap, ◌∙◌, append-nil}
 use Rattle.std.specs.Prelude.{Result, Ok, Err, IfOk, IfErr}
 use Rattle.diskmodel.specs.Disk.{AtEachMoment, Device}
 use Rattle.journal.specs.declared.error.Failed.{Failed}
 use Rattle.journal.specs.declared.error.JournalError.{JournalError}
 use Rattle.journal.specs.declared.error.JournalError.TheVariants as errors
 use Rattle.spec_model.specs.Admitting.{IsLegal}
-use Rattle.spec_model.specs.Giving.{kept}
-use Rattle.spec_model.specs.Histories.{History}
 use Rattle.spec_model.specs.Nodes.{Node}
-use Rattle.admission.specs.declared.tables.Tables.{Tables}
 use Rattle.validator.specs.Setting.{ConfigView, node_of}
-use Rattle.validator.specs.Standing.{AreAtSound}
+use Rattle.node_shared.specs.Home.{NodeView}
+use Rattle.flusher.specs.Rounds.{journal_of, seat_of, HoldsAfter, IsFlusherOf}
+use Rattle.flusher.specs.declared.flusher.Flusher.{Flusher}
+use Rattle.journal.specs.Journal.{disk_of, IsAlive}
+use Rattle.journal.specs.declared.journal.Journal.{Journal}
+use Rattle.node_seats.specs.declared.view.Marked.{Marked}
+use Rattle.node_shared.specs.Calls.{HasNothing}
+use Rattle.node_shared.specs.Home.{IsFlushOf}
+use Rattle.node_shared.specs.declared.flush_seat.FlushSeat.{FlushSeat}
+use Rattle.admission.specs.declared.tables.Tables.{Tables}
 use Rattle.spec_world.specs.World.{Holds}
 use Rattle.opening.specs.Laws.{HoldsAt, IsOpening}
 use Rattle.opening.specs.Told.{told, Tells, IsToldAsOneOf, KeepsRecords}
 use Rattle.sigface.specs.Scheme.{Scheme}
 
--- what was read, or nothing
-abbrev pub read_or_none : {E : Type 0} → Result History E → History
-read_or_none (Ok history) = history
-read_or_none (Err error) = []
+-- a journal of a history at whose state tables stand is one of a node that begins with these tables, before any event
+pub holds_first : {S : Type 0} (scheme : Scheme S) (node : NodeView S) (bytes : List ℕ) → HoldsAt (node_of scheme node.setting) bytes node.begun → HoldsAfter scheme node [] bytes
+holds_first scheme node bytes held = record {
+  began = held.history;
+  base = held.at;
+  legal = subst (IsLegal (node_of scheme node.setting)) (sym (append-nil held.history)) held.legal;
+  holds = subst (Holds (node_of scheme node.setting) bytes) (sym (append-nil held.history)) held.holds;
+}
 
--- the history that bytes are told as, at which tables stand
-pub record BeginsAt (node : Node) (bytes : List ℕ) (tables : Tables) (history : History) : Type 0 where
-  pub told_as : told node bytes ≡ Ok history
-  pub holds : Holds node bytes history
-  pub legal : IsLegal node history
-  pub at : AreAtSound node tables (kept node history)
-
-begins_at : (node : Node) (bytes : List ℕ) (tables : Tables) → HoldsAt node bytes tables → BeginsAt node bytes tables (read_or_none (told node bytes))
-begins_at node bytes tables held =
-    subst (BeginsAt node bytes tables) (sym (ap read_or_none held.told_as))
-    (record { told_as = held.told_as; holds = held.holds; legal = held.legal; at = held.at })
-
--- so it is of a validator that is set up as the node is
-pub begins_behind : {S : Type 0} (scheme : Scheme S) (config setting : ConfigView S) (bytes : List ℕ) (tables : Tables)
-    → setting ≡ config → HoldsAt (node_of scheme config) bytes tables
-    → BeginsAt (node_of scheme setting) bytes tables (read_or_none (told (node_of scheme setting) bytes))
-begins_behind scheme config setting bytes tables same held =
-    subst (λ s. BeginsAt (node_of scheme s) bytes tables (read_or_none (told (node_of scheme s) bytes))) (sym same)
-    (begins_at (node_of scheme config) bytes tables held)
+-- a flusher over that journal, whose seat has seen nothing
+pub flusher_first : {S D : Type 0} (scheme : Scheme S) (device : Device D) (node : NodeView S) (flusher : Flusher D) (journal : Journal D) (seat : FlushSeat) (setting : ConfigView S) (tables : Tables)
+    → node.setting ≡ setting → node.begun ≡ tables → journal_of flusher ≡ journal → seat_of flusher ≡ seat → IsFlushOf node seat → HasNothing seat.seat → seat.taken ≡ 0
+    → IsAlive device journal → HoldsAt (node_of scheme setting) (device.content (disk_of journal)) tables → IsFlusherOf scheme device node flusher
+flusher_first {S} {D} scheme device node flusher journal seat setting tables setting_is begun_is journal_is seat_is of nothing taken alive held =
+    let bytes = device.content (disk_of journal) in
+    let here : HoldsAt (node_of scheme node.setting) bytes node.begun = subst (λ (t : Tables). HoldsAt (node_of scheme node.setting) bytes t) (sym begun_is)
+    (subst (λ (s : ConfigView S). HoldsAt (node_of scheme s) bytes tables) (sym setting_is) held) in
+    let first : HoldsAfter scheme node seat.seat.view.firm bytes = subst (λ (l : List Marked). HoldsAfter scheme node l bytes) (sym nothing.firm) (holds_first scheme node bytes here) in
+    record {
+      seat = subst (IsFlushOf node) (sym seat_is) of;
+      rests = λ _. subst (λ (s : FlushSeat). s.taken ≡ s.settled) (sym seat_is) (taken ∙ sym (of.settled ∙ ap length nothing.firm));
+      alive = λ _. subst (IsAlive device) (sym journal_is) alive;
+      holds = λ _. subst (λ (j : Journal D). HoldsAfter scheme node (seat_of flusher).seat.view.firm (device.content (disk_of j))) (sym journal_is)
+          (subst (λ (s : FlushSeat). HoldsAfter scheme node s.seat.view.firm bytes) (sym seat_is) first);
+    }
 
 -- An opening that gave a journal, and then a call that gives the journal's disk back with its answer, or for want of memory with its
 -- error, are together an opening.

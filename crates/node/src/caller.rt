@@ -1,16 +1,13 @@
 //! What a thread calls a node with.
 
-ghost use Rattle.std.specs.Prelude.{◌≡◌, ◌⊎◌, ◌↔◌, None, not, drop, length, IsNone, IsOk, IsTrue, IsErrOf, IfOk, IfErr, IfSome};
+ghost use Rattle.std.specs.Prelude.{◌≡◌, ◌⊎◌, ◌↔◌, None, drop, length, IsNone, IsOk, IsTrue, IsErrOf, IfOk, IfErr, IfSome};
 ghost use Rattle.header.specs.Checks.{fault_of, accepts_all};
-ghost use Rattle.spec_machine.specs.Machine.{is_missing_parents};
-ghost use Rattle.spec_model.specs.Admitting.{admit};
-ghost use Rattle.spec_model.specs.Giving.{unless_low};
-ghost use Rattle.spec_model.specs.Holdings.{order as order_of, round as round_of, floor as floor_of, voted_digest};
-ghost use Rattle.spec_model.specs.Proposing.{propose as propose_of};
+ghost use Rattle.spec_machine.specs.Machine.{is_ready, proposed, round_in};
+ghost use Rattle.spec_model.specs.States.{State};
 ghost use Rattle.validator.specs.Setting.{node_of};
 ghost use Rattle.node_shared.specs.Answers.{Submits, Gives};
 ghost use Rattle.node_shared.specs.Calls.{Looked, Learned, Brought, IsBeside};
-ghost use Rattle.node_shared.specs.Home.{IsOf, seen_by, firm_by};
+ghost use Rattle.node_shared.specs.Home.{IsBase, IsOf, seen_in, firm_in};
 ghost use Rattle.node.specs.Callers.{StaysWith};
 
 use header::Checked;
@@ -40,9 +37,13 @@ impl<'n, 'a, S: Sign> Drop for Caller<'n, 'a, S> {
 }
 
 impl<'n, 'a, S: Sign> Model for Caller<'n, 'a, S> {
+    ghost use Rattle.std.specs.Coded.{codes};
+    ghost use Rattle.votebook.specs.contracts.book.VoteBook as votes;
     ghost use Rattle.node.specs.Callers.{CallerView, IsCalling};
 
     ghost Value = { CallerView S };
+
+    ghost coded = { Prim.hlevel (codes, S.code, votes.the_row.coded) };
 
     ghost view = { λ c. record { setting = c.config.now; node = c.node.now; seat = c.seat } };
 
@@ -86,7 +87,7 @@ impl<'n, 'a, S: Sign> Caller<'n, 'a, S> {
         requires passed { fault_of self.old.setting.charter accepts_all event ≡ None }
         ensures stays { StaysWith self.old self.new }
         ensures brought { Brought S.scheme self.old.node self.old.seat self.new.seat }
-        ensures submits { Submits (node_of S.scheme self.old.node.setting) event self.old.seat.view self.new.seat.view result }
+        ensures submits { Submits S.scheme self.old.node event self.old.seat.view self.new.seat.view result }
         ensures down { IsErrOf result Refusal.Down ↔ IsTrue self.new.seat.view.down }
     {
         self.node.submit(rt, &mut self.seat, event)
@@ -97,7 +98,7 @@ impl<'n, 'a, S: Sign> Caller<'n, 'a, S> {
         ensures stays { StaysWith self.old self.new }
         ensures learned { Learned S.scheme self.old.node self.old.seat self.new.seat }
         ensures down { IsTrue self.new.seat.view.down → IsNone result }
-        ensures gives { IfSome result (λ output. Gives (node_of S.scheme self.old.node.setting) self.new.seat output) }
+        ensures gives { IfSome result (λ output. Gives S.scheme self.old.node self.new.seat output) }
     {
         self.node.collect(rt, &mut self.seat)
     }
@@ -107,7 +108,8 @@ impl<'n, 'a, S: Sign> Caller<'n, 'a, S> {
         ensures stays { StaysWith self.old self.new }
         ensures learned { Learned S.scheme self.old.node self.old.seat self.new.seat }
         ensures down { IsErrOf result Refusal.Down ↔ IsTrue self.new.seat.view.down }
-        ensures order { IfOk result (λ digests. digests.items ≡ drop from (order_of (node_of S.scheme self.old.node.setting) (firm_by self.new.seat))) }
+        ensures order { let node = node_of S.scheme self.old.node.setting in IfOk result (λ digests. (base : State) → IsBase S.scheme self.old.node base
+            → digests.items ≡ drop from (firm_in node base self.new.seat).order) }
         ensures errors { IfErr result (λ refusal. (refusal ≡ Refusal.Down) ⊎ (refusal ≡ Refusal.Memory)) }
     {
         self.node.order(rt, &mut self.seat, from)
@@ -117,7 +119,7 @@ impl<'n, 'a, S: Sign> Caller<'n, 'a, S> {
     pub fn peek_voted<R: Wait>(&mut self, rt: &R, author: Author, round: Round) -> Option<Digest>
         ensures stays { StaysWith self.old self.new }
         ensures looked { Looked S.scheme self.old.node self.old.seat self.new.seat }
-        ensures voted { result ≡ unless_low (floor_of (node_of S.scheme self.old.node.setting) (seen_by self.new.seat)) round (voted_digest (seen_by self.new.seat) round author.0) }
+        ensures voted { let node = node_of S.scheme self.old.node.setting in (base : State) → IsBase S.scheme self.old.node base → result ≡ (seen_in node base self.new.seat).votes round author.0 }
     {
         self.node.peek_voted(rt, &mut self.seat, author, round)
     }
@@ -126,7 +128,7 @@ impl<'n, 'a, S: Sign> Caller<'n, 'a, S> {
     pub fn round_now<R: Wait>(&mut self, rt: &R) -> u64
         ensures stays { StaysWith self.old self.new }
         ensures looked { Looked S.scheme self.old.node self.old.seat self.new.seat }
-        ensures round { result ≡ round_of (node_of S.scheme self.old.node.setting) (seen_by self.new.seat) }
+        ensures round { let node = node_of S.scheme self.old.node.setting in (base : State) → IsBase S.scheme self.old.node base → result ≡ round_in node (seen_in node base self.new.seat) }
     {
         self.node.round_now(rt, &mut self.seat)
     }
@@ -136,7 +138,7 @@ impl<'n, 'a, S: Sign> Caller<'n, 'a, S> {
         requires passed { fault_of self.old.setting.charter accepts_all event.now ≡ None }
         ensures stays { StaysWith self.old self.new }
         ensures looked { Looked S.scheme self.old.node self.old.seat self.new.seat }
-        ensures ready { result ≡ not (is_missing_parents (admit (node_of S.scheme self.old.node.setting) (seen_by self.new.seat) event.now)) }
+        ensures ready { let node = node_of S.scheme self.old.node.setting in (base : State) → IsBase S.scheme self.old.node base → result ≡ is_ready node (seen_in node base self.new.seat) event.now }
     {
         self.node.ready(rt, &mut self.seat, event)
     }
@@ -145,7 +147,8 @@ impl<'n, 'a, S: Sign> Caller<'n, 'a, S> {
     pub fn propose<R: Wait>(&mut self, rt: &R) -> Result<Option<Header>, AllocError>
         ensures stays { StaysWith self.old self.new }
         ensures looked { Looked S.scheme self.old.node self.old.seat self.new.seat }
-        ensures header { IfOk result (λ found. found ≡ propose_of (node_of S.scheme self.old.node.setting) (seen_by self.new.seat)) }
+        ensures header { let node = node_of S.scheme self.old.node.setting in IfOk result (λ found. (base : State) → IsBase S.scheme self.old.node base
+            → found ≡ proposed node (seen_in node base self.new.seat)) }
     {
         self.node.propose(rt, &mut self.seat)
     }

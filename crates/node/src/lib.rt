@@ -4,16 +4,12 @@
 mod caller;
 mod rounds;
 
-ghost use Rattle.std.specs.Prelude.{◌≡◌, ◌≢◌, ◌⊎◌, ◌<◌, [], false, Ok, IfOk, IfErr};
+ghost use Rattle.std.specs.Prelude.{◌≡◌, ◌≢◌, ◌⊎◌, ◌<◌, [], false, IfOk, IfErr};
 ghost use Rattle.diskmodel.specs.Disk.{AtEachMoment};
 ghost use Rattle.journal.specs.Journal.{disk_of, IsAlive, IsClosedUp};
-ghost use Rattle.spec_model.specs.Admitting.{IsLegal};
-ghost use Rattle.spec_model.specs.Giving.{kept};
-ghost use Rattle.spec_world.specs.World.{Holds};
 ghost use Rattle.validator.specs.Setting.{node_of};
-ghost use Rattle.validator.specs.Standing.{AreAtSound};
-ghost use Rattle.opening.specs.Laws.{IsOpening};
-ghost use Rattle.opening.specs.Told.{told};
+ghost use Rattle.opening.specs.Laws.{HoldsAt, IsOpening};
+ghost use Rattle.opening.specs.Told.{told, StandsAt};
 ghost use Rattle.node_shared.specs.Calls.{HasNothing};
 ghost use Rattle.node_shared.specs.Home.{IsOf};
 ghost use Rattle.flusher.specs.Rounds.{journal_of, is_down, settled_in, taken_in, IsFlusherOf};
@@ -22,17 +18,15 @@ pub use caller::Caller;
 use diskmodel::Disk;
 pub use flusher::{FlushError, Flusher};
 use journal::{Failed, Journal, JournalError};
-use node_shared::Start;
 pub use node_shared::{Node, Receipt, Refusal, Seat};
 use opening::reopen;
 pub use rounds::Rounds;
 use sigface::Sign;
 use std::alloc::Global;
-use std::marker::Brand;
 use validator::{Config, Validator};
 
-/// Opens a node on a disk: the node, a seat of it, and its flusher. The node begins at the history that the disk is told as, and
-/// the seat has seen nothing since.
+/// Opens a node on a disk: the node, a seat of it, and its flusher. The node begins at the state that the disk is told as, and the
+/// seat has seen nothing since.
 ///
 /// # Errors
 /// Those of `reopen`, and `Memory` where an allocation failed to the node. The disk is handed back.
@@ -42,7 +36,7 @@ pub fn start<'a, S: Sign, D: Disk>(
     disk: D,
 ) -> Result<(Node<'a, S>, Seat, Flusher<D>), Failed<JournalError, D>>
     ensures setting { IfOk result (λ started. started.0.setting ≡ config.now) }
-    ensures begins { IfOk result (λ started. told (node_of S.scheme config.now) (D.device.content disk) ≡ Ok started.0.start) }
+    ensures begins { let node = node_of S.scheme config.now in IfOk result (λ started. StandsAt node (told node (D.device.content disk)) started.0.begun) }
     ensures seat { IfOk result (λ started. IsOf started.0 started.1) }
     ensures nothing { IfOk result (λ started. HasNothing started.1) }
     ensures flusher { IfOk result (λ started. IsFlusherOf S.scheme D.device started.0 started.2) }
@@ -56,21 +50,19 @@ pub fn start<'a, S: Sign, D: Disk>(
     ensures unchanged { IfErr result (λ failed. failed.error ≢ JournalError.Device → failed.error ≢ JournalError.Memory → (D.device.content failed.disk ≡ D.device.content disk) ⊎ IsClosedUp (D.device.content disk) (D.device.content failed.disk)) }
 {
     let (validator, journal) = reopen(alloc, config, disk)?;
-    begin::<Brand, S, D>(alloc, validator, journal)
+    begin(alloc, validator, journal)
 }
 
 // The node over a validator and a journal that were opened.
-fn begin<'a, H: Start, S: Sign, D: Disk>(
+fn begin<'a, S: Sign, D: Disk>(
     alloc: Global,
     validator: Validator<'a, S>,
     journal: Journal<D>,
 ) -> Result<(Node<'a, S>, Seat, Flusher<D>), Failed<JournalError, D>>
-    requires legal { IsLegal (node_of S.scheme validator.setting) H.history }
-    requires at { let node = node_of S.scheme validator.setting in AreAtSound node validator.tables (kept node H.history) }
     requires alive { IsAlive D.device journal }
-    requires holds { Holds (node_of S.scheme validator.setting) (D.device.content (disk_of journal)) H.history }
+    requires holds { HoldsAt (node_of S.scheme validator.setting) (D.device.content (disk_of journal)) validator.tables }
     ensures setting { IfOk result (λ started. started.0.setting ≡ validator.entry.setting) }
-    ensures begins { IfOk result (λ started. started.0.start ≡ H.history) }
+    ensures begins { IfOk result (λ started. started.0.begun ≡ validator.entry.tables) }
     ensures seat { IfOk result (λ started. IsOf started.0 started.1) }
     ensures nothing { IfOk result (λ started. HasNothing started.1) }
     ensures flusher { IfOk result (λ started. IsFlusherOf S.scheme D.device started.0 started.2) }
@@ -79,7 +71,7 @@ fn begin<'a, H: Start, S: Sign, D: Disk>(
     ensures journal { IfOk result (λ started. journal_of started.2 ≡ journal) }
     ensures err { IfErr result (λ failed. (failed.error ≡ JournalError.Memory) × (failed.disk ≡ disk_of journal)) }
 {
-    match Node::new::<H>(alloc, validator) {
+    match Node::new(alloc, validator) {
         Ok((node, seat, flush_seat)) => Ok((node, seat, Flusher::new(journal, flush_seat))),
         Err(_) => Err(Failed {
             error: JournalError::Memory,

@@ -37,12 +37,16 @@ impl<'n, 'a, S: Sign, D: Disk + Drop> Drop for Rounds<'n, 'a, S, D> {
 }
 
 impl<'n, 'a, S: Sign, D: Disk> Model for Rounds<'n, 'a, S, D> {
+    ghost use Rattle.std.specs.Coded.{codes};
+    ghost use Rattle.votebook.specs.contracts.book.VoteBook as votes;
     ghost use Rattle.validator.specs.Setting.{node_of};
     ghost use Rattle.node_shared.specs.Home.{IsOf};
     ghost use Rattle.flusher.specs.Rounds.{IsFlusherOf};
     ghost use Rattle.node.specs.Callers.{RoundsView};
 
     ghost Value = { RoundsView S D };
+
+    ghost coded = { Prim.hlevel (codes, S.code, D.code, votes.the_row.coded) };
 
     ghost view = { λ r. record { node = r.node.now; seat = r.seat; flusher = r.flusher } };
 

@@ -4,12 +4,13 @@ use Rattle.std.specs.Prelude.{◌≢◌, IfErr, OnOk, OnErr, is_some}
 use Rattle.book.specs.declared.book.Receipt.{Receipt}
 use Rattle.header.specs.Digested.{certificate_digest_in}
 use Rattle.header.specs.declared.error.CheckError.{CheckError}
-use Rattle.spec_model.specs.Nodes.{Node}
 use Rattle.spec_model.specs.Words.{Event}
 use Rattle.header.specs.declared.refusal.Refusal.{Refusal}
 use Rattle.node_io.specs.declared.told.Told.{Told}
 use Rattle.node_io.specs.declared.told.Told.TheVariants.{Unchecked}
 use Rattle.node.specs.Callers.{CallerView}
+use Rattle.node_shared.specs.Home.{NodeView}
+use Rattle.sigface.specs.Scheme.{Scheme}
 use Rattle.node_run.specs.Bringing.{Brings, CantWait, Enters}
 use Rattle.node_run.specs.Taking.{Handles, OnlyLooks, told_as}
 use Rattle.node_run.specs.declared.caller.Taken.{Taken}
@@ -24,9 +25,9 @@ never_waits : (certificate : Event) (answer : Result Receipt Refusal) → told_a
 never_waits certificate (Ok receipt) is = either_way certificate receipt.new is
 never_waits certificate (Err why) is = absurd cc
 
-module _ {S : Type 0} (node : Node) (fault : Option CheckError) (event : Event) (before later : CallerView S) (old new : List Event)
-    (told : Result Taken Told) (handles : Handles node fault event before later told) where
-  pub brings_new : told ≡ Ok New → new ≡ old → Brings node fault event before later old new (Ok true)
+module _ {S : Type 0} (scheme : Scheme S) (node : NodeView S) (fault : Option CheckError) (event : Event) (before later : CallerView S) (old new : List Event)
+    (told : Result Taken Told) (handles : Handles scheme node fault event before later told) where
+  pub brings_new : told ≡ Ok New → new ≡ old → Brings scheme node fault event before later old new (Ok true)
   brings_new is same = record {
     told = told;
     later = later;
@@ -37,7 +38,7 @@ module _ {S : Type 0} (node : Node) (fault : Option CheckError) (event : Event) 
     refused = λ why other. let bad : Ok New ≡ Err why = sym is ∙ other in absurd cc;
   }
 
-  pub brings_known : told ≡ Ok Known → new ≡ old → Brings node fault event before later old new (Ok false)
+  pub brings_known : told ≡ Ok Known → new ≡ old → Brings scheme node fault event before later old new (Ok false)
   brings_known is same = record {
     told = told;
     later = later;
@@ -48,7 +49,7 @@ module _ {S : Type 0} (node : Node) (fault : Option CheckError) (event : Event) 
     refused = λ why other. let bad : Ok Known ≡ Err why = sym is ∙ other in absurd cc;
   }
 
-  pub brings_refusal : (why : Told) → told ≡ Err why → new ≡ old → Brings node fault event before later old new (Err why)
+  pub brings_refusal : (why : Told) → told ≡ Err why → new ≡ old → Brings scheme node fault event before later old new (Err why)
   brings_refusal why is same = record {
     told = told;
     later = later;
@@ -65,7 +66,7 @@ module _ {S : Type 0} (node : Node) (fault : Option CheckError) (event : Event) 
   pub brings_waiting : (now : CallerView S) (certificate : Event) (result : Result Bool Told) → OnlyLooks later.seat now.seat → told
       ≡ Ok (Waits certificate) → result ≢ Ok true → OnOk result (Enters certificate old new) → OnErr result (new ≡ old)
       → IfErr result (CantWait certificate old)
-      → Brings node fault event before now old new result
+      → Brings scheme node fault event before now old new result
   brings_waiting now certificate (Ok found) looks is never enters same why = record {
     told = told;
     later = later;

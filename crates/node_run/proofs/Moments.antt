@@ -3,17 +3,15 @@ use Rattle.std.proofs.Common.{◌≡◌, ℕ, Bool, true, false, List, Result, O
 use Rattle.std.specs.Prelude.{◌⊎◌, IsErrOf, IsTrue}
 use Rattle.diskmodel.proofs.Clock.{weaker, joins}
 use Rattle.diskmodel.specs.Disk.{AtEachMoment, Device}
-use Rattle.flusher.specs.Rounds.{journal_of, is_down, settled_in, taken_in, from_start, HoldsEither, TakesLongest}
+use Rattle.flusher.specs.Rounds.{journal_of, is_down, settled_in, taken_in, HoldsAfter, HoldsEither, TakesLongest}
 use Rattle.flusher.specs.declared.flusher.Flusher.{Flusher}
 use Rattle.journal.specs.Journal.{disk_of}
-use Rattle.spec_world.specs.World.{Holds}
 use Rattle.book.specs.declared.own.error.FlushError.{FlushError}
 use Rattle.book.specs.declared.own.error.FlushError.TheVariants as flush
 use Rattle.node_seats.proofs.Beginnings.{begins_same, begins_trans}
 use Rattle.node_seats.specs.declared.view.Marked.{Marked}
 use Rattle.node_shared.specs.Home.{NodeView}
 use Rattle.wire.specs.Lists.{Begins}
-use Rattle.validator.specs.Setting.{node_of}
 use Rattle.node_run.specs.Runs.{HoldsMore}
 use Rattle.sigface.specs.Scheme.{Scheme}
 
@@ -53,11 +51,11 @@ module _ {S D : Type 0} (scheme : Scheme S) (device : Device D) where
       taken = begins_taken seen (settled_in now) (taken_in later) round up takes (λ none. (memory none).1)
 
       more : (c : List ℕ) → HoldsEither scheme at (settled_in now) (taken_in later) c → HoldsMore scheme node (settled_in first) c
-      more c (inl holds) = record { more = settled_in now; begins = begins; holds = subst (λ n. Holds (node_of scheme n.setting) c (from_start n (settled_in now))) here holds }
+      more c (inl holds) = record { more = settled_in now; begins = begins; holds = subst (λ n. HoldsAfter scheme n (settled_in now) c) here holds }
       more c (inr holds) = record {
         more = taken_in later;
         begins = begins_trans (settled_in first) (settled_in now) (taken_in later) begins taken;
-        holds = subst (λ n. Holds (node_of scheme n.setting) c (from_start n (taken_in later))) here holds;
+        holds = subst (λ n. HoldsAfter scheme n (taken_in later) c) here holds;
       }
 
       goes_on : (now ≡ first) ⊎ Leaves node first now → Leaves node first later
@@ -74,7 +72,7 @@ module _ {S D : Type 0} (scheme : Scheme S) (device : Device D) where
       more c it = record {
         more = it.more;
         begins = begins_trans (settled_in first) (settled_in now) it.more begins it.begins;
-        holds = subst (λ n. Holds (node_of scheme n.setting) c (from_start n it.more)) here it.holds;
+        holds = subst (λ n. HoldsAfter scheme n it.more c) here it.holds;
       }
 
       goes_on : (down : Bool) → is_down now ≡ down → (now ≡ first) ⊎ (is_down first ≡ false → Leaves node first now) → Leaves node first later

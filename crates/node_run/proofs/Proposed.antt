@@ -7,19 +7,21 @@ use Rattle.committee.specs.Charter.{Charter}
 use Rattle.header.specs.Checks.{fault_of, accepts_all}
 use Rattle.header.specs.declared.error.CheckError.{CheckError}
 use Rattle.spec_laws.specs.Laws.{own_event}
-use Rattle.spec_model.specs.Histories.{History}
 use Rattle.wire.specs.Lists.{Begins}
+use Rattle.spec_machine.specs.After.{after_all}
+use Rattle.spec_machine.specs.Machine.{proposed}
 use Rattle.spec_model.specs.Nodes.{Node}
-use Rattle.spec_model.specs.Proposing.{propose}
+use Rattle.spec_model.specs.States.{State}
 use Rattle.spec_model.specs.Words.{Author, Event, Header}
 use Rattle.header.specs.declared.refusal.Refusal.{Refusal}
 use Rattle.header.specs.declared.refusal.Refusal.TheVariants.{Memory}
 use Rattle.node_io.specs.declared.told.Told.{Told}
 use Rattle.node_io.specs.declared.told.Told.TheVariants.{Refused}
-use Rattle.node_seats.specs.Views.{events}
 use Rattle.node_seats.proofs.Beginnings.{begins_same}
 use Rattle.node_shared.specs.Answers.{Submits}
-use Rattle.node_shared.specs.Home.{seen_by}
+use Rattle.node_shared.specs.Home.{NodeView, IsBase, seen_in}
+use Rattle.sigface.specs.Scheme.{Scheme}
+use Rattle.validator.specs.Setting.{node_of}
 use Rattle.node.specs.Callers.{CallerView}
 use Rattle.wire.specs.declared.message.Message.TheVariants as message
 use Rattle.node_run.specs.declared.caller.Taken.{Taken}
@@ -32,30 +34,38 @@ own_fault node charter own header fault same_charter same_own is =
     subst (λ (it : Author). fault_of node.charter accepts_all (record { sender = it; message = message.Header header }) ≡ fault) same_own
     (subst (λ (it : Charter). fault_of it accepts_all (record { sender = own; message = message.Header header }) ≡ fault) same_charter is)
 
-module _ {S : Type 0} (node : Node) (before mid : CallerView S) (mine : mid.seat.view.mine ≡ before.seat.view.mine)
-    (start : mid.seat.view.start ≡ before.seat.view.start) (more : Begins before.seat.view.seen mid.seat.view.seen) where
-  there : (found : Option Header) → found ≡ propose node (seen_by mid.seat) → propose node (before.seat.view.start ++ events mid.seat.view.seen) ≡ found
-  there found is = sym (is ∙ ap (λ (first : History). propose node (first ++ events mid.seat.view.seen)) start)
+module _ {S : Type 0} (scheme : Scheme S) (shared : NodeView S) (before mid : CallerView S) (mine : mid.seat.view.mine ≡ before.seat.view.mine)
+    (more : Begins before.seat.view.seen mid.seat.view.seen) where
+  abbrev node : Node
+  node = node_of scheme shared.setting
 
-  pub none_proposed : (found : Option Header) → found ≡ propose node (seen_by mid.seat) → found ≡ None → IsProposed node before mid false
+  -- this is what is proposed after what was seen then, from each base on
+  abbrev Finds : Option Header → Type 0
+  Finds found = (base : State) → IsBase scheme shared base → found ≡ proposed node (seen_in node base mid.seat)
+
+  pub none_proposed : (found : Option Header) → Finds found → found ≡ None → IsProposed scheme shared before mid false
   none_proposed found is none = record {
     looked = mid.seat.view.seen;
     more = more;
     less = begins_same mid.seat.view.seen;
+    found = found;
+    proposes = is;
     none = λ _. (refl, mine);
-    some = λ header proposed passes. let bad : None ≡ Some header = sym none ∙ sym (there found is) ∙ proposed in absurd cc;
+    some = λ header there passes. let bad : None ≡ Some header = sym none ∙ there in absurd cc;
     failed = λ _ _ _ _. (refl, mine);
   }
 
-  pub never_passed : (found : Option Header) (header : Header) (error : CheckError) → found ≡ propose node (seen_by mid.seat) → found ≡ Some header
-      → fault_of node.charter accepts_all (own_event node header) ≡ Some error → IsProposed node before mid false
+  pub never_passed : (found : Option Header) (header : Header) (error : CheckError) → Finds found → found ≡ Some header
+      → fault_of node.charter accepts_all (own_event node header) ≡ Some error → IsProposed scheme shared before mid false
   never_passed found header error is some fault = record {
     looked = mid.seat.view.seen;
     more = more;
     less = begins_same mid.seat.view.seen;
+    found = found;
+    proposes = is;
     none = λ _. (refl, mine);
-    some = λ other proposed passes.
-        let both : Some header ≡ Some other = sym some ∙ sym (there found is) ∙ proposed in
+    some = λ other there passes.
+        let both : Some header ≡ Some other = sym some ∙ there in
         let same : header ≡ other = cc in
         let none : fault_of node.charter accepts_all (own_event node header) ≡ None = subst (λ (it : Header). fault_of node.charter accepts_all (own_event node it) ≡ None) (sym same) passes in
         let bad : Some error ≡ None = sym fault ∙ none in absurd cc;
@@ -63,41 +73,43 @@ module _ {S : Type 0} (node : Node) (before mid : CallerView S) (mine : mid.seat
   }
 
   pub was_proposed : (later : CallerView S) (found : Option Header) (header : Header) (event : Event) (told : Result Taken Told) (newness : Result Bool AllocError)
-      → found ≡ propose node (seen_by mid.seat) → found ≡ Some header → event ≡ own_event node header → fault_of node.charter accepts_all event ≡ None
-      → Begins mid.seat.view.seen later.seat.view.seen → IsSubmitted node event before later told
-      → IfOk newness (λ new. new ≡ is_told_new told) → IfOk newness (λ new. IsProposed node before later new)
+      → Finds found → found ≡ Some header → event ≡ own_event node header → fault_of node.charter accepts_all event ≡ None
+      → Begins mid.seat.view.seen later.seat.view.seen → IsSubmitted scheme shared event before later told
+      → IfOk newness (λ new. new ≡ is_told_new told) → IfOk newness (λ new. IsProposed scheme shared before later new)
   was_proposed later found header event told newness is some own passed less done = on_ok newness
     where
-      one : (new : Bool) → new ≡ is_told_new told → IsProposed node before later new
+      one : (new : Bool) → new ≡ is_told_new told → IsProposed scheme shared before later new
       one new newly = record {
         looked = mid.seat.view.seen;
         more = more;
         less = less;
-        none = λ none. let bad : Some header ≡ None = sym some ∙ sym (there found is) ∙ none in absurd cc;
-        some = λ other proposed passes.
-            let both : Some header ≡ Some other = sym some ∙ sym (there found is) ∙ proposed in
+        found = found;
+        proposes = is;
+        none = λ none. let bad : Some header ≡ None = sym some ∙ none in absurd cc;
+        some = λ other there passes.
+            let both : Some header ≡ Some other = sym some ∙ there in
             let same : header ≡ other = cc in
-            (told, subst (λ (it : Header). IsSubmitted node (own_event node it) before later told) same (subst (λ (it : Event). IsSubmitted node it before later told) own done), newly);
-        failed = λ other error proposed fault.
-            let both : Some header ≡ Some other = sym some ∙ sym (there found is) ∙ proposed in
+            (told, subst (λ (it : Header). IsSubmitted scheme shared (own_event node it) before later told) same (subst (λ (it : Event). IsSubmitted scheme shared it before later told) own done), newly);
+        failed = λ other error there fault.
+            let both : Some header ≡ Some other = sym some ∙ there in
             let same : header ≡ other = cc in
             let none : fault_of node.charter accepts_all (own_event node other) ≡ None =
             subst (λ (it : Header). fault_of node.charter accepts_all (own_event node it) ≡ None) same (subst (λ (it : Event). fault_of node.charter accepts_all it ≡ None) own passed) in
             let bad : Some error ≡ None = sym fault ∙ none in absurd cc;
       }
 
-      on_ok : (newness : Result Bool AllocError) → IfOk newness (λ new. new ≡ is_told_new told) → IfOk newness (λ new. IsProposed node before later new)
+      on_ok : (newness : Result Bool AllocError) → IfOk newness (λ new. new ≡ is_told_new told) → IfOk newness (λ new. IsProposed scheme shared before later new)
       on_ok (Ok new) newly = one new newly
       on_ok (Err error) newly = tt
 
 -- what is refused is no event of one's own
-refused_mine : {S : Type 0} (node : Node) (event : Event) (before later : CallerView S) (why : Told) (answer : Result Receipt Refusal)
-    → Submits node event before.seat.view later.seat.view answer → told_as answer ≡ Err why → later.seat.view.mine ≡ before.seat.view.mine
-refused_mine node event before later why (Ok receipt) submits is = absurd cc
-refused_mine node event before later why (Err refusal) submits is = let same = submits.same in same.1
+refused_mine : {S : Type 0} (scheme : Scheme S) (node : NodeView S) (event : Event) (before later : CallerView S) (why : Told) (answer : Result Receipt Refusal)
+    → Submits scheme node event before.seat.view later.seat.view answer → told_as answer ≡ Err why → later.seat.view.mine ≡ before.seat.view.mine
+refused_mine scheme node event before later why (Ok receipt) submits is = absurd cc
+refused_mine scheme node event before later why (Err refusal) submits is = let same = submits.same in same.1
 
 -- want of memory is told only where nothing was accepted
-pub lacked_memory : {S : Type 0} (node : Node) (event : Event) (before mid later : CallerView S) (told : Result Taken Told) (newness : Result Bool AllocError)
-    → mid.seat.view.mine ≡ before.seat.view.mine → IsSubmitted node event mid later told → OnErr newness (told ≡ Err (Refused Memory)) → OnErr newness (later.seat.view.mine ≡ before.seat.view.mine)
-lacked_memory node event before mid later told (Ok new) mine done why = tt
-lacked_memory node event before mid later told (Err error) mine done why = refused_mine node event mid later (Refused Memory) done.answer done.submits (sym done.is ∙ why) ∙ mine
+pub lacked_memory : {S : Type 0} (scheme : Scheme S) (node : NodeView S) (event : Event) (before mid later : CallerView S) (told : Result Taken Told) (newness : Result Bool AllocError)
+    → mid.seat.view.mine ≡ before.seat.view.mine → IsSubmitted scheme node event mid later told → OnErr newness (told ≡ Err (Refused Memory)) → OnErr newness (later.seat.view.mine ≡ before.seat.view.mine)
+lacked_memory scheme node event before mid later told (Ok new) mine done why = tt
+lacked_memory scheme node event before mid later told (Err error) mine done why = refused_mine scheme node event mid later (Refused Memory) done.answer done.submits (sym done.is ∙ why) ∙ mine

@@ -1,11 +1,12 @@
 -- How a node's run over a disk ends.
-use Rattle.std.proofs.Common.{◌≡◌, ◌<◌, ℕ, Bool, true, false, List, [], Option, Some, None, refl, sym, ap, subst, ◌∙◌, inl, inr}
+use Rattle.std.proofs.Common.{◌≡◌, ◌<◌, ◌++◌, ℕ, Bool, true, false, List, [], Option, Some, None, refl, sym, ap, subst, ◌∙◌, inl, inr}
 use Rattle.std.proofs.lemmas.Option.{none-some}
 use Rattle.std.specs.Option.{option_map_or}
 use Rattle.std.specs.Prelude.{◌≢◌, ◌⊎◌, Ok, IfSome, if◌then◌else◌}
 use Rattle.diskmodel.proofs.Clock.{weaker, joins}
 use Rattle.diskmodel.specs.Disk.{AtEachMoment, Device}
-use Rattle.flusher.specs.Rounds.{from_start}
+use Rattle.admission.proofs.OneState.{one_state}
+use Rattle.flusher.specs.Rounds.{HoldsAfter}
 use Rattle.journal.specs.declared.error.JournalError.{JournalError}
 use Rattle.journal.specs.declared.error.JournalError.TheVariants as journal
 use Rattle.node_io.specs.Endings.{of_journal, ending_of, unless_journal, lacks_memory}
@@ -13,12 +14,16 @@ use Rattle.node_io.specs.declared.ending.Ending.{Ending}
 use Rattle.node_io.specs.declared.ending.Ending.TheVariants as ends
 use Rattle.node_io.specs.declared.faults.Faults.{Faults}
 use Rattle.node_seats.specs.Views.{events}
+use Rattle.node_seats.specs.declared.view.Marked.{Marked}
 use Rattle.node_shared.specs.Home.{NodeView}
 use Rattle.opening.specs.Laws.{IsLeft, IsNoRefusal}
-use Rattle.opening.specs.Told.{told, Tells, IsToldAsOneOf}
+use Rattle.opening.specs.Told.{told, StandsAt, Tells, IsToldAsOneOf}
+use Rattle.spec_model.specs.Admitting.{IsLegal}
+use Rattle.spec_model.specs.Giving.{kept}
 use Rattle.spec_model.specs.Nodes.{Node}
 use Rattle.spec_world.specs.World.{Holds}
 use Rattle.validator.specs.Setting.{ConfigView, node_of}
+use Rattle.validator.specs.Standing.{AreAtSound}
 use Rattle.node_run.specs.Ends.{TellsRounds}
 use Rattle.wire.specs.declared.keys.Key.{Key}
 use Rattle.node_run.specs.Members.{IsConfigOf, RefusesOpening}
@@ -133,7 +138,7 @@ module _ {S D : Type 0} (scheme : Scheme S) (device : Device D) where
 
   -- it ran
   has_run : (shared : NodeView S) (node : Node) (disk now later : D) (told_of : Faults) → node_of scheme shared.setting ≡ node
-      → told node (device.content disk) ≡ Ok shared.start → device.faults now ≡ device.faults disk
+      → StandsAt node (told node (device.content disk)) shared.begun → device.faults now ≡ device.faults disk
       → TellsRounds (device.faults now) (device.faults later) told_of.journal → AtEachMoment device disk now (IsToldAsOneOf node (device.outcome disk))
       → AtEachMoment device now later (HoldsMore scheme shared []) → RunsOver node device disk (ending_of told_of) (Some later)
   has_run shared node disk now later told_of of_node begins same tells opening leaves = record {
@@ -148,17 +153,24 @@ module _ {S D : Type 0} (scheme : Scheme S) (device : Device D) where
       which : (named : JournalError) → ending_of told_of ≡ ends.Journal named → (named ≡ journal.Device) ⊎ (named ≡ journal.Full)
       which named is = subst (λ (f : Option JournalError). IfSome f (λ error. (error ≡ journal.Device) ⊎ (error ≡ journal.Full))) (told_of_journal told_of named is) tells.which
 
+      -- the disk was told as what is kept of each history that keeps a base
+      is_told : {marked : List Marked} {bytes : List ℕ} → (it : HoldsAfter scheme shared marked bytes) → told node (device.content disk) ≡ Ok (kept node it.began)
+      is_told it =
+          let base = subst (λ (n : Node). AreAtSound n shared.begun (kept n it.began)) of_node it.base in
+          begins.is_read ∙ ap Ok (one_state node shared.begun begins.state (kept node it.began) begins.at.sound begins.at.at base.sound base.at)
+
       more : (bytes : List ℕ) → HoldsMore scheme shared [] bytes → May node disk bytes
       more bytes it = inr (record {
-        history = shared.start;
-        is_told = begins;
+        history = it.holds.began;
+        is_told = is_told it.holds;
         more = events it.more;
-        holds = subst (λ (n : Node). Holds n bytes (from_start shared it.more)) of_node it.holds;
+        legal = subst (λ (n : Node). IsLegal n (it.holds.began ++ events it.more)) of_node it.holds.legal;
+        holds = subst (λ (n : Node). Holds n bytes (it.holds.began ++ events it.more)) of_node it.holds.holds;
       })
 
   -- its threads have ended
   pub ended : (shared : NodeView S) (node : Node) (disk now : D) (told_of : Faults) (left : Option D) → node_of scheme shared.setting ≡ node
-      → told node (device.content disk) ≡ Ok shared.start → device.faults now ≡ device.faults disk
+      → StandsAt node (told node (device.content disk)) shared.begun → device.faults now ≡ device.faults disk
       → IfSome left (λ later. TellsRounds (device.faults now) (device.faults later) told_of.journal) → (left ≡ None → told_of ≡ no_memory)
       → AtEachMoment device disk now (IsToldAsOneOf node (device.outcome disk))
       → IfSome left (λ later. AtEachMoment device now later (HoldsMore scheme shared [])) → RunsOver node device disk (ending_of told_of) left

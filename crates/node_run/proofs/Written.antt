@@ -8,19 +8,21 @@ use Rattle.std.proofs.KnownBytes.{Keeps-refl, Keeps-trans, Appends-trans, Append
 use Rattle.std.proofs.lemmas.List.Concat.{flat_map-append}
 use Rattle.std.proofs.lemmas.List.Elements.{All-nil, All-append, All-push, All-weaker}
 use Rattle.std.specs.Prelude.{All}
-use Rattle.spec_model.specs.Giving.{MayGive}
+use Rattle.spec_model.specs.Admitting.{IsLegal}
+use Rattle.spec_model.specs.Giving.{kept, MayGive}
 use Rattle.spec_model.specs.Histories.{History}
+use Rattle.spec_model.specs.States.{State}
 use Rattle.wire.specs.Lists.{Begins}
-use Rattle.spec_model.specs.Nodes.{Node}
 use Rattle.spec_model.specs.Words.{Output}
 use Rattle.node_io.specs.declared.faults.Faults.{Faults}
 use Rattle.node_seats.proofs.Beginnings.{begins_trans}
 use Rattle.node_seats.specs.Views.{events}
 use Rattle.node_seats.specs.declared.view.View.{View}
 use Rattle.node_shared.specs.Answers.{IsPutOutBy}
-use Rattle.spec_world.specs.Promise.{GoesOut}
+use Rattle.node_shared.specs.Home.{NodeView, IsBase}
+use Rattle.sigface.specs.Scheme.{Scheme}
+use Rattle.validator.specs.Setting.{node_of}
 use Rattle.wire.specs.Outputs.{frame_of}
-use Rattle.spec_world.specs.World.{put_out}
 use Rattle.node_run.specs.Writing.{AppendsSome, is_over, Puts, MayGo, WritesOnly}
 use Rattle.wire_write.proofs.Appending.{keeps_appends}
 use Rattle.wire_write.specs.Frames.{AppendsLess}
@@ -241,19 +243,21 @@ puts_some bytes faults old new up less = record {
 }
 
 -- what might go before may go yet
-pub may_go_yet : (node : Node) (before later : View) → later.start ≡ before.start → Begins before.firm later.firm
-    → (output : Output) → MayGo node before output → MayGo node later output
-may_go_yet node before later start more output may = record {
+pub may_go_yet : {S : Type 0} (scheme : Scheme S) (node : NodeView S) (before later : View) → Begins before.firm later.firm
+    → (output : Output) → MayGo scheme node before output → MayGo scheme node later output
+may_go_yet scheme node before later more output may = record {
   settled = may.settled;
   begins = begins_trans may.settled before.firm later.firm may.begins more;
-  may = subst (λ (history : History). MayGive node (history ++ events may.settled) output) (sym start) may.may;
+  may = may.may;
   count = may.count;
   within = may.within;
-  put_out = subst (λ (history : History). GoesOut node (history ++ events (take may.count may.settled)) (put_out output)) (sym start) may.put_out;
+  put_out = may.put_out;
 }
 
-pub goes_now : (node : Node) (view : View) (output : Output) → MayGive node (view.start ++ events view.firm) output → IsPutOutBy node view output → MayGo node view output
-goes_now node view output may put = record {
+pub goes_now : {S : Type 0} (scheme : Scheme S) (node : NodeView S) (view : View) (output : Output)
+    → ((base : State) (history : History) → IsBase scheme node base → IsLegal (node_of scheme node.setting) history → kept (node_of scheme node.setting) history ≡ base
+    → MayGive (node_of scheme node.setting) (history ++ events view.firm) output) → IsPutOutBy scheme node view output → MayGo scheme node view output
+goes_now scheme node view output may put = record {
   settled = view.firm;
   begins = record { rest = []; parts = sym (append-nil view.firm) };
   may = may;

@@ -1,12 +1,13 @@
 -- What comes of a message that a frame brings to who takes frames.
 use Rattle.std.specs.Prelude.{◌≡◌, ◌≢◌, ◌⊎◌, Bool, true, false, List, [], ◌∷◌, ◌++◌, length, Option, Result, Ok, Err, IfErr, OnErr}
 use Rattle.header.specs.declared.error.CheckError.{CheckError}
-use Rattle.spec_model.specs.Nodes.{Node}
 use Rattle.spec_model.specs.Words.{Author, Event}
 use Rattle.header.specs.declared.refusal.Refusal.TheVariants as refusal
 use Rattle.node_io.specs.declared.told.Told.{Told}
 use Rattle.node_io.specs.declared.told.Told.TheVariants.{Refused}
 use Rattle.node.specs.Callers.{CallerView}
+use Rattle.node_shared.specs.Home.{NodeView}
+use Rattle.sigface.specs.Scheme.{Scheme}
 use Rattle.waiter.specs.Waiting as waiting
 use Rattle.waiter.specs.declared.waiter.TheConstants.{MAX_WAITING}
 use Rattle.wire.specs.Batches.{BatchView}
@@ -28,10 +29,10 @@ CantWait event held why =
 
 -- What the caller made of it is told: whether it was a new record, or why it was refused. One that has to wait does so, or can't. After
 -- that the caller's seat stays as it is, but for a look where it waits.
-pub record Brings {S : Type 0} (node : Node) (fault : Option CheckError) (event : Event) (before now : CallerView S) (old new : List Event) (result : Result Bool Told) : Type 0 where
+pub record Brings {S : Type 0} (scheme : Scheme S) (node : NodeView S) (fault : Option CheckError) (event : Event) (before now : CallerView S) (old new : List Event) (result : Result Bool Told) : Type 0 where
   pub told : Result Taken Told
   pub later : CallerView S
-  pub handles : Handles node fault event before later told
+  pub handles : Handles scheme node fault event before later told
   pub is_new : told ≡ Ok New → (result ≡ Ok true) × (new ≡ old) × (now ≡ later)
   pub is_known : told ≡ Ok Known → (result ≡ Ok false) × (new ≡ old) × (now ≡ later)
   pub waits : (certificate : Event) → told ≡ Ok (Waits certificate)

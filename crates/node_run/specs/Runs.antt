@@ -1,7 +1,7 @@
 -- How a node's run over a disk ends, and what a stop at any moment of it leaves.
 use Rattle.std.specs.Prelude.{◌≡◌, ◌≢◌, ◌⊎◌, ◌<◌, ℕ, false, List, ◌++◌, Option, None, Ok, IfSome}
 use Rattle.diskmodel.specs.Disk.{Device, AtEachMoment}
-use Rattle.flusher.specs.Rounds.{journal_of, is_down, settled_in, from_start}
+use Rattle.flusher.specs.Rounds.{journal_of, is_down, settled_in, HoldsAfter}
 use Rattle.flusher.specs.declared.flusher.Flusher.{Flusher}
 use Rattle.journal.specs.Journal.{disk_of}
 use Rattle.journal.specs.declared.error.JournalError.{JournalError}
@@ -14,6 +14,8 @@ use Rattle.node_seats.specs.declared.view.Marked.{Marked}
 use Rattle.node_shared.specs.Home.{NodeView}
 use Rattle.opening.specs.Laws.{IsLeft}
 use Rattle.opening.specs.Told.{told, Tells, IsToldAsOneOf}
+use Rattle.spec_model.specs.Admitting.{IsLegal}
+use Rattle.spec_model.specs.Giving.{kept}
 use Rattle.spec_model.specs.Histories.{History}
 use Rattle.wire.specs.Lists.{Begins}
 use Rattle.spec_model.specs.Nodes.{Node}
@@ -28,7 +30,7 @@ use Rattle.sigface.specs.Scheme.{Scheme}
 pub record HoldsMore {S : Type 0} (scheme : Scheme S) (node : NodeView S) (settled : List Marked) (left : List ℕ) : Type 0 where
   pub more : List Marked
   pub begins : Begins settled more
-  pub holds : Holds (node_of scheme node.setting) left (from_start node more)
+  pub holds : HoldsAfter scheme node more left
 
 -- a node's rounds told these faults: of its journal as rounds do, and none of outputs or of the input; a stop at any moment leaves what was
 -- settled, and perhaps more after it
@@ -37,11 +39,13 @@ pub record HasFlushed {S D : Type 0} (scheme : Scheme S) (device : Device D) (no
   pub others : (tells.output ≡ false) × (tells.input ≡ false)
   pub any_moment : is_down flusher ≡ false → AtEachMoment device (disk_of (journal_of flusher)) left (HoldsMore scheme node (settled_in flusher))
 
--- a disk was told as a history, and bytes are the node's journal with that, and perhaps more after it
+-- a disk was told as what is kept of a history, and bytes are the node's journal with that history, and perhaps more after it; all of that
+-- is legal
 pub record GoesOn (node : Node) (before left : List ℕ) : Type 0 where
   pub history : History
-  pub is_told : told node before ≡ Ok history
+  pub is_told : told node before ≡ Ok (kept node history)
   pub more : History
+  pub legal : IsLegal node (history ++ more)
   pub holds : Holds node left (history ++ more)
 
 -- A node was opened on a disk, if it could be, and ran until this ending; this is left of the disk. A fault of the disk is told exactly

@@ -3,16 +3,20 @@ use Rattle.std.specs.Prelude.{◌≤◌, length, take, ◌≡◌, ◌⊎◌, ◌
 use Rattle.std.specs.List.{flat_map}
 use Rattle.std.specs.Io.KnownBytes.{Keeps, Appends}
 use Rattle.wire.specs.Lists.{Begins}
-use Rattle.spec_model.specs.Giving.{MayGive}
-use Rattle.spec_model.specs.Nodes.{Node}
+use Rattle.book.specs.Book.{GoesOutAfter}
+use Rattle.spec_model.specs.Admitting.{IsLegal}
+use Rattle.spec_model.specs.Giving.{kept, MayGive}
+use Rattle.spec_model.specs.Histories.{History}
+use Rattle.spec_model.specs.States.{State}
 use Rattle.spec_model.specs.Words.{Output}
 use Rattle.node_io.specs.declared.faults.Faults.{Faults}
 use Rattle.node_seats.specs.Views.{events}
 use Rattle.node_seats.specs.declared.view.Marked.{Marked}
 use Rattle.node_seats.specs.declared.view.View.{View}
-use Rattle.spec_world.specs.Promise.{GoesOut}
 use Rattle.wire.specs.Outputs.{frame_of}
-use Rattle.spec_world.specs.World.{put_out}
+use Rattle.node_shared.specs.Home.{NodeView, IsBase}
+use Rattle.sigface.specs.Scheme.{Scheme}
+use Rattle.validator.specs.Setting.{node_of}
 
 -- nothing has gone wrong
 abbrev pub no_faults : Faults
@@ -41,14 +45,16 @@ pub record Puts (bytes : List ℕ) (before later : Faults) (old new : Option (Li
   pub some : AppendsSome old new bytes
   pub others : later ≡ record before { output = later.output; memory = later.memory }
 
--- an output was put out at what a seat knows as settled, or knew of it before, and may be given out there
-pub record MayGo (node : Node) (view : View) (output : Output) : Type 0 where
+-- from each base on an output was put out after some of what a seat knows as settled, or knew of it before, and it may be given out at each
+-- legal history that keeps a base, with all of that
+pub record MayGo {S : Type 0} (scheme : Scheme S) (node : NodeView S) (view : View) (output : Output) : Type 0 where
   pub settled : List Marked
   pub begins : Begins settled view.firm
-  pub may : MayGive node (view.start ++ events settled) output
+  pub may : (base : State) (history : History) → IsBase scheme node base → IsLegal (node_of scheme node.setting) history → kept (node_of scheme node.setting) history ≡ base
+      → MayGive (node_of scheme node.setting) (history ++ events settled) output
   pub count : ℕ
   pub within : count ≤ length settled
-  pub put_out : GoesOut node (view.start ++ events (take count settled)) (put_out output)
+  pub put_out : (base : State) → IsBase scheme node base → GoesOutAfter (node_of scheme node.setting) base (events (take count settled)) output
 
 -- an output that might go went to a writer
 pub record WritesNext (May : Output → Type 0) (before later : Faults) (old new : Option (List ℕ)) : Type 0 where

@@ -4,13 +4,13 @@ ghost use Rattle.std.specs.Prelude.{◌≡◌, None, Err, true, false, IsSome, I
 ghost use Rattle.header.specs.Digested.{certificate_digest_in};
 ghost use Rattle.header.specs.Checks.{fault_of, accepts_all};
 ghost use Rattle.wire.specs.Lists.{Begins};
-ghost use Rattle.spec_machine.specs.Machine.{is_missing_parents};
-ghost use Rattle.spec_model.specs.Admitting.{admit};
+ghost use Rattle.spec_machine.specs.Machine.{answered, is_missing_parents};
+ghost use Rattle.spec_model.specs.States.{State};
 ghost use Rattle.node_seats.specs.Views.{IsSame};
 ghost use Rattle.node_io.specs.declared.told.Told.TheVariants.{Refused};
 ghost use Rattle.node_shared.specs.Answers.{Gives};
 ghost use Rattle.node_shared.specs.Calls.{Learned};
-ghost use Rattle.node_shared.specs.Home.{seen_by};
+ghost use Rattle.node_shared.specs.Home.{IsBase, seen_in};
 ghost use Rattle.sigface.specs.Pair.{is_pair_signature};
 ghost use Rattle.node.specs.Callers.{StaysWith};
 ghost use Rattle.validator.specs.Setting.{node_of};
@@ -44,9 +44,13 @@ pub(crate) struct Caller<'n, 'a, S: Sign> {
 }
 
 impl<'n, 'a, S: Sign> Model for Caller<'n, 'a, S> {
+    ghost use Rattle.std.specs.Coded.{codes};
+    ghost use Rattle.votebook.specs.contracts.book.VoteBook as votes;
     ghost use Rattle.node.specs.Callers.{CallerView};
 
     ghost Value = { CallerView S };
+
+    ghost coded = { Prim.hlevel (codes, S.code, votes.the_row.coded) };
 
     ghost view = { λ c. c.node };
 }
@@ -74,7 +78,7 @@ impl<'n, 'a, S: Sign> Caller<'n, 'a, S> {
         message: Message,
     ) -> Result<Taken, Told>
         ensures stays { StaysWith self.old self.new }
-        ensures handles { Handles (node_of S.scheme self.old.node.setting) (fault_of self.old.setting.charter is_pair_signature (record { sender = sender; message = message })) (record { sender = sender; message = message }) self.old self.new result }
+        ensures handles { Handles S.scheme self.old.node (fault_of self.old.setting.charter is_pair_signature (record { sender = sender; message = message })) (record { sender = sender; message = message }) self.old self.new result }
     {
         let event = match check(self.node.config().committee(), &HashVerify, sender, message) {
             Ok(event) => event,
@@ -93,8 +97,8 @@ impl<'n, 'a, S: Sign> Caller<'n, 'a, S> {
         ensures same { IsSame self.old.seat self.new.seat }
         ensures firm { self.new.seat.view.firm ≡ self.old.seat.view.firm }
         ensures more { Begins self.old.seat.view.seen self.new.seat.view.seen }
-        ensures waits { result ≡ false → LacksParents (node_of S.scheme self.old.node.setting) event.now self.new }
-        ensures goes { result ≡ true → MayBeSubmitted (node_of S.scheme self.old.node.setting) event.now self.old self.new }
+        ensures waits { result ≡ false → LacksParents S.scheme self.old.node event.now self.new }
+        ensures goes { result ≡ true → MayBeSubmitted S.scheme self.old.node event.now self.old self.new }
     {
         match event.certificate_digest() {
             Some(_) => self.node.ready(rt, event),
@@ -109,9 +113,10 @@ impl<'n, 'a, S: Sign> Caller<'n, 'a, S> {
         ensures firm { self.new.seat.view.firm ≡ self.old.seat.view.firm }
         ensures more { Begins self.old.seat.view.seen self.new.seat.view.seen }
         ensures checked { result ≡ true → fault_of self.old.setting.charter accepts_all event.now ≡ None }
-        ensures ready { result ≡ true → is_missing_parents (admit (node_of S.scheme self.old.node.setting) (seen_by self.new.seat) event.now) ≡ false }
-        ensures lacks { IsSome (certificate_digest_in event.now.message) → fault_of self.old.setting.charter accepts_all event.now ≡ None → result ≡ false
-            → is_missing_parents (admit (node_of S.scheme self.old.node.setting) (seen_by self.new.seat) event.now) ≡ true }
+        ensures ready { let node = node_of S.scheme self.old.node.setting in result ≡ true → (base : State) → IsBase S.scheme self.old.node base
+            → is_missing_parents (answered node (seen_in node base self.new.seat) event.now) ≡ false }
+        ensures lacks { let node = node_of S.scheme self.old.node.setting in IsSome (certificate_digest_in event.now.message) → fault_of self.old.setting.charter accepts_all event.now ≡ None → result ≡ false
+            → (base : State) → IsBase S.scheme self.old.node base → is_missing_parents (answered node (seen_in node base self.new.seat) event.now) ≡ true }
     {
         passes(self.node.config().committee(), event) && self.node.ready(rt, event)
     }
@@ -119,7 +124,7 @@ impl<'n, 'a, S: Sign> Caller<'n, 'a, S> {
     /// Submits what has waited.
     pub(crate) fn take_waiting<R: Wait>(&mut self, rt: &R, event: Checked) -> Result<Taken, Told>
         ensures stays { StaysWith self.old self.new }
-        ensures handles { HandlesAgain (node_of S.scheme self.old.node.setting) (fault_of self.old.setting.charter accepts_all event) event self.old self.new result }
+        ensures handles { HandlesAgain S.scheme self.old.node (fault_of self.old.setting.charter accepts_all event) event self.old self.new result }
     {
         let sender = event.sender();
         let event = recheck(self.node.config().committee(), sender, event.into_message())?;
@@ -130,7 +135,7 @@ impl<'n, 'a, S: Sign> Caller<'n, 'a, S> {
     /// refused.
     pub(crate) fn propose<R: Wait>(&mut self, rt: &R) -> Result<bool, AllocError>
         ensures stays { StaysWith self.old self.new }
-        ensures proposed { IfOk result (λ new. IsProposed (node_of S.scheme self.old.node.setting) self.old self.new new) }
+        ensures proposed { IfOk result (λ new. IsProposed S.scheme self.old.node self.old self.new new) }
         ensures memory { OnErr result (self.new.seat.view.mine ≡ self.old.seat.view.mine) }
     {
         let Some(header) = self.node.propose(rt)? else {
@@ -160,7 +165,7 @@ impl<'n, 'a, S: Sign> Caller<'n, 'a, S> {
     pub(crate) fn collect<R: Wait>(&mut self, rt: &R) -> Option<Output>
         ensures stays { StaysWith self.old self.new }
         ensures learned { Learned S.scheme self.old.node self.old.seat self.new.seat }
-        ensures gives { IfSome result (λ output. Gives (node_of S.scheme self.old.node.setting) self.new.seat output) }
+        ensures gives { IfSome result (λ output. Gives S.scheme self.old.node self.new.seat output) }
     {
         self.node.collect(rt)
     }
@@ -173,7 +178,7 @@ fn submit<S: Sign, R: Wait>(
 ) -> Result<Taken, Told>
     requires { fault_of node.old.setting.charter accepts_all event ≡ None }
     ensures stays { StaysWith node.old node.new }
-    ensures submitted { IsSubmitted (node_of S.scheme node.old.node.setting) event node.old node.new result }
+    ensures submitted { IsSubmitted S.scheme node.old.node event node.old node.new result }
 {
     let receipt = node.submit(rt, event)?;
     if receipt.new {

@@ -6,7 +6,6 @@ ghost use Rattle.header.specs.Digested.{certificate_digest_in};
 ghost use Rattle.node_io.specs.Makers.{fresh_makers};
 ghost use Rattle.sigface.specs.Pair.{is_pair_signature};
 ghost use Rattle.node.specs.Callers.{StaysWith};
-ghost use Rattle.validator.specs.Setting.{node_of};
 ghost use Rattle.wire.specs.declared.message.Message.TheVariants as message;
 ghost use Rattle.node_run.specs.Asking.{IsDueBehind, nothing_due, all_due};
 ghost use Rattle.node_run.specs.Bringing.{Brings, CantWait, Enters, own_batch};
@@ -149,7 +148,7 @@ impl<'n, 'a, S: Sign> Intake<'n, 'a, S> {
         ensures stays { StaysWith self.old.caller self.new.caller }
         ensures none { batch ≡ None → (result ≡ Ok false) × (self.new ≡ self.old) }
         ensures due { IfSome batch (λ given. IsDueBehind self.old.caller.setting.own (message.Batch given) self.old.due self.new.due result) }
-        ensures some { IfSome batch (λ given. Brings (node_of S.scheme self.old.caller.node.setting) (fault_of self.old.caller.setting.charter is_pair_signature (own_batch self.old.caller.setting.own given)) (own_batch self.old.caller.setting.own given) self.old.caller self.new.caller self.old.waiter self.new.waiter result) }
+        ensures some { IfSome batch (λ given. Brings S.scheme self.old.caller.node (fault_of self.old.caller.setting.charter is_pair_signature (own_batch self.old.caller.setting.own given)) (own_batch self.old.caller.setting.own given) self.old.caller self.new.caller self.old.waiter self.new.waiter result) }
     {
         match batch {
             Some(batch) => {
@@ -166,7 +165,7 @@ impl<'n, 'a, S: Sign> Intake<'n, 'a, S> {
         ensures makers { self.new.makers ≡ self.old.makers }
         ensures mark { self.new.was_refused_memory ≡ self.old.was_refused_memory }
         ensures stays { StaysWith self.old.caller self.new.caller }
-        ensures brings { Brings (node_of S.scheme self.old.caller.node.setting) (fault_of self.old.caller.setting.charter is_pair_signature (record { sender = sender; message = message })) (record { sender = sender; message = message }) self.old.caller self.new.caller self.old.waiter self.new.waiter result }
+        ensures brings { Brings S.scheme self.old.caller.node (fault_of self.old.caller.setting.charter is_pair_signature (record { sender = sender; message = message })) (record { sender = sender; message = message }) self.old.caller self.new.caller self.old.waiter self.new.waiter result }
     {
         let behind = due_behind(self.caller.config().own(), &message);
         match self.caller.take(rt, sender, message) {
@@ -212,7 +211,7 @@ impl<'n, 'a, S: Sign> Intake<'n, 'a, S> {
         ensures memory { self.new.was_refused_memory ≢ self.old.was_refused_memory → self.new.caller.seat.view.mine ≡ self.old.caller.seat.view.mine }
         ensures stays { self.old.was_refused_memory ≡ true → self.new.was_refused_memory ≡ true }
         ensures idle { self.old.due.proposal ≡ false → self.new ≡ self.old }
-        ensures asked { self.old.due.proposal ≡ true → self.new.due.proposal ≡ false → IsProposed (node_of S.scheme self.old.caller.node.setting) self.old.caller self.new.caller false }
+        ensures asked { self.old.due.proposal ≡ true → self.new.due.proposal ≡ false → IsProposed S.scheme self.old.caller.node self.old.caller self.new.caller false }
         ensures waiting { self.old.due.waiting ≡ true → self.new.due.waiting ≡ true }
     {
         if !self.due.proposal {

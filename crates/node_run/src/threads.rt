@@ -71,7 +71,7 @@ impl<'n, 'a, R: Wait, S: Sign, W: Write + Drop> Work<R, Sink<W>> for Writing<'n,
     ghost use Rattle.node_run.specs.Writing.{MayGo, WritesOnly};
 
     ghost does = { λ work sink. (view : View) × Begins work.caller.seat.view.firm view.firm
-        × WritesOnly (MayGo (node_of S.scheme work.caller.node.setting) view) work.sink.faults sink.faults (writer_contents W.contents work.sink.writer) (writer_contents W.contents sink.writer) };
+        × WritesOnly (MayGo S.scheme work.caller.node view) work.sink.faults sink.faults (writer_contents W.contents work.sink.writer) (writer_contents W.contents sink.writer) };
 
     fn work(self, rt: &R) -> Sink<W> {
         let Writing {

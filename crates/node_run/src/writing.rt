@@ -6,7 +6,6 @@ ghost use Rattle.std.specs.Io.KnownBytes.{Keeps};
 ghost use Rattle.wire.specs.Lists.{Begins};
 ghost use Rattle.node_seats.specs.Views.{IsSame};
 ghost use Rattle.node.specs.Callers.{StaysWith};
-ghost use Rattle.validator.specs.Setting.{node_of};
 ghost use Rattle.wire.specs.Outputs.{frame_of};
 ghost use Rattle.node_run.specs.Writing.{no_faults, Puts, MayGo, WritesNext, WritesOnly};
 
@@ -38,7 +37,7 @@ pub(crate) fn write_outputs<S: Sign, W: Write + Drop, R: Wait>(
     ensures stays { StaysWith caller.old caller.new }
     ensures same { IsSame caller.old.seat caller.new.seat }
     ensures more { Begins caller.old.seat.view.firm caller.new.seat.view.firm }
-    ensures only { WritesOnly (MayGo (node_of S.scheme caller.old.node.setting) caller.new.seat.view) sink.old.faults sink.new.faults (writer_contents W.contents sink.old.writer) (writer_contents W.contents sink.new.writer) }
+    ensures only { WritesOnly (MayGo S.scheme caller.old.node caller.new.seat.view) sink.old.faults sink.new.faults (writer_contents W.contents sink.old.writer) (writer_contents W.contents sink.new.writer) }
 {
     for _ in rt.forever() {
         let may_go_on = settled.wait(rt);
@@ -59,7 +58,7 @@ fn write_due<S: Sign, W: Write + Drop, R: Wait>(
     ensures stays { StaysWith caller.old caller.new }
     ensures same { IsSame caller.old.seat caller.new.seat }
     ensures more { Begins caller.old.seat.view.firm caller.new.seat.view.firm }
-    ensures only { WritesOnly (MayGo (node_of S.scheme caller.old.node.setting) caller.new.seat.view) sink.old.faults sink.new.faults (writer_contents W.contents sink.old.writer) (writer_contents W.contents sink.new.writer) }
+    ensures only { WritesOnly (MayGo S.scheme caller.old.node caller.new.seat.view) sink.old.faults sink.new.faults (writer_contents W.contents sink.old.writer) (writer_contents W.contents sink.new.writer) }
 {
     for _ in rt.forever() {
         if !write_next(rt, caller, sink) {
@@ -78,7 +77,7 @@ fn write_next<S: Sign, W: Write + Drop, R: Wait>(
     ensures stays { StaysWith caller.old caller.new }
     ensures same { IsSame caller.old.seat caller.new.seat }
     ensures more { Begins caller.old.seat.view.firm caller.new.seat.view.firm }
-    ensures next { result ≡ true → WritesNext (MayGo (node_of S.scheme caller.old.node.setting) caller.new.seat.view) sink.old.faults sink.new.faults (writer_contents W.contents sink.old.writer) (writer_contents W.contents sink.new.writer) }
+    ensures next { result ≡ true → WritesNext (MayGo S.scheme caller.old.node caller.new.seat.view) sink.old.faults sink.new.faults (writer_contents W.contents sink.old.writer) (writer_contents W.contents sink.new.writer) }
     ensures none { result ≡ false → sink.new ≡ sink.old }
 {
     match caller.collect(rt) {

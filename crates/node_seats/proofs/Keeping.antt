@@ -8,8 +8,8 @@ use Rattle.spec_model.specs.Histories.{History}
 use Rattle.wire.specs.Lists.{Begins}
 use Rattle.node_seats.specs.declared.view.Marked.{Marked}
 use Rattle.node_seats.specs.declared.view.View.{View}
-use Rattle.node_seats.specs.Views.{events, events_by, flag, fresh_view}
-use Rattle.node_seats.specs.Rule.{Fits, IsKept, Holds}
+use Rattle.node_seats.specs.Views.{events, events_by, flag}
+use Rattle.node_seats.specs.Rule.{Fits, IsKept}
 use Rattle.node_seats.proofs.Beginnings.{begins_trans}
 
 pub there : {X : Type 0} (xs : List X) (i : ℕ) (x : X) → get_elem? xs i ≡ some x → i < length xs
@@ -21,10 +21,9 @@ pub not_here : {X : Type 0} (xs : List X) (i : ℕ) (x : X) → length xs ≤ i 
 not_here xs i x past at = let inside = there xs i x at in omega (arith, past, inside)
 
 -- what a seat knows stays so where the lists grow and nothing of its own is added
-pub fits_longer : (start : History) (accepted settled longer firmer : List Marked) (was down : Bool) (number : ℕ) (view : View) → Fits start accepted settled was number view
-    → Begins accepted longer → Begins settled firmer → (was ≡ true → down ≡ true) → events_by number longer ≡ events_by number accepted → Fits start longer firmer down number view
-fits_longer start accepted settled longer firmer was down number view fits more firm stays same = record {
-  start_is = fits.start_is;
+pub fits_longer : (accepted settled longer firmer : List Marked) (was down : Bool) (number : ℕ) (view : View) → Fits accepted settled was number view
+    → Begins accepted longer → Begins settled firmer → (was ≡ true → down ≡ true) → events_by number longer ≡ events_by number accepted → Fits longer firmer down number view
+fits_longer accepted settled longer firmer was down number view fits more firm stays same = record {
   number_is = fits.number_is;
   seen = begins_trans view.seen accepted longer fits.seen more;
   firm = begins_trans view.firm settled firmer fits.firm firm;
@@ -37,29 +36,16 @@ fits_longer start accepted settled longer firmer was down number view fits more 
 }
 
 module _ (Legal : History → Type 0) (words : List ℕ) (views : List View) where
-  -- a live seat is at a table on which a node has begun
-  pub kept_at : (id : ℕ) (view : View) → Holds Legal words views → get_elem? views id ≡ some view → view.live ≡ true → IsKept Legal words views
-  kept_at id view holds at live =
-      elim holds [
-        | inr kept ↦ kept
-        | inl fresh ↦ absurd (no_life id (subst (λ (l : List View). get_elem? l id ≡ some view) fresh.1 at))
-      ]
-    where
-      no_life : (id : ℕ) → get_elem? (fresh_view ∷ []) id ≡ some view → ⊥
-      no_life zero at = let is : fresh_view ≡ view = some-injective _ _ at in let bad : false ≡ true = ap (λ (v : View). v.live) is ∙ live in absurd cc
-      no_life (suc i) at = absurd (some-ne-none view (sym at))
-
-  module _ (kept : IsKept Legal words views) (id : ℕ) (before later : View) (at : get_elem? views id ≡ some before) (begun : later.fresh ≡ false)
+  module _ (kept : IsKept Legal words views) (id : ℕ) (before later : View) (at : get_elem? views id ≡ some before)
       (accepted settled : List Marked) (down : Bool)
       (more : Begins kept.accepted accepted) (firmer : Begins kept.settled settled) (begins : Begins settled accepted) (stays : kept.down ≡ true → down ≡ true)
-      (legal : (count : ℕ) → Legal (kept.start ++ events (take count accepted)))
+      (legal : (count : ℕ) → Legal (events (take count accepted)))
       (others : (number : ℕ) → number ≢ id → events_by number accepted ≡ events_by number kept.accepted)
-      (mine : later.live ≡ true → Fits kept.start accepted settled down id later)
+      (mine : later.live ≡ true → Fits accepted settled down id later)
     where
       -- a seat's step after which the lists are these, and it knows this
       pub step_keeps : IsKept Legal (length accepted ∷ length settled ∷ flag down ∷ []) (set views id later)
       step_keeps = record {
-        start = kept.start;
         accepted = accepted;
         settled = settled;
         down = down;
@@ -70,16 +56,12 @@ module _ (Legal : History → Type 0) (words : List ℕ) (views : List View) whe
             let inside = there views id before at in
             let size = length-set views id later in
             others number (omega (arith, past, inside, size)) ∙ kept.nobody number (omega (arith, past, size));
-        begun = λ number view here.
-            ⊎_elim (λ (t : (number ≡ id) × (later ≡ view)). subst (λ (v : View). v.fresh ≡ false) t.1 begun)
-            (λ (t : (number ≢ id) × (get_elem? views number ≡ some view)). kept.begun number view t.1)
-            (at_set views id number later view here);
         fits = λ number view here live.
             ⊎_elim
             (λ (t : (number ≡ id) × (later ≡ view)).
-            subst (λ (v : View). Fits kept.start accepted settled down number v) t.1
-            (subst (λ (n : ℕ). Fits kept.start accepted settled down n later) (sym t.0) (mine (subst (λ (v : View). v.live ≡ true) (sym t.1) live))))
+            subst (λ (v : View). Fits accepted settled down number v) t.1
+            (subst (λ (n : ℕ). Fits accepted settled down n later) (sym t.0) (mine (subst (λ (v : View). v.live ≡ true) (sym t.1) live))))
             (λ (t : (number ≢ id) × (get_elem? views number ≡ some view)).
-            fits_longer kept.start kept.accepted kept.settled accepted settled kept.down down number view (kept.fits number view t.1 live) more firmer stays (others number t.0))
+            fits_longer kept.accepted kept.settled accepted settled kept.down down number view (kept.fits number view t.1 live) more firmer stays (others number t.0))
             (at_set views id number later view here);
       }

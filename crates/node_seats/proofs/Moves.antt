@@ -14,11 +14,11 @@ use Rattle.wire.specs.Lists.{Begins}
 use Rattle.spec_model.specs.Words.{Event}
 use Rattle.node_seats.specs.declared.view.Marked.{Marked}
 use Rattle.node_seats.specs.declared.view.View.{View}
-use Rattle.node_seats.specs.Views.{mark, events, events_by, flag, HasOwn, fresh_view, first_view, newcomer, informed, spent}
-use Rattle.node_seats.specs.Rule.{Fits, IsKept, IsFresh, Holds}
+use Rattle.node_seats.specs.Views.{mark, events, events_by, flag, HasOwn, first_view, newcomer, informed, spent}
+use Rattle.node_seats.specs.Rule.{Fits, IsKept}
 use Rattle.node_seats.specs.Plays.{Looks, Reads, ReadsDown, Accepts, Settles, with_event, with_firm, with_down}
 use Rattle.node_seats.proofs.Beginnings.{begins_same, begins_nothing, begins_trans, begins_whole, begins_more, shorter_begins, take_begins, begins_take}
-use Rattle.node_seats.proofs.Keeping.{there, kept_at, step_keeps}
+use Rattle.node_seats.proofs.Keeping.{there, step_keeps}
 use Rattle.node_seats.proofs.Marks.{by_same, by_other, by_between, by_nobody, events_push}
 
 -- of two beginnings of a list a longer one, the first where they are alike
@@ -63,16 +63,16 @@ either_is false other down first second is = second is
 
 module _ {S : Type 0} (Legal : History → Type 0) where
   abbrev pub Rule : State S View → Type 0
-  Rule state = Holds Legal state.words state.views
+  Rule state = IsKept Legal state.words state.views
 
   -- what a seat knows doesn't count where it isn't live
-  module _ (state : State S View) (kept : IsKept Legal state.words state.views) (id : ℕ) (before later : View) (at : get_elem? state.views id ≡ some before) (begun : later.fresh ≡ false)
-      (mine : later.live ≡ true → Fits kept.start kept.accepted kept.settled kept.down id later)
+  module _ (state : State S View) (kept : IsKept Legal state.words state.views) (id : ℕ) (before later : View) (at : get_elem? state.views id ≡ some before)
+      (mine : later.live ≡ true → Fits kept.accepted kept.settled kept.down id later)
     where
       -- a step that changes no list
       pub stays : IsKept Legal state.words (set state.views id later)
       stays = subst (λ (ws : List ℕ). IsKept Legal ws (set state.views id later)) (sym kept.words_are)
-          (step_keeps Legal state.words state.views kept id before later at begun kept.accepted kept.settled kept.down (begins_same kept.accepted)
+          (step_keeps Legal state.words state.views kept id before later at kept.accepted kept.settled kept.down (begins_same kept.accepted)
           (begins_same kept.settled) kept.begins (λ is. is) kept.legal (λ number apart. refl) mine)
 
   first_count : (state : State S View) (kept : IsKept Legal state.words state.views) → length kept.accepted ≡ slice_index state.words 0
@@ -85,25 +85,24 @@ module _ {S : Type 0} (Legal : History → Type 0) where
   third_is state kept = sym (ap (λ (ws : List ℕ). slice_index ws 2) kept.words_are)
 
   -- what all of it being legal says of all that was accepted
-  all_legal : (state : State S View) (kept : IsKept Legal state.words state.views) → Legal (kept.start ++ events kept.accepted)
-  all_legal state kept = subst (λ (l : List Marked). Legal (kept.start ++ events l)) (take_all (length kept.accepted) kept.accepted (omega arith)) (kept.legal (length kept.accepted))
+  all_legal : (state : State S View) (kept : IsKept Legal state.words state.views) → Legal (events kept.accepted)
+  all_legal state kept = subst (λ (l : List Marked). Legal (events l)) (take_all (length kept.accepted) kept.accepted (omega arith)) (kept.legal (length kept.accepted))
 
   -- and of what is settled
-  settled_legal : (state : State S View) (kept : IsKept Legal state.words state.views) → Legal (kept.start ++ events kept.settled)
+  settled_legal : (state : State S View) (kept : IsKept Legal state.words state.views) → Legal (events kept.settled)
   settled_legal state kept =
       let is : take (length kept.settled) kept.accepted ≡ kept.settled = ap (take (length kept.settled)) kept.begins.parts ∙ take_at kept.settled kept.begins.rest (length kept.settled) refl in
-      subst (λ (l : List Marked). Legal (kept.start ++ events l)) is (kept.legal (length kept.settled))
+      subst (λ (l : List Marked). Legal (events l)) is (kept.legal (length kept.settled))
 
   module _ (state : State S View) (id : ℕ) (me : Me S View) (Judged : History → Type 0) (live : me.0.live ≡ true) (holds : Rule state) (at : get_elem? state.views id ≡ some me.0) where
     pub looked : (judge : (history : History) → Legal history → Judged history)
         → (w : View) × (IsKept Legal state.words (set state.views id w)) × Looks Judged me.0 (slice_index state.words 0) w
     looked judge =
-        let kept = kept_at Legal state.words state.views id me.0 holds at live in
+        let kept = holds in
         let fits = kept.fits id me.0 at live in
         let w : View = record me.0 { seen = kept.accepted } in (
           w,
-          stays state kept id me.0 w at (kept.begun id me.0 at) (λ _. record {
-            start_is = fits.start_is;
+          stays state kept id me.0 w at (λ _. record {
             number_is = fits.number_is;
             seen = begins_same kept.accepted;
             firm = fits.firm;
@@ -120,21 +119,20 @@ module _ {S : Type 0} (Legal : History → Type 0) where
             told = fits.told;
             count_is = first_count state kept;
             own = λ numbered. subst (λ (n : ℕ). events_by n kept.accepted ≡ me.0.mine) (sym (fits.number_is numbered)) fits.mine;
-            judged = judge (me.0.start ++ events kept.accepted) (subst (λ (h : History). Legal (h ++ events kept.accepted)) (sym fits.start_is) (all_legal state kept));
+            judged = judge (events kept.accepted) (all_legal state kept);
           },
         )
 
     pub read : (judge : (history : History) → Legal history → Judged history)
         → (w : View) × (IsKept Legal state.words (set state.views id w)) × Reads Judged me.0 (slice_index state.words 1) w
     read judge =
-        let kept = kept_at Legal state.words state.views id me.0 holds at live in
+        let kept = holds in
         let fits = kept.fits id me.0 at live in
         let more = longer me.0.seen kept.settled kept.accepted fits.seen kept.begins in
         let own : events_by id more.list ≡ me.0.mine = by_between id me.0.seen more.list kept.accepted me.0.mine more.one_begins more.begins fits.own fits.mine in
         let w : View = record me.0 { seen = more.list; firm = kept.settled } in (
           w,
-          stays state kept id me.0 w at (kept.begun id me.0 at) (λ _. record {
-            start_is = fits.start_is;
+          stays state kept id me.0 w at (λ _. record {
             number_is = fits.number_is;
             seen = more.begins;
             firm = begins_same kept.settled;
@@ -154,7 +152,7 @@ module _ {S : Type 0} (Legal : History → Type 0) where
             same = more.same;
             count_is = second_count state kept;
             own = λ numbered. subst (λ (n : ℕ). events_by n more.list ≡ me.0.mine) (sym (fits.number_is numbered)) own;
-            judged = judge (me.0.start ++ events kept.settled) (subst (λ (h : History). Legal (h ++ events kept.settled)) (sym fits.start_is) (settled_legal state kept));
+            judged = judge (events kept.settled) (settled_legal state kept);
           },
         )
 
@@ -162,25 +160,24 @@ module _ {S : Type 0} (Legal : History → Type 0) where
     pub looks : (Judged : History → Type 0) → me.0.live ≡ true → ((history : History) → Legal history → Judged history)
         → Allows Rule slots id me 0 (λ n. n) (λ n later. Looks Judged me.0 n later.0 × (later.1 ≡ me.1))
     looks Judged live judge state holds sizes at word =
-        let kept = kept_at Legal state.words state.views id me.0 holds at live in
+        let kept = holds in
         let found = looked state id me Judged live holds at judge in
-        (found.0, keeps, tt, inr (subst (λ (ws : List ℕ). IsKept Legal ws (set state.views id found.0)) (sym (same_words state.words _ _ _ 0 kept.words_are)) found.1), (found.2, refl))
+        (found.0, keeps, tt, (subst (λ (ws : List ℕ). IsKept Legal ws (set state.views id found.0)) (sym (same_words state.words _ _ _ 0 kept.words_are)) found.1), (found.2, refl))
 
     pub reads : (Judged : History → Type 0) → me.0.live ≡ true → ((history : History) → Legal history → Judged history)
         → Allows Rule slots id me 1 (λ n. n) (λ n later. Reads Judged me.0 n later.0 × (later.1 ≡ me.1))
     reads Judged live judge state holds sizes at word =
-        let kept = kept_at Legal state.words state.views id me.0 holds at live in
+        let kept = holds in
         let found = read state id me Judged live holds at judge in
-        (found.0, keeps, tt, inr (subst (λ (ws : List ℕ). IsKept Legal ws (set state.views id found.0)) (sym (same_words state.words _ _ _ 1 kept.words_are)) found.1), (found.2, refl))
+        (found.0, keeps, tt, (subst (λ (ws : List ℕ). IsKept Legal ws (set state.views id found.0)) (sym (same_words state.words _ _ _ 1 kept.words_are)) found.1), (found.2, refl))
 
     -- the third word is read
     pub reads_down : me.0.live ≡ true → Allows Rule slots id me 2 (λ n. n) (λ n later. ReadsDown me.0 n later.0 × (later.1 ≡ me.1))
     reads_down live state holds sizes at word =
-        let kept = kept_at Legal state.words state.views id me.0 holds at live in
+        let kept = holds in
         let fits = kept.fits id me.0 at live in
         let w : View = record me.0 { down = kept.down } in
-        let after = stays state kept id me.0 w at (kept.begun id me.0 at) (λ _. record {
-          start_is = fits.start_is;
+        let after = stays state kept id me.0 w at (λ _. record {
           number_is = fits.number_is;
           seen = fits.seen;
           firm = fits.firm;
@@ -194,20 +191,19 @@ module _ {S : Type 0} (Legal : History → Type 0) where
           w,
           keeps,
           tt,
-          inr (subst (λ (ws : List ℕ). IsKept Legal ws (set state.views id w)) (sym (same_words state.words _ _ _ 2 kept.words_are)) after),
+          (subst (λ (ws : List ℕ). IsKept Legal ws (set state.views id w)) (sym (same_words state.words _ _ _ 2 kept.words_are)) after),
           (record { rest = refl; stays = fits.down_is; count_is = third_is state kept }, refl),
         )
 
     -- and raised
     pub downs : me.0.live ≡ true → Allows Rule slots id me 2 (λ _. 1) (λ _ later. later ≡ (with_down me.0, me.1))
     downs live state holds sizes at word =
-        let kept = kept_at Legal state.words state.views id me.0 holds at live in
+        let kept = holds in
         let fits = kept.fits id me.0 at live in
         let w : View = with_down me.0 in
-        let after = step_keeps Legal state.words state.views kept id me.0 w at (kept.begun id me.0 at) kept.accepted kept.settled true
+        let after = step_keeps Legal state.words state.views kept id me.0 w at kept.accepted kept.settled true
         (begins_same kept.accepted) (begins_same kept.settled) kept.begins (λ _. refl) kept.legal (λ number apart. refl)
         (λ _. record {
-          start_is = fits.start_is;
           number_is = fits.number_is;
           seen = fits.seen;
           firm = fits.firm;
@@ -219,15 +215,14 @@ module _ {S : Type 0} (Legal : History → Type 0) where
           down_is = λ _. refl;
         }) in
         let words : slice_set state.words 2 1 ≡ length kept.accepted ∷ length kept.settled ∷ 1 ∷ [] = ap (λ (ws : List ℕ). slice_set ws 2 1) kept.words_are in
-        (w, keeps, tt, inr (subst (λ (ws : List ℕ). IsKept Legal ws (set state.views id w)) (sym words) after), refl)
+        (w, keeps, tt, (subst (λ (ws : List ℕ). IsKept Legal ws (set state.views id w)) (sym words) after), refl)
 
     pub numbers : me.0.live ≡ true → Allows Rule slots id me 0 (λ n. n) (λ n later. (later ≡ (record me.0 { numbered = true; number = later.0.number }, me.1)) × HasOwn later.0)
     numbers live state holds sizes at word =
-        let kept = kept_at Legal state.words state.views id me.0 holds at live in
+        let kept = holds in
         let fits = kept.fits id me.0 at live in
         let w : View = record me.0 { numbered = true; number = id } in
-        let after = stays state kept id me.0 w at (kept.begun id me.0 at) (λ _. record {
-          start_is = fits.start_is;
+        let after = stays state kept id me.0 w at (λ _. record {
           number_is = λ _. refl;
           seen = fits.seen;
           firm = fits.firm;
@@ -238,73 +233,18 @@ module _ {S : Type 0} (Legal : History → Type 0) where
           own = fits.own;
           down_is = fits.down_is;
         }) in
-        (w, keeps, tt, inr (subst (λ (ws : List ℕ). IsKept Legal ws (set state.views id w)) (sym (same_words state.words _ _ _ 0 kept.words_are)) after), (refl, fits.own))
-
-    -- the first seat is told where the node begins
-    pub opens : (start : History) → me.0 ≡ fresh_view → Legal start → Allows Rule slots id me 0 (λ n. n) (λ n later. later ≡ (first_view start, me.1))
-    opens start fresh legal state holds sizes at word = (first_view start, keeps, tt, inr (begun holds), refl)
-      where
-        at_fresh : get_elem? state.views id ≡ some fresh_view
-        at_fresh = subst (λ (v : View). get_elem? state.views id ≡ some v) fresh at
-
-        only : IsFresh state.words state.views → id ≡ 0
-        only is = let inside = there state.views id me.0 at in let size : length state.views ≡ 1 = ap length is.1 in omega (arith, inside, size)
-
-        started : (number : ℕ) (view : View) → get_elem? (first_view start ∷ []) number ≡ some view → (number ≡ 0) × (first_view start ≡ view)
-        started zero view here = (refl, some-injective _ _ here)
-        started (suc n) view here = absurd (some-ne-none view (sym here))
-
-        first_fits : Fits start [] [] false 0 (first_view start)
-        first_fits = record {
-          start_is = refl;
-          number_is = λ _. refl;
-          seen = begins_same [];
-          firm = begins_same [];
-          firm_seen = begins_same [];
-          told = begins_same [];
-          told_firm = begins_same [];
-          mine = refl;
-          own = refl;
-          down_is = λ bad. absurd cc;
-        }
-
-        nothing_taken : (count : ℕ) → start ++ events (take count []) ≡ start
-        nothing_taken zero = append-nil start
-        nothing_taken (suc count) = append-nil start
-
-        first_kept : IsKept Legal (0 ∷ 0 ∷ 0 ∷ []) (first_view start ∷ [])
-        first_kept = record {
-          start = start;
-          accepted = [];
-          settled = [];
-          down = false;
-          words_are = refl;
-          begins = begins_same [];
-          legal = λ count. subst Legal (sym (nothing_taken count)) legal;
-          nobody = λ number past. refl;
-          begun = λ number view here. subst (λ (v : View). v.fresh ≡ false) (started number view here).1 refl;
-          fits = λ number view here live.
-              let is = started number view here in
-              subst (λ (v : View). Fits start [] [] false number v) is.1 (subst (λ (n : ℕ). Fits start [] [] false n (first_view start)) (sym is.0) first_fits);
-        }
-
-        begun : Rule state → IsKept Legal (slice_set state.words 0 (slice_index state.words 0)) (set state.views id (first_view start))
-        begun (inl is) =
-            subst (λ (ws : List ℕ). IsKept Legal (slice_set ws 0 (slice_index ws 0)) (set state.views id (first_view start))) (sym is.0)
-            (subst (λ (vs : List View). IsKept Legal (0 ∷ 0 ∷ 0 ∷ []) (set vs id (first_view start))) (sym is.1)
-            (subst (λ (n : ℕ). IsKept Legal (0 ∷ 0 ∷ 0 ∷ []) (set (fresh_view ∷ []) n (first_view start))) (sym (only is)) first_kept))
-        begun (inr kept) = let bad : true ≡ false = kept.begun id fresh_view at_fresh in absurd cc
+        (w, keeps, tt, (subst (λ (ws : List ℕ). IsKept Legal ws (set state.views id w)) (sym (same_words state.words _ _ _ 0 kept.words_are)) after), (refl, fits.own))
 
     -- an event is accepted, if the seat has seen all that was
     pub accepts : (old : ℕ) (event : Event) → me.0.live ≡ true → me.0.numbered ≡ true → old ≤ length me.0.seen
-        → (length me.0.seen ≡ old → Legal (me.0.start ++ (events me.0.seen ++ event ∷ [])))
+        → (length me.0.seen ≡ old → Legal (events me.0.seen ++ event ∷ []))
         → Allows Rule slots id me 0 (λ n. either (n == old) (old + 1) n) (λ n later. Accepts old event me.0 n later.0 × (later.1 ≡ me.1))
     accepts old event live numbered enough legal state holds sizes at word = exchanged (slice_index state.words 0) old (old + 1) After won lost
       where
         kept : IsKept Legal state.words state.views
-        kept = kept_at Legal state.words state.views id me.0 holds at live
+        kept = holds
 
-        fits : Fits kept.start kept.accepted kept.settled kept.down id me.0
+        fits : Fits kept.accepted kept.settled kept.down id me.0
         fits = kept.fits id me.0 at live
 
         After : ℕ → Type 0
@@ -317,7 +257,7 @@ module _ {S : Type 0} (Legal : History → Type 0) where
               found.0,
               keeps,
               tt,
-              inr (subst (λ (ws : List ℕ). IsKept Legal ws (set state.views id found.0)) (sym (same_words state.words _ _ _ 0 kept.words_are)) found.1),
+              (subst (λ (ws : List ℕ). IsKept Legal ws (set state.views id found.0)) (sym (same_words state.words _ _ _ 0 kept.words_are)) found.1),
               (record { won = λ same. absurd (apart same); lost = λ _. found.2 }, refl),
             )
 
@@ -331,21 +271,18 @@ module _ {S : Type 0} (Legal : History → Type 0) where
             let w : View = with_event me.0 event in
             let seen : w.seen ≡ more = ap (λ (l : List Marked). l ++ mark me.0.number event ∷ []) all in
             let grown : Begins kept.accepted more = record { rest = mark me.0.number event ∷ []; parts = refl } in
-            let through : (n : ℕ) → Legal (kept.start ++ events (take n more)) = λ n.
+            let through : (n : ℕ) → Legal (events (take n more)) = λ n.
             elim (dec_le n (length kept.accepted)) [
-              | yes less ↦ subst (λ (l : List Marked). Legal (kept.start ++ events l)) (sym (take-append-le n kept.accepted (mark me.0.number event ∷ []) less)) (kept.legal n)
+              | yes less ↦ subst (λ (l : List Marked). Legal (events l)) (sym (take-append-le n kept.accepted (mark me.0.number event ∷ []) less)) (kept.legal n)
               | no past ↦
                   let whole : take n more ≡ more = take_all n more (omega (arith, past, length-append kept.accepted (mark me.0.number event ∷ []))) in
-                  let is : me.0.start ++ (events me.0.seen ++ event ∷ []) ≡ kept.start ++ events (take n more) =
-                  ap (λ (h : History). h ++ (events me.0.seen ++ event ∷ [])) fits.start_is
-                  ∙ ap (λ (h : History). kept.start ++ h) (sym (events_push me.0.number event me.0.seen) ∙ ap events (seen ∙ sym whole)) in
+                  let is : events me.0.seen ++ event ∷ [] ≡ events (take n more) = sym (events_push me.0.number event me.0.seen) ∙ ap events (seen ∙ sym whole) in
                   subst Legal is (legal size)
             ] in
-            let after = step_keeps Legal state.words state.views kept id me.0 w at (kept.begun id me.0 at) more kept.settled kept.down grown
+            let after = step_keeps Legal state.words state.views kept id me.0 w at more kept.settled kept.down grown
             (begins_same kept.settled) (begins_more kept.settled kept.accepted (mark me.0.number event ∷ []) kept.begins) (λ is. is) through
             (λ number apart. by_other number me.0.number event kept.accepted (λ is. apart (is ∙ mine)))
             (λ _. record {
-              start_is = fits.start_is;
               number_is = fits.number_is;
               seen = subst (λ (l : List Marked). Begins w.seen l) seen (begins_same w.seen);
               firm = fits.firm;
@@ -360,7 +297,7 @@ module _ {S : Type 0} (Legal : History → Type 0) where
             let words : slice_set state.words 0 (old + 1) ≡ length more ∷ length kept.settled ∷ flag kept.down ∷ [] =
             ap (λ (ws : List ℕ). slice_set ws 0 (old + 1)) kept.words_are ∙ ap (λ (n : ℕ). n ∷ length kept.settled ∷ flag kept.down ∷ [])
             (omega (arith, count, length-append kept.accepted (mark me.0.number event ∷ []))) in
-            (w, keeps, tt, inr (subst (λ (ws : List ℕ). IsKept Legal ws (set state.views id w)) (sym words) after), (record { won = λ _. (size, refl); lost = λ apart. absurd (apart same) }, refl))
+            (w, keeps, tt, (subst (λ (ws : List ℕ). IsKept Legal ws (set state.views id w)) (sym words) after), (record { won = λ _. (size, refl); lost = λ apart. absurd (apart same) }, refl))
 
     -- events are settled that the seat has seen
     pub settles : (old new : ℕ) → me.0.live ≡ true → old ≤ length me.0.firm → old ≤ new → new ≤ length me.0.seen
@@ -368,9 +305,9 @@ module _ {S : Type 0} (Legal : History → Type 0) where
     settles old new live enough more most state holds sizes at word = exchanged (slice_index state.words 1) old new After won lost
       where
         kept : IsKept Legal state.words state.views
-        kept = kept_at Legal state.words state.views id me.0 holds at live
+        kept = holds
 
-        fits : Fits kept.start kept.accepted kept.settled kept.down id me.0
+        fits : Fits kept.accepted kept.settled kept.down id me.0
         fits = kept.fits id me.0 at live
 
         After : ℕ → Type 0
@@ -383,7 +320,7 @@ module _ {S : Type 0} (Legal : History → Type 0) where
               found.0,
               keeps,
               tt,
-              inr (subst (λ (ws : List ℕ). IsKept Legal ws (set state.views id found.0)) (sym (same_words state.words _ _ _ 1 kept.words_are)) found.1),
+              (subst (λ (ws : List ℕ). IsKept Legal ws (set state.views id found.0)) (sym (same_words state.words _ _ _ 1 kept.words_are)) found.1),
               (record { won = λ same. absurd (apart same); lost = λ _. found.2 }, refl),
             )
 
@@ -397,10 +334,9 @@ module _ {S : Type 0} (Legal : History → Type 0) where
             let long : length firm ≡ new = let is : length firm ≡ min new (length me.0.seen) = length-take new me.0.seen in omega (arith, is, most) in
             let grown : Begins kept.settled firm = subst (λ (l : List Marked). Begins l firm) all (begins_take me.0.firm me.0.seen new fits.firm_seen (omega (arith, size, more))) in
             let within : Begins firm kept.accepted = begins_trans firm me.0.seen kept.accepted (take_begins new me.0.seen) fits.seen in
-            let after = step_keeps Legal state.words state.views kept id me.0 w at (kept.begun id me.0 at) kept.accepted firm kept.down
+            let after = step_keeps Legal state.words state.views kept id me.0 w at kept.accepted firm kept.down
             (begins_same kept.accepted) grown within (λ is. is) kept.legal (λ number apart. refl)
             (λ _. record {
-              start_is = fits.start_is;
               number_is = fits.number_is;
               seen = fits.seen;
               firm = begins_same firm;
@@ -413,22 +349,21 @@ module _ {S : Type 0} (Legal : History → Type 0) where
             }) in
             let words : slice_set state.words 1 new ≡ length kept.accepted ∷ length firm ∷ flag kept.down ∷ [] =
             ap (λ (ws : List ℕ). slice_set ws 1 new) kept.words_are ∙ ap (λ (n : ℕ). length kept.accepted ∷ n ∷ flag kept.down ∷ []) (sym long) in
-            (w, keeps, tt, inr (subst (λ (ws : List ℕ). IsKept Legal ws (set state.views id w)) (sym words) after), (record { won = λ _. (size, refl); lost = λ apart. absurd (apart same) }, refl))
+            (w, keeps, tt, (subst (λ (ws : List ℕ). IsKept Legal ws (set state.views id w)) (sym words) after), (record { won = λ _. (size, refl); lost = λ apart. absurd (apart same) }, refl))
 
   -- ---- one seat made two, and two made one
 
   pub splits : (id : ℕ) (view : View) → view.live ≡ true → Splits {S = S} Rule id view view (newcomer view)
-  splits id view live state holds at = inr (subst (λ (vs : List View). IsKept Legal state.words (vs ++ newcomer view ∷ [])) (sym (set_again state.views id view at)) more)
+  splits id view live state holds at = (subst (λ (vs : List View). IsKept Legal state.words (vs ++ newcomer view ∷ [])) (sym (set_again state.views id view at)) more)
     where
       kept : IsKept Legal state.words state.views
-      kept = kept_at Legal state.words state.views id view holds at live
+      kept = holds
 
-      fits : Fits kept.start kept.accepted kept.settled kept.down id view
+      fits : Fits kept.accepted kept.settled kept.down id view
       fits = kept.fits id view at live
 
-      new_fits : (number : ℕ) → length state.views ≤ number → Fits kept.start kept.accepted kept.settled kept.down number (newcomer view)
+      new_fits : (number : ℕ) → length state.views ≤ number → Fits kept.accepted kept.settled kept.down number (newcomer view)
       new_fits number past = record {
-        start_is = fits.start_is;
         number_is = λ bad. absurd cc;
         seen = fits.seen;
         firm = fits.firm;
@@ -442,7 +377,6 @@ module _ {S : Type 0} (Legal : History → Type 0) where
 
       more : IsKept Legal state.words (state.views ++ newcomer view ∷ [])
       more = record {
-        start = kept.start;
         accepted = kept.accepted;
         settled = kept.settled;
         down = kept.down;
@@ -450,34 +384,30 @@ module _ {S : Type 0} (Legal : History → Type 0) where
         begins = kept.begins;
         legal = kept.legal;
         nobody = λ number past. kept.nobody number (omega (arith, past, length-append state.views (newcomer view ∷ [])));
-        begun = λ number other here.
-            ⊎_elim (λ was. kept.begun number other was) (λ (t : (number ≡ length state.views) × (newcomer view ≡ other)). subst (λ (v : View). v.fresh ≡ false) t.1 (kept.begun id view at))
-            (at_end state.views (newcomer view) other number here);
         fits = λ number other here alive.
             ⊎_elim (λ was. kept.fits number other was alive)
             (λ (t : (number ≡ length state.views) × (newcomer view ≡ other)).
-            subst (λ (v : View). Fits kept.start kept.accepted kept.settled kept.down number v) t.1 (new_fits number (omega (arith, t.0))))
+            subst (λ (v : View). Fits kept.accepted kept.settled kept.down number v) t.1 (new_fits number (omega (arith, t.0))))
             (at_end state.views (newcomer view) other number here);
       }
 
   pub joins : (id : ℕ) (view : View) (other : ℕ) (from : View) → view.live ≡ true → from.live ≡ true → Joins {S = S} Rule id view other from (informed view from) spent
-  joins id view other from live alive state holds at apart there = inr last
+  joins id view other from live alive state holds at apart there = last
     where
       kept : IsKept Legal state.words state.views
-      kept = kept_at Legal state.words state.views id view holds at live
+      kept = holds
 
-      fits : Fits kept.start kept.accepted kept.settled kept.down id view
+      fits : Fits kept.accepted kept.settled kept.down id view
       fits = kept.fits id view at live
 
-      theirs : Fits kept.start kept.accepted kept.settled kept.down other from
+      theirs : Fits kept.accepted kept.settled kept.down other from
       theirs =
           ⊎_elim (λ (t : (other ≡ id) × (informed view from ≡ from)). absurd (apart t.0))
           (λ (t : (other ≢ id) × (get_elem? state.views other ≡ some from)). kept.fits other from t.1 alive)
           (at_set state.views id other (informed view from) from there)
 
       told : IsKept Legal state.words (set state.views id (informed view from))
-      told = stays state kept id view (informed view from) at (kept.begun id view at) (λ _. record {
-        start_is = fits.start_is;
+      told = stays state kept id view (informed view from) at (λ _. record {
         number_is = fits.number_is;
         seen = fits.seen;
         firm = fits.firm;
@@ -493,4 +423,42 @@ module _ {S : Type 0} (Legal : History → Type 0) where
       between = record { words = state.words; homes = state.homes; views = set state.views id (informed view from) }
 
       last : IsKept Legal state.words (set (set state.views id (informed view from)) other spent)
-      last = stays between told other from spent there refl (λ bad. absurd cc)
+      last = stays between told other from spent there (λ bad. absurd cc)
+
+-- ---- at first
+
+-- the words of a node that has accepted nothing, with its first seat
+pub begins_kept : (Legal : History → Type 0) → Legal [] → IsKept Legal (0 ∷ 0 ∷ 0 ∷ []) (first_view ∷ [])
+begins_kept Legal legal = record {
+  accepted = [];
+  settled = [];
+  down = false;
+  words_are = refl;
+  begins = begins_same [];
+  legal = nothing_taken;
+  nobody = λ number past. refl;
+  fits = λ number view here live.
+      let is = alone number view here in
+      subst (λ (v : View). Fits [] [] false number v) is.1 (subst (λ (n : ℕ). Fits [] [] false n first_view) (sym is.0) first_fits);
+}
+  where
+    alone : (number : ℕ) (view : View) → get_elem? (first_view ∷ []) number ≡ some view → (number ≡ 0) × (first_view ≡ view)
+    alone zero view here = (refl, some-injective _ _ here)
+    alone (suc n) view here = absurd (some-ne-none view (sym here))
+
+    first_fits : Fits [] [] false 0 first_view
+    first_fits = record {
+      number_is = λ _. refl;
+      seen = begins_same [];
+      firm = begins_same [];
+      firm_seen = begins_same [];
+      told = begins_same [];
+      told_firm = begins_same [];
+      mine = refl;
+      own = refl;
+      down_is = λ bad. absurd cc;
+    }
+
+    nothing_taken : (count : ℕ) → Legal (events (take count []))
+    nothing_taken zero = legal
+    nothing_taken (suc count) = legal

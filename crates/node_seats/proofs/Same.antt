@@ -15,7 +15,6 @@ same_then one two three first second = record {
   live = second.live ∙ first.live;
   numbered = second.numbered ∙ first.numbered;
   number = second.number ∙ first.number;
-  start = second.start ∙ first.start;
   mine = second.mine ∙ first.mine;
   down = λ is. second.down (first.down is);
 }
@@ -29,7 +28,6 @@ same_seat before later of rest = record {
   live = ap (λ v. v.live) rest;
   numbered = ap (λ v. v.numbered) rest;
   number = ap (λ v. v.number) rest;
-  start = ap (λ v. v.start) rest;
   mine = ap (λ v. v.mine) rest;
   down = λ is. ap (λ v. v.down) rest ∙ is;
 }
@@ -42,7 +40,6 @@ same_told before later other told = record {
   live = ap (λ s. s.view.live) told;
   numbered = ap (λ s. s.view.numbered) told;
   number = ap (λ s. s.view.number) told;
-  start = ap (λ s. s.view.start) told;
   mine = ap (λ s. s.view.mine) told;
   down = λ is. ap (λ s. s.view.down) told ∙ ap (λ d. d || other.down) is;
 }

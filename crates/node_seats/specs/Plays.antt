@@ -13,7 +13,7 @@ pub record Looks (Judged : History → Type 0) (before : View) (count : ℕ) (la
   pub told : Begins before.told later.seen
   pub count_is : length later.seen ≡ count
   pub own : later.numbered ≡ true → HasOwn later
-  pub judged : Judged (later.start ++ events later.seen)
+  pub judged : Judged (events later.seen)
 
 -- the seat knows now all that is settled, which are so many events, and has seen these
 pub record Reads (Judged : History → Type 0) (before : View) (count : ℕ) (later : View) : Type 0 where
@@ -25,7 +25,7 @@ pub record Reads (Judged : History → Type 0) (before : View) (count : ℕ) (la
   pub same : length later.firm ≤ length before.seen → later.seen ≡ before.seen
   pub count_is : length later.firm ≡ count
   pub own : later.numbered ≡ true → HasOwn later
-  pub judged : Judged (later.start ++ events later.firm)
+  pub judged : Judged (events later.firm)
 
 -- the event is accepted after all that the seat has seen
 abbrev pub with_event : View → Event → View
@@ -34,7 +34,7 @@ with_event view event = record view { seen = view.seen ++ mark view.number event
 -- where the first word was this number, the event is accepted, after exactly what the seat had seen; else the seat has looked
 pub record Accepts (old : ℕ) (event : Event) (before : View) (count : ℕ) (later : View) : Type 0 where
   pub won : count ≡ old → (length before.seen ≡ old) × (later ≡ with_event before event)
-  pub lost : count ≢ old → Looks (λ history. Unit {0}) before count later
+  pub lost : count ≢ old → Looks (λ list. Unit {0}) before count later
 
 -- so many of the events that the seat has seen are settled
 abbrev pub with_firm : View → ℕ → View
@@ -44,7 +44,7 @@ with_firm view count = record view { firm = take count view.seen }
 -- that it knew as settled; else the seat has read
 pub record Settles (old new : ℕ) (before : View) (count : ℕ) (later : View) : Type 0 where
   pub won : count ≡ old → (length before.firm ≡ old) × (later ≡ with_firm before new)
-  pub lost : count ≢ old → Reads (λ history. Unit {0}) before count later
+  pub lost : count ≢ old → Reads (λ list. Unit {0}) before count later
 
 -- the seat knows now whether the node is down, which it stays
 pub record ReadsDown (before : View) (count : ℕ) (later : View) : Type 0 where

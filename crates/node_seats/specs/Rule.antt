@@ -6,12 +6,11 @@ use Rattle.spec_model.specs.Histories.{History}
 use Rattle.wire.specs.Lists.{Begins}
 use Rattle.node_seats.specs.declared.view.Marked.{Marked}
 use Rattle.node_seats.specs.declared.view.View.{View}
-use Rattle.node_seats.specs.Views.{events, events_by, flag, fresh_view}
+use Rattle.node_seats.specs.Views.{events, events_by, flag}
 
--- What a seat of this number knows is so: where the node began, beginnings of what was accepted and of what is settled, exactly the
+-- What a seat of this number knows is so: beginnings of what was accepted and of what is settled, exactly the
 -- events that it brought, all of which it has seen, and that the node is down.
-pub record Fits (start : History) (accepted settled : List Marked) (down : Bool) (number : ℕ) (view : View) : Type 0 where
-  pub start_is : view.start ≡ start
+pub record Fits (accepted settled : List Marked) (down : Bool) (number : ℕ) (view : View) : Type 0 where
   pub number_is : view.numbered ≡ true → view.number ≡ number
   pub seen : Begins view.seen accepted
   pub firm : Begins view.firm settled
@@ -23,23 +22,13 @@ pub record Fits (start : History) (accepted settled : List Marked) (down : Bool)
   pub down_is : view.down ≡ true → down ≡ true
 
 -- the first word is how many events were accepted, the second how many of these, from the front, are settled, and the third is 1
--- where the node is down, else 0; all of them are legal after where the node began, no seat that isn't there brought one, and what
--- each seat knows is so
+-- where the node is down, else 0; all of them are legal, no seat that isn't there brought one, and what each seat knows is so
 pub record IsKept (Legal : History → Type 0) (words : List ℕ) (views : List View) : Type 0 where
-  pub start : History
   pub accepted : List Marked
   pub settled : List Marked
   pub down : Bool
   pub words_are : words ≡ length accepted ∷ length settled ∷ flag down ∷ []
   pub begins : Begins settled accepted
-  pub legal : (count : ℕ) → Legal (start ++ events (take count accepted))
+  pub legal : (count : ℕ) → Legal (events (take count accepted))
   pub nobody : (number : ℕ) → length views ≤ number → events_by number accepted ≡ []
-  pub begun : (number : ℕ) (view : View) → get_elem? views number ≡ some view → view.fresh ≡ false
-  pub fits : (number : ℕ) (view : View) → get_elem? views number ≡ some view → view.live ≡ true → Fits start accepted settled down number view
-
--- nothing was accepted, and there is one seat, which isn't told yet where the node begins
-abbrev pub IsFresh : List ℕ → List View → Type 0
-IsFresh words views = (words ≡ 0 ∷ 0 ∷ 0 ∷ []) × (views ≡ fresh_view ∷ [])
-
-abbrev pub Holds : (History → Type 0) → List ℕ → List View → Type 0
-Holds Legal words views = IsFresh words views ⊎ IsKept Legal words views
+  pub fits : (number : ℕ) (view : View) → get_elem? views number ≡ some view → view.live ≡ true → Fits accepted settled down number view

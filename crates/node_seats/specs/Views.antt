@@ -28,25 +28,18 @@ HasOwn view = events_by view.number view.seen ≡ view.mine
 abbrev pub flag : Bool → ℕ
 flag down = if down then 1 else 0
 
--- a seat before the history is named at which its node begins
-abbrev pub fresh_view : View
-fresh_view = record { live = false; fresh = true; numbered = false; number = 0; start = []; seen = []; firm = []; mine = []; down = false; told = []; told_firm = [] }
-
--- the first seat of a node that begins at this history
-abbrev pub first_view : History → View
-first_view start = record { live = true; fresh = false; numbered = true; number = 0; start = start; seen = []; firm = []; mine = []; down = false; told = []; told_firm = [] }
+-- the first seat of a node
+abbrev pub first_view : View
+first_view = record { live = true; numbered = true; number = 0; seen = []; firm = []; mine = []; down = false; told = []; told_firm = [] }
 
 -- a seat that knows what this one does and has brought nothing; it doesn't know its number yet
 abbrev pub newcomer : View → View
 newcomer view = record {
   live = view.live;
-  fresh = view.fresh;
   numbered = false;
   number = 0;
-  start = view.start;
   seen = view.seen;
-  firm =
-      view.firm;
+  firm = view.firm;
   mine = [];
   down = view.down;
   told = [];
@@ -59,7 +52,7 @@ informed view other = record view { down = view.down || other.down; told = other
 
 -- one that another seat took in
 abbrev pub spent : View
-spent = record { live = false; fresh = false; numbered = false; number = 0; start = []; seen = []; firm = []; mine = []; down = false; told = []; told_firm = [] }
+spent = record { live = false; numbered = false; number = 0; seen = []; firm = []; mine = []; down = false; told = []; told_firm = [] }
 
 -- an event, for where none is meant
 abbrev pub no_event : Event
@@ -74,6 +67,5 @@ pub record IsSame (before later : SeatView) : Type 0 where
   pub live : later.view.live ≡ before.view.live
   pub numbered : later.view.numbered ≡ before.view.numbered
   pub number : later.view.number ≡ before.view.number
-  pub start : later.view.start ≡ before.view.start
   pub mine : later.view.mine ≡ before.view.mine
   pub down : before.view.down ≡ true → later.view.down ≡ true

@@ -9,7 +9,7 @@ mod ties;
 mod view;
 mod words;
 
-pub use plays::{Anything, Call, Judge, Start};
+pub use plays::{Anything, Call, Judge};
 pub use rule::{Kept, Law};
 pub use seat::Seat;
 pub use view::{Marked, View};

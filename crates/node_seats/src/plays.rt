@@ -4,13 +4,6 @@ use crate::view::View;
 use atomic_table::{Join, Play, Split};
 use std::marker::{Brand, PhantomData};
 
-/// The history at which a node begins. Each call of `Words::new` picks it.
-pub trait Start {
-    ghost use Rattle.spec_model.specs.Histories.{History};
-
-    ghost history: { History };
-}
-
 /// The event that is accepted. Each call of `Words::accept` picks it.
 pub trait Call {
     ghost use Rattle.spec_model.specs.Words.{Event};
@@ -18,23 +11,11 @@ pub trait Call {
     ghost event: { Event };
 }
 
-/// What holds of each legal history. Each call that looks or reads picks it.
+/// What holds of each legal list of events. Each call that looks or reads picks it.
 pub trait Judge {
     ghost use Rattle.spec_model.specs.Histories.{History};
 
     ghost judged: { History → Type 0 };
-}
-
-/// The first seat is told at which history its node begins.
-pub struct Opens<H> {
-    start: PhantomData<H>,
-}
-
-impl<H: Start> Play<(), View> for Opens<H> {
-    ghost use Rattle.std.specs.Prelude.{◌≡◌};
-    ghost use Rattle.node_seats.specs.Views.{first_view};
-
-    ghost then = { λ step before found later. later ≡ (first_view H.history, before.1) };
 }
 
 /// A seat is told its number.
@@ -132,12 +113,6 @@ impl Join<View> for Tells {
     ghost spent = { nothing };
 }
 
-impl Start for Brand {
-    ghost use Rattle.std.specs.Prelude.{[]};
-
-    ghost history = { [] };
-}
-
 impl Call for Brand {
     ghost use Rattle.node_seats.specs.Views.{no_event};
 
@@ -145,12 +120,12 @@ impl Call for Brand {
 }
 
 impl Judge for Brand {
-    ghost judged = { λ history. Unit {0} };
+    ghost judged = { λ events. Unit {0} };
 }
 
-/// Where nothing is to be said of a history.
+/// Where nothing is to be said of the events.
 pub struct Anything;
 
 impl Judge for Anything {
-    ghost judged = { λ history. Unit {0} };
+    ghost judged = { λ events. Unit {0} };
 }

@@ -4,7 +4,7 @@ use crate::view::View;
 use atomic_table::TableRule;
 use std::marker::PhantomData;
 
-/// Which histories are legal, by what the words were made with.
+/// Which lists of events are legal, by what the words were made with.
 pub trait Law<K> {
     ghost use Rattle.spec_model.specs.Histories.{History};
 
@@ -17,10 +17,10 @@ pub struct Kept<L> {
 }
 
 impl<K, L: Law<K>> TableRule<(), View, K> for Kept<L> {
-    ghost use Rattle.node_seats.specs.Views.{fresh_view};
-    ghost use Rattle.node_seats.specs.Rule.{Holds};
+    ghost use Rattle.node_seats.specs.Views.{first_view};
+    ghost use Rattle.node_seats.specs.Rule.{IsKept};
 
-    ghost holds = { λ key state. Holds (L.legal key) state.words state.views };
+    ghost holds = { λ key state. IsKept (L.legal key) state.words state.views };
 
-    ghost first = { λ key. fresh_view };
+    ghost first = { λ key. first_view };
 }

@@ -17,14 +17,14 @@ impl<K, L: Law<K>> Words<K, L> {
         requires seat { (seat.old.table ≡ self.now.table) × (seat.old.view.live ≡ true) }
         requires other { (other.old.table ≡ self.now.table) × (other.old.view.live ≡ true) }
         requires count { length other.old.view.seen ≡ count }
-        requires judge { (history : History) → L.legal self.now.key history → J.judged history }
+        requires judge { (list : History) → L.legal self.now.key list → J.judged list }
         ensures other { other.new ≡ other.old }
         ensures same { IsSame seat.old seat.new }
         ensures firm { seat.new.view.firm ≡ seat.old.view.firm }
         ensures seen { seat.new.view.seen ≡ other.old.view.seen }
         ensures more { Begins seat.old.view.seen seat.new.view.seen }
         ensures own { seat.old.view.numbered ≡ true → HasOwn seat.new.view }
-        ensures judged { J.judged (seat.new.view.start ++ events seat.new.view.seen) }
+        ensures judged { J.judged (events seat.new.view.seen) }
     {
         for _ in rt.forever() {
             self.tell(other, seat);
@@ -46,7 +46,7 @@ impl<K, L: Law<K>> Words<K, L> {
         requires seat { (seat.old.table ≡ self.now.table) × (seat.old.view.live ≡ true) }
         requires other { (other.old.table ≡ self.now.table) × (other.old.view.live ≡ true) }
         requires count { length other.old.view.firm ≡ count }
-        requires judge { (history : History) → L.legal self.now.key history → J.judged history }
+        requires judge { (list : History) → L.legal self.now.key list → J.judged list }
         ensures other { other.new ≡ other.old }
         ensures same { IsSame seat.old seat.new }
         ensures firm { seat.new.view.firm ≡ other.old.view.firm }
@@ -55,7 +55,7 @@ impl<K, L: Law<K>> Words<K, L> {
         ensures seen { Begins seat.old.view.seen seat.new.view.seen }
         ensures stays { count ≤ length seat.old.view.seen → seat.new.view.seen ≡ seat.old.view.seen }
         ensures own { seat.old.view.numbered ≡ true → HasOwn seat.new.view }
-        ensures judged { J.judged (seat.new.view.start ++ events seat.new.view.firm) }
+        ensures judged { J.judged (events seat.new.view.firm) }
     {
         for _ in rt.forever() {
             self.tell(other, seat);
@@ -94,8 +94,8 @@ impl<K, L: Law<K>> Words<K, L> {
         requires live { (seat.old.view.live ≡ true) × (seat.old.view.numbered ≡ true) }
         requires seen { length seat.old.view.seen ≡ from }
         requires room { from + 1 < 2 ^ 64 }
-        requires legal { L.legal self.now.key (seat.old.view.start ++ (events seat.old.view.seen ++ C.event ∷ [])) }
-        ensures same { (seat.new.table ≡ seat.old.table) × (seat.new.id ≡ seat.old.id) × (seat.new.view.live ≡ true) × (seat.new.view.numbered ≡ true) × (seat.new.view.number ≡ seat.old.view.number) × (seat.new.view.start ≡ seat.old.view.start) }
+        requires legal { L.legal self.now.key (events seat.old.view.seen ++ C.event ∷ []) }
+        ensures same { (seat.new.table ≡ seat.old.table) × (seat.new.id ≡ seat.old.id) × (seat.new.view.live ≡ true) × (seat.new.view.numbered ≡ true) × (seat.new.view.number ≡ seat.old.view.number) }
         ensures down { seat.new.view.down ≡ seat.old.view.down }
         ensures firm { seat.new.view.firm ≡ seat.old.view.firm }
         ensures seen { seat.new.view.seen ≡ seat.old.view.seen ++ mark seat.old.view.number C.event ∷ [] }
@@ -133,7 +133,7 @@ impl<K, L: Law<K>> Words<K, L> {
     pub fn meet<J: Judge>(&self, first: &mut Seat, second: &mut Seat) -> u64
         requires first { (first.old.table ≡ self.now.table) × (first.old.view.live ≡ true) }
         requires second { (second.old.table ≡ self.now.table) × (second.old.view.live ≡ true) }
-        requires judge { (history : History) → L.legal self.now.key history → J.judged history }
+        requires judge { (list : History) → L.legal self.now.key list → J.judged list }
         ensures first { IsSame first.old first.new × Begins first.old.view.seen first.new.view.seen × (first.new.view.firm ≡ first.old.view.firm) }
         ensures second { IsSame second.old second.new × Begins second.old.view.seen second.new.view.seen × (second.new.view.firm ≡ second.old.view.firm) }
         ensures meets { Begins first.new.view.seen second.new.view.seen }
@@ -141,8 +141,8 @@ impl<K, L: Law<K>> Words<K, L> {
         ensures count { result ≡ length second.new.view.seen }
         ensures own_first { first.old.view.numbered ≡ true → HasOwn first.new.view }
         ensures own_second { second.old.view.numbered ≡ true → HasOwn second.new.view }
-        ensures judged_first { J.judged (first.new.view.start ++ events first.new.view.seen) }
-        ensures judged_second { J.judged (second.new.view.start ++ events second.new.view.seen) }
+        ensures judged_first { J.judged (events first.new.view.seen) }
+        ensures judged_second { J.judged (events second.new.view.seen) }
     {
         self.look::<J>(first);
         self.tell(first, second);

@@ -9,17 +9,14 @@ pub struct Marked {
     pub event: Checked,
 }
 
-/// What a seat knows: at which history its node began, what it has seen of what was accepted since, what of that it knows as
-/// settled, its own events, and whether the node is down. No value of it is made.
+/// What a seat knows: what it has seen of what was accepted, what of that it knows as settled, its own events, and whether the node
+/// is down. No value of it is made.
 pub struct View {
     /// False of a seat that another took in.
     pub live: bool,
-    /// True before the history is named at which the node begins.
-    pub fresh: bool,
     /// Whether it knows its number.
     pub numbered: bool,
     pub number: u64,
-    pub start: LinkedList<Checked>,
     pub seen: LinkedList<Marked>,
     pub firm: LinkedList<Marked>,
     pub mine: LinkedList<Checked>,

@@ -2,12 +2,12 @@
 
 ghost use Rattle.std.specs.Prelude.{◌≡◌, ◌+◌, ◌≤◌, ◌<◌, ◌^◌, ◌++◌, ◌∷◌, [], true, length, IfOk};
 ghost use Rattle.spec_model.specs.Histories.{History};
-ghost use Rattle.node_seats.specs.Views.{events, HasOwn, first_view, fresh_view, newcomer, informed};
+ghost use Rattle.node_seats.specs.Views.{events, HasOwn, first_view, newcomer, informed};
 ghost use Rattle.node_seats.specs.Plays.{Looks, Reads, ReadsDown, Accepts, Settles, with_down};
 ghost use Rattle.node_seats.specs.Sights.{SeatView};
 
 use crate::plays::{
-    Accepted, Call, DownRead, Downed, Judge, Looked, Numbers, Opens, Read, Settled, Start, Tells,
+    Accepted, Call, DownRead, Downed, Judge, Looked, Numbers, Read, Settled, Tells,
 };
 use crate::rule::{Kept, Law};
 use crate::seat::Seat;
@@ -48,14 +48,13 @@ impl<K, L: Law<K>> Model for Words<K, L> {
 
 impl<K, L: Law<K>> Words<K, L> {
     /// The words at 0, and the first seat at them. `AllocError` where an allocation failed.
-    pub fn new<H: Start>(alloc: Global, about: &K) -> Result<(Words<K, L>, Seat), AllocError>
-        requires legal { L.legal about.now H.history }
+    pub fn new(alloc: Global, about: &K) -> Result<(Words<K, L>, Seat), AllocError>
+        requires legal { L.legal about.now [] }
         ensures key { IfOk result (λ made. made.0.key ≡ about.now) }
         ensures place { IfOk result (λ made. made.1.table ≡ made.0.table) }
-        ensures view { IfOk result (λ made. made.1.view ≡ first_view H.history) }
+        ensures view { IfOk result (λ made. made.1.view ≡ first_view) }
     {
-        let (table, mut place) = Table::of_words(alloc, &[0, 0, 0], about)?;
-        table.shared.load::<Opens<H>>(&mut place, ACCEPTED);
+        let (table, place) = Table::of_words(alloc, &[0, 0, 0], about)?;
         Ok((Words { table }, Seat { place }))
     }
 
@@ -88,7 +87,7 @@ impl<K, L: Law<K>> Words<K, L> {
     pub fn look<J: Judge>(&self, seat: &mut Seat) -> u64
         requires of { seat.old.table ≡ self.now.table }
         requires live { seat.old.view.live ≡ true }
-        requires judge { (history : History) → L.legal self.now.key history → J.judged history }
+        requires judge { (list : History) → L.legal self.now.key list → J.judged list }
         ensures of { (seat.new.table ≡ seat.old.table) × (seat.new.id ≡ seat.old.id) }
         ensures looks { Looks J.judged seat.old.view result seat.new.view }
     {
@@ -101,7 +100,7 @@ impl<K, L: Law<K>> Words<K, L> {
     pub fn read<J: Judge>(&self, seat: &mut Seat) -> u64
         requires of { seat.old.table ≡ self.now.table }
         requires live { seat.old.view.live ≡ true }
-        requires judge { (history : History) → L.legal self.now.key history → J.judged history }
+        requires judge { (list : History) → L.legal self.now.key list → J.judged list }
         ensures of { (seat.new.table ≡ seat.old.table) × (seat.new.id ≡ seat.old.id) }
         ensures reads { Reads J.judged seat.old.view result seat.new.view }
     {
@@ -134,7 +133,7 @@ impl<K, L: Law<K>> Words<K, L> {
         requires live { (seat.old.view.live ≡ true) × (seat.old.view.numbered ≡ true) }
         requires seen { from ≤ length seat.old.view.seen }
         requires room { from + 1 < 2 ^ 64 }
-        requires legal { length seat.old.view.seen ≡ from → L.legal self.now.key (seat.old.view.start ++ (events seat.old.view.seen ++ C.event ∷ [])) }
+        requires legal { length seat.old.view.seen ≡ from → L.legal self.now.key (events seat.old.view.seen ++ C.event ∷ []) }
         ensures of { (seat.new.table ≡ seat.old.table) × (seat.new.id ≡ seat.old.id) }
         ensures accepts { Accepts from C.event seat.old.view result seat.new.view }
     {

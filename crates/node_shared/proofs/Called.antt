@@ -1,21 +1,23 @@
 -- What a call does to a seat, from its steps.
-use Rattle.std.proofs.Common.{◌≡◌, Bool, true, [], ◌∷◌, ◌++◌, refl, sym, ap, ◌∙◌, subst}
+use Rattle.std.proofs.Common.{◌≡◌, Bool, true, List, [], ◌∷◌, ◌++◌, refl, sym, ap, ◌∙◌, subst}
 use Rattle.std.specs.Prelude.{Option, Some, None, IfSome}
+use Rattle.spec_machine.specs.After.{IsLegalAfter}
 use Rattle.spec_model.specs.Admitting.{IsLegal}
-use Rattle.spec_model.specs.Giving.{MayGive}
+use Rattle.spec_model.specs.Giving.{kept, MayGive}
 use Rattle.spec_model.specs.Histories.{History}
+use Rattle.spec_model.specs.States.{State}
 use Rattle.wire.specs.Lists.{Begins}
-use Rattle.spec_model.specs.Nodes.{Node}
 use Rattle.spec_model.specs.Words.{Event, Output}
 use Rattle.validator.specs.Setting.{node_of}
 use Rattle.node_seats.specs.Sights.{SeatView}
 use Rattle.node_seats.specs.Views.{events, events_by, mark, HasOwn, informed}
+use Rattle.node_seats.specs.declared.view.Marked.{Marked}
 use Rattle.node_seats.specs.declared.view.View.{View}
 use Rattle.node_seats.proofs.Marks.{by_same, events_push}
 use Rattle.node_seats.proofs.Same.{same_then, same_told}
 use Rattle.node_shared.specs.Answers.{IsPutOutBy, Gives}
 use Rattle.node_shared.specs.Calls.{Looked, Learned, Brought, Stays}
-use Rattle.node_shared.specs.Home.{NodeView, firm_by}
+use Rattle.node_shared.specs.Home.{NodeView, IsBase}
 use Rattle.node_shared.proofs.Standing.{of_same}
 use Rattle.sigface.specs.Scheme.{Scheme}
 
@@ -34,7 +36,6 @@ stays_read before later down is keeps = record {
     live = ap (λ s. s.view.live) is;
     numbered = ap (λ s. s.view.numbered) is;
     number = ap (λ s. s.view.number) is;
-    start = ap (λ s. s.view.start) is;
     mine = ap (λ s. s.view.mine) is;
     down = λ was. ap (λ s. s.view.down) is ∙ keeps was;
   };
@@ -44,7 +45,7 @@ stays_read before later down is keeps = record {
 
 pub stays_same : (seat : SeatView) → Stays seat seat
 stays_same seat = record {
-  same = record { table = refl; id = refl; live = refl; numbered = refl; number = refl; start = refl; mine = refl; down = λ was. was };
+  same = record { table = refl; id = refl; live = refl; numbered = refl; number = refl; mine = refl; down = λ was. was };
   seen = refl;
   firm = refl;
 }
@@ -65,7 +66,7 @@ module _ {S : Type 0} (scheme : Scheme S) (shared : NodeView S) where
     firm = stays.firm ∙ looked.firm;
     more = subst (λ l. Begins before.view.seen l) (sym stays.seen) looked.more;
     own = own_stays mid later stays looked.own;
-    legal = subst (λ h. IsLegal (node_of scheme shared.setting) h) (λ i. sym stays.same.start i ++ events (sym stays.seen i)) looked.legal;
+    legal = λ base at. subst (λ (l : List Marked). IsLegalAfter (node_of scheme shared.setting) base (events l)) (sym stays.seen) (looked.legal base at);
   }
 
   pub learned_stays : (before mid later : SeatView) → Learned scheme shared before mid → Stays mid later → Learned scheme shared before later
@@ -76,7 +77,7 @@ module _ {S : Type 0} (scheme : Scheme S) (shared : NodeView S) where
     seen = subst (λ l. Begins before.view.seen l) (sym stays.seen) learned.seen;
     within = subst (λ l. Begins later.view.firm l) (sym stays.seen) (subst (λ l. Begins l mid.view.seen) (sym stays.firm) learned.within);
     own = own_stays mid later stays learned.own;
-    legal = subst (λ h. IsLegal (node_of scheme shared.setting) h) (λ i. sym stays.same.start i ++ events (sym stays.firm i)) learned.legal;
+    legal = λ base at. subst (λ (l : List Marked). IsLegalAfter (node_of scheme shared.setting) base (events l)) (sym stays.firm) (learned.legal base at);
   }
 
   -- a seat whose event isn't new looked
@@ -93,22 +94,24 @@ module _ {S : Type 0} (scheme : Scheme S) (shared : NodeView S) where
 
   -- and one whose event is new has it after that
   pub brought_new : (before mid later : SeatView) (event : Event) → Looked scheme shared before mid
-      → (later.table ≡ mid.table) × (later.id ≡ mid.id) × (later.view.live ≡ true) × (later.view.numbered ≡ true) × (later.view.number ≡ mid.view.number) × (later.view.start ≡ mid.view.start)
+      → (later.table ≡ mid.table) × (later.id ≡ mid.id) × (later.view.live ≡ true) × (later.view.numbered ≡ true) × (later.view.number ≡ mid.view.number)
       → later.view.down ≡ mid.view.down → later.view.firm ≡ mid.view.firm → later.view.seen ≡ mid.view.seen ++ mark mid.view.number event ∷ [] → later.view.mine ≡ mid.view.mine ++ event ∷ []
-      → IsLegal (node_of scheme shared.setting) (mid.view.start ++ (events mid.view.seen ++ event ∷ [])) → Brought scheme shared before later
+      → ((base : State) → IsBase scheme shared base → IsLegalAfter (node_of scheme shared.setting) base (events mid.view.seen ++ event ∷ [])) → Brought scheme shared before later
   brought_new before mid later event looked same down firm seen mine legal = record {
-    of_node = record { table = same.0 ∙ looked.of_node.table; live = same.2; numbered = same.3; start = same.5 ∙ looked.of_node.start };
+    of_node = record { table = same.0 ∙ looked.of_node.table; live = same.2; numbered = same.3 };
     id = same.1 ∙ looked.same.id;
     number = same.4 ∙ looked.same.number;
     down = λ is. down ∙ looked.same.down is;
     firm = firm ∙ looked.firm;
     own = (λ i. events_by (same.4 i) (seen i)) ∙ by_same mid.view.number event mid.view.seen ∙ ap (λ (h : History). h ++ event ∷ []) looked.own ∙ sym mine;
-    legal = subst (λ h. IsLegal (node_of scheme shared.setting) h)
-        (ap (λ (h : History). mid.view.start ++ h) (sym (events_push mid.view.number event mid.view.seen)) ∙ λ i. sym same.5 i ++ events (sym seen i)) legal;
+    legal = λ base at. subst (λ (l : History). IsLegalAfter (node_of scheme shared.setting) base l)
+        (sym (events_push mid.view.number event mid.view.seen) ∙ ap events (sym seen)) (legal base at);
   }
 
 -- an output of which both are said
-pub gives_both : (node : Node) (seat : SeatView) (output : Option Output) → IfSome output (λ one. MayGive node (firm_by seat) one) → IfSome output (λ one. IsPutOutBy node seat.view one)
-    → IfSome output (λ one. Gives node seat one)
-gives_both node seat None may out = may
-gives_both node seat (Some one) may out = record { may = may; put_out = out }
+pub gives_both : {S : Type 0} (scheme : Scheme S) (shared : NodeView S) (seat : SeatView) (output : Option Output)
+    → IfSome output (λ one. (base : State) (history : History) → IsBase scheme shared base → IsLegal (node_of scheme shared.setting) history
+    → kept (node_of scheme shared.setting) history ≡ base → MayGive (node_of scheme shared.setting) (history ++ events seat.view.firm) one)
+    → IfSome output (λ one. IsPutOutBy scheme shared seat.view one) → IfSome output (λ one. Gives scheme shared seat one)
+gives_both scheme shared seat None may out = may
+gives_both scheme shared seat (Some one) may out = record { may = may; put_out = out }

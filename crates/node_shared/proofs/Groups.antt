@@ -2,6 +2,7 @@
 use Rattle.std.proofs.Common.{◌≡◌, ℕ, ◌+◌, ◌-◌, ◌≤◌, List, [], length, map, take, drop, refl, sym, ap, ◌∙◌, subst, arith}
 use Rattle.std.proofs.lemmas.List.{take_at, take-append-le, take-map, take_all, length-map, length-drop}
 use Rattle.spec_model.specs.Histories.{History}
+use Rattle.spec_model.specs.States.{State}
 use Rattle.wire.specs.Lists.{Begins}
 use Rattle.spec_records.specs.Records.{record_of}
 use Rattle.validator.specs.Setting.{ConfigView, node_of}
@@ -11,7 +12,7 @@ use Rattle.node_seats.specs.declared.view.Marked.{Marked}
 use Rattle.node_seats.proofs.Beginnings.{begins_length, begins_whole, begins_same}
 use Rattle.book.specs.Book.{BookView, Run, Stands, with_taken, with_settled, SettlesNext}
 use Rattle.book.specs.Pending.{IsLongestBeginning}
-use Rattle.node_shared.specs.Home.{NodeView, IsAtHome, IsFlushOf, IsTied, TakesNext, taken_by, group_of, run_of}
+use Rattle.node_shared.specs.Home.{NodeView, IsBase, IsAtHome, IsFlushOf, IsTied, TakesNext, taken_by, group_of, run_of}
 use Rattle.node_shared.specs.declared.flush_seat.FlushSeat.{FlushSeat}
 use Rattle.node_shared.proofs.Standing.{of_same, at_home}
 use Rattle.sigface.specs.Scheme.{Scheme}
@@ -33,7 +34,10 @@ module _ {S : Type 0} (shared : NodeView S) (scheme : Scheme S) (seat : SeatView
     (home : IsAtHome scheme shared seat book) (tied : IsTied shared seat book flush) where
   -- the run at which the book stands
   abbrev pub run : Run
-  run = run_of seat.view home.taken
+  run = run_of home.somewhere.0 seat.view home.taken
+
+  stood : Stands (node_of scheme shared.setting) run book
+  stood = home.stands home.somewhere.0 home.somewhere.1
 
   seen_events : events flush.seat.view.seen ≡ events seat.view.seen
   seen_events = ap events tied.seen
@@ -42,15 +46,15 @@ module _ {S : Type 0} (shared : NodeView S) (scheme : Scheme S) (seat : SeatView
   size = ap length (sym seen_events) ∙ length-map flush.seat.view.seen (λ (one : Marked). one.event)
 
   settled_size : length (events seat.view.firm) ≡ flush.settled
-  settled_size = sym home.stands.settled ∙ tied.settled
+  settled_size = sym stood.settled ∙ tied.settled
 
   taken_size : length home.taken ≡ flush.taken
-  taken_size = sym home.stands.taken ∙ tied.taken
+  taken_size = sym stood.taken ∙ tied.taken
 
   -- what of it is taken is what the flush seat has taken
   pub taken_is : home.taken ≡ events (taken_by flush)
   taken_is =
-      begins_is_take home.taken (events seat.view.seen) flush.taken home.stands.taken_begins taken_size ∙ ap (take flush.taken) (sym seen_events)
+      begins_is_take home.taken (events seat.view.seen) flush.taken stood.taken_begins taken_size ∙ ap (take flush.taken) (sym seen_events)
       ∙ take-map (λ (one : Marked). one.event) flush.taken flush.seat.view.seen
 
   -- a group that the book hands over is the next one
@@ -58,21 +62,26 @@ module _ {S : Type 0} (shared : NodeView S) (scheme : Scheme S) (seat : SeatView
       (is : later ≡ record book { pending = later.pending; taken = book.taken + length group })
       (stands : (run : Run) → Stands (node_of scheme book.validator.setting) run book → Stands (node_of scheme book.validator.setting) (with_taken run (length group)) later)
       (records : (run : Run) → Stands (node_of scheme book.validator.setting) run book → group ≡ map record_of (drop (length run.taken) (with_taken run (length group)).taken)) where
-    afterwards : Stands (node_of scheme shared.setting) (with_taken run (length group)) later
-    afterwards =
-        subst (λ (s : ConfigView S). (r : Run) → Stands (node_of scheme s) r book → Stands (node_of scheme s) (with_taken r (length group)) later) home.setting stands run home.stands
+    afterwards : (base : State) → IsBase scheme shared base → Stands (node_of scheme shared.setting) (with_taken (run_of base seat.view home.taken) (length group)) later
+    afterwards base at =
+        subst (λ (s : ConfigView S). (r : Run) → Stands (node_of scheme s) r book → Stands (node_of scheme s) (with_taken r (length group)) later) home.setting stands
+        (run_of base seat.view home.taken) (home.stands base at)
+
+    there : Stands (node_of scheme shared.setting) (with_taken run (length group)) later
+    there = afterwards home.somewhere.0 home.somewhere.1
 
     counted : later.taken ≡ flush.settled + length group
     counted = ap (λ (b : BookView S). b.taken) is ∙ ap (λ (n : ℕ). n + length group) (tied.taken ∙ rests)
 
     pub home_taken : IsAtHome scheme shared seat later
-    home_taken = at_home shared scheme seat later (with_taken run (length group)) (ap (λ (b : BookView S). b.validator.setting) is ∙ home.setting)
-        home.of_node afterwards refl refl refl (λ down. home.down (sym (ap (λ (b : BookView S). b.down) is) ∙ down))
+    home_taken = at_home shared scheme seat later (events seat.view.seen) (with_taken run (length group)).taken (events seat.view.firm) home.somewhere
+        (ap (λ (b : BookView S). b.validator.setting) is ∙ home.setting)
+        home.of_node afterwards refl refl (λ down. home.down (sym (ap (λ (b : BookView S). b.down) is) ∙ down))
 
     within : later.taken ≤ length flush.seat.view.seen
     within =
-        let is_in : length (with_taken run (length group)).taken ≤ length (events seat.view.seen) = begins_length _ _ afterwards.taken_begins in
-        omega (arith, is_in, afterwards.taken, size)
+        let is_in : length (with_taken run (length group)).taken ≤ length (events seat.view.seen) = begins_length _ _ there.taken_begins in
+        omega (arith, is_in, there.taken, size)
 
     pub flush_taken : IsFlushOf shared (record flush { taken = later.taken })
     flush_taken = record {
@@ -86,11 +95,11 @@ module _ {S : Type 0} (shared : NodeView S) (scheme : Scheme S) (seat : SeatView
     pub takes_next : TakesNext (record flush { taken = later.taken }) group
     takes_next = record {
       rest = later.pending;
-      longest = subst (λ (l : List (List ℕ)). IsLongestBeginning l group later.pending) (home.stands.pending ∙ λ i. map record_of (drop ((taken_size ∙ rests) i) (sym seen_events i))) longest;
+      longest = subst (λ (l : List (List ℕ)). IsLongestBeginning l group later.pending) (stood.pending ∙ λ i. map record_of (drop ((taken_size ∙ rests) i) (sym seen_events i))) longest;
       counts = counted;
       is =
           subst (λ (s : ConfigView S). (r : Run) → Stands (node_of scheme s) r book → group
-          ≡ map record_of (drop (length r.taken) (with_taken r (length group)).taken)) home.setting records run home.stands
+          ≡ map record_of (drop (length r.taken) (with_taken r (length group)).taken)) home.setting records run stood
           ∙ (λ i. map record_of (drop ((taken_size ∙ rests) i) (take (length home.taken + length group) (sym seen_events i))))
           ∙ ap (λ (n : ℕ). map record_of (drop flush.settled (take n (events flush.seat.view.seen)))) (ap (λ (n : ℕ). n + length group) (taken_size ∙ rests) ∙ sym counted)
           ∙ ap (λ (l : History). map record_of (drop flush.settled l)) (take-map (λ (one : Marked). one.event) later.taken flush.seat.view.seen);
@@ -99,7 +108,7 @@ module _ {S : Type 0} (shared : NodeView S) (scheme : Scheme S) (seat : SeatView
   -- where nothing is pending all is settled
   pub all_settled : flush.taken ≡ flush.settled → book.pending ≡ [] → flush.seat.view.firm ≡ flush.seat.view.seen
   all_settled rests none =
-      let less : length (events seat.view.seen) ≤ length home.taken = nothing_behind record_of (events seat.view.seen) (length home.taken) (sym home.stands.pending ∙ none) in
+      let less : length (events seat.view.seen) ≤ length home.taken = nothing_behind record_of (events seat.view.seen) (length home.taken) (sym stood.pending ∙ none) in
       begins_whole flush.seat.view.firm flush.seat.view.seen tied.flush_of.begins (omega (arith, less, size, taken_size, rests, tied.flush_of.settled))
 
   -- the group that the flush seat has taken may be settled
@@ -111,11 +120,11 @@ module _ {S : Type 0} (shared : NodeView S) (scheme : Scheme S) (seat : SeatView
     begins = subst (λ (l : List (List ℕ)). Begins synced l) are (begins_same synced)
 
     pub settles_next : SettlesNext (node_of scheme book.validator.setting) book synced
-    settles_next = subst (λ (s : ConfigView S). SettlesNext (node_of scheme s) book synced) (sym home.setting) (run, home.stands, begins)
+    settles_next = subst (λ (s : ConfigView S). SettlesNext (node_of scheme s) book synced) (sym home.setting) (run, stood, begins)
 
     all_of_it : take (length run.settled + length synced) run.taken ≡ events (taken_by flush)
     all_of_it =
-        let less : length (events seat.view.firm) ≤ length home.taken = begins_length _ _ home.stands.settled_begins in
+        let less : length (events seat.view.firm) ≤ length home.taken = begins_length _ _ stood.settled_begins in
         let count : length synced ≡ length (drop (length run.settled) run.taken) = ap length are ∙ length-map (drop (length run.settled) run.taken) record_of in
         let left : length (drop (length run.settled) run.taken) ≡ length run.taken - length run.settled = length-drop (length run.settled) run.taken in
         take_all (length run.settled + length synced) run.taken (omega (arith, less, count, left)) ∙ taken_is
@@ -126,8 +135,10 @@ module _ {S : Type 0} (shared : NodeView S) (scheme : Scheme S) (seat : SeatView
         → Stands (node_of scheme book.validator.setting) (with_settled run (length synced)) later)
         → IsSame seat afterwards → afterwards.view.seen ≡ seat.view.seen → afterwards.view.firm ≡ taken_by flush → IsAtHome scheme shared afterwards later
     home_settled later afterwards setting down stands same seen firm =
-        let there = subst (λ (s : ConfigView S). (r : Run) → Stands (node_of scheme s) r book
+        let after = λ (base : State) (at : IsBase scheme shared base).
+        subst (λ (s : ConfigView S). (r : Run) → Stands (node_of scheme s) r book
         → Begins synced (map record_of (drop (length r.settled) r.taken)) → Stands (node_of scheme s) (with_settled r (length synced)) later)
-        home.setting stands run home.stands begins in
-        at_home shared scheme afterwards later (with_settled run (length synced)) (setting ∙ home.setting) (of_same shared seat afterwards home.of_node same) there (sym same.start)
+        home.setting stands (run_of base seat.view home.taken) (home.stands base at) begins in
+        at_home shared scheme afterwards later (events seat.view.seen) home.taken (with_settled run (length synced)).settled home.somewhere (setting ∙ home.setting)
+        (of_same shared seat afterwards home.of_node same) after
         (ap events (sym seen)) (all_of_it ∙ ap events (sym firm)) (λ is. same.down (home.down (sym down ∙ is)))

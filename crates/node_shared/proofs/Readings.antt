@@ -1,98 +1,111 @@
--- What is said of the run at which a book stands, said of what a seat has seen or knows as settled.
-use Rattle.std.proofs.Common.{◌≡◌, Bool, true, List, ◌++◌, length, take, refl, sym, ap, ◌∙◌, subst, arith}
+-- What is said of the runs at which a book stands, said of what a seat has seen or knows as settled.
+use Rattle.std.proofs.Common.{◌≡◌, ◌≤◌, Bool, true, List, ◌++◌, length, take, refl, sym, ap, ◌∙◌, subst, arith}
 use Rattle.std.specs.Prelude.{ℕ, Option, Some, None, IsNone, IfSome, Result, Ok, Err, IfOk, drop}
 use Rattle.std.proofs.lemmas.List.{length-map, take-map}
+use Rattle.admission.proofs.OneState.{one_state}
+use Rattle.spec_machine.specs.Machine.{proposed as proposed_at}
 use Rattle.spec_model.specs.Admitting.{IsLegal}
 use Rattle.spec_model.specs.Giving.{MayGive, kept}
-use Rattle.spec_model.specs.Proposing.{propose}
 use Rattle.validator.specs.Standing.{ValidatorView, AreAtSound}
 use Rattle.spec_model.specs.Histories.{History}
 use Rattle.spec_model.specs.Nodes.{Node}
-use Rattle.spec_model.specs.Holdings.{order}
+use Rattle.spec_model.specs.States.{State}
 use Rattle.spec_model.specs.Words.{Digest, Header, Output}
 use Rattle.validator.specs.Setting.{ConfigView, node_of}
 use Rattle.node_seats.specs.Sights.{SeatView}
 use Rattle.node_seats.specs.Views.{events}
 use Rattle.node_seats.specs.declared.view.Marked.{Marked}
 use Rattle.node_seats.proofs.Beginnings.{begins_trans}
-use Rattle.spec_world.specs.Promise.{GoesOut}
-use Rattle.spec_world.specs.World.{put_out}
-use Rattle.book.specs.Book.{BookView, Run, Stands, history_in, history_to, settled_in, GoesOutSettled, releasable}
+use Rattle.book.specs.Book.{BookView, Run, GoesOutAfter, Stands, state_in, settled_in, GoesOutSettled, releasable}
 use Rattle.node_shared.specs.Answers.{IsPutOutBy}
-use Rattle.node_shared.specs.Home.{NodeView, IsAtHome, run_of, seen_by, firm_by}
+use Rattle.node_shared.specs.Home.{NodeView, IsBase, IsAtHome, run_of, seen_in, firm_in}
 use Rattle.node_shared.proofs.Groups.{same_front}
 use Rattle.sigface.specs.Scheme.{Scheme}
 
-module _ {S : Type 0} (shared : NodeView S) (scheme : Scheme S) (seat mine : SeatView) (book : BookView S) (home : IsAtHome scheme shared seat book) (began : mine.view.start ≡ shared.start) where
-  start_is : seat.view.start ≡ mine.view.start
-  start_is = home.of_node.start ∙ sym began
+module _ {S : Type 0} (shared : NodeView S) (scheme : Scheme S) (seat mine : SeatView) (book : BookView S) (home : IsAtHome scheme shared seat book) where
+  abbrev node : Node
+  node = node_of scheme shared.setting
 
-  pub seen_of : (P : Node → History → Type 0) → mine.view.seen ≡ seat.view.seen
-      → ((run : Run) → Stands (node_of scheme book.validator.setting) run book → P (node_of scheme book.validator.setting) (history_in run))
-      → P (node_of scheme shared.setting) (seen_by mine)
-  seen_of P same told =
-      let there = subst (λ (s : ConfigView S). (run : Run) → Stands (node_of scheme s) run book → P (node_of scheme s) (history_in run)) home.setting told in
-      let is : history_in (run_of seat.view home.taken) ≡ seen_by mine = λ i. start_is i ++ events (sym same i) in
-      subst (P (node_of scheme shared.setting)) is (there (run_of seat.view home.taken) home.stands)
+  -- what is said of each run at which the book stands holds of that on a base
+  at_base : (P : Node → Run → Type 0) → ((run : Run) → Stands (node_of scheme book.validator.setting) run book → P (node_of scheme book.validator.setting) run)
+      → (base : State) → IsBase scheme shared base → P node (run_of base seat.view home.taken)
+  at_base P told base at =
+      subst (λ (s : ConfigView S). (run : Run) → Stands (node_of scheme s) run book → P (node_of scheme s) run) home.setting told (run_of base seat.view home.taken) (home.stands base at)
 
-  pub firm_of : (P : Node → History → Type 0) → mine.view.firm ≡ seat.view.firm
-      → ((run : Run) → Stands (node_of scheme book.validator.setting) run book → P (node_of scheme book.validator.setting) (settled_in run))
-      → P (node_of scheme shared.setting) (firm_by mine)
-  firm_of P same told =
-      let there = subst (λ (s : ConfigView S). (run : Run) → Stands (node_of scheme s) run book → P (node_of scheme s) (settled_in run)) home.setting told in
-      let is : settled_in (run_of seat.view home.taken) ≡ firm_by mine = λ i. start_is i ++ events (sym same i) in
-      subst (P (node_of scheme shared.setting)) is (there (run_of seat.view home.taken) home.stands)
+  pub seen_of : (P : Node → State → Type 0) → mine.view.seen ≡ seat.view.seen
+      → ((run : Run) → Stands (node_of scheme book.validator.setting) run book → P (node_of scheme book.validator.setting) (state_in (node_of scheme book.validator.setting) run))
+      → (base : State) → IsBase scheme shared base → P node (seen_in node base mine)
+  seen_of P same told base at =
+      let is : state_in node (run_of base seat.view home.taken) ≡ seen_in node base mine = λ i. seen_in node base (record mine { view = record mine.view { seen = sym same i } }) in
+      subst (P node) is (at_base (λ n run. P n (state_in n run)) told base at)
 
-  -- an output that goes out may be given out at what the seat knows as settled
+  pub firm_of : (P : Node → State → Type 0) → mine.view.firm ≡ seat.view.firm
+      → ((run : Run) → Stands (node_of scheme book.validator.setting) run book → P (node_of scheme book.validator.setting) (settled_in (node_of scheme book.validator.setting) run))
+      → (base : State) → IsBase scheme shared base → P node (firm_in node base mine)
+  firm_of P same told base at =
+      let is : settled_in node (run_of base seat.view home.taken) ≡ firm_in node base mine = λ i. firm_in node base (record mine { view = record mine.view { firm = sym same i } }) in
+      subst (P node) is (at_base (λ n run. P n (settled_in n run)) told base at)
+
+  -- an output that goes out may be given out with what the seat knows as settled
   pub given : mine.view.firm ≡ seat.view.firm → (output : Option Output)
       → IfSome output (λ one. (run : Run) → Stands (node_of scheme book.validator.setting) run book → GoesOutSettled (node_of scheme book.validator.setting) run one)
-      → IfSome output (λ one. MayGive (node_of scheme shared.setting) (firm_by mine) one)
+      → IfSome output (λ one. (base : State) (history : History) → IsBase scheme shared base → IsLegal node history → kept node history ≡ base
+      → MayGive node (history ++ events mine.view.firm) one)
   given same None goes = goes
-  given same (Some one) goes =
-      let there = subst (λ (s : ConfigView S). (run : Run) → Stands (node_of scheme s) run book → GoesOutSettled (node_of scheme s) run one) home.setting goes in
-      let is : settled_in (run_of seat.view home.taken) ≡ firm_by mine = λ i. start_is i ++ events (sym same i) in
-      subst (λ (h : History). MayGive (node_of scheme shared.setting) h one) is (there (run_of seat.view home.taken) home.stands).may
+  given same (Some one) goes = λ base history at legal keeps.
+      let out = at_base (λ n run. GoesOutSettled n run one) goes base at in
+      subst (λ (l : List Marked). MayGive node (history ++ events l) one) (sym same) (out.may history legal keeps)
+
+  -- what a ticket counts of what the seat knows as settled
+  ticket_size : length (events seat.view.firm) ≡ length seat.view.firm
+  ticket_size = length-map seat.view.firm (λ (one : Marked). one.event)
+
+  front : (base : State) → IsBase scheme shared base → mine.view.firm ≡ seat.view.firm → (ticket : ℕ) → ticket ≤ length (events seat.view.firm)
+      → take ticket (events seat.view.seen) ≡ events (take ticket mine.view.firm)
+  front base at same ticket within =
+      let stands = home.stands base at in
+      let begins = begins_trans (events seat.view.firm) home.taken (events seat.view.seen) stands.settled_begins stands.taken_begins in
+      same_front (events seat.view.firm) (events seat.view.seen) ticket begins within ∙ take-map (λ (one : Marked). one.event) ticket seat.view.firm
+      ∙ ap (λ (l : List Marked). events (take ticket l)) (sym same)
 
   -- and an event of that put it out
   pub put_out_by : mine.view.firm ≡ seat.view.firm → (output : Option Output)
       → IfSome output (λ one. (run : Run) → Stands (node_of scheme book.validator.setting) run book → GoesOutSettled (node_of scheme book.validator.setting) run one)
-      → IfSome output (λ one. IsPutOutBy (node_of scheme shared.setting) mine.view one)
+      → IfSome output (λ one. IsPutOutBy scheme shared mine.view one)
   put_out_by same None goes = goes
   put_out_by same (Some one) goes =
-      let there = subst (λ (s : ConfigView S). (run : Run) → Stands (node_of scheme s) run book → GoesOutSettled (node_of scheme s) run one) home.setting goes in
-      let out = there (run_of seat.view home.taken) home.stands in
-      let size : length (events seat.view.firm) ≡ length mine.view.firm = length-map seat.view.firm (λ (one : Marked). one.event) ∙ ap length (sym same) in
-      let begins = begins_trans (events seat.view.firm) home.taken (events seat.view.seen) home.stands.settled_begins home.stands.taken_begins in
-      let front : take out.ticket (events seat.view.seen) ≡ events (take out.ticket mine.view.firm) =
-      same_front (events seat.view.firm) (events seat.view.seen) out.ticket begins out.settled ∙ take-map (λ (one : Marked). one.event) out.ticket seat.view.firm
-      ∙ ap (λ (l : List Marked). events (take out.ticket l)) (sym same) in
-      let is : history_to out.ticket (run_of seat.view home.taken) ≡ mine.view.start ++ events (take out.ticket mine.view.firm) = λ i. start_is i ++ front i in
+      let out = λ (base : State) (at : IsBase scheme shared base). at_base (λ n run. GoesOutSettled n run one) goes base at in
+      let first = out home.somewhere.0 home.somewhere.1 in
       record {
-        count = out.ticket;
-        settled = omega (arith, out.settled, size);
-        goes_out = subst (λ (h : History). GoesOut (node_of scheme shared.setting) h (put_out one)) is out.goes_out;
+        count = first.ticket;
+        settled = omega (arith, first.settled, ticket_size, ap length same);
+        goes_out = λ base at.
+            let first_base = home.somewhere.0 in
+            let same_base : first_base ≡ base = one_state node shared.begun first_base base home.somewhere.1.sound home.somewhere.1.at at.sound at.at in
+            let events_are = front first_base home.somewhere.1 same first.ticket first.settled in
+            subst (λ (s : State). GoesOutAfter node s (events (take first.ticket mine.view.firm)) one) same_base
+            (subst (λ (l : History). GoesOutAfter node first_base l one) events_are first.goes_out);
       }
 
   -- the order that is told is that of what the seat knows as settled
   pub ordered : mine.view.firm ≡ seat.view.firm → {D E : Type 0} → (items : D → List Digest) (from : ℕ) (result : Result D E)
-      → IfOk result (λ digests. (run : Run) → Stands (node_of scheme book.validator.setting) run book → items digests ≡ drop from (order (node_of scheme book.validator.setting) (settled_in run)))
-      → IfOk result (λ digests. items digests ≡ drop from (order (node_of scheme shared.setting) (firm_by mine)))
+      → IfOk result (λ digests. (run : Run) → Stands (node_of scheme book.validator.setting) run book
+      → items digests ≡ drop from (settled_in (node_of scheme book.validator.setting) run).order)
+      → IfOk result (λ digests. (base : State) → IsBase scheme shared base → items digests ≡ drop from (firm_in node base mine).order)
   ordered same items from (Err error) told = told
-  ordered same items from (Ok digests) told = firm_of (λ node history. items digests ≡ drop from (order node history)) same told
+  ordered same items from (Ok digests) told = firm_of (λ n state. items digests ≡ drop from state.order) same told
 
   -- and the header that is proposed is that of what it has seen
   pub proposed : mine.view.seen ≡ seat.view.seen → {E : Type 0} → (result : Result (Option Header) E) (validator : ValidatorView S) → validator ≡ book.validator
-      → IfOk result (λ found. (history : History) → IsLegal (node_of scheme validator.setting) history
-      → AreAtSound (node_of scheme validator.setting) validator.tables (kept (node_of scheme validator.setting) history)
-      → found ≡ propose (node_of scheme validator.setting) history)
-      → IfOk result (λ found. found ≡ propose (node_of scheme shared.setting) (seen_by mine))
+      → IfOk result (λ found. (state : State) → AreAtSound (node_of scheme validator.setting) validator.tables state
+      → found ≡ proposed_at (node_of scheme validator.setting) state)
+      → IfOk result (λ found. (base : State) → IsBase scheme shared base → found ≡ proposed_at node (seen_in node base mine))
   proposed same (Err error) validator is told = told
   proposed same (Ok found) validator is told =
       let there = subst
-      (λ (v : ValidatorView S). (history : History) → IsLegal (node_of scheme v.setting) history → AreAtSound (node_of scheme v.setting) v.tables
-      (kept (node_of scheme v.setting) history) → found ≡ propose (node_of scheme v.setting) history)
+      (λ (v : ValidatorView S). (state : State) → AreAtSound (node_of scheme v.setting) v.tables state → found ≡ proposed_at (node_of scheme v.setting) state)
       is told in
-      seen_of (λ node history. found ≡ propose node history) same (λ run stands. there (history_in run) stands.legal stands.at)
+      seen_of (λ n state. found ≡ proposed_at n state) same (λ run stands. there (state_in (node_of scheme book.validator.setting) run) stands.at)
 
 -- what a book gives that is down just where this is so
 pub gives_next : {S : Type 0} (first book later : BookView S) (down : Bool) (given : Option Output) → book ≡ first → later

@@ -2,11 +2,14 @@
 use Rattle.std.proofs.Common.{◌≡◌, Bool, true, false, List, refl, sym, ap, ◌∙◌, subst, if◌then◌else◌}
 use Rattle.spec_world.specs.World.{Waiting}
 use Rattle.validator.specs.Setting.{ConfigView, node_of}
+use Rattle.validator.specs.Standing.{StandSomewhere}
 use Rattle.node_seats.specs.Sights.{SeatView}
 use Rattle.node_seats.specs.Views.{events, IsSame}
 use Rattle.book.specs.Book.{BookView, Run, Stands}
+use Rattle.spec_model.specs.Histories.{History}
+use Rattle.spec_model.specs.States.{State}
 use Rattle.node_shared.specs.Calls.{Stays}
-use Rattle.node_shared.specs.Home.{NodeView, IsOf, IsAtHome, run_of}
+use Rattle.node_shared.specs.Home.{NodeView, IsBase, IsOf, IsAtHome, run_of}
 use Rattle.sigface.specs.Scheme.{Scheme}
 
 module _ {S : Type 0} (shared : NodeView S) where
@@ -16,18 +19,20 @@ module _ {S : Type 0} (shared : NodeView S) where
     table = same.table ∙ of_node.table;
     live = same.live ∙ of_node.live;
     numbered = same.numbered ∙ of_node.numbered;
-    start = same.start ∙ of_node.start;
   }
 
   module _ (scheme : Scheme S) where
-    -- a book stands at home where it stands at this run
-    pub at_home : (seat : SeatView) (book : BookView S) (run : Run) → book.validator.setting ≡ shared.setting → IsOf shared seat → Stands (node_of scheme shared.setting) run book
-        → run.began ≡ seat.view.start → run.accepted ≡ events seat.view.seen → run.settled ≡ events seat.view.firm → (book.down ≡ true → seat.view.down ≡ true) → IsAtHome scheme shared seat book
-    at_home seat book run setting of_node stands began accepted settled down = record {
+    -- a book stands at home where it stands at a run with these lists, from each base on
+    pub at_home : (seat : SeatView) (book : BookView S) (accepted taken settled : History) → StandSomewhere (node_of scheme shared.setting) shared.begun → book.validator.setting ≡ shared.setting → IsOf shared seat
+        → ((base : State) → IsBase scheme shared base → Stands (node_of scheme shared.setting) (record { base = base; accepted = accepted; taken = taken; settled = settled }) book)
+        → accepted ≡ events seat.view.seen → settled ≡ events seat.view.firm → (book.down ≡ true → seat.view.down ≡ true) → IsAtHome scheme shared seat book
+    at_home seat book accepted taken settled somewhere setting of_node stands accepted_is settled_is down = record {
+      somewhere = somewhere;
       setting = setting;
       of_node = of_node;
-      taken = run.taken;
-      stands = subst (λ (r : Run). Stands (node_of scheme shared.setting) r book) (λ i. record { began = began i; accepted = accepted i; taken = run.taken; settled = settled i }) stands;
+      taken = taken;
+      stands = λ base at.
+          subst (λ (r : Run). Stands (node_of scheme shared.setting) r book) (λ i. record { base = base; accepted = accepted_is i; taken = taken; settled = settled_is i }) (stands base at);
       down = down;
     }
 
@@ -35,7 +40,7 @@ module _ {S : Type 0} (shared : NodeView S) where
     pub stays_home : (seat later : SeatView) (book : BookView S) → IsAtHome scheme shared seat book → IsSame seat later → later.view.seen ≡ seat.view.seen → later.view.firm ≡ seat.view.firm
         → IsAtHome scheme shared later book
     stays_home seat later book home same seen firm =
-        at_home later book (run_of seat.view home.taken) home.setting (of_same seat later home.of_node same) home.stands (sym same.start)
+        at_home later book (events seat.view.seen) home.taken (events seat.view.firm) home.somewhere home.setting (of_same seat later home.of_node same) home.stands
         (ap events (sym seen)) (ap events (sym firm)) (λ is. same.down (home.down is))
 
     -- and where it stands wherever it stood
@@ -43,7 +48,14 @@ module _ {S : Type 0} (shared : NodeView S) where
         → ((run : Run) → Stands (node_of scheme book.validator.setting) run book → Stands (node_of scheme book.validator.setting) run later) → IsAtHome scheme shared seat later
     home_where seat book later home setting down stands =
         let there = subst (λ (s : ConfigView S). (run : Run) → Stands (node_of scheme s) run book → Stands (node_of scheme s) run later) home.setting stands in
-        record { setting = setting ∙ home.setting; of_node = home.of_node; taken = home.taken; stands = there (run_of seat.view home.taken) home.stands; down = λ is. home.down (down is) }
+        record {
+          somewhere = home.somewhere;
+          setting = setting ∙ home.setting;
+          of_node = home.of_node;
+          taken = home.taken;
+          stands = λ base at. there (run_of base seat.view home.taken) (home.stands base at);
+          down = λ is. home.down (down is);
+        }
 
     -- a book that is taken down is at home where its seat knows of it
     pub home_down : (seat afterwards : SeatView) (book later : BookView S) → IsAtHome scheme shared seat book → later ≡ record book { down = true }
@@ -51,8 +63,9 @@ module _ {S : Type 0} (shared : NodeView S) where
         → Stays seat afterwards → afterwards.view.down ≡ true → IsAtHome scheme shared afterwards later
     home_down seat afterwards book later home is stands stays down =
         let there = subst (λ (s : ConfigView S). (run : Run) → Stands (node_of scheme s) run book → Stands (node_of scheme s) run later) home.setting stands in
-        at_home afterwards later (run_of seat.view home.taken) (ap (λ (b : BookView S). b.validator.setting) is ∙ home.setting) (of_same seat afterwards home.of_node stays.same)
-        (there (run_of seat.view home.taken) home.stands) (sym stays.same.start) (ap events (sym stays.seen)) (ap events (sym stays.firm)) (λ _. down)
+        at_home afterwards later (events seat.view.seen) home.taken (events seat.view.firm) home.somewhere (ap (λ (b : BookView S). b.validator.setting) is ∙ home.setting)
+        (of_same seat afterwards home.of_node stays.same)
+        (λ base at. there (run_of base seat.view home.taken) (home.stands base at)) (ap events (sym stays.seen)) (ap events (sym stays.firm)) (λ _. down)
 
 -- a book without the first of its outputs, or as it was, is set up as it was
 pub queue_setting : {S : Type 0} (book later : BookView S) (queue : List Waiting) (given : Bool) → later

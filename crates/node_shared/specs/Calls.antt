@@ -1,26 +1,27 @@
 -- What a call of a shared node does to the seats that it is made with.
 use Rattle.std.specs.Prelude.{◌≡◌, true, List, [], ℕ, Option, IsNone, Result, IfOk, IfSome, OnErr}
 use Rattle.wire.specs.Lists.{Begins}
-use Rattle.spec_model.specs.Admitting.{IsLegal}
+use Rattle.spec_machine.specs.After.{IsLegalAfter}
+use Rattle.spec_model.specs.States.{State}
 use Rattle.validator.specs.Setting.{node_of}
 use Rattle.node_seats.specs.Sights.{SeatView}
-use Rattle.node_seats.specs.Views.{HasOwn, IsSame}
-use Rattle.node_shared.specs.Home.{NodeView, IsOf, IsFlushOf, TakesNext, taken_by, seen_by, firm_by}
+use Rattle.node_seats.specs.Views.{events, HasOwn, IsSame}
+use Rattle.node_shared.specs.Home.{NodeView, IsBase, IsOf, IsFlushOf, TakesNext, taken_by}
 use Rattle.node_shared.specs.declared.flush_seat.FlushSeat.{FlushSeat}
 use Rattle.sigface.specs.Scheme.{Scheme}
 
 -- A seat looked: it is the same one of the node, and knows as settled what it did. It has seen what it had and perhaps more, all of which
--- is legal, and its own events are those of that which are marked with its number.
+-- is legal after each base, and its own events are those of that which are marked with its number.
 pub record Looked {S : Type 0} (scheme : Scheme S) (node : NodeView S) (before later : SeatView) : Type 0 where
   pub of_node : IsOf node later
   pub same : IsSame before later
   pub firm : later.view.firm ≡ before.view.firm
   pub more : Begins before.view.seen later.view.seen
   pub own : HasOwn later.view
-  pub legal : IsLegal (node_of scheme node.setting) (seen_by later)
+  pub legal : (base : State) → IsBase scheme node base → IsLegalAfter (node_of scheme node.setting) base (events later.view.seen)
 
 -- A seat was told what is settled: it is the same one of the node, and has seen what it had and perhaps more. Of that it knows as settled
--- what it did and perhaps more, which is legal, and its own events are those of what it has seen that are marked with its number.
+-- what it did and perhaps more, which is legal after each base, and its own events are those of what it has seen that are marked with its number.
 pub record Learned {S : Type 0} (scheme : Scheme S) (node : NodeView S) (before later : SeatView) : Type 0 where
   pub of_node : IsOf node later
   pub same : IsSame before later
@@ -28,10 +29,10 @@ pub record Learned {S : Type 0} (scheme : Scheme S) (node : NodeView S) (before 
   pub seen : Begins before.view.seen later.view.seen
   pub within : Begins later.view.firm later.view.seen
   pub own : HasOwn later.view
-  pub legal : IsLegal (node_of scheme node.setting) (firm_by later)
+  pub legal : (base : State) → IsBase scheme node base → IsLegalAfter (node_of scheme node.setting) base (events later.view.firm)
 
 -- A seat brought an event, which is new or isn't: it is the same one of the node but for that, knows as settled what it did, and that the
--- node is down if it did. What it has seen is legal, and its own events are those of that which are marked with its number.
+-- node is down if it did. What it has seen is legal after each base, and its own events are those of that which are marked with its number.
 pub record Brought {S : Type 0} (scheme : Scheme S) (node : NodeView S) (before later : SeatView) : Type 0 where
   pub of_node : IsOf node later
   pub id : later.id ≡ before.id
@@ -39,7 +40,7 @@ pub record Brought {S : Type 0} (scheme : Scheme S) (node : NodeView S) (before 
   pub down : before.view.down ≡ true → later.view.down ≡ true
   pub firm : later.view.firm ≡ before.view.firm
   pub own : HasOwn later.view
-  pub legal : IsLegal (node_of scheme node.setting) (seen_by later)
+  pub legal : (base : State) → IsBase scheme node base → IsLegalAfter (node_of scheme node.setting) base (events later.view.seen)
 
 -- A seat is the same one, and has seen and knows as settled just what it did.
 pub record Stays (before later : SeatView) : Type 0 where

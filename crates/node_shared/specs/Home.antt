@@ -1,10 +1,15 @@
 -- A shared node, its seats, and the book under its lock.
-use Rattle.std.specs.Prelude.{◌≡◌, ◌≤◌, ℕ, ◌+◌, ◌++◌, List, length, map, take, drop, true}
+use Rattle.std.specs.Prelude.{◌≡◌, ◌≤◌, ℕ, ◌+◌, List, length, map, take, drop, true}
 use Rattle.atomic_table.specs.Seated.{TableId}
+use Rattle.admission.specs.declared.tables.Tables.{Tables}
+use Rattle.spec_machine.specs.After.{after_all}
 use Rattle.spec_model.specs.Histories.{History}
+use Rattle.spec_model.specs.Nodes.{Node}
+use Rattle.spec_model.specs.States.{State}
 use Rattle.wire.specs.Lists.{Begins}
 use Rattle.spec_records.specs.Records.{record_of}
 use Rattle.validator.specs.Setting.{ConfigView, node_of}
+use Rattle.validator.specs.Standing.{AreAtSound, StandSomewhere}
 use Rattle.node_seats.specs.Sights.{SeatView}
 use Rattle.node_seats.specs.Views.{events}
 use Rattle.node_seats.specs.declared.view.Marked.{Marked}
@@ -14,25 +19,29 @@ use Rattle.book.specs.Pending.{IsLongestBeginning}
 use Rattle.node_shared.specs.declared.flush_seat.FlushSeat.{FlushSeat}
 use Rattle.sigface.specs.Scheme.{Scheme}
 
--- what contracts see of a shared node: which words it has, what its validator is set up with, and at which history it began
+-- what contracts see of a shared node: which words it has, what its validator is set up with, and what tables that had when the node
+-- was made
 pub record NodeView (S : Type 0) : Type 0 where
   pub table : TableId
   pub setting : ConfigView S
-  pub start : History
+  pub begun : Tables
 
--- a seat is one of a node's: it is at its words, is no one that another took in, knows its number, and where the node began
+-- a state is a base of the node: its validator stood there when the node was made. There is one such state
+abbrev pub IsBase : {S : Type 0} → Scheme S → NodeView S → State → Type 0
+IsBase scheme node base = AreAtSound (node_of scheme node.setting) node.begun base
+
+-- a seat is one of a node's: it is at its words, is no one that another took in, and knows its number
 pub record IsOf {S : Type 0} (node : NodeView S) (seat : SeatView) : Type 0 where
   pub table : seat.table ≡ node.table
   pub live : seat.view.live ≡ true
   pub numbered : seat.view.numbered ≡ true
-  pub start : seat.view.start ≡ node.start
 
--- all that a seat has seen, and of that all that it knows as settled, after where the node began
-abbrev pub seen_by : SeatView → History
-seen_by seat = seat.view.start ++ events seat.view.seen
+-- the state after all that a seat has seen, from a base on, and after what of that it knows as settled
+abbrev pub seen_in : Node → State → SeatView → State
+seen_in node base seat = after_all node base (events seat.view.seen)
 
-abbrev pub firm_by : SeatView → History
-firm_by seat = seat.view.start ++ events seat.view.firm
+abbrev pub firm_in : Node → State → SeatView → State
+firm_in node base seat = after_all node base (events seat.view.firm)
 
 -- A flush seat is a node's: its seat is, so many of the events that this has seen are settled, which it knows, and so many are taken.
 pub record IsFlushOf {S : Type 0} (node : NodeView S) (flush : FlushSeat) : Type 0 where
@@ -57,17 +66,18 @@ pub record TakesNext (flush : FlushSeat) (group : List (List ℕ)) : Type 0 wher
   pub counts : flush.taken ≡ flush.settled + length group
   pub is : group ≡ group_of flush
 
--- the run of a book whose seat knows this, and of which this was taken
-abbrev pub run_of : View → History → Run
-run_of view taken = record { began = view.start; accepted = events view.seen; taken = taken; settled = events view.firm }
+-- the run on a base of a book whose seat knows this, and of which this was taken
+abbrev pub run_of : State → View → History → Run
+run_of base view taken = record { base = base; accepted = events view.seen; taken = taken; settled = events view.firm }
 
--- A book is at home in a node: it is set up as the node is, its own seat is one of the node's, which knows that the node is down if the
--- book is, and it stands at exactly what that seat has seen and knows as settled, for some list between that was taken.
+-- A book is at home in a node, which has a base: it is set up as the node is, its own seat is one of the node's, which knows that the node
+-- is down if the book is, and from each base on it stands at exactly what that seat has seen and knows as settled, for some list between that was taken.
 pub record IsAtHome {S : Type 0} (scheme : Scheme S) (node : NodeView S) (seat : SeatView) (book : BookView S) : Type 0 where
+  pub somewhere : StandSomewhere (node_of scheme node.setting) node.begun
   pub setting : book.validator.setting ≡ node.setting
   pub of_node : IsOf node seat
   pub taken : History
-  pub stands : Stands (node_of scheme node.setting) (run_of seat.view taken) book
+  pub stands : (base : State) → IsBase scheme node base → Stands (node_of scheme node.setting) (run_of base seat.view taken) book
   pub down : book.down ≡ true → seat.view.down ≡ true
 
 -- A flush seat is tied to a book at home and its seat: it knows just what that one does, and counts as the book does.

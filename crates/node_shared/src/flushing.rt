@@ -2,12 +2,13 @@
 
 ghost use Rattle.std.specs.Prelude.{◌≡◌, ◌≤◌, true};
 ghost use Rattle.wire.specs.Lists.{Begins};
-ghost use Rattle.spec_model.specs.Admitting.{IsLegal};
+ghost use Rattle.spec_machine.specs.After.{IsLegalAfter};
+ghost use Rattle.spec_model.specs.States.{State};
 ghost use Rattle.validator.specs.Setting.{node_of};
-ghost use Rattle.node_seats.specs.Views.{IsSame};
+ghost use Rattle.node_seats.specs.Views.{events, IsSame};
 ghost use Rattle.node_seats.specs.Plays.{with_down};
 ghost use Rattle.node_shared.specs.Calls.{Looked, Learned, Stays, Takes, SettlesTaken, CountsAs};
-ghost use Rattle.node_shared.specs.Home.{IsOf, IsAtHome, IsFlushOf, IsTied, group_of, seen_by};
+ghost use Rattle.node_shared.specs.Home.{IsBase, IsOf, IsAtHome, IsFlushOf, IsTied, group_of};
 
 use crate::flush_seat::FlushSeat;
 use crate::home::Locked;
@@ -37,7 +38,7 @@ impl<'a, S: Sign> Node<'a, S> {
         ensures flush_settled { flush.new.settled ≡ flush.old.settled }
         ensures looked { Looked S.scheme self.now seat.old seat.new }
         ensures seen { Begins seat.new.view.seen flush.new.seat.view.seen }
-        ensures legal { IsLegal (node_of S.scheme self.now.setting) (seen_by flush.new.seat) }
+        ensures legal { (base : State) → IsBase S.scheme self.now base → IsLegalAfter (node_of S.scheme self.now.setting) base (events flush.new.seat.view.seen) }
         ensures takes { Takes flush.old flush.new result }
     {
         self.meet(seat, &mut flush.seat);
@@ -121,7 +122,7 @@ impl<'a, S: Sign> Node<'a, S> {
         ensures counts { CountsAs flush.old flush.new }
         ensures firm { Begins flush.old.seat.view.firm flush.new.seat.view.firm }
         ensures seen { Begins flush.old.seat.view.seen flush.new.seat.view.seen }
-        ensures legal { IsLegal (node_of S.scheme self.now.setting) (seen_by flush.new.seat) }
+        ensures legal { (base : State) → IsBase S.scheme self.now base → IsLegalAfter (node_of S.scheme self.now.setting) base (events flush.new.seat.view.seen) }
         ensures tied { result ≡ true → IsTied self.now locked.old.seat locked.old.book flush.new }
     {
         self.know_all(rt, locked, &mut flush.seat);

@@ -6,14 +6,16 @@ use node_seats::{Law, Seat, Words};
 use sigface::Sign;
 use validator::Validator;
 
-/// The words count events of legal histories of the node that a validator is.
+/// The words count events that are legal after each state at which a validator stands.
 pub(crate) struct Legal;
 
 impl<'a, S: Sign> Law<Validator<'a, S>> for Legal {
-    ghost use Rattle.spec_model.specs.Admitting.{IsLegal};
+    ghost use Rattle.spec_machine.specs.After.{IsLegalAfter};
+    ghost use Rattle.spec_model.specs.States.{State};
     ghost use Rattle.validator.specs.Setting.{node_of};
+    ghost use Rattle.validator.specs.Standing.{AreAtSound};
 
-    ghost legal = { λ validator history. IsLegal (node_of S.scheme validator.setting) history };
+    ghost legal = { λ validator events. (base : State) → AreAtSound (node_of S.scheme validator.setting) validator.tables base → IsLegalAfter (node_of S.scheme validator.setting) base events };
 }
 
 pub(crate) type Counts<'a, S> = Words<Validator<'a, S>, Legal>;
@@ -25,19 +27,12 @@ pub(crate) struct Locked<'a, S: Sign> {
     pub(crate) seat: Seat,
 }
 
-/// What the lock is made with: the words, and the first seat at them.
-#[derive(Drop)]
-pub(crate) struct Key<'a, S: Sign> {
-    pub(crate) words: Counts<'a, S>,
-    pub(crate) seat: Seat,
-}
-
 /// The book is at home.
 pub(crate) struct AtHome;
 
-impl<'a, S: Sign> Fits<Box<Locked<'a, S>>, Key<'a, S>> for AtHome {
+impl<'a, S: Sign> Fits<Box<Locked<'a, S>>, Counts<'a, S>> for AtHome {
     ghost use Rattle.validator.specs.Setting.{node_of};
     ghost use Rattle.node_shared.specs.Home.{IsAtHome};
 
-    ghost fits = { λ key locked. IsAtHome S.scheme (record { table = key.words.table; setting = key.words.key.setting; start = key.seat.view.start }) locked.value.seat locked.value.book };
+    ghost fits = { λ words locked. IsAtHome S.scheme (record { table = words.table; setting = words.key.setting; begun = words.key.tables }) locked.value.seat locked.value.book };
 }

@@ -12,4 +12,4 @@ mod submitting;
 pub use book::{MAX_ACCEPTED, Receipt, Refusal};
 pub use flush_seat::FlushSeat;
 pub use node::Node;
-pub use node_seats::{Seat, Start};
+pub use node_seats::Seat;

@@ -1,18 +1,15 @@
 //! What a node tells, and what it gives out.
 
-ghost use Rattle.std.specs.Prelude.{◌≡◌, ◌⊎◌, ◌↔◌, true, None, not, drop, length, is_some, if◌then◌else◌, IsNone, IsTrue, IsErrOf, IfOk, IfErr, IfSome};
+ghost use Rattle.std.specs.Prelude.{◌≡◌, ◌⊎◌, ◌↔◌, true, None, drop, length, is_some, if◌then◌else◌, IsNone, IsTrue, IsErrOf, IfOk, IfErr, IfSome};
 ghost use Rattle.book.specs.Book.{releasable};
 ghost use Rattle.header.specs.Checks.{fault_of, accepts_all};
 ghost use Rattle.wire.specs.Lists.{Begins};
-ghost use Rattle.spec_machine.specs.Machine.{is_missing_parents};
-ghost use Rattle.spec_model.specs.Admitting.{admit};
-ghost use Rattle.spec_model.specs.Giving.{unless_low};
-ghost use Rattle.spec_model.specs.Holdings.{order as order_of, round as round_of, floor as floor_of, voted_digest};
-ghost use Rattle.spec_model.specs.Proposing.{propose as propose_of};
+ghost use Rattle.spec_machine.specs.Machine.{is_ready, proposed, round_in};
+ghost use Rattle.spec_model.specs.States.{State};
 ghost use Rattle.validator.specs.Setting.{node_of};
 ghost use Rattle.node_shared.specs.Answers.{Gives};
 ghost use Rattle.node_shared.specs.Calls.{Looked, Learned, Stays};
-ghost use Rattle.node_shared.specs.Home.{IsOf, IsAtHome, seen_by, firm_by};
+ghost use Rattle.node_shared.specs.Home.{IsBase, IsOf, IsAtHome, seen_in, firm_in};
 
 use crate::home::Locked;
 use crate::node::Node;
@@ -117,7 +114,7 @@ impl<'a, S: Sign> Node<'a, S> {
         requires of { IsOf self.now seat.old }
         ensures learned { Learned S.scheme self.now seat.old seat.new }
         ensures down { IsTrue seat.new.view.down → IsNone result }
-        ensures gives { IfSome result (λ output. Gives (node_of S.scheme self.now.setting) seat.new output) }
+        ensures gives { IfSome result (λ output. Gives S.scheme self.now seat.new output) }
     {
         let (turn, mut home) = self.lock.acquire(rt);
         let locked = &mut *home;
@@ -133,7 +130,7 @@ impl<'a, S: Sign> Node<'a, S> {
         ensures home { IsAtHome S.scheme self.now locked.new.seat locked.new.book }
         ensures learned { Learned S.scheme self.now seat.old seat.new }
         ensures down { IsTrue seat.new.view.down → IsNone result }
-        ensures gives { IfSome result (λ output. Gives (node_of S.scheme self.now.setting) seat.new output) }
+        ensures gives { IfSome result (λ output. Gives S.scheme self.now seat.new output) }
         // Unless the node is down it is the book's next one, which the book then lets go of.
         ensures next { result ≡ releasable (record locked.old.book { down = seat.new.view.down }) }
         ensures queue { locked.new.book.queue ≡ (if is_some result then drop 1 locked.old.book.queue else locked.old.book.queue) }
@@ -152,7 +149,8 @@ impl<'a, S: Sign> Node<'a, S> {
         requires of { IsOf self.now seat.old }
         ensures learned { Learned S.scheme self.now seat.old seat.new }
         ensures down { IsErrOf result Refusal.Down ↔ IsTrue seat.new.view.down }
-        ensures order { IfOk result (λ digests. digests.items ≡ drop from (order_of (node_of S.scheme self.now.setting) (firm_by seat.new))) }
+        ensures order { let node = node_of S.scheme self.now.setting in IfOk result (λ digests. (base : State) → IsBase S.scheme self.now base
+            → digests.items ≡ drop from (firm_in node base seat.new).order) }
         ensures errors { IfErr result (λ refusal. (refusal ≡ Refusal.Down) ⊎ (refusal ≡ Refusal.Memory)) }
     {
         let (turn, mut home) = self.lock.acquire(rt);
@@ -175,7 +173,7 @@ impl<'a, S: Sign> Node<'a, S> {
     ) -> Option<Digest>
         requires of { IsOf self.now seat.old }
         ensures looked { Looked S.scheme self.now seat.old seat.new }
-        ensures voted { result ≡ unless_low (floor_of (node_of S.scheme self.now.setting) (seen_by seat.new)) round (voted_digest (seen_by seat.new) round author.0) }
+        ensures voted { (base : State) → IsBase S.scheme self.now base → result ≡ (seen_in (node_of S.scheme self.now.setting) base seat.new).votes round author.0 }
     {
         let (turn, mut home) = self.lock.acquire(rt);
         let locked = &mut *home;
@@ -189,7 +187,7 @@ impl<'a, S: Sign> Node<'a, S> {
     pub fn round_now<R: Wait>(&self, rt: &R, seat: &mut Seat) -> u64
         requires of { IsOf self.now seat.old }
         ensures looked { Looked S.scheme self.now seat.old seat.new }
-        ensures round { result ≡ round_of (node_of S.scheme self.now.setting) (seen_by seat.new) }
+        ensures round { let node = node_of S.scheme self.now.setting in (base : State) → IsBase S.scheme self.now base → result ≡ round_in node (seen_in node base seat.new) }
     {
         let (turn, mut home) = self.lock.acquire(rt);
         let locked = &mut *home;
@@ -205,7 +203,7 @@ impl<'a, S: Sign> Node<'a, S> {
         requires of { IsOf self.now seat.old }
         requires passed { fault_of self.now.setting.charter accepts_all event.now ≡ None }
         ensures looked { Looked S.scheme self.now seat.old seat.new }
-        ensures ready { result ≡ not (is_missing_parents (admit (node_of S.scheme self.now.setting) (seen_by seat.new) event.now)) }
+        ensures ready { let node = node_of S.scheme self.now.setting in (base : State) → IsBase S.scheme self.now base → result ≡ is_ready node (seen_in node base seat.new) event.now }
     {
         let (turn, mut home) = self.lock.acquire(rt);
         let locked = &mut *home;
@@ -220,7 +218,8 @@ impl<'a, S: Sign> Node<'a, S> {
     pub fn propose<R: Wait>(&self, rt: &R, seat: &mut Seat) -> Result<Option<Header>, AllocError>
         requires of { IsOf self.now seat.old }
         ensures looked { Looked S.scheme self.now seat.old seat.new }
-        ensures header { IfOk result (λ found. found ≡ propose_of (node_of S.scheme self.now.setting) (seen_by seat.new)) }
+        ensures header { let node = node_of S.scheme self.now.setting in IfOk result (λ found. (base : State) → IsBase S.scheme self.now base
+            → found ≡ proposed node (seen_in node base seat.new)) }
     {
         let (turn, mut home) = self.lock.acquire(rt);
         let locked = &mut *home;

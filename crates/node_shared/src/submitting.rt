@@ -2,7 +2,6 @@
 
 ghost use Rattle.std.specs.Prelude.{◌≡◌, ◌↔◌, None, IsTrue, IsErrOf};
 ghost use Rattle.header.specs.Checks.{fault_of, accepts_all};
-ghost use Rattle.validator.specs.Setting.{node_of};
 ghost use Rattle.node_shared.specs.Home.{IsOf, IsAtHome};
 ghost use Rattle.node_shared.specs.Answers.{Submits};
 ghost use Rattle.node_shared.specs.Calls.{Brought};
@@ -28,7 +27,7 @@ impl<'a, S: Sign> Node<'a, S> {
         requires of { IsOf self.now seat.old }
         requires passed { fault_of self.now.setting.charter accepts_all event ≡ None }
         ensures brought { Brought S.scheme self.now seat.old seat.new }
-        ensures submits { Submits (node_of S.scheme self.now.setting) event seat.old.view seat.new.view result }
+        ensures submits { Submits S.scheme self.now event seat.old.view seat.new.view result }
         ensures down { IsErrOf result Refusal.Down ↔ IsTrue seat.new.view.down }
     {
         let (turn, mut home) = self.lock.acquire(rt);
@@ -52,7 +51,7 @@ impl<'a, S: Sign> Node<'a, S> {
         requires call { C.event ≡ event }
         ensures home { IsAtHome S.scheme self.now locked.new.seat locked.new.book }
         ensures brought { Brought S.scheme self.now seat.old seat.new }
-        ensures submits { Submits (node_of S.scheme self.now.setting) event seat.old.view seat.new.view result }
+        ensures submits { Submits S.scheme self.now event seat.old.view seat.new.view result }
         ensures down { IsErrOf result Refusal.Down ↔ IsTrue seat.new.view.down }
     {
         self.see_all(rt, locked, seat);

@@ -3,14 +3,8 @@ use Rattle.flusher.specs.Rounds.{journal_of}
 use Rattle.journal.specs.Journal.{disk_of}
 use Rattle.opening.proofs.Telling.{ok_weaker}
 use Rattle.validator.specs.Setting.{node_of}
-use Rattle.node.proofs.Begun.{begins_behind, opening_goes_on}
+use Rattle.node.proofs.Begun.{opening_goes_on}
 use Rattle.node.proofs.start.Goals as goal
-
-pub begin-requires-clause-at : goal.begin-requires-clause-at
-begin-requires-clause-at g c =
-    let opened = c.in_ok-validator in
-    (begins_behind g.S.Sign.scheme c.args.config.now opened.validator.setting (g.D.Disk.device.content (disk_of opened.journal)) opened.validator.tables
-    opened.ensures.setting opened.ensures.holds).at
 
 pub returns-clause-opening : goal.returns-clause-opening
 returns-clause-opening g c =

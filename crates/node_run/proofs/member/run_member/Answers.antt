@@ -1,4 +1,4 @@
-use Rattle.std.proofs.Common.{◌≡◌, false, Ok, [], List, sym, ap, subst, ◌∙◌}
+use Rattle.std.proofs.Common.{◌≡◌, false, [], List, sym, ap, subst, ◌∙◌}
 use Rattle.std.specs.Prelude.{IfSome}
 use Rattle.diskmodel.specs.Disk.{AtEachMoment}
 use Rattle.flusher.specs.Rounds.{journal_of, is_down, settled_in}
@@ -7,9 +7,9 @@ use Rattle.journal.specs.Journal.{disk_of}
 use Rattle.node_io.specs.declared.ending.Ending.{Ending}
 use Rattle.node_seats.specs.declared.view.Marked.{Marked}
 use Rattle.node_shared.specs.Home.{NodeView}
-use Rattle.opening.specs.Told.{IsToldAsOneOf}
+use Rattle.opening.specs.Told.{told, IsToldAsOneOf, StandsAt}
 use Rattle.validator.specs.Setting.{node_of}
-use Rattle.node_run.proofs.Runs.{ended}
+use Rattle.node_run.proofs.Runs.{ended, not_run}
 use Rattle.node_run.proofs.member.run_member.Goals as goal
 use Rattle.node_run.specs.Runs.{HoldsMore, RunsOver}
 
@@ -31,6 +31,16 @@ returns-in-Ok-new g c =
     subst (λ (ending : Ending). RunsOver node g.D.Disk.device c.args.disk ending left) (sym c.ending.ensures)
     (ended g.S.Sign.scheme g.D.Disk.device rounds.node node c.args.disk (disk_of (journal_of rounds.flusher)) c.run_threads-disk.result.0 left
     (ap (λ (s : NodeView g.row.S.Denot). nodes s.setting) shared ∙ ap nodes started.setting)
-    (started.begins ∙ ap (λ (s : NodeView g.row.S.Denot). Ok s.start) (sym shared))
+    (subst (λ (s : NodeView g.row.S.Denot). StandsAt node (told node (g.D.Disk.device.content c.args.disk)) s.begun) (sym shared) started.begins)
     (ap g.D.Disk.device.faults disk ∙ started.opening.cause.0)
     c.run_threads-disk.ensures.told c.run_threads-disk.ensures.lost opening leaves)
+
+pub returns : goal.returns
+returns g c =
+    let node = node_of g.S.Sign.scheme c.args.config.now in
+    let started = c.in-Ok.ensures in
+    let rounds = c.new.new.rounds in
+    let flusher : rounds.flusher ≡ c.in-Ok.started.2 = ap (λ r. r.flusher) c.new.ensures.same ∙ c.new-rounds.ensures.flusher in
+    let disk : c.into_disk.result ≡ disk_of (journal_of c.in-Ok.started.2) = c.into_disk.ensures ∙ ap (λ (f : Flusher g.row.D.Denot). disk_of (journal_of f)) flusher in
+    not_run g.S.Sign.scheme g.D.Disk.device node c.args.disk c.into_disk.result (ap g.D.Disk.device.faults disk ∙ started.opening.cause.0)
+    (subst (λ (d : g.row.D.Denot). AtEachMoment g.D.Disk.device c.args.disk d (IsToldAsOneOf node (g.D.Disk.device.outcome c.args.disk))) (sym disk) started.opening.any_moment)

@@ -2,7 +2,6 @@ use Rattle.std.specs.Io.Buffered.{writer_contents}
 use Rattle.wire.specs.Lists.{Begins}
 use Rattle.node_seats.specs.Views.{IsSame}
 use Rattle.node.specs.Callers.{StaysWith}
-use Rattle.validator.specs.Setting.{node_of}
 use Rattle.node_run.specs.Writing.{MayGo, WritesOnly}
 use Rattle.node_run.proofs.writing.write_due.Given as goal
 
@@ -12,5 +11,5 @@ invariant-loop g l =
     × StaysWith l.initial.caller l.caller
     × IsSame l.initial.caller.seat l.caller.seat
     × Begins l.initial.caller.seat.view.firm l.caller.seat.view.firm
-    × WritesOnly (MayGo (node_of g.S.Sign.scheme l.initial.caller.node.setting) l.caller.seat.view) l.initial.sink.faults l.sink.faults
+    × WritesOnly (MayGo g.S.Sign.scheme l.initial.caller.node l.caller.seat.view) l.initial.sink.faults l.sink.faults
     (writer_contents g.W.Write.contents l.initial.sink.writer) (writer_contents g.W.Write.contents l.sink.writer)

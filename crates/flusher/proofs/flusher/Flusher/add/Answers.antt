@@ -2,13 +2,13 @@ use Rattle.std.proofs.Common.{◌≡◌, true, false, List, ℕ, sym, ◌∙◌,
 use Rattle.journal.specs.Format.{stands}
 use Rattle.journal.specs.Journal.{disk_of, stands_with, IsBeforeOrAfter}
 use Rattle.node_seats.specs.declared.view.Marked.{Marked}
-use Rattle.spec_world.specs.World.{Holds}
+use Rattle.spec_model.specs.Giving.{kept}
 use Rattle.validator.specs.Setting.{node_of}
 use Rattle.node_shared.specs.Home.{taken_by}
-use Rattle.flusher.specs.Rounds.{from_start, HoldsEither}
+use Rattle.flusher.specs.Rounds.{HoldsAfter, HoldsEither}
 use Rattle.flusher.proofs.Adding.{holds_taken, holds_either}
 use Rattle.diskmodel.proofs.Clock.{weaker}
-use Rattle.flusher.proofs.Taking.{settled_begins, group_behind, taken_events}
+use Rattle.flusher.proofs.Taking.{settled_begins, group_behind, taken_legal}
 use Rattle.flusher.proofs.flusher.Flusher.add.Goals as goal
 
 pub returns-in-Ok-clause-flusher : goal.returns-in-Ok-clause-flusher
@@ -16,15 +16,16 @@ returns-in-Ok-clause-flusher g c =
     let node = node_of g.S.Sign.scheme c.args.node.now.setting in
     let flush = c.args.self.now.seat in
     let of = c.requires.flush_seat in
+    let held = c.requires.holds in
     let file = g.D.Disk.device.content (disk_of c.args.self.now.journal) in
     let later = g.D.Disk.device.content (disk_of c.append.new.self) in
     record {
       seat = c.settle.ensures.settles.flush_of;
       rests = λ up. c.settle.ensures.settles.taken ∙ sym c.settle.ensures.settles.settled;
       alive = λ up. c.in-Ok.ensures.alive;
-      holds = λ up. subst (λ (l : List Marked). Holds node later (from_start c.args.node.now l)) (sym c.settle.ensures.settles.firm)
-          (holds_taken node c.args.node.now.start flush.seat.view.firm (taken_by flush) file c.requires.holds (settled_begins c.args.node.now flush of)
-          (taken_events c.args.node.now flush of node c.requires.legal) later
+      holds = λ up. subst (λ (l : List Marked). HoldsAfter g.S.Sign.scheme c.args.node.now l later) (sym c.settle.ensures.settles.firm)
+          (holds_taken g.S.Sign.scheme c.args.node.now flush.seat.view.firm (taken_by flush) file held (settled_begins c.args.node.now flush of)
+          (taken_legal c.args.node.now flush of node (kept node held.began) (c.requires.legal (kept node held.began) held.base)) later
           (subst (λ (group : List (List ℕ)). stands later ≡ stands_with file group) (c.requires.group ∙ group_behind c.args.node.now flush of) c.in-Ok.ensures.records));
     }
 
@@ -33,11 +34,12 @@ returns-in-Ok-clause-any_moment g c =
     let node = node_of g.S.Sign.scheme c.args.node.now.setting in
     let flush = c.args.self.now.seat in
     let of = c.requires.flush_seat in
+    let held = c.requires.holds in
     let file = g.D.Disk.device.content (disk_of c.args.self.now.journal) in
     weaker g.D.Disk.device (disk_of c.args.self.now.journal) (disk_of c.append.new.self)
     (HoldsEither g.S.Sign.scheme c.args.node.now flush.seat.view.firm (taken_by flush)) (IsBeforeOrAfter file c.args.group) c.append.ensures.any_moment
-    (λ left is. holds_either node c.args.node.now.start flush.seat.view.firm (taken_by flush) file c.requires.holds (settled_begins c.args.node.now flush of)
-    (taken_events c.args.node.now flush of node c.requires.legal) left
+    (λ left is. holds_either g.S.Sign.scheme c.args.node.now flush.seat.view.firm (taken_by flush) file held (settled_begins c.args.node.now flush of)
+    (taken_legal c.args.node.now flush of node (kept node held.began) (c.requires.legal (kept node held.began) held.base)) left
     (subst (λ (group : List (List ℕ)). IsBeforeOrAfter file group left) (c.requires.group ∙ group_behind c.args.node.now flush of) is))
 
 pub returns-in_default-clause-flusher : goal.returns-in_default-clause-flusher
@@ -53,9 +55,10 @@ returns-in_default-clause-any_moment g c =
     let node = node_of g.S.Sign.scheme c.args.node.now.setting in
     let flush = c.args.self.now.seat in
     let of = c.requires.flush_seat in
+    let held = c.requires.holds in
     let file = g.D.Disk.device.content (disk_of c.args.self.now.journal) in
     weaker g.D.Disk.device (disk_of c.args.self.now.journal) (disk_of c.append.new.self)
     (HoldsEither g.S.Sign.scheme c.args.node.now flush.seat.view.firm (taken_by flush)) (IsBeforeOrAfter file c.args.group) c.append.ensures.any_moment
-    (λ left is. holds_either node c.args.node.now.start flush.seat.view.firm (taken_by flush) file c.requires.holds (settled_begins c.args.node.now flush of)
-    (taken_events c.args.node.now flush of node c.requires.legal) left
+    (λ left is. holds_either g.S.Sign.scheme c.args.node.now flush.seat.view.firm (taken_by flush) file held (settled_begins c.args.node.now flush of)
+    (taken_legal c.args.node.now flush of node (kept node held.began) (c.requires.legal (kept node held.began) held.base)) left
     (subst (λ (group : List (List ℕ)). IsBeforeOrAfter file group left) (c.requires.group ∙ group_behind c.args.node.now flush of) is))

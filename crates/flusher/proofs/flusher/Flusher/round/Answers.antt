@@ -1,12 +1,11 @@
-use Rattle.std.proofs.Common.{rules, ◌≡◌, inr, ◌+◌, length, sym, ap, ◌∙◌, subst}
-use Rattle.validator.specs.Setting.{node_of}
+use Rattle.std.proofs.Common.{rules, ◌≡◌, inr, ◌+◌, length, refl, sym, ap, ◌∙◌, subst}
 use Rattle.wire.specs.Lists.{Begins}
 use Rattle.node_seats.specs.Views.{IsSame}
-use Rattle.node_seats.proofs.Beginnings.{begins_trans}
+use Rattle.node_seats.specs.Plays.{with_down}
+use Rattle.node_seats.proofs.Beginnings.{begins_same, begins_trans}
 use Rattle.node_seats.proofs.Same.{same_then}
 use Rattle.node_shared.specs.Home.{IsFlushOf, taken_by}
-use Rattle.spec_world.specs.World.{Holds}
-use Rattle.flusher.specs.Rounds.{IsFlusherOf, from_start}
+use Rattle.flusher.specs.Rounds.{IsFlusherOf, HoldsAfter}
 use Rattle.book.proofs.Options.{of_some}
 use Rattle.flusher.proofs.Taking.{rests_at, takes_none, takes_some, size_some, takes_as, is_none}
 use Rattle.flusher.proofs.flusher.Flusher.round.Goals as goal
@@ -73,7 +72,6 @@ tell_settled-requires-clause-flush g c = elim c.match-found.branch [
 
 pub returns-clause-flusher : goal.returns-clause-flusher
 returns-clause-flusher g c =
-    let of = node_of g.S.Sign.scheme in
     let had = c.requires.flusher in
     let is : IsFlusherOf g.S.Sign.scheme g.D.Disk.device c.args.node.now c.match-found.self = elim c.match-found.branch [
       | in-Some+in_ok-count-in-Some w ↦ subst (λ f. IsFlusherOf g.S.Sign.scheme g.D.Disk.device c.args.node.now f) (sym w.self-is) w.in_ok-count-in-Some.ensures.flusher
@@ -82,8 +80,8 @@ returns-clause-flusher g c =
             seat = c.in-Ok.ensures.flush;
             rests = λ up. (c.in-Ok.ensures.takes.none (is_none _ w.in-None.is)).0 ∙ had.rests up ∙ sym c.in-Ok.ensures.flush_settled;
             alive = had.alive;
-            holds = λ up. subst (λ f. Holds (of c.args.node.now.setting) (g.D.Disk.device.content c.args.self.now.journal.disk)
-                (from_start c.args.node.now f)) (sym c.in-Ok.ensures.flush_firm) (had.holds up);
+            holds = λ up. subst (λ f. HoldsAfter g.S.Sign.scheme c.args.node.now f (g.D.Disk.device.content c.args.self.now.journal.disk))
+                (sym c.in-Ok.ensures.flush_firm) (had.holds up);
           })
     ] in
     subst (λ f. IsFlusherOf g.S.Sign.scheme g.D.Disk.device c.args.node.now
@@ -105,4 +103,20 @@ returns-clause-told g c =
       no_change = search rules;
       device = search rules;
       full = search rules;
+    }
+
+pub returns-in_err-count-in-Some-clause-told : goal.returns-in_err-count-in-Some-clause-told
+returns-in_err-count-in-Some-clause-told g c =
+    let before = c.args.seat.now in
+    let mid = c.take.new.seat in
+    let looked = c.in-Ok.ensures.looked in
+    let is = c.in_err-count-in-Some.ensures.seat_err in
+    let downed : IsSame mid (record mid { view = with_down mid.view }) = record { table = refl; id = refl; live = refl; numbered = refl; number = refl; mine = refl; down = λ _. refl } in
+    record {
+      same = same_then before mid c.add.new.seat looked.same (subst (λ s. IsSame mid s) (sym is) downed);
+      more = subst (λ s. Begins before.view.seen s.view.seen) (sym is) looked.more;
+      more_firm = subst (λ s. Begins before.view.firm s.view.firm) (sym is) (subst (λ l. Begins before.view.firm l) (sym looked.firm) (begins_same before.view.firm));
+      no_change = search rules;
+      device = λ _. ap (λ s. s.view.down) is;
+      full = λ _. ap (λ s. s.view.down) is;
     }

@@ -1,11 +1,13 @@
 use Rattle.std.proofs.Common.{rules, ◌∷◌, [], ◌++◌, length, sym, ap, ◌∙◌, subst}
 use Rattle.std.proofs.lemmas.List.{length-map}
 use Rattle.wire.specs.Lists.{Begins}
-use Rattle.spec_model.specs.Admitting.{IsLegal}
+use Rattle.spec_machine.specs.After.{IsLegalAfter}
+use Rattle.spec_model.specs.States.{State}
 use Rattle.spec_model.specs.Words.{Event}
-use Rattle.validator.specs.Setting.{node_of, ConfigView}
+use Rattle.validator.specs.Setting.{node_of}
 use Rattle.node_seats.specs.Views.{events, mark}
 use Rattle.node_shared.specs.Calls.{Brought}
+use Rattle.node_shared.specs.Home.{NodeView, IsBase}
 use Rattle.node_shared.proofs.Called.{looked_stays, brought_none, brought_new}
 use Rattle.node_shared.proofs.Submitted.{legal_with, home_with, home_known, submits_new, submits_known, submits_refused, is_up}
 use Rattle.node_shared.proofs.node.Node.accept.Goals as goal
@@ -17,7 +19,7 @@ returns-in-Err-clause-submits g c =
     let afterwards = c.know_down.new.locked.seat in
     let seen = told.stays.seen ∙ first.seen ∙ ap (λ l. l.seat.view.seen) (sym first.locked) ∙ sym told.stays_locked.seen in
     submits_refused c.args.self.now g.S.Sign.scheme afterwards c.know_down.new.locked.book c.know_down.new.locked.book c.args.event told.home
-    c.args.seat.now.view c.know_down.new.seat.view _ (search rules) (c.requires.of.start ∙ sym told.home.of_node.start)
+    c.args.seat.now.view c.know_down.new.seat.view _ (search rules)
     (subst (λ l. Begins c.args.seat.now.view.seen l) (sym told.stays.seen ∙ seen) first.looked.more) seen (told.stays.same.mine ∙ first.looked.same.mine)
 
 pub returns-in-Err-clause-brought : goal.returns-in-Err-clause-brought
@@ -30,12 +32,11 @@ raise-requires-clause-legal g c =
     let first = c.see_all.ensures in
     let told = c.know_down.ensures in
     let mid = c.know_down.new.seat in
-    let setting = ap (λ n. n.setting) c.self.view_is in
     let seen = told.stays.seen ∙ first.seen ∙ ap (λ l. l.seat.view.seen) (sym first.locked) ∙ sym told.stays_locked.seen in
     let legal = legal_with c.args.self.now g.S.Sign.scheme c.know_down.new.locked.seat c.know_down.new.locked.book c.accept.new.self c.args.event told.home (c.in-Ok.ensures.new c.if-receipt.true)
-    mid.view.start mid.view.seen (told.stays.same.start ∙ first.looked.same.start ∙ c.requires.of.start ∙ sym told.home.of_node.start) seen in
-    subst (λ (s : ConfigView g.row.S.Denot). IsLegal (node_of g.S.Sign.scheme s) (mid.view.start ++ (events mid.view.seen ++ g.C.Call.event ∷ []))) (sym setting)
-    (subst (λ (e : Event). IsLegal (node_of g.S.Sign.scheme c.args.self.now.setting) (mid.view.start ++ (events mid.view.seen ++ e ∷ []))) (sym c.requires.call) legal)
+    mid.view.seen seen in
+    subst (λ (n : NodeView g.row.S.Denot). (base : State) → IsBase g.S.Sign.scheme n base → IsLegalAfter (node_of g.S.Sign.scheme n.setting) base (events mid.view.seen ++ g.C.Call.event ∷ [])) (sym c.self.view_is)
+    (λ base at. subst (λ (e : Event). IsLegalAfter (node_of g.S.Sign.scheme c.args.self.now.setting) base (events mid.view.seen ++ e ∷ [])) (sym c.requires.call) (legal base at))
 
 pub returns-then-receipt-clause-home : goal.returns-then-receipt-clause-home
 returns-then-receipt-clause-home g c =
@@ -61,7 +62,7 @@ returns-then-receipt-clause-submits g c =
     let afterwards = c.know_down.new.locked.seat in
     let seen = told.stays.seen ∙ first.seen ∙ ap (λ l. l.seat.view.seen) (sym first.locked) ∙ sym told.stays_locked.seen in
     submits_new c.args.self.now g.S.Sign.scheme afterwards c.know_down.new.locked.book c.accept.new.self c.args.event told.home (c.in-Ok.ensures.new c.if-receipt.true)
-    c.args.seat.now.view c.catch_up.new.other.view c.in-Ok.receipt (c.requires.of.start ∙ sym told.home.of_node.start)
+    c.args.seat.now.view c.catch_up.new.other.view c.in-Ok.receipt
     (subst (λ l. Begins c.args.seat.now.view.seen l) (sym told.stays.seen ∙ seen) first.looked.more) c.if-receipt.true c.in-Ok.ensures.ticket c.in-Ok.ensures.limit
     (ap (λ s. s.view.seen) last.other ∙ raised.seen ∙ ap (λ l. l ++ mark mid.view.number g.C.Call.event ∷ []) seen ∙ ap (λ e. afterwards.view.seen ++ mark mid.view.number e ∷ []) c.requires.call
     ∙ ap (λ n. afterwards.view.seen ++ mark n c.args.event ∷ []) (told.stays.same.number ∙ first.looked.same.number))
@@ -74,14 +75,13 @@ returns-then-receipt-clause-brought g c =
     let told = c.know_down.ensures in
     let raised = c.raise.ensures in
     let mid = c.know_down.new.seat in
-    let setting = ap (λ n. n.setting) c.self.view_is in
     let seen = told.stays.seen ∙ first.seen ∙ ap (λ l. l.seat.view.seen) (sym first.locked) ∙ sym told.stays_locked.seen in
     let legal = legal_with c.args.self.now g.S.Sign.scheme c.know_down.new.locked.seat c.know_down.new.locked.book c.accept.new.self c.args.event told.home (c.in-Ok.ensures.new c.if-receipt.true)
-    mid.view.start mid.view.seen (told.stays.same.start ∙ first.looked.same.start ∙ c.requires.of.start ∙ sym told.home.of_node.start) seen in
+    mid.view.seen seen in
     let looked = looked_stays g.S.Sign.scheme c.args.self.now c.args.seat.now c.see_all.new.seat mid first.looked told.stays in
     subst (λ s. Brought g.S.Sign.scheme c.args.self.now c.args.seat.now s) (sym c.catch_up.ensures.other)
     (brought_new g.S.Sign.scheme c.args.self.now c.args.seat.now mid c.raise.new.seat g.C.Call.event looked raised.same raised.down raised.firm raised.seen raised.mine
-    (subst (λ (e : Event). IsLegal (node_of g.S.Sign.scheme c.args.self.now.setting) (mid.view.start ++ (events mid.view.seen ++ e ∷ []))) (sym c.requires.call) legal))
+    (λ base at. subst (λ (e : Event). IsLegalAfter (node_of g.S.Sign.scheme c.args.self.now.setting) base (events mid.view.seen ++ e ∷ [])) (sym c.requires.call) (legal base at)))
 
 pub returns-else-receipt-clause-home : goal.returns-else-receipt-clause-home
 returns-else-receipt-clause-home g c =
@@ -94,7 +94,7 @@ returns-else-receipt-clause-submits g c =
     let told = c.know_down.ensures in
     let seen = told.stays.seen ∙ first.seen ∙ ap (λ l. l.seat.view.seen) (sym first.locked) ∙ sym told.stays_locked.seen in
     submits_known c.args.self.now g.S.Sign.scheme c.know_down.new.locked.seat c.know_down.new.locked.book c.accept.new.self c.args.event told.home (c.in-Ok.ensures.known c.if-receipt.false)
-    c.args.seat.now.view c.know_down.new.seat.view c.in-Ok.receipt (c.requires.of.start ∙ sym told.home.of_node.start)
+    c.args.seat.now.view c.know_down.new.seat.view c.in-Ok.receipt
     (subst (λ l. Begins c.args.seat.now.view.seen l) (sym told.stays.seen ∙ seen) first.looked.more) c.if-receipt.false c.in-Ok.ensures.ticket seen (told.stays.same.mine ∙ first.looked.same.mine)
 
 pub returns-else-receipt-clause-brought : goal.returns-else-receipt-clause-brought
@@ -107,4 +107,4 @@ raise-requires-clause-seen g c =
     let first = c.see_all.ensures in
     let told = c.know_down.ensures in
     let seen = told.stays.seen ∙ first.seen ∙ ap (λ l. l.seat.view.seen) (sym first.locked) ∙ sym told.stays_locked.seen in
-    ap length seen ∙ sym (length-map c.know_down.new.locked.seat.view.seen (λ one. one.event)) ∙ sym told.home.stands.accepted ∙ sym c.accepted-count.ensures.value
+    ap length seen ∙ sym (length-map c.know_down.new.locked.seat.view.seen (λ one. one.event)) ∙ sym (told.home.stands told.home.somewhere.0 told.home.somewhere.1).accepted ∙ sym c.accepted-count.ensures.value

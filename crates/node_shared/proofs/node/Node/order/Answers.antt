@@ -11,11 +11,11 @@ returns-clause-learned g c =
 pub returns-clause-order : goal.returns-clause-order
 returns-clause-order g c =
     let told = c.know_down.ensures in
-    ordered c.args.self.now g.S.Sign.scheme c.know_down.new.locked.seat c.know_down.new.seat c.know_down.new.locked.book told.home (told.stays.same.start ∙ c.know_all.ensures.learned.of_node.start)
+    ordered c.args.self.now g.S.Sign.scheme c.know_down.new.locked.seat c.know_down.new.seat c.know_down.new.locked.book told.home
     (told.stays.firm ∙ c.know_all.ensures.firm ∙ ap (λ l. l.seat.view.firm) (sym c.know_all.ensures.locked) ∙ sym told.stays_locked.firm) _ c.args.from c.order-order.result c.order-order.ensures.order
 
 pub release-requires-clause-fits : goal.release-requires-clause-fits
-release-requires-clause-fits g c = rw (c.self.invariant, c.self.view_is) c.know_down.ensures.home
+release-requires-clause-fits g c = rw (c.self.invariant.0, c.self.view_is) c.know_down.ensures.home
 
 pub acquire-turn-requires : goal.acquire-turn-requires
 acquire-turn-requires g c κs = λ h. simp (in_lives, h.0, h.1.0, h.1.1.0, h.1.1.1) (search rules)

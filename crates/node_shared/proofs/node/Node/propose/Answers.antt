@@ -9,8 +9,8 @@ returns-clause-header g c =
     let home : IsAtHome g.S.Sign.scheme c.args.self.now c.acquire-turn.result.1.value.seat c.acquire-turn.result.1.value.book = search rules in
     let now : IsAtHome g.S.Sign.scheme c.args.self.now c.see_all.new.locked.seat c.see_all.new.locked.book = search rules in
     let seen : c.see_all.new.seat.view.seen ≡ c.see_all.new.locked.seat.view.seen = search rules in
-    proposed c.args.self.now g.S.Sign.scheme c.see_all.new.locked.seat c.see_all.new.seat c.see_all.new.locked.book now c.see_all.ensures.looked.of_node.start
-    seen c.propose-header.result c.validator.result.now c.validator.ensures c.propose-header.ensures.history
+    proposed c.args.self.now g.S.Sign.scheme c.see_all.new.locked.seat c.see_all.new.seat c.see_all.new.locked.book now
+    seen c.propose-header.result c.validator.result.now c.validator.ensures c.propose-header.ensures.at
 
 pub acquire-turn-requires : goal.acquire-turn-requires
 acquire-turn-requires g c κs = λ h. simp (in_lives, h.0, h.1.0, h.1.1.0, h.1.1.1) (search rules)

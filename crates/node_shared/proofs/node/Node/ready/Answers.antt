@@ -1,14 +1,11 @@
 use Rattle.std.proofs.Common.{rules, ◌≡◌, subst}
 use borrow.Author.Rules.{in_lives}
-use Rattle.std.specs.Prelude.{not}
-use Rattle.spec_model.specs.Histories.{History}
+use Rattle.spec_model.specs.States.{State}
 use Rattle.validator.specs.Setting.{node_of}
 use Rattle.node_shared.specs.Home.{IsAtHome}
-use Rattle.spec_model.specs.Giving.{kept}
-use Rattle.spec_model.specs.Admitting.{admit, IsLegal}
 use Rattle.validator.specs.Standing.{ValidatorView, AreAtSound}
-use Rattle.book.specs.Book.{history_in}
-use Rattle.spec_machine.specs.Machine.{is_missing_parents}
+use Rattle.book.specs.Book.{state_in}
+use Rattle.spec_machine.specs.Machine.{is_ready}
 use Rattle.node_shared.proofs.Readings.{seen_of}
 use Rattle.node_shared.proofs.node.Node.ready.Goals as goal
 
@@ -17,11 +14,11 @@ returns-clause-ready g c =
     let home : IsAtHome g.S.Sign.scheme c.args.self.now c.acquire-turn.result.1.value.seat c.acquire-turn.result.1.value.book = search rules in
     let now : IsAtHome g.S.Sign.scheme c.args.self.now c.see_all.new.locked.seat c.see_all.new.locked.book = search rules in
     let seen : c.see_all.new.seat.view.seen ≡ c.see_all.new.locked.seat.view.seen = search rules in
-    let told = subst (λ (v : ValidatorView g.row.S.Denot). (history : History) → IsLegal (node_of g.S.Sign.scheme v.setting) history
-    → AreAtSound (node_of g.S.Sign.scheme v.setting) v.tables (kept (node_of g.S.Sign.scheme v.setting) history)
-    → c.ready-ready.result ≡ not (is_missing_parents (admit (node_of g.S.Sign.scheme v.setting) history c.args.event.now))) c.validator.ensures c.ready-ready.ensures.history in
-    seen_of c.args.self.now g.S.Sign.scheme c.see_all.new.locked.seat c.see_all.new.seat c.see_all.new.locked.book now c.see_all.ensures.looked.of_node.start
-    (λ node history. c.ready-ready.result ≡ not (is_missing_parents (admit node history c.args.event.now))) seen (λ run stands. told (history_in run) stands.legal stands.at)
+    let told = subst (λ (v : ValidatorView g.row.S.Denot). (state : State) → AreAtSound (node_of g.S.Sign.scheme v.setting) v.tables state
+    → c.ready-ready.result ≡ is_ready (node_of g.S.Sign.scheme v.setting) state c.args.event.now) c.validator.ensures c.ready-ready.ensures.at in
+    seen_of c.args.self.now g.S.Sign.scheme c.see_all.new.locked.seat c.see_all.new.seat c.see_all.new.locked.book now
+    (λ node state. c.ready-ready.result ≡ is_ready node state c.args.event.now) seen
+    (λ run stands. told (state_in (node_of g.S.Sign.scheme c.see_all.new.locked.book.validator.setting) run) stands.at)
 
 pub acquire-turn-requires : goal.acquire-turn-requires
 acquire-turn-requires g c κs = λ h. simp (in_lives, h.0, h.1.0, h.1.1.0, h.1.1.1) (search rules)

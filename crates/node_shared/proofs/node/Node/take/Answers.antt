@@ -52,16 +52,16 @@ deref_mut-locked-requires g c κs = λ h. simp (in_lives, h) (search rules)
 
 -- what the lock holds is at home in the node
 pub tie-requires-clause-home : goal.tie-requires-clause-home
-tie-requires-clause-home g c = rw (c.deref_mut-locked.ensures.value, ← c.self.view_is, ← c.self.invariant) c.acquire-turn.ensures.fits
+tie-requires-clause-home g c = rw (c.deref_mut-locked.ensures.value, ← c.self.view_is, ← c.self.invariant.0) c.acquire-turn.ensures.fits
 
 pub take_tied-found-requires-clause-home : goal.take_tied-found-requires-clause-home
-take_tied-found-requires-clause-home g c = rw (c.tie.ensures.locked, c.deref_mut-locked.ensures.value, ← c.self.view_is, ← c.self.invariant) c.acquire-turn.ensures.fits
+take_tied-found-requires-clause-home g c = rw (c.tie.ensures.locked, c.deref_mut-locked.ensures.value, ← c.self.view_is, ← c.self.invariant.0) c.acquire-turn.ensures.fits
 
 pub take_tied-found-requires-clause-tied : goal.take_tied-found-requires-clause-tied
 take_tied-found-requires-clause-tied g c = subst (λ l. IsTied c.args.self.now l.seat l.book c.tie.new.flush) (sym c.tie.ensures.locked) (c.tie.ensures.tied c.if-tie.true)
 
 pub release-requires-clause-fits : goal.release-requires-clause-fits
-release-requires-clause-fits g c = rw (c.self.invariant, c.self.view_is) c.take_tied-found.ensures.home
+release-requires-clause-fits g c = rw (c.self.invariant.0, c.self.view_is) c.take_tied-found.ensures.home
 
 pub release-requires-in-loop-clause-fits : goal.release-requires-in-loop-clause-fits
 release-requires-in-loop-clause-fits g c = rw (c.tie.ensures.locked, c.deref_mut-locked.ensures.value) c.acquire-turn.ensures.fits
