@@ -1,5 +1,5 @@
 -- A member after a move.
-use Rattle.std.proofs.Common.{◌≡◌, ℕ, inl, inr, List, [], length, refl, sym, ap, ◌∙◌, subst, arith}
+use Rattle.std.proofs.Common.{◌≡◌, ℕ, inl, inr, List, [], refl, sym, ap, ◌∙◌, subst, arith}
 use Rattle.std.specs.Prelude.{◌<◌, Option, Some, None, Contains, Result, Ok, Err}
 use Rattle.diskmodel.specs.Disk.{Device}
 use Rattle.desk.specs.AtWorld.{IsAt, LeadsTo, IsStop}
@@ -12,7 +12,7 @@ use Rattle.spec_model.specs.Nodes.{Node}
 use Rattle.spec_world.specs.Steps.{Move}
 use Rattle.spec_world.specs.Runs.{first_bytes}
 use Rattle.spec_world.specs.World.{World, Given, run_on}
-use Rattle.cluster.specs.Answers.{Deed, HasMoved, OrNothing, Does, Makes, MakesSome, Stops, Became, IsDeviceFault, HasFailed, IsLost, CountsMore}
+use Rattle.cluster.specs.Answers.{Deed, HasMoved, OrNothing, Does, Makes, MakesSome, Stops, Became, IsDeviceFault, HasFailed, IsLost, CountsMore, events_in}
 use Rattle.cluster.specs.Member.{GivenOutView, MemberView, HasPutOut, StandsAt, HasCollected, HasCollectedSome}
 use Rattle.cluster.specs.Outputs.{outputs_in}
 use Rattle.cluster.specs.declared.error.ClusterError.{ClusterError}
@@ -94,7 +94,7 @@ not_moved node device Done world desk at = stays node device (OrNothing Done) wo
 
 -- a stop
 pub stopped : {S D : Type 0} (node : Node) (device : Device D) (world : World) (before later : DeskView S D) (found : List ℕ) (count : ℕ) → device.outcome (disk_of before.journal) found
-    → (opened : IsOpened node device found later) → count ≡ length opened.history → (moves : List Move) → IsStop world moves → LeadsTo node device world moves later
+    → IsOpened node device found later → count ≡ events_in found → (moves : List Move) → IsStop world moves → LeadsTo node device world moves later
     → HasMoved node device (Stops node device (Reopened count)) world before later
 stopped node device world before later found count left opened counted moves by to =
     moved node device (Stops node device (Reopened count)) world moves before later (stop_quiet world moves by) to

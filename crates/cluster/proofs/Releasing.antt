@@ -3,11 +3,16 @@ use Rattle.std.proofs.Common.{◌≡◌, ℕ, Bool, true, false, inl, inr, List,
 use Rattle.std.specs.Prelude.{Option, Some, None, Result, Ok, Err, is_ok, OnOk, OnErr, nat_le, if◌then◌else◌}
 use Rattle.std.proofs.lemmas.Bool.{cases_Bool}
 use Rattle.std.proofs.lemmas.List.{map-append}
+use Rattle.book.specs.Book as book
 use Rattle.book.specs.Book.{BookView, releasable}
 use Rattle.book.specs.Queue.{settled_head}
 use Rattle.desk.specs.AtWorld.{IsAt, LeadsTo}
 use Rattle.desk.specs.Desk as desk
+use Rattle.book.specs.Steps.{run_of}
+use Rattle.spec_laws.proofs.Legal.{legal-begins}
+use Rattle.spec_machine.proofs.AfterAll.{after_is_kept, legal_again}
 use Rattle.spec_world.proofs.Scripts.{leads_join}
+use Rattle.spec_model.specs.Admitting.{IsLegal}
 use Rattle.spec_model.specs.Holdings.{order}
 use Rattle.spec_model.specs.Nodes.{Node}
 use Rattle.spec_model.specs.Words.{Digest, Output}
@@ -38,6 +43,18 @@ head_of false settled (first ∷ rest) output is =
     ]
 
 module _ {S D : Type 0} (node : Node) (device : Device D) where
+  -- the order of the state after what is settled is that of the history
+  pub order_settled : (world : World) (one : desk.DeskView S D) → IsAt node device world one → (book.settled_in node (run_of node world)).order ≡ order node (settled_in world)
+  order_settled world one at =
+      let stands = at.is_of_world.stands in
+      let all : IsLegal node (world.began ++ world.accepted) = legal_again node world.began world.accepted at.is_of_world.began stands.legal in
+      let rest = stands.settled_begins.rest ++ stands.taken_begins.rest in
+      let parts : world.began ++ world.accepted ≡ (world.began ++ world.settled) ++ rest =
+      ap (λ l. world.began ++ l) (stands.taken_begins.parts ∙ ap (λ l. l ++ stands.taken_begins.rest) stands.settled_begins.parts
+      ∙ append_assoc world.settled stands.settled_begins.rest stands.taken_begins.rest)
+      ∙ sym (append_assoc world.began world.settled rest) in
+      ap (λ s. s.order) (after_is_kept node world.began world.settled (legal-begins node (world.began ++ world.settled) rest (subst (IsLegal node) parts all)))
+
   -- the settled order was read
   pub has_read : (world : World) (one : desk.DeskView S D) (before later : GivenOutView) → IsAt node device world one → HasPutOut node world before → LeadsTo node device world (read_order ∷ []) one
       → later.outputs ≡ before.outputs → later.order ≡ before.order ++ drop (length before.order) (order node (settled_in world)) → HasRead node device world one later

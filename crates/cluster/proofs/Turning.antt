@@ -11,8 +11,8 @@ use Rattle.header.specs.Checks.{Accepts, fault_of}
 use Rattle.header.specs.declared.error.CheckError.{CheckError}
 use Rattle.journal.specs.Journal.{disk_of}
 use Rattle.opening.specs.Told.{told}
-use Rattle.spec_model.specs.Histories.{History}
 use Rattle.spec_model.specs.Nodes.{Node}
+use Rattle.spec_model.specs.States.{State}
 use Rattle.spec_model.specs.Words.{Event}
 use Rattle.header.specs.declared.refusal.Refusal.{Refusal}
 use Rattle.header.specs.declared.refusal.Refusal.TheVariants as refusal
@@ -162,15 +162,15 @@ module _ {S D : Type 0} (node : Node) (device : Device D) where
           taken_down = λ _. record { down = found.0; full = λ so. absurd (cc); room = λ _. found.1; count = to.0; by = refl };
         })
 
-  -- what a stop leaves of a desk in its world is told as a history
+  -- what a stop leaves of a desk in its world is told as a state
   pub left_told : (world : World) (desk : DeskView S D) → IsAt node device world desk → (found : List ℕ) → device.outcome (disk_of desk.journal) found
-      → (history : History) × (told node found ≡ Ok history)
+      → (state : State) × (told node found ≡ Ok state)
   left_told world desk at found may = elim (at.is_of.left found may) [ inl settled ↦ (_, settled) | inr all ↦ (_, all) ]
 
   -- a desk that was opened on bytes that are told as these are
   pub opened_same : (one other : List ℕ) (desk : DeskView S D) → told node other ≡ told node one → IsOpened node device other desk → IsOpened node device one desk
   opened_same one other desk same opened = record {
-    history = opened.history;
+    state = opened.state;
     told_first = sym same ∙ opened.told_first;
     up = opened.up;
     alive = opened.alive;

@@ -1,5 +1,5 @@
 -- What a move makes of a member, and what it is answered.
-use Rattle.std.specs.Prelude.{◌≡◌, ◌≢◌, ◌⊎◌, ◌↔◌, ◌<◌, ⊤, ℕ, ◌+◌, Bool, true, false, List, [], ◌∷◌, length, Some, None, Result, IfOk, IfErr, IsErrOf}
+use Rattle.std.specs.Prelude.{◌≡◌, ◌≢◌, ◌⊎◌, ◌↔◌, ◌<◌, ⊤, ℕ, ◌+◌, ◌-◌, Bool, true, false, List, [], ◌∷◌, length, Some, None, Result, Ok, Err, IfOk, IfErr, IsErrOf}
 use Rattle.book.specs.Book.{Run, Stands, TakesNew, TakesKnown, MayRefuse}
 use Rattle.book.specs.OnTheWay.{Flushes, GoesDown, HasRoomFor}
 use Rattle.book.specs.declared.own.error.FlushError.{FlushError}
@@ -8,8 +8,10 @@ use Rattle.desk.specs.AtWorld.{IsAt, IsStop}
 use Rattle.desk.specs.Desk.{DeskView, IsOpened}
 use Rattle.header.specs.Checks.{Accepts, fault_of}
 use Rattle.header.specs.declared.error.CheckError.{CheckError}
+use Rattle.journal.specs.Format.{stands}
 use Rattle.journal.specs.Journal.{disk_of}
 use Rattle.journal.specs.declared.error.JournalError.TheVariants as journal
+use Rattle.journal.specs.declared.record.Record.{Record}
 use Rattle.opening.specs.Laws.{IsNoRefusal}
 use Rattle.spec_model.specs.Nodes.{Node}
 use Rattle.spec_model.specs.Words.{Event}
@@ -110,12 +112,20 @@ pub record HasFailed {S D : Type 0} (device : Device D) (before later : MemberVi
 
 -- ---- a stop
 
+-- how many events a journal of these bytes has, which are its records but for the configuration's
+abbrev pub events_among : Result (List Record) ℕ → ℕ
+events_among (Ok records) = length records - 1
+events_among (Err place) = 0
+
+abbrev pub events_in : List ℕ → ℕ
+events_in bytes = events_among (stands bytes)
+
 -- the machine stopped and left one of the outcomes of its disk, on which the node was opened, with so many events
 pub record IsReopened {S D : Type 0} (node : Node) (device : Device D) (count : ℕ) (deed : Deed S D) : Type 0 where
   pub found : List ℕ
   pub left : device.outcome (disk_of deed.before.journal) found
   pub opened : IsOpened node device found deed.later
-  pub counted : count ≡ length opened.history
+  pub counted : count ≡ events_in found
   pub by : IsStop deed.world deed.moves
 
 abbrev pub Stops : {S D : Type 0} → Node → Device D → Applied → Deed S D → Type 0

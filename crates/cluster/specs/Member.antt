@@ -1,13 +1,13 @@
 -- A member of a cluster: what contracts see of it, and at which world it stands.
 use Rattle.std.specs.Prelude.{◌≡◌, ◌⊎◌, List, [], ◌∷◌, ◌++◌, map, Bool, true, false, Option, Some, None, Contains}
-use Rattle.book.specs.Book.{Run, Stands, history_in, releasable}
+use Rattle.book.specs.Book.{Run, Stands, state_in, releasable}
 use Rattle.desk.specs.AtWorld.{IsAt}
 use Rattle.desk.specs.Desk as desk
 use Rattle.journal.specs.Journal.{disk_of}
 use Rattle.wire.specs.Lists.{Begins}
 use Rattle.spec_model.specs.Holdings.{order}
+use Rattle.spec_machine.specs.Machine.{proposed}
 use Rattle.spec_model.specs.Nodes.{Node, IsNode}
-use Rattle.spec_model.specs.Proposing.{propose}
 use Rattle.spec_model.specs.Words.{Digest, Header, Output}
 use Rattle.spec_world.specs.Promise.{order_given}
 use Rattle.spec_world.specs.Steps.{Move, read_order, release, Leads, IsRun}
@@ -53,7 +53,7 @@ IsOn {S} {D} device disk member = (one : desk.DeskView S D) → member.desk ≡ 
 pub record Proposes {S D : Type 0} (node : Node) (member : MemberView S D) (found : Option Header) : Type 0 where
   pub desk : desk.DeskView S D
   pub has : member.desk ≡ Some desk
-  pub proposes : (run : Run) → Stands node run desk.book → found ≡ propose node (history_in run)
+  pub proposes : (run : Run) → Stands node run desk.book → found ≡ proposed node (state_in node run)
 
 -- ---- what goes out after a move
 

@@ -81,6 +81,7 @@ impl<'a, S: Sign, D: StopDisk> Member<'a, S, D> {
     {
         config.limits_hold();
         config.keys_hold();
+        spec_machine::starts_fresh();
         match Desk::open(alloc, config, disk) {
             Ok(desk) => Ok(Member {
                 config,

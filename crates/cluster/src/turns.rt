@@ -1,18 +1,18 @@
 //! What a desk does at a move, before anything goes out.
 
-ghost use Rattle.std.specs.Prelude.{◌≡◌, ◌<◌, List, ℕ, length, None, Ok, IfOk, OnErr, IfErr, IsErrOf};
+ghost use Rattle.std.specs.Prelude.{◌≡◌, ◌<◌, List, ℕ, None, Ok, IfOk, OnErr, IfErr, IsErrOf};
 ghost use Rattle.header.specs.Checks.{Accepts, fault_of, accepts_all};
 ghost use Rattle.journal.specs.Format.{stands};
 ghost use Rattle.journal.specs.Journal.{disk_of};
 ghost use Rattle.opening.specs.Laws.{IsNoRefusal};
 ghost use Rattle.opening.specs.Told.{told};
-ghost use Rattle.spec_model.specs.Histories.{History};
 ghost use Rattle.spec_model.specs.Nodes.{Node};
+ghost use Rattle.spec_model.specs.States.{State};
 ghost use Rattle.spec_world.specs.World.{World};
 ghost use Rattle.validator.specs.Setting.{node_of};
 ghost use Rattle.desk.specs.AtWorld.{IsAt};
 ghost use Rattle.desk.specs.Desk.{IsOpened};
-ghost use Rattle.cluster.specs.Answers.{TakesIn, MakesRound, IsDeviceFault, HasMoved, CountsMore};
+ghost use Rattle.cluster.specs.Answers.{TakesIn, MakesRound, IsDeviceFault, HasMoved, CountsMore, events_in};
 
 use crate::error::ClusterError;
 use crate::moves::Applied;
@@ -92,7 +92,7 @@ pub(crate) fn restart<'a, S: Sign, D: StopDisk + Drop>(
 ) -> Result<(Desk<'a, S, D>, u64), JournalError>
     ensures setting { IfOk result (λ opened. opened.0.book.validator.setting ≡ config.now) }
     ensures opened { IfOk result (λ opened. (found : List ℕ) × D.device.outcome (disk_of desk.entry.journal) found
-        × (is : IsOpened (node_of S.scheme config.now) D.device found opened.0) × (opened.1 ≡ length is.history)) }
+        × IsOpened (node_of S.scheme config.now) D.device found opened.0 × (opened.1 ≡ events_in found)) }
     // It answers Device only where the disk counted a failure.
     ensures device { IsErrOf result JournalError.Device → CountsMore D.device (disk_of desk.entry.journal) }
     // What a stop leaves of a node in its world is refused for want of memory or a fault of the disk alone.
@@ -110,8 +110,8 @@ pub(crate) fn restart<'a, S: Sign, D: StopDisk + Drop>(
 // How many events a disk's journal has, after the record of the configuration.
 fn count_events<D: StopDisk + Drop>(alloc: Global, disk: D) -> Result<(u64, D), JournalError>
     ensures same { IfOk result (λ counted. stands (D.device.content counted.1) ≡ stands (D.device.content disk)) }
-    ensures count { IfOk result (λ counted. (node : Node) (history : History) → told node (D.device.content disk) ≡ Ok history → counted.0 ≡ length history) }
-    ensures refused { IfErr result (λ error. (node : Node) (history : History) → told node (D.device.content disk) ≡ Ok history → IsNoRefusal error) }
+    ensures count { IfOk result (λ counted. counted.0 ≡ events_in (D.device.content disk)) }
+    ensures refused { IfErr result (λ error. (node : Node) (state : State) → told node (D.device.content disk) ≡ Ok state → IsNoRefusal error) }
     ensures device { IsErrOf result JournalError.Device → CountsMore D.device disk }
     ensures no_fault { IfOk result (λ counted. D.device.faults counted.1 ≡ D.device.faults disk) }
 {

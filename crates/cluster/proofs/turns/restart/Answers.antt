@@ -15,7 +15,7 @@ returns-in-Ok-clause-opened g c =
     let may = subst (λ (d : g.row.D.Denot). g.D.Disk.device.outcome d found) c.into_disk-disk.ensures c.stop.ensures.content in
     let opened = opened_same node g.D.Disk.device found (g.D.Disk.device.content c.in_ok-events.disk) c.in-Ok.desk
     (told_same node (g.D.Disk.device.content c.in_ok-events.disk) found c.in_ok-events.ensures.same) c.in-Ok.ensures.ok in
-    (found, may, opened, c.in_ok-events.ensures.count node opened.history opened.told_first)
+    (found, may, opened, c.in_ok-events.ensures.count)
 
 pub returns-in_err-events-clause-refused : goal.returns-in_err-events-clause-refused
 returns-in_err-events-clause-refused g c =

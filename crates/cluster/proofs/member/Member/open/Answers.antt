@@ -1,4 +1,4 @@
-use Rattle.std.proofs.Common.{List, [], ℕ, Some, refl, ap, ◌∙◌, subst}
+use Rattle.std.proofs.Common.{List, ℕ, Some, refl, ap, ◌∙◌, subst}
 use Rattle.desk.specs.Desk.{IsOpened}
 use Rattle.desk.proofs.Worlds.{begins}
 use Rattle.opening.specs.Told.{told}
@@ -6,6 +6,7 @@ use Rattle.opening.proofs.Opened.{no_refusal}
 use Rattle.spec_world.proofs.Beginning.{runs_begin}
 use Rattle.validator.specs.Setting.{node_of}
 use Rattle.cluster.specs.Member.{MemberView}
+use Rattle.spec_machine.specs.Machine.{fresh}
 use Rattle.cluster.proofs.Counting.{told_nothing}
 use Rattle.cluster.proofs.Members.{begins_at, journal_err}
 use Rattle.journal.specs.declared.error.JournalError.TheVariants.{Device}
@@ -18,12 +19,12 @@ returns-in-Ok-clause-begins g c = λ empty.
     let opened = subst (λ (bytes : List ℕ). IsOpened node g.D.Disk.device bytes c.in-Ok.desk) empty c.in-Ok.ensures.ok in
     let member : MemberView g.row.S.Denot g.row.D.Denot = record { setting = c.args.config.now; desk = Some c.in-Ok.desk; out = c.new.result } in
     begins_at node g.D.Disk.device member c.in-Ok.desk refl c.new.ensures.outputs c.new.ensures.order
-    (begins node g.D.Disk.device c.in-Ok.desk c.limits_hold.ensures keys opened)
+    (begins c.starts_fresh.ensures node g.D.Disk.device c.in-Ok.desk c.limits_hold.ensures keys opened)
 
 pub returns-in-Err-clause-errors : goal.returns-in-Err-clause-errors
 returns-in-Err-clause-errors g c = λ empty.
     let node = node_of g.S.Sign.scheme c.args.config.now in
-    no_refusal c.in-Err.failed.error [] (told node (g.D.Disk.device.content c.args.disk)) (ap (told node) empty ∙ told_nothing node) c.in-Err.ensures.err.tells
+    no_refusal c.in-Err.failed.error (fresh node) (told node (g.D.Disk.device.content c.args.disk)) (ap (told node) empty ∙ told_nothing node) c.in-Err.ensures.err.tells
 
 pub returns-in-Ok-clause-runs : goal.returns-in-Ok-clause-runs
 returns-in-Ok-clause-runs g c =

@@ -1,6 +1,6 @@
 use Rattle.std.proofs.Common.{◌≡◌, subst}
-use Rattle.book.specs.Book.{Run, Stands, history_in}
-use Rattle.spec_model.specs.Proposing.{propose}
+use Rattle.book.specs.Book.{Run, Stands, state_in}
+use Rattle.spec_machine.specs.Machine.{proposed}
 use Rattle.validator.specs.Setting.{ConfigView, node_of}
 use Rattle.cluster.specs.Member.{MemberView, Proposes}
 use Rattle.cluster.proofs.member.Member.propose.Goals as goal
@@ -14,5 +14,5 @@ returns-in_ok-propose-in-Some-clause-ok g c =
       desk = desk;
       has = c.in-Some.is;
       proposes = subst (λ (s : ConfigView g.row.S.Denot). (run : Run) → Stands (node_of g.S.Sign.scheme s) run desk.book
-          → c.in_ok-propose-in-Some.field-0 ≡ propose (node_of g.S.Sign.scheme s) (history_in run)) own c.in_ok-propose-in-Some.ensures;
+          → c.in_ok-propose-in-Some.field-0 ≡ proposed (node_of g.S.Sign.scheme s) (state_in (node_of g.S.Sign.scheme s) run)) own c.in_ok-propose-in-Some.ensures;
     })
