@@ -1,0 +1,161 @@
+-- That a journal's records are those of a history, which has as many events, and gives the votes that the records have.
+use Rattle.std.proofs.Common.{◌≡◌, ℕ, ◌+◌, ◌-◌, List, [], ◌∷◌, ◌++◌, length, map, get_or, drop, Option, Some, None, Result, Ok, Err, refl, sym, ap, ◌∙◌, subst, arith, append_assoc}
+use Rattle.std.specs.Prelude.{All, IfOk, OnOk}
+use Rattle.std.specs.List.{filter_map, cons_option}
+use Rattle.std.specs.Option.{option_and_then, option_map, option_to_list}
+use Rattle.std.proofs.lemmas.List.{append-nil, length-map}
+use Rattle.std.proofs.lemmas.List.Elements.{All-head, All-tail}
+use Rattle.journal.specs.Format.{stands}
+use Rattle.journal.specs.declared.error.JournalError.{JournalError}
+use Rattle.journal.specs.declared.record.Record.{Record}
+use Rattle.journal.specs.declared.version.Version.{Version}
+use Rattle.spec_machine.specs.Laws.{StartsFresh}
+use Rattle.spec_model.specs.Admitting.{IsTaken, IsLegal}
+use Rattle.spec_model.specs.Giving.{kept}
+use Rattle.spec_model.specs.Holdings.{order, round, floor}
+use Rattle.spec_model.specs.Histories.{History, headers, as_header}
+use Rattle.spec_model.specs.Nodes.{Node, IsNode}
+use Rattle.spec_model.specs.Words.{Digest, Event, Header}
+use Rattle.spec_records.specs.Records.{record_of}
+use Rattle.spec_world.specs.World.{StandsFor, bytes_of, journal_of, as_journal, as_new}
+use Rattle.opening.specs.Told.{IsText, event_in, read_journal, told, Tells, StandsAt}
+use Rattle.opening.proofs.EventRecords.{record_read}
+use Rattle.opening.proofs.Laws.{found_records}
+use Rattle.opening.proofs.Telling.{told_records, tells_same}
+use Rattle.admission.specs.declared.tables.Tables.{Tables}
+use Rattle.validator.specs.Standing.{AreAtSound}
+use Rattle.journal_account.specs.Accounts.{IsReadAt, given_to, given_by, given_in, Sums, AreVotes, AreOrdered}
+use Rattle.journal_account.specs.declared.summary.Summary.{Summary}
+use Rattle.journal_account.specs.declared.votes.Given.{Given}
+
+-- ---- the history of a journal
+
+-- where tables stand at what records are read as, they stand at what is kept of a history that bytes are read as
+read_at : StartsFresh → (node : Node) (bytes : List ℕ) (records : List Record) (tables : Tables) → IsNode node → All IsText (drop 1 records)
+    → StandsAt node (read_journal node records) tables → stands bytes ≡ Ok records → IsReadAt node bytes tables
+read_at starts node bytes records tables sound texts found is =
+    let of_bytes = found_records starts node bytes found.state records sound texts is found.is_read in
+    record {
+      history = of_bytes.history;
+      read_as = record {
+        legal = of_bytes.legal;
+        stands_for = of_bytes.stands_for;
+        is_told = told_records node bytes records is ∙ found.is_read ∙ ap Ok (sym of_bytes.keeps);
+      };
+      at = subst (AreAtSound node tables) (sym of_bytes.keeps) found.at;
+    }
+
+-- what holds anyway holds of what was answered
+pub on_each : {V E : Type 0} {P : Type 0} (answer : Result V E) → P → OnOk answer P
+on_each (Ok v) is = is
+on_each (Err e) is = tt
+
+-- so it is with what was answered, if it is a validator
+pub answered_at : {V E : Type 0} (node : Node) (bytes : List ℕ) (records : List Record) (tables : V → Tables) (answer : Result V E) → StartsFresh → IsNode node
+    → OnOk answer (All IsText (drop 1 records)) → IfOk answer (λ v. StandsAt node (read_journal node records) (tables v)) → stands bytes ≡ Ok records
+    → IfOk answer (λ v. IsReadAt node bytes (tables v))
+answered_at node bytes records tables (Ok v) starts sound texts found is = read_at starts node bytes records (tables v) sound texts found is
+answered_at node bytes records tables (Err e) starts sound texts found is = tt
+
+-- ---- its events, and their records
+
+-- the vote of an event before others
+vote_first : (event : Event) (found : Option Header) (events : History) → as_header event.message ≡ found
+    → cons_option (option_map given_to found) (map given_to (headers events)) ≡ map given_to (cons_option found (headers events))
+vote_first event None events is = refl
+vote_first event (Some header) events is = refl
+
+-- the records of events give the votes that the events give
+votes_in : (node : Node) (records : List Record) (events : History) → IsNode node → bytes_of records ≡ map record_of events → All (IsTaken node) events
+    → filter_map (given_in node.charter) records ≡ map given_to (headers events)
+votes_in node [] [] sound same taken = refl
+votes_in node [] (event ∷ events) sound same taken = absurd (omega (arith, ap length same))
+votes_in node (one ∷ rest) [] sound same taken = absurd (omega (arith, ap length same))
+votes_in node (one ∷ rest) (event ∷ events) sound same taken =
+    let bytes : one.bytes ≡ record_of event = ap (λ (l : List (List ℕ)). get_or l 0 []) same in
+    let some : event_in node.charter one.bytes ≡ Some event = ap (event_in node.charter) bytes ∙ record_read node event sound (All-head (IsTaken node) event events taken) in
+    let others = votes_in node rest events sound (ap (λ (l : List (List ℕ)). drop 1 l) same) (All-tail (IsTaken node) event events taken) in
+    (λ i. cons_option (option_and_then given_by (some i)) (others i)) ∙ vote_first event (as_header event.message) events refl
+
+-- a history has as many events as there are records after the first, and gives the votes that these have
+pub record IsCounted (node : Node) (records : List Record) (history : History) : Type 0 where
+  pub counts : length history ≡ length (drop 1 records)
+  pub votes : filter_map (given_in node.charter) (drop 1 records) ≡ map given_to (headers history)
+
+counted_held : (version : Version) (node : Node) (records : List Record) (history : History) → IsLegal node history → bytes_of records ≡ journal_of version node history
+    → IsCounted node records history
+counted_held version node [] history legal are = absurd (omega (arith, ap length are))
+counted_held version node (first ∷ rest) history legal are =
+    let same : bytes_of rest ≡ map record_of history = ap (λ (l : List (List ℕ)). drop 1 l) are in
+    record {
+      counts = sym (length-map history record_of) ∙ sym (ap length same) ∙ length-map rest (λ (one : Record). one.bytes);
+      votes = votes_in node rest history legal.sound same legal.taken;
+    }
+
+records_are : (one other : List Record) → ◌≡◌ {A = Result (List Record) ℕ} (Ok one) (Ok other) → one ≡ other
+records_are one other same = cc
+
+counted : (node : Node) (bytes : List ℕ) (records : List Record) (history : History) → stands bytes ≡ Ok records → IsLegal node history → StandsFor node bytes history
+    → IsCounted node records history
+counted node bytes records history is legal (as_journal held) =
+    subst (λ (l : List Record). IsCounted node l history) (records_are held.records records (sym held.stands_for ∙ is))
+    (counted_held held.version node held.records history legal held.are)
+counted node bytes records history is legal (as_new none empty) =
+    let new : IsCounted node [] [] = record { counts = refl; votes = refl } in
+    subst (λ (l : List Record). IsCounted node l history) (records_are [] records (sym none ∙ is)) (subst (λ (h : History). IsCounted node [] h) (sym empty) new)
+
+-- ---- what is told of it
+
+behind_first : (records : List Record) → length (drop 1 records) ≡ length records - 1
+behind_first [] = refl
+behind_first (first ∷ rest) = omega (arith)
+
+module _ (node : Node) (bytes : List ℕ) (records : List Record) (tables : Tables) (is : stands bytes ≡ Ok records) (found : IsReadAt node bytes tables) where
+  are_counted : IsCounted node records found.history
+  are_counted = counted node bytes records found.history is found.read_as.legal found.read_as.stands_for
+
+  pub sums_are : (summary : Summary) → summary.events ≡ length records - 1
+      → ((history : History) → AreAtSound node tables (kept node history) → summary.order ≡ length (order node history))
+      → ((history : History) → IsLegal node history → AreAtSound node tables (kept node history) → summary.round ≡ round node history)
+      → ((history : History) → IsLegal node history → AreAtSound node tables (kept node history) → summary.floor ≡ floor node history)
+      → Sums node bytes summary
+  sums_are summary events ordered rounded floored = record {
+    history = found.history;
+    read_as = found.read_as;
+    events = events ∙ sym (behind_first records) ∙ sym are_counted.counts;
+    order = ordered found.history found.at;
+    round = rounded found.history found.read_as.legal found.at;
+    floor = floored found.history found.read_as.legal found.at;
+  }
+
+  pub votes_are : (votes : List Given) → votes ≡ filter_map (given_in node.charter) (drop 1 records) → AreVotes node bytes votes
+  votes_are votes given = record { history = found.history; read_as = found.read_as; are = given ∙ are_counted.votes }
+
+  pub order_is : (digests : List Digest) → ((history : History) → AreAtSound node tables (kept node history) → digests ≡ order node history) → AreOrdered node bytes digests
+  order_is digests ordered = record { history = found.history; read_as = found.read_as; are = ordered found.history found.at }
+
+pub tells_bytes : (node : Node) (bytes : List ℕ) (records : List Record) (error : JournalError) → stands bytes ≡ Ok records → Tells error (read_journal node records)
+    → Tells error (told node bytes)
+tells_bytes node bytes records error is tells = tells_same error _ _ (sym (told_records node bytes records is)) tells
+
+-- ---- votes so far, and those of the records that are left
+
+listed_first : {Y : Type 0} (found : Option Y) (others : List Y) → option_to_list found ++ others ≡ cons_option found others
+listed_first None others = refl
+listed_first (Some y) others = refl
+
+module _ {X Y : Type 0} (make : X → Option Y) where
+  pub made_next : (so_far later : List Y) (xs : List X) (count : ℕ) (x : X) (found : Option Y) → drop count xs ≡ x ∷ drop (count + 1) xs → found ≡ make x
+      → later ≡ so_far ++ option_to_list found → so_far ++ filter_map make (drop count xs) ≡ filter_map make xs
+      → later ++ filter_map make (drop (count + 1) xs) ≡ filter_map make xs
+  made_next so_far later xs count x found here is longer all =
+      let rest = filter_map make (drop (count + 1) xs) in
+      ap (λ (l : List Y). l ++ rest) longer
+      ∙ append_assoc so_far (option_to_list found) rest
+      ∙ ap (λ (l : List Y). so_far ++ l) (listed_first found rest ∙ ap (λ (o : Option Y). cons_option o rest) is)
+      ∙ ap (λ (l : List X). so_far ++ filter_map make l) (sym here)
+      ∙ all
+
+  pub made_end : (so_far : List Y) (xs : List X) (count : ℕ) → drop count xs ≡ [] → so_far ++ filter_map make (drop count xs) ≡ filter_map make xs
+      → so_far ≡ filter_map make xs
+  made_end so_far xs count none all = sym (append-nil so_far) ∙ ap (λ (l : List X). so_far ++ filter_map make l) (sym none) ∙ all

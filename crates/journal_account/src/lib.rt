@@ -1,0 +1,25 @@
+//! What a journal comes to, told from its bytes without running a node: what an opening of a node on the same bytes would find.
+#![tactic(auto)]
+
+mod configuration;
+mod events;
+mod flaw;
+mod frame;
+mod order;
+mod own;
+mod reading;
+mod settings;
+mod summary;
+mod votes;
+mod waves;
+mod written;
+
+pub use events::{EVENT, FRONT_BYTES};
+pub use flaw::{Flaw, Why};
+pub use frame::last_frame;
+pub use order::order_of;
+pub use reading::{after_records, records_in};
+pub use settings::{config_in, own_number};
+pub use summary::{Summary, summary_of};
+pub use votes::{Given, votes_of};
+pub use waves::{Named, Waves, waves_of};

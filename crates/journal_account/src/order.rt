@@ -1,0 +1,34 @@
+//! The order that a journal's member has come to.
+
+ghost use Rattle.std.specs.Prelude.{◌≡◌, ℕ, List, Ok, IfOk, IfErr};
+ghost use Rattle.journal.specs.Format.{stands};
+ghost use Rattle.validator.specs.Setting.{node_of};
+ghost use Rattle.opening.specs.Told.{told, Tells};
+ghost use Rattle.journal_account.specs.Accounts.{AreOrdered};
+
+use crate::flaw::Flaw;
+use crate::reading::after_records;
+use journal::Record;
+use sigface::Sign;
+use std::alloc::Global;
+use validator::Config;
+use wire::Digest;
+
+/// The digests of the certificates that are ordered by a journal of these records, in that order.
+///
+/// # Errors
+/// What an opening of a node answers: `Damaged` with a place in bytes, `ConfigMismatch`, or `Memory` where an allocation failed.
+pub fn order_of<S: Sign>(
+    alloc: Global,
+    config: &Config<S>,
+    records: &[Record],
+) -> Result<Vec<Digest>, Flaw>
+    ensures ok { (bytes : List ℕ) → stands bytes ≡ Ok records.now → IfOk result (λ digests. AreOrdered (node_of S.scheme config.now) bytes digests.items) }
+    ensures err { (bytes : List ℕ) → stands bytes ≡ Ok records.now → IfErr result (λ flaw. Tells flaw.error (told (node_of S.scheme config.now) bytes)) }
+{
+    let validator = after_records(alloc, config, records)?;
+    let order = validator.order();
+    let mut digests = Vec::with_capacity(alloc, order.len())?;
+    digests.extend_from_slice(order)?;
+    Ok(digests)
+}

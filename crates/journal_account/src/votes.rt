@@ -1,0 +1,97 @@
+//! The votes that a journal's member has given.
+
+ghost use Rattle.std.specs.Prelude.{◌≡◌, ◌++◌, ℕ, List, Ok, IfOk, IfErr, OnOk, filter_map};
+ghost use Rattle.std.specs.Option.{option_to_list};
+ghost use Rattle.journal.specs.Format.{stands};
+ghost use Rattle.validator.specs.Setting.{node_of};
+ghost use Rattle.opening.specs.Told.{told, Tells};
+ghost use Rattle.journal_account.specs.Accounts.{AreVotes, given_by, given_in};
+
+use crate::events::event_of;
+use crate::flaw::Flaw;
+use crate::reading::{after_records, events_of};
+use committee::Committee;
+use header::Checked;
+use journal::Record;
+use sigface::Sign;
+use std::alloc::{AllocError, Global};
+use validator::Config;
+use wire::{Author, Digest, Message, Round, header_digest};
+
+/// A vote for the header of an author and round; an own header stands for the own vote.
+#[derive(Clone, Copy, Debug, PartialEq, Eq)]
+pub struct Given {
+    /// The header's author.
+    pub author: Author,
+    /// The header's round.
+    pub round: Round,
+    /// The header's digest.
+    pub digest: Digest,
+}
+
+/// The votes that the member has given by a journal of these records, in that order, own headers included.
+///
+/// # Errors
+/// What an opening of a node answers: `Damaged` with a place in bytes, `ConfigMismatch`, or `Memory` where an allocation failed.
+pub fn votes_of<S: Sign>(
+    alloc: Global,
+    config: &Config<S>,
+    records: &[Record],
+) -> Result<Vec<Given>, Flaw>
+    ensures ok { (bytes : List ℕ) → stands bytes ≡ Ok records.now → IfOk result (λ votes. AreVotes (node_of S.scheme config.now) bytes votes.items) }
+    ensures err { (bytes : List ℕ) → stands bytes ≡ Ok records.now → IfErr result (λ flaw. Tells flaw.error (told (node_of S.scheme config.now) bytes)) }
+{
+    let validator = after_records(alloc, config, records)?;
+    let votes = given_in_each(alloc, validator.committee(), events_of(records))?;
+    Ok(votes)
+}
+
+// The votes of the events of records, in their order.
+fn given_in_each(
+    alloc: Global,
+    committee: &Committee,
+    records: &[Record],
+) -> Result<Vec<Given>, AllocError>
+    ensures { IfOk result (λ votes. votes.items ≡ filter_map (given_in committee.now) records.now) }
+{
+    let mut votes = Vec::new(alloc);
+    for one in records {
+        let given = given_in(alloc, committee, one)?;
+        push_given(&mut votes, given)?;
+    }
+    Ok(votes)
+}
+
+// Puts a vote after others, if there is one.
+fn push_given(votes: &mut Vec<Given>, given: Option<Given>) -> Result<(), AllocError>
+    ensures { OnOk result (votes.new.items ≡ votes.old.items ++ option_to_list given) }
+{
+    if let Some(given) = given {
+        votes.push(given)?;
+    }
+    Ok(())
+}
+
+// The vote of a record's event.
+fn given_in(alloc: Global, committee: &Committee, one: &Record) -> Result<Option<Given>, AllocError>
+    ensures { IfOk result (λ given. given ≡ given_in committee.now one.now) }
+{
+    match event_of(alloc, committee, one.bytes.as_slice())? {
+        Some(event) => Ok(given_by(&event)),
+        None => Ok(None),
+    }
+}
+
+// The vote that an event gives, if it is a header.
+fn given_by(event: &Checked) -> Option<Given>
+    ensures { result ≡ given_by event.now }
+{
+    match event.message() {
+        Message::Header(header) => Some(Given {
+            author: header.body.author,
+            round: header.body.round,
+            digest: header_digest(&header.body),
+        }),
+        _ => None,
+    }
+}
