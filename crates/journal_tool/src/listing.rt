@@ -1,0 +1,249 @@
+//! The events of a journal, line by line, as its bytes spell them: nothing but the groups is tested.
+
+use crate::ending::Ending;
+use crate::telling::{Column, put_line, short};
+use journal::{CLOSED, MAX_GROUP_BYTES, MAX_GROUP_RECORDS};
+use journal_account::{EVENT, FRONT_BYTES, Flaw, Why, own_number};
+use std::alloc::Global;
+use std::io::Write;
+use wire::{Message, WireError, batch_digest, certificate_digest, header_digest};
+use wire_read::decode;
+
+/// The columns of a list.
+pub(crate) const COLUMNS: [&str; 8] = [
+    "place", "gate", "kind", "sender", "author", "round", "wave", "digest",
+];
+
+/// The bytes from a gate to its group's body: the gate, and the body's length.
+const FRONT_OF_BODY: u64 = 5;
+
+/// What a list tells of a record. What it hasn't is None.
+#[derive(Clone, Copy)]
+struct Row {
+    kind: &'static str,
+    sender: Option<u64>,
+    author: Option<u64>,
+    round: Option<u64>,
+    wave: Option<u64>,
+    digest: Option<u32>,
+}
+
+/// Writes a line for each record of the groups from a place on, in bytes: those behind open gates, and the one that may stand behind
+/// the closed gate.
+///
+/// # Errors
+/// `Flawed` at the place of an open gate without a whole group behind it, after the lines of those before; `Memory`; `Output`.
+pub(crate) fn list<W: Write>(
+    alloc: Global,
+    bytes: &[u8],
+    from: u64,
+    json: bool,
+    writer: &mut W,
+) -> Result<(), Ending> {
+    if bytes.len() < 2 {
+        return Ok(());
+    }
+    let (mut rest, mut place): (&[u8], u64) = (bytes, 0);
+    for _ in 0..bytes.len() {
+        let Some((gate, behind)) = rest.split_first() else {
+            return Ok(());
+        };
+        let is_open = *gate != CLOSED;
+        let Some((body, after)) = split_group(behind) else {
+            return end_at(place, is_open);
+        };
+        if place >= from {
+            list_group(alloc, place, is_open, body, json, writer)?;
+        }
+        if !is_open {
+            return Ok(());
+        }
+        place = place
+            .saturating_add(FRONT_OF_BODY)
+            .saturating_add(body.len() as u64);
+        rest = after;
+    }
+    Ok(())
+}
+
+// What a place without a whole group behind it means.
+fn end_at(place: u64, is_open: bool) -> Result<(), Ending> {
+    if is_open {
+        Err(Ending::Flawed(Flaw::at(place, Why::Group)))
+    } else {
+        Ok(())
+    }
+}
+
+// The number in a length field at the front, and what is behind it.
+fn split_length(bytes: &[u8]) -> Option<(usize, &[u8])> {
+    match bytes {
+        [first, second, third, fourth, rest @ ..] => {
+            let len = u32::from_be_bytes([*first, *second, *third, *fourth]);
+            Some((len as usize, rest))
+        }
+        _ => None,
+    }
+}
+
+// The body after a gate, and what is behind it, if the next gate stands within the bytes too, and the body is whole records.
+fn split_group(bytes: &[u8]) -> Option<(&[u8], &[u8])> {
+    let (len, rest) = split_length(bytes)?;
+    if len == 0 || len > MAX_GROUP_BYTES || rest.len() <= len {
+        return None;
+    }
+    let (body, after) = rest.split_at(len);
+    if is_whole(body) {
+        Some((body, after))
+    } else {
+        None
+    }
+}
+
+// The record at the front, and what is behind it, if it is whole.
+fn split_record(bytes: &[u8]) -> Option<(&[u8], &[u8])> {
+    let (len, rest) = split_length(bytes)?;
+    if rest.len() < len {
+        return None;
+    }
+    Some(rest.split_at(len))
+}
+
+// Whether a body is whole records, and not too many.
+fn is_whole(body: &[u8]) -> bool {
+    let mut rest = body;
+    for _ in 0..MAX_GROUP_RECORDS {
+        if rest.is_empty() {
+            return true;
+        }
+        let Some((_, after)) = split_record(rest) else {
+            return false;
+        };
+        rest = after;
+    }
+    rest.is_empty()
+}
+
+// Writes a line for each record of a whole group.
+fn list_group<W: Write>(
+    alloc: Global,
+    place: u64,
+    is_open: bool,
+    body: &[u8],
+    json: bool,
+    writer: &mut W,
+) -> Result<(), Ending> {
+    let mut rest = body;
+    for _ in 0..MAX_GROUP_RECORDS {
+        let Some((record, after)) = split_record(rest) else {
+            return Ok(());
+        };
+        let row = row_of(alloc, record)?;
+        put_row(place, is_open, row, json, writer)?;
+        rest = after;
+    }
+    Ok(())
+}
+
+fn put_row<W: Write>(
+    place: u64,
+    is_open: bool,
+    row: Row,
+    json: bool,
+    writer: &mut W,
+) -> Result<(), Ending> {
+    let gate = if is_open { "open" } else { "closed" };
+    put_line(
+        json,
+        &COLUMNS,
+        &[
+            Column::Number(Some(place)),
+            Column::Word(gate),
+            Column::Word(row.kind),
+            Column::Number(row.sender),
+            Column::Number(row.author),
+            Column::Number(row.round),
+            Column::Number(row.wave),
+            Column::Short(row.digest),
+        ],
+        writer,
+    )
+}
+
+// What is told of a record.
+fn row_of(alloc: Global, record: &[u8]) -> Result<Row, Ending> {
+    let nothing = Row {
+        kind: "unreadable",
+        sender: None,
+        author: None,
+        round: None,
+        wave: None,
+        digest: None,
+    };
+    if record.first() == Some(&0) {
+        let own = own_number(record).map(|own| own.0 as u64);
+        return Ok(Row {
+            kind: "configuration",
+            sender: own,
+            ..nothing
+        });
+    }
+    if record.len() < FRONT_BYTES || record[0] != EVENT {
+        return Ok(nothing);
+    }
+    let sender = Some(u16::from_be_bytes([record[1], record[2]]) as u64);
+    let row = Row { sender, ..nothing };
+    match decode(alloc, &record[FRONT_BYTES..]) {
+        Ok(message) => Ok(row_with(row, &message)),
+        Err(WireError::Memory) => Err(Ending::Memory),
+        Err(_) => Ok(row),
+    }
+}
+
+// The same with what a message tells.
+fn row_with(row: Row, message: &Message) -> Row {
+    match message {
+        Message::Batch(batch) => Row {
+            kind: "batch",
+            author: Some(batch.author().0 as u64),
+            digest: Some(short(&batch_digest(batch))),
+            ..row
+        },
+        Message::BatchAck(ack) => Row {
+            kind: "ack",
+            author: Some(ack.author.0 as u64),
+            digest: Some(short(&ack.batch)),
+            ..row
+        },
+        Message::Header(header) => Row {
+            kind: "header",
+            author: Some(header.body.author.0 as u64),
+            round: Some(header.body.round.number()),
+            digest: Some(short(&header_digest(&header.body))),
+            ..row
+        },
+        Message::Vote(vote) => Row {
+            kind: "vote",
+            author: Some(vote.author.0 as u64),
+            round: Some(vote.round.number()),
+            digest: Some(short(&vote.header)),
+            ..row
+        },
+        Message::Certificate(certificate) => {
+            let body = &certificate.header;
+            let digest = certificate_digest(&header_digest(body), body.round, body.author);
+            Row {
+                kind: "certificate",
+                author: Some(body.author.0 as u64),
+                round: Some(body.round.number()),
+                digest: Some(short(&digest)),
+                ..row
+            }
+        }
+        Message::Coin(coin) => Row {
+            kind: "coin",
+            wave: Some(coin.wave.number()),
+            ..row
+        },
+    }
+}

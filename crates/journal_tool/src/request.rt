@@ -1,0 +1,173 @@
+//! What is asked for, by the arguments.
+
+use crate::ending::Ending;
+
+/// A command.
+#[derive(Clone, Copy, Debug, PartialEq, Eq)]
+pub(crate) enum Command {
+    /// What the journal comes to.
+    Verify,
+    /// Each event.
+    List,
+    /// Each vote that was given.
+    Votes,
+    /// The last own header, as a frame.
+    LastHeader,
+    /// The order.
+    Order,
+    /// Whether one of two orders is a prefix of the other.
+    Compare,
+}
+
+/// A command with what it is about.
+#[derive(Clone, Copy, Debug)]
+pub(crate) struct Request<'a> {
+    /// The command.
+    pub command: Command,
+    /// The path of the journal.
+    pub journal: &'a str,
+    /// The path of the committee file, or of the other journal.
+    pub other: Option<&'a str>,
+    /// The place of the first group that is listed, in bytes, or of the first certificate of the order that is told.
+    pub from: u64,
+    /// Whether a frame is written as bytes.
+    pub bytes: bool,
+    /// Whether lines are objects of JSON.
+    pub json: bool,
+}
+
+// What the arguments after the command say.
+#[derive(Clone, Copy)]
+struct Words<'a> {
+    journal: Option<&'a str>,
+    other: Option<&'a str>,
+    from: Option<u64>,
+    // Whether the next word is the number of `--from`.
+    awaits: bool,
+    bytes: bool,
+    json: bool,
+}
+
+/// The request that the arguments after the program's name make.
+///
+/// # Errors
+/// `Usage` with what is wrong.
+pub(crate) fn request_of(args: &[String]) -> Result<Request<'_>, Ending> {
+    let Some((first, rest)) = args.split_first() else {
+        return Err(Ending::Usage("a command and a journal are needed"));
+    };
+    let command = command_of(first.as_str())?;
+    let words = words_of(rest)?;
+    let Some(journal) = words.journal else {
+        return Err(Ending::Usage("a journal is needed"));
+    };
+    test_options(command, &words)?;
+    Ok(Request {
+        command,
+        journal,
+        other: words.other,
+        from: words.from.unwrap_or(0),
+        bytes: words.bytes,
+        json: words.json,
+    })
+}
+
+fn command_of(word: &str) -> Result<Command, Ending> {
+    match word {
+        "verify" => Ok(Command::Verify),
+        "list" => Ok(Command::List),
+        "votes" => Ok(Command::Votes),
+        "last-header" => Ok(Command::LastHeader),
+        "order" => Ok(Command::Order),
+        "compare" => Ok(Command::Compare),
+        _ => Err(Ending::Usage("there is no such command")),
+    }
+}
+
+// Each option has to be one of the command.
+fn test_options(command: Command, words: &Words<'_>) -> Result<(), Ending> {
+    let takes_from = matches!(command, Command::List | Command::Order);
+    let takes_json = !matches!(command, Command::LastHeader | Command::Compare);
+    if words.from.is_some() && !takes_from {
+        Err(Ending::Usage("--from is an option of list and order"))
+    } else if words.bytes && command != Command::LastHeader {
+        Err(Ending::Usage("--bytes is an option of last-header"))
+    } else if words.json && !takes_json {
+        Err(Ending::Usage("--json is an option of verify, list, votes and order"))
+    } else if command == Command::Compare && words.other.is_none() {
+        Err(Ending::Usage("compare needs two journals"))
+    } else {
+        Ok(())
+    }
+}
+
+// The paths and the options, in whatever order they stand.
+fn words_of(rest: &[String]) -> Result<Words<'_>, Ending> {
+    let mut words = Words {
+        journal: None,
+        other: None,
+        from: None,
+        awaits: false,
+        bytes: false,
+        json: false,
+    };
+    for word in rest {
+        words = with_word(words, word.as_str())?;
+    }
+    if words.awaits {
+        return Err(Ending::Usage("--from needs a number"));
+    }
+    Ok(words)
+}
+
+// The same with a word more.
+fn with_word<'a>(words: Words<'a>, word: &'a str) -> Result<Words<'a>, Ending> {
+    if words.awaits {
+        let from = Some(number_of(word)?);
+        return Ok(Words {
+            from,
+            awaits: false,
+            ..words
+        });
+    }
+    match word {
+        "--bytes" => Ok(Words {
+            bytes: true,
+            ..words
+        }),
+        "--json" => Ok(Words {
+            json: true,
+            ..words
+        }),
+        "--from" => Ok(Words {
+            awaits: true,
+            ..words
+        }),
+        path => with_path(words, path),
+    }
+}
+
+// The same with a path more, of which there are two at most. What begins with a dash is no path.
+fn with_path<'a>(words: Words<'a>, path: &'a str) -> Result<Words<'a>, Ending> {
+    if path.starts_with("-") {
+        return Err(Ending::Usage("there is no such option"));
+    }
+    match (words.journal, words.other) {
+        (None, _) => Ok(Words {
+            journal: Some(path),
+            ..words
+        }),
+        (Some(_), None) => Ok(Words {
+            other: Some(path),
+            ..words
+        }),
+        _ => Err(Ending::Usage("there are too many paths")),
+    }
+}
+
+fn number_of(text: &str) -> Result<u64, Ending> {
+    match text.parse::<u64>() {
+        Ok(number) => Ok(number),
+        Err(_) => Err(Ending::Usage("--from needs a number")),
+    }
+}

@@ -1,0 +1,348 @@
+//! A run: a command on a journal, whose file is opened for reading alone.
+
+use crate::ending::Ending;
+use crate::listing::{COLUMNS, list};
+use crate::request::{Command, Request, request_of};
+use crate::telling::{Column, put_hex, put_line, put_names};
+use committee::{Committee, CommitteeError};
+use journal::Record;
+use journal_account::{
+    Summary, Waves, config_in, last_frame, order_of, records_in, summary_of, votes_of, waves_of,
+};
+use sigface::HashSign;
+use std::alloc::Global;
+use std::fs::{self, File};
+use std::io::Write;
+use std::rt::Files;
+use std::str;
+use validator::Config;
+use wire::Digest;
+
+/// Carries out the command of the arguments after the program's name, and answers the exit status: 0; 1 where the journal is damaged,
+/// another's, or disagrees with the other one; 2 for other arguments; 5 where a journal can't be read; 6 where an allocation failed;
+/// 7 where the output can't be written. Nothing is written but to the writer, and lines to the errors.
+pub fn run<R, W, E>(rt: &R, alloc: Global, args: &[String], writer: &mut W, errors: &mut E) -> u8
+where
+    R: Files<File = File> + AllocGlobal,
+    W: Write,
+    E: Write,
+{
+    let ending = match carry_out(rt, alloc, args, writer) {
+        Ok(ending) => ending,
+        Err(ending) => ending,
+    };
+    let ending = match writer.flush() {
+        Ok(()) => ending,
+        Err(_) => Ending::Output,
+    };
+    ending.write_to(errors);
+    ending.status()
+}
+
+fn carry_out<R, W>(rt: &R, alloc: Global, args: &[String], writer: &mut W) -> Result<Ending, Ending>
+where
+    R: Files<File = File> + AllocGlobal,
+    W: Write,
+{
+    let request = request_of(args)?;
+    let bytes = bytes_at(rt, request.journal)?;
+    match request.command {
+        Command::List => {
+            put_names(request.json, &COLUMNS, writer)?;
+            list(alloc, &bytes, request.from, request.json, writer)?;
+            Ok(Ending::Done)
+        }
+        Command::Verify => verify(rt, alloc, request, bytes, writer),
+        Command::Compare => compare(rt, alloc, request, bytes, writer),
+        Command::Votes | Command::LastHeader | Command::Order => {
+            let (config, records) = read(rt, alloc, request.other, bytes)?;
+            match config {
+                Some(config) => tell(alloc, request, &config, &records, writer)?,
+                None => put_names(request.json, names_of(request.command), writer)?,
+            }
+            Ok(Ending::Done)
+        }
+    }
+}
+
+// All the bytes of a file.
+fn bytes_at<R: Files<File = File> + AllocGlobal>(rt: &R, path: &str) -> Result<Vec<u8>, Ending> {
+    match fs::read(rt, path) {
+        Ok(bytes) => Ok(bytes),
+        Err(error) => Err(Ending::of_file(&error)),
+    }
+}
+
+// The records of a journal, and whose it is: that of the member of the file's committee that it names, or else of its own. None
+// where there is no record.
+fn read<R: Files<File = File> + AllocGlobal>(
+    rt: &R,
+    alloc: Global,
+    file: Option<&str>,
+    bytes: Vec<u8>,
+) -> Result<(Option<Config<HashSign>>, Vec<Record>), Ending> {
+    let committee = match file {
+        Some(path) => Some(committee_at(rt, alloc, path)?),
+        None => None,
+    };
+    let records = records_in(alloc, bytes)?;
+    let config = config_in(alloc, committee, &records)?;
+    Ok((config, records))
+}
+
+// The committee of a file.
+fn committee_at<R: Files<File = File> + AllocGlobal>(
+    rt: &R,
+    alloc: Global,
+    path: &str,
+) -> Result<Committee, Ending> {
+    let Ok(text) = fs::read(rt, path) else {
+        return Err(Ending::Usage("the committee file can't be read"));
+    };
+    let Ok(text) = str::from_utf8(&text) else {
+        return Err(Ending::Usage("the committee file is no committee's"));
+    };
+    match Committee::read(alloc, text) {
+        Ok(committee) => Ok(committee),
+        Err(CommitteeError::Memory) => Err(Ending::Memory),
+        Err(_) => Err(Ending::Usage("the committee file is no committee's")),
+    }
+}
+
+// Tells what a journal comes to, or what is wrong with it.
+fn verify<R, W>(
+    rt: &R,
+    alloc: Global,
+    request: Request<'_>,
+    bytes: Vec<u8>,
+    writer: &mut W,
+) -> Result<Ending, Ending>
+where
+    R: Files<File = File> + AllocGlobal,
+    W: Write,
+{
+    match verified(rt, alloc, request.other, bytes) {
+        Ok(summary) => {
+            put_summary(request.json, summary, writer)?;
+            Ok(Ending::Done)
+        }
+        Err(Ending::Flawed(flaw)) => {
+            if request.json {
+                writeln!(writer, "{{\"wrong\":\"{flaw}\"}}")?;
+            } else {
+                writeln!(writer, "{flaw}")?;
+            }
+            Ok(Ending::Wrong)
+        }
+        Err(ending) => Err(ending),
+    }
+}
+
+fn verified<R: Files<File = File> + AllocGlobal>(
+    rt: &R,
+    alloc: Global,
+    file: Option<&str>,
+    bytes: Vec<u8>,
+) -> Result<Summary, Ending> {
+    let (config, records) = read(rt, alloc, file, bytes)?;
+    match config {
+        Some(config) => Ok(summary_of(alloc, &config, &records)?),
+        None => Ok(Summary::empty()),
+    }
+}
+
+fn put_summary<W: Write>(json: bool, summary: Summary, writer: &mut W) -> Result<(), Ending> {
+    let Summary {
+        events,
+        order,
+        round,
+        floor,
+    } = summary;
+    if json {
+        put_line(
+            json,
+            &["events", "order", "round", "floor"],
+            &[
+                Column::Number(Some(events)),
+                Column::Number(Some(order)),
+                Column::Number(Some(round)),
+                Column::Number(Some(floor)),
+            ],
+            writer,
+        )
+    } else {
+        writeln!(
+            writer,
+            "{events} events, order of {order}, round {round}, floor {floor}"
+        )?;
+        Ok(())
+    }
+}
+
+fn names_of(command: Command) -> &'static [&'static str] {
+    match command {
+        Command::Votes => &["author", "round", "digest"],
+        Command::Order => &["place", "digest", "author", "round", "wave"],
+        _ => &[],
+    }
+}
+
+// Tells what a command asks of a journal that has a configuration.
+fn tell<W: Write>(
+    alloc: Global,
+    request: Request<'_>,
+    config: &Config<HashSign>,
+    records: &[Record],
+    writer: &mut W,
+) -> Result<(), Ending> {
+    let json = request.json;
+    match request.command {
+        Command::Votes => tell_votes(alloc, json, config, records, writer),
+        Command::Order => tell_order(alloc, json, request.from, config, records, writer),
+        _ => tell_last(alloc, request.bytes, config, records, writer),
+    }
+}
+
+fn tell_votes<W: Write>(
+    alloc: Global,
+    json: bool,
+    config: &Config<HashSign>,
+    records: &[Record],
+    writer: &mut W,
+) -> Result<(), Ending> {
+    let names = names_of(Command::Votes);
+    let votes = votes_of(alloc, config, records)?;
+    put_names(json, names, writer)?;
+    for vote in &votes {
+        put_line(
+            json,
+            names,
+            &[
+                Column::Number(Some(vote.author.0 as u64)),
+                Column::Number(Some(vote.round.number())),
+                Column::Digest(&vote.digest),
+            ],
+            writer,
+        )?;
+    }
+    Ok(())
+}
+
+fn tell_order<W: Write>(
+    alloc: Global,
+    json: bool,
+    from: u64,
+    config: &Config<HashSign>,
+    records: &[Record],
+    writer: &mut W,
+) -> Result<(), Ending> {
+    let names = names_of(Command::Order);
+    let order = order_of(alloc, config, records)?;
+    let waves = Waves::new(alloc, config.committee(), records)?;
+    let found = waves_of(alloc, &waves, &order)?;
+    put_names(json, names, writer)?;
+    for (i, (digest, wave)) in order.iter().zip(&found).enumerate() {
+        if i as u64 >= from {
+            put_ordered(json, names, i as u64, digest, &waves, *wave, writer)?;
+        }
+    }
+    Ok(())
+}
+
+fn put_ordered<W: Write>(
+    json: bool,
+    names: &[&str],
+    place: u64,
+    digest: &Digest,
+    waves: &Waves,
+    wave: Option<u64>,
+    writer: &mut W,
+) -> Result<(), Ending> {
+    let (author, round) = match waves.find(digest) {
+        Some(one) => (Some(one.author.0 as u64), Some(one.round.number())),
+        None => (None, None),
+    };
+    put_line(
+        json,
+        names,
+        &[
+            Column::Number(Some(place)),
+            Column::Digest(digest),
+            Column::Number(author),
+            Column::Number(round),
+            Column::Number(wave),
+        ],
+        writer,
+    )
+}
+
+fn tell_last<W: Write>(
+    alloc: Global,
+    bytes: bool,
+    config: &Config<HashSign>,
+    records: &[Record],
+    writer: &mut W,
+) -> Result<(), Ending> {
+    // What can't be opened isn't told of.
+    let _ = summary_of(alloc, config, records)?;
+    let Some(frame) = last_frame(alloc, config.committee(), config.own(), records)? else {
+        return Ok(());
+    };
+    if bytes {
+        writer.write_all(&frame)?;
+    } else {
+        put_hex(&frame, writer)?;
+        writeln!(writer, "")?;
+    }
+    Ok(())
+}
+
+// Tells whether one of two journals' orders is a prefix of the other, and where they part.
+fn compare<R, W>(
+    rt: &R,
+    alloc: Global,
+    request: Request<'_>,
+    bytes: Vec<u8>,
+    writer: &mut W,
+) -> Result<Ending, Ending>
+where
+    R: Files<File = File> + AllocGlobal,
+    W: Write,
+{
+    let left = order_in(rt, alloc, bytes)?;
+    let right = match request.other {
+        Some(path) => order_in(rt, alloc, bytes_at(rt, path)?)?,
+        None => Vec::new(alloc),
+    };
+    let (first, second) = (left.len(), right.len());
+    let same = left
+        .iter()
+        .zip(&right)
+        .take_while(|(one, other)| one == other)
+        .count();
+    if same < first && same < second {
+        writeln!(writer, "the orders of {first} and {second} part at {same}")?;
+        return Ok(Ending::Wrong);
+    }
+    let what = if first == second {
+        "are equal"
+    } else if first < second {
+        "agree: the first is a prefix of the second"
+    } else {
+        "agree: the second is a prefix of the first"
+    };
+    writeln!(writer, "the orders of {first} and {second} {what}")?;
+    Ok(Ending::Done)
+}
+
+fn order_in<R: Files<File = File> + AllocGlobal>(
+    rt: &R,
+    alloc: Global,
+    bytes: Vec<u8>,
+) -> Result<Vec<Digest>, Ending> {
+    let (config, records) = read(rt, alloc, None, bytes)?;
+    match config {
+        Some(config) => Ok(order_of(alloc, &config, &records)?),
+        None => Ok(Vec::new(alloc)),
+    }
+}
