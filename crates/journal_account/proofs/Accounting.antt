@@ -5,6 +5,7 @@ use Rattle.std.specs.List.{filter_map, cons_option}
 use Rattle.std.specs.Option.{option_and_then, option_map, option_to_list}
 use Rattle.std.proofs.lemmas.List.{append-nil, length-map}
 use Rattle.std.proofs.lemmas.List.Elements.{All-head, All-tail}
+use Rattle.std.proofs.lemmas.Option.{same_Some}
 use Rattle.journal.specs.Format.{stands}
 use Rattle.journal.specs.declared.error.JournalError.{JournalError}
 use Rattle.journal.specs.declared.record.Record.{Record}
@@ -30,6 +31,39 @@ use Rattle.journal_account.specs.declared.votes.Given.{Given}
 
 -- ---- the history of a journal
 
+records_are : (one other : List Record) → ◌≡◌ {A = Result (List Record) ℕ} (Ok one) (Ok other) → one ≡ other
+records_are one other same = cc
+
+-- events that a node takes are known by their records
+same_events : (node : Node) (one other : History) → IsNode node → All (IsTaken node) one → All (IsTaken node) other → map record_of one ≡ map record_of other → one ≡ other
+same_events node [] [] sound taken too same = refl
+same_events node [] (event ∷ events) sound taken too same = absurd (omega (arith, ap length same))
+same_events node (event ∷ events) [] sound taken too same = absurd (omega (arith, ap length same))
+same_events node (event ∷ events) (next ∷ more) sound taken too same =
+    let bytes : record_of event ≡ record_of next = ap (λ (l : List (List ℕ)). get_or l 0 []) same in
+    let first : event ≡ next =
+    same_Some event next (sym (record_read node event sound (All-head (IsTaken node) event events taken)) ∙ ap (event_in node.charter) bytes
+    ∙ record_read node next sound (All-head (IsTaken node) next more too)) in
+    let others = same_events node events more sound (All-tail (IsTaken node) event events taken) (All-tail (IsTaken node) next more too)
+    (ap (λ (l : List (List ℕ)). drop 1 l) same) in
+    λ i. first i ∷ others i
+
+-- what stands for no records is no journal
+no_journal : (version : Version) (node : Node) (history : History) (records : List Record) → bytes_of records ≡ journal_of version node history → records ≡ [] → ⊥
+no_journal version node history records are none = omega (arith, ap length (sym (ap bytes_of none) ∙ are))
+
+-- bytes stand for one history
+one_history : (node : Node) (bytes : List ℕ) (history other : History) → IsNode node → StandsFor node bytes history → StandsFor node bytes other → other ≡ history
+one_history node bytes history other sound (as_journal one) (as_journal two) =
+    let records = records_are two.records one.records (sym two.stands_for ∙ one.stands_for) in
+    let same : journal_of two.version node other ≡ journal_of one.version node history = sym two.are ∙ ap bytes_of records ∙ one.are in
+    same_events node other history sound two.each_taken one.each_taken (ap (λ (l : List (List ℕ)). drop 1 l) same)
+one_history node bytes history other sound (as_journal one) (as_new none empty) =
+    absurd (no_journal one.version node history one.records one.are (records_are one.records [] (sym one.stands_for ∙ none)))
+one_history node bytes history other sound (as_new none empty) (as_journal two) =
+    absurd (no_journal two.version node other two.records two.are (records_are two.records [] (sym two.stands_for ∙ none)))
+one_history node bytes history other sound (as_new none empty) (as_new nothing too) = too ∙ sym empty
+
 -- where tables stand at what records are read as, they stand at what is kept of a history that bytes are read as
 read_at : StartsFresh → (node : Node) (bytes : List ℕ) (records : List Record) (tables : Tables) → IsNode node → All IsText (drop 1 records)
     → StandsAt node (read_journal node records) tables → stands bytes ≡ Ok records → IsReadAt node bytes tables
@@ -40,6 +74,7 @@ read_at starts node bytes records tables sound texts found is =
       read_as = record {
         legal = of_bytes.legal;
         stands_for = of_bytes.stands_for;
+        only = λ other stands. one_history node bytes of_bytes.history other sound of_bytes.stands_for stands;
         is_told = told_records node bytes records is ∙ found.is_read ∙ ap Ok (sym of_bytes.keeps);
       };
       at = subst (AreAtSound node tables) (sym of_bytes.keeps) found.at;
@@ -91,9 +126,6 @@ counted_held version node (first ∷ rest) history legal are =
       counts = sym (length-map history record_of) ∙ sym (ap length same) ∙ length-map rest (λ (one : Record). one.bytes);
       votes = votes_in node rest history legal.sound same legal.taken;
     }
-
-records_are : (one other : List Record) → ◌≡◌ {A = Result (List Record) ℕ} (Ok one) (Ok other) → one ≡ other
-records_are one other same = cc
 
 counted : (node : Node) (bytes : List ℕ) (records : List Record) (history : History) → stands bytes ≡ Ok records → IsLegal node history → StandsFor node bytes history
     → IsCounted node records history

@@ -1,4 +1,4 @@
--- What is told of a journal: what the definitions say of a history that its bytes are read as.
+-- What is told of a journal: what the definitions say of the history that its bytes are read as.
 use Rattle.std.specs.Prelude.{◌≡◌, ℕ, List, length, map, Ok, Option}
 use Rattle.std.specs.Option.{option_and_then, option_map}
 use Rattle.committee.specs.Charter.{Charter}
@@ -17,10 +17,11 @@ use Rattle.validator.specs.Standing.{AreAtSound}
 use Rattle.journal_account.specs.declared.summary.Summary.{Summary}
 use Rattle.journal_account.specs.declared.votes.Given.{Given}
 
--- bytes are read as a history: each of its events is new, they stand for it, and an opening finds what is kept of it
+-- bytes are read as a history: each of its events is new, they stand for it and no other, and an opening finds what is kept of it
 pub record IsReadAs (node : Node) (bytes : List ℕ) (history : History) : Type 0 where
   pub legal : IsLegal node history
   pub stands_for : StandsFor node bytes history
+  pub only : (other : History) → StandsFor node bytes other → other ≡ history
   pub is_told : told node bytes ≡ Ok (kept node history)
 
 -- bytes are read as a history, and tables stand at what is kept of it
@@ -29,7 +30,7 @@ pub record IsReadAt (node : Node) (bytes : List ℕ) (tables : Tables) : Type 0 
   pub read_as : IsReadAs node bytes history
   pub at : AreAtSound node tables (kept node history)
 
--- these numbers are those of a history that bytes are read as
+-- these numbers are those of the history that bytes are read as
 pub record Sums (node : Node) (bytes : List ℕ) (summary : Summary) : Type 0 where
   pub history : History
   pub read_as : IsReadAs node bytes history
@@ -50,13 +51,13 @@ given_by event = option_map given_to (as_header event.message)
 abbrev pub given_in : Charter → Record → Option Given
 given_in charter one = option_and_then given_by (event_in charter one.bytes)
 
--- these are the votes of a history that bytes are read as, in the order in which they were given
+-- these are the votes of the history that bytes are read as, in the order in which they were given
 pub record AreVotes (node : Node) (bytes : List ℕ) (votes : List Given) : Type 0 where
   pub history : History
   pub read_as : IsReadAs node bytes history
   pub are : votes ≡ map given_to (headers history)
 
--- these digests are the order of a history that bytes are read as
+-- these digests are the order of the history that bytes are read as
 pub record AreOrdered (node : Node) (bytes : List ℕ) (digests : List Digest) : Type 0 where
   pub history : History
   pub read_as : IsReadAs node bytes history

@@ -1,9 +1,7 @@
 //! Whose journal it is: its first record has to be a configuration alone in its group, and the one that is looked for.
 
-ghost use Rattle.std.specs.Prelude.{◌≡◌, ◌≢◌, ◌&&◌, None, Some, IfOk, IfErr, OnOk};
-ghost use Rattle.std.specs.Str.{bytes_eq};
+ghost use Rattle.std.specs.Prelude.{◌≡◌, ◌≢◌, None, Some, IfOk, IfErr, OnOk};
 ghost use Rattle.journal.specs.declared.error.JournalError.TheVariants as errors;
-ghost use Rattle.spec_records.specs.Records.{configuration_of};
 ghost use Rattle.validator.specs.Setting.{node_of};
 ghost use Rattle.opening.specs.Told.{first_fault, first_version as told_version, is_alone as told_alone, is_own as told_own};
 
