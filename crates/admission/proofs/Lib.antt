@@ -1,4 +1,6 @@
 pub mod Reading
+pub mod Restoring
+pub mod Restored
 pub mod Listing
 pub mod BatchesAfter
 pub mod Answering

@@ -7,3 +7,4 @@ pub mod HeaderLaws
 pub mod Standing
 pub mod Decisions
 pub mod After
+pub mod Kept

@@ -2,11 +2,13 @@
 
 mod facts;
 
-ghost use Rattle.std.specs.Prelude.{◌≡◌, ◌<◌, length, Some, None, IsTrue, IfOk, OnOk, OnErr, option_copied};
+ghost use Rattle.std.specs.Prelude.{◌≡◌, ◌<◌, length, map, slice_get, Some, None, IsTrue, IfOk, OnOk, OnErr, option_copied};
 ghost use Rattle.certify.specs.Answer.{completion_of};
-ghost use Rattle.certify.specs.Assembled.{is_on, started};
+ghost use Rattle.certify.specs.Assembled.{is_on, started, restored};
 ghost use Rattle.admission.specs.Headers.{empty, assembly_at, header_in, digest_in, has_voted_in, IsHeaders, answer_in, counted_in, IsWith, IsForgotten};
+ghost use Rattle.admission.specs.Kept.{IsVotedBy, AreVotedBy, IsSameTable, table_of};
 
+use crate::kept::VotedHeader;
 use certify::{Added, Assembly};
 use committee::Committee;
 pub use facts::votes_agree;
@@ -14,7 +16,7 @@ pub(crate) use facts::{header_comes, others_come, starts_fresh, vote_comes};
 use std::alloc::{AllocError, Global};
 use std::collections::BTreeMap;
 use std::marker::Model;
-use wire::{Author, Digest, Header, Round, Vote};
+use wire::{Author, Digest, Header, Round, Vote, VoteEntry};
 
 /// A validator's own headers, by round, each with the votes that count on it. Contracts see the committee, the validator's
 /// number, and of each round that has a header its assembly.
@@ -55,6 +57,61 @@ impl<'a> Assemblies<'a> {
             committee,
             own,
             rounds: BTreeMap::new(alloc),
+        }
+    }
+
+    /// A table with these own headers of a member of the committee, whose rounds rise. `AllocError` where an allocation failed.
+    pub fn restore(
+        alloc: Global,
+        committee: &'a Committee,
+        own: Author,
+        headers: Vec<VotedHeader>,
+    ) -> Result<Assemblies<'a>, AllocError>
+        requires member { own.0 < length committee.now.keys }
+        requires headers { AreVotedBy committee.now own.0 headers.items }
+        ensures { IfOk result (λ made. IsSameTable made (table_of committee.now own.0 headers.items)) }
+    {
+        let mut made = Assemblies::new(alloc, committee, own);
+        for VotedHeader {
+            header,
+            vote,
+            votes,
+        } in headers {
+            made.bring(alloc, header, vote, votes)?;
+        }
+        Ok(made)
+    }
+
+    // Holds an own header with the own vote and those of others on it. `AllocError` where an allocation failed: nothing has
+    // changed then.
+    fn bring(
+        &mut self,
+        alloc: Global,
+        header: Header,
+        vote: Vote,
+        votes: Vec<VoteEntry>,
+    ) -> Result<(), AllocError>
+        requires { IsVotedBy self.old.charter self.old.own header vote votes.items }
+        ensures ok { OnOk result (IsWith self.old self.new header.body.round (Some (restored self.old.charter header vote votes.items))) }
+        ensures err { OnErr result (self.new ≡ self.old) }
+    {
+        let body = &header.body;
+        let round = body.round.number();
+        let committee = self.committee;
+        let assembly = Assembly::restore(alloc, committee, header, vote, votes)?;
+        assembly.limits_hold();
+        self.rounds.insert(round, assembly)?;
+        Ok(())
+    }
+
+    /// The own header with the votes on it that is at a place, from 0 on, in the order of the rounds. None from the number of
+    /// own headers on. It takes time in proportion to the place.
+    pub fn nth(&self, place: usize) -> Option<&Assembly<'a>>
+        ensures { option_copied result ≡ slice_get (map (λ entry. entry.1) self.now.rounds) place }
+    {
+        match self.rounds.iter().nth(place) {
+            Some((_, assembly)) => Some(assembly),
+            None => None,
         }
     }
 

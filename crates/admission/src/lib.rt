@@ -6,6 +6,7 @@
 mod assemblies;
 mod batches;
 mod facts;
+mod kept;
 mod step;
 mod tables;
 mod votes;
@@ -13,5 +14,6 @@ mod votes;
 pub use assemblies::{Assemblies, votes_agree};
 pub use facts::nameable_agrees;
 pub use header::Refusal;
+pub use kept::{Kept, VotedHeader};
 pub use step::Step;
 pub use tables::{Tables, one_state, others_are_ready};

@@ -10,6 +10,8 @@ mod votes;
 
 ghost use Rattle.std.specs.Prelude.{◌≡◌, ◌<◌, length, IfOk};
 ghost use Rattle.spec_model.specs.Nodes.{Node};
+ghost use Rattle.spec_model.specs.States.{State};
+ghost use Rattle.admission.specs.Kept.{IsKept, IsKeptOf};
 ghost use Rattle.spec_machine.specs.Machine.{fresh};
 ghost use Rattle.votebook.specs.Votes.{ForgetsTo};
 ghost use Rattle.admission.specs.Headers.{IsForgotten};
@@ -18,6 +20,7 @@ ghost use Rattle.admission.specs.Decisions.{voted_by};
 
 use crate::assemblies::{Assemblies, starts_fresh};
 use crate::facts::starts_empty;
+use crate::kept::Kept;
 use batchstore::BatchStore;
 use committee::Committee;
 pub use facts::{one_state, others_are_ready};
@@ -70,6 +73,52 @@ impl<'a> Tables<'a> {
             headers: Assemblies::new(alloc, committee, own),
             sequencer: Sequencer::new(alloc, committee)?,
         })
+    }
+
+    /// Those of a member that is at a sound state of which these are the parts. They begin their hashes at the seed.
+    /// `AllocError` where an allocation failed.
+    pub fn restore(
+        alloc: Global,
+        committee: &'a Committee,
+        own: Author,
+        seed: TableSeed,
+        kept: Kept,
+    ) -> Result<Tables<'a>, AllocError>
+        requires { IsKept committee.now own kept }
+        ensures { IfOk result (λ made. (node : Node) (state : State) → node.charter ≡ committee.now → node.own ≡ own → IsKeptOf node state kept → AreAt node state made) }
+    {
+        let Kept {
+            batches,
+            votes,
+            headers,
+            floor,
+            last,
+            certificates,
+            coins,
+            order,
+        } = kept;
+        Ok(Tables {
+            own,
+            batches: BatchStore::restore(alloc, committee, own, seed, batches)?,
+            votes: VoteBook::restore(alloc, votes)?,
+            headers: Assemblies::restore(alloc, committee, own, headers)?,
+            sequencer: Sequencer::restore(
+                alloc,
+                committee,
+                floor,
+                last,
+                certificates,
+                coins,
+                order,
+            )?,
+        })
+    }
+
+    /// The votes for the headers of other members.
+    pub fn votes(&self) -> &VoteBook
+        ensures { result.now ≡ self.now.votes }
+    {
+        &self.votes
     }
 
     /// The batches.

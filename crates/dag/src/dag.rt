@@ -293,7 +293,7 @@ impl<'a> Dag<'a> {
     }
 
     /// Holds a certificate of this digest from now on: of a DAG that is restored, into which certificates come in the order of
-    /// their rounds. None is held of a later round. At the floor no parent is asked for. `AllocError` where an allocation
+    /// their rounds. None is held of a later round. At or below a floor above 0 no parent is asked for. `AllocError` where an allocation
     /// failed: nothing has changed then.
     pub fn restore(&mut self, certificate: Certificate, digest: Digest) -> Result<(), AllocError>
         requires member { certificate.header.author.0 < length self.old.charter.keys }

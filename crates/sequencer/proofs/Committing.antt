@@ -97,7 +97,7 @@ grown_same node state event sequence later comes ext is last =
     }
 
 -- nothing lies below the floor of a DAG
-stays_dropped : (graph : DagView) (low : ℕ) → IsGraph graph → graph.floor ≡ low → IsDropped graph graph low
+pub stays_dropped : (graph : DagView) (low : ℕ) → IsGraph graph → graph.floor ≡ low → IsDropped graph graph low
 stays_dropped graph low sound floor = record {
   charter = refl;
   floor = most graph.floor low floor;

@@ -6,7 +6,10 @@ pub mod Growing
 pub mod Naming
 pub mod Preparing
 pub mod Ready
+pub mod Entering
+pub mod Restored
 pub mod Rooting
+pub mod Waves
 pub mod Rounds
 pub mod Standing
 pub mod Staying

@@ -22,7 +22,7 @@ use Rattle.sequencer.specs.Laws.{CertificatesAreNew}
 use Rattle.sequencer.proofs.Coming.{made_of, new_in}
 
 -- parents that are a quorum are some
-some_named : (node : Node) (parents : List ParentReference) → quorum_of node.charter ≤ sum_by (λ p. named_weight node.charter p.author) parents → 0 < length parents
+pub some_named : (node : Node) (parents : List ParentReference) → quorum_of node.charter ≤ sum_by (λ p. named_weight node.charter p.author) parents → 0 < length parents
 some_named node [] enough = let none : sum_by (λ (p : ParentReference). named_weight node.charter p.author) [] ≡ 0 = refl in absurd (omega (arith, enough, none))
 some_named node (p ∷ parents) enough = omega arith
 

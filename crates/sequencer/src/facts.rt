@@ -1,6 +1,7 @@
 //! Laws. Each is what a function without a body ensures.
 
 ghost use Rattle.sequencer.specs.ByHistory.{ChainsByHistory, OrdersByHistory};
+ghost use Rattle.sequencer.specs.Listing.{ListedIsEnough};
 ghost use Rattle.sequencer.specs.Laws.{SequenceStays, CertificatesAreNew, IsLedgerOf, DagIsEnough, AreKnown};
 
 /// An event that adds neither a certificate nor a coin leaves a sequencer at the state after it.
@@ -36,6 +37,11 @@ pub fn orders_by_history()
 {
     flatten::each_follows();
 }
+
+/// Certificates that are listed have the last committed wave of slots that hold them above the genesis.
+pub fn listed_is_enough()
+    ensures { ListedIsEnough }
+{}
 
 // What a state is after an event.
 pub(crate) fn states_go_on()

@@ -3,12 +3,16 @@
 #![tactic(auto)]
 
 mod facts;
+mod listed;
 mod prepared;
+mod restoring;
 mod sequencer;
 
 pub use facts::{
-    certificates_are_new, chains_by_history, dag_is_enough, is_ledger_of, orders_by_history,
-    sequence_stays,
+    certificates_are_new, chains_by_history, dag_is_enough, is_ledger_of, listed_is_enough,
+    orders_by_history, sequence_stays,
 };
+pub use listed::listed_top;
 pub use prepared::Prepared;
 pub use sequencer::Sequencer;
+pub use tusk::Coins;

@@ -1,6 +1,6 @@
 //! The certificates, the coins and the order.
 
-ghost use Rattle.std.specs.Prelude.{◌≡◌, ℕ, ◌+◌, ◌-◌, ◌<◌, ◌≤◌, ◌++◌, length, Ok, Some, IfOk, OnOk, OnErr, vec_len, vec_capacity};
+ghost use Rattle.std.specs.Prelude.{◌≡◌, ℕ, ◌+◌, ◌-◌, ◌<◌, ◌≤◌, ◌++◌, length, Ok, Some, true, is_some, IfSome, IfOk, OnOk, OnErr, vec_len, vec_capacity};
 ghost use Rattle.committee.specs.Charter.{Charter};
 ghost use Rattle.spec_machine.specs.Machine.{certificate_of, fresh, after, round_in};
 ghost use Rattle.spec_machine.specs.Sound.{IsSound};
@@ -12,13 +12,17 @@ ghost use Rattle.spec_model.specs.Words.{Event};
 ghost use Rattle.dag.specs.Answer.{answer};
 ghost use Rattle.dag.specs.declared.answers.Added.TheVariants.{New};
 ghost use Rattle.sequencer.specs.Sequence.{IsAt, ComesTo, IsPrepared, CommitsTo, prepared_digests, wave_in};
+ghost use Rattle.dag.specs.Graph.{slots_in};
+ghost use Rattle.sequencer.specs.Restored.{Parts, AreParts, ArePartsOf, HasNoMarks, IsMarkedTo};
 ghost use Rattle.wire.specs.declared.round.TheConstants.Round.{MAX};
 
 use crate::facts::states_go_on;
 use crate::prepared::Prepared;
+use crate::restoring::{empty_dag, fill};
 use committee::Committee;
 use dag::Dag;
 use flatten::{made_stays, mark};
+use spec_machine::fresh_is_sound;
 use std::alloc::{AllocError, Global};
 use std::marker::Model;
 use tusk::Coins;
@@ -100,6 +104,52 @@ impl<'a> Sequencer<'a> {
             last: None,
             order: Vec::new(alloc),
         })
+    }
+
+    /// That of a validator that is at a sound state with this floor, this slot of the last committed leader, these certificates
+    /// above the genesis, each beside its digest, these coins and this order. The certificates rise by round, and within a round
+    /// by author. It walks over no more rounds than the depth to mark what the last leader reaches. `AllocError` where an
+    /// allocation failed.
+    pub fn restore(
+        alloc: Global,
+        committee: &'a Committee,
+        floor: Round,
+        last: Option<(Round, Author)>,
+        certificates: Vec<(Certificate, Digest)>,
+        coins: Coins,
+        order: Vec<Digest>,
+    ) -> Result<Sequencer<'a>, AllocError>
+        requires parts { AreParts (record { charter = committee.now; floor = floor; last = last; held = certificates.items; coins = coins; order = order.items }) }
+        ensures { let parts : Parts = record { charter = committee.now; floor = floor; last = last; held = certificates.items; coins = coins; order = order.items }
+            in IfOk result (λ made. (node : Node) (state : State) → ArePartsOf node state parts → IsAt node state made) }
+    {
+        fresh_is_sound();
+        let mut dag = empty_dag(alloc, committee, floor)?;
+        fill(&mut dag, certificates)?;
+        let mut restored = Sequencer {
+            dag,
+            coins,
+            last: None,
+            order,
+        };
+        restored.mark(alloc, last)?;
+        Ok(restored)
+    }
+
+    // Marks what the last committed leader reaches, of which nothing is marked yet. What it orders is in the order already.
+    // `AllocError` where an allocation failed: nothing has changed then.
+    fn mark(&mut self, alloc: Global, last: Option<(Round, Author)>) -> Result<(), AllocError>
+        requires unmarked { HasNoMarks self.old }
+        requires held { IfSome last (λ slot. is_some (slots_in self.old.graph slot.0 slot.1.0) ≡ true) }
+        ensures ok { OnOk result (IsMarkedTo self.old self.new last) }
+        ensures err { OnErr result (self.new ≡ self.old) }
+    {
+        self.dag.limits_hold();
+        if let Some(leader) = last {
+            let prepared = Prepared::new(alloc, &self.dag, &[leader])?;
+            self.commit(&prepared);
+        }
+        Ok(())
     }
 
     /// The DAG.

@@ -11,6 +11,7 @@ ghost use Rattle.spec_model.specs.Proposing.{propose as propose_of};
 ghost use Rattle.spec_model.specs.States.{State, floor_in};
 ghost use Rattle.spec_machine.specs.Machine.{answered, after, fresh, is_missing_parents, is_ready, proposed, round_in};
 ghost use Rattle.admission.specs.Answers.{IsAnswer, RefusesAs, is_new_step};
+ghost use Rattle.admission.specs.Kept.{IsKeptOf};
 ghost use Rattle.validator.specs.Setting.{node_of};
 ghost use Rattle.validator.specs.Standing.{AreAtSound, GoesOn, IsNewThere, StandSomewhere};
 ghost use Rattle.wire.specs.declared.round.TheConstants.Round.{MAX};
@@ -20,7 +21,7 @@ use crate::newness::is_new;
 use crate::proposing::propose;
 use crate::ready::is_ready;
 use crate::taking::take;
-use admission::{Refusal, Step, Tables, votes_agree};
+use admission::{Kept, Refusal, Step, Tables, votes_agree};
 use committee::Committee;
 use header::Checked;
 use sigface::{Sign, TableSeed};
@@ -76,6 +77,32 @@ impl<'a, S: Sign> Validator<'a, S> {
             config,
             tables,
         })
+    }
+
+    /// One at a sound state of which these are the parts. `AllocError` where an allocation failed.
+    pub fn restore(
+        alloc: Global,
+        config: &'a Config<S>,
+        kept: Kept,
+    ) -> Result<Validator<'a, S>, AllocError>
+        requires { let node = node_of S.scheme config.now in (state : State) × IsKeptOf node state kept }
+        ensures setting { IfOk result (λ made. made.setting ≡ config.now) }
+        ensures at { let node = node_of S.scheme config.now in IfOk result (λ made. (state : State) → IsKeptOf node state kept → AreAtSound node made.tables state) }
+    {
+        let seed = TableSeed::of(config.signer());
+        let tables = Tables::restore(alloc, config.committee(), config.own(), seed, kept)?;
+        Ok(Validator {
+            alloc,
+            config,
+            tables,
+        })
+    }
+
+    /// The tables.
+    pub fn tables(&self) -> &Tables<'a>
+        ensures { result.now ≡ self.now.tables }
+    {
+        &self.tables
     }
 
     /// What holds of each: it is set up as a node, and its tables are those of a sound state. The call does nothing.

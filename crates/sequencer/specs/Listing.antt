@@ -1,0 +1,21 @@
+-- The last committed wave of certificates that stand in a list.
+use Rattle.std.specs.Prelude.{◌≡◌, ℕ, ◌==◌, ◌&&◌, ◌||◌, nat_lt, Bool, List}
+use Rattle.committee.specs.Charter.{Charter}
+use Rattle.spec_model.specs.Ordering.{Ledger, top}
+use Rattle.spec_model.specs.Slots.{Slots}
+use Rattle.sequencer.specs.Restored.{Digested, listed, HoldsListed}
+
+-- a certificate comes before a slot: its round is lower, or it is the same and its author is lower
+abbrev pub comes_before : ℕ → ℕ → Digested → Bool
+comes_before round author one =
+    nat_lt one.0.header.round round || ((one.0.header.round == round) && nat_lt one.0.header.author.0 author)
+
+-- the ledger of a list
+abbrev pub ledger_of : Charter → List Digested → List ℕ → Ledger
+ledger_of charter held coins = record { charter = charter; slots = listed held; coins = coins }
+
+-- slots that hold, above the genesis, what is listed have the last committed wave of the list: no leader and no supporter is of the
+-- genesis
+abbrev pub ListedIsEnough : Type 0
+ListedIsEnough = (charter : Charter) (held : List Digested) (coins : List ℕ) (slots : Slots) → HoldsListed slots held
+    → top (record { charter = charter; slots = slots; coins = coins }) ≡ top (ledger_of charter held coins)

@@ -1,0 +1,119 @@
+-- What a sequencer is restored from.
+use Rattle.std.specs.Prelude.{◌≡◌, ℕ, ◌+◌, ◌<◌, ◌≤◌, ◌==◌, ◌&&◌, ◌||◌, nat_lt, max, Bool, true, false, List, All, AllPairs, map, length, Option, Some, None, option_map, if◌then◌else◌}
+use Rattle.std.specs.Option.{option_or}
+use Rattle.committee.specs.Charter.{Charter, numbers}
+use Rattle.spec_machine.specs.Machine.{last_leader}
+use Rattle.spec_machine.specs.Sound.{IsSound}
+use Rattle.spec_model.specs.Holdings.{genesis, all_held}
+use Rattle.spec_model.specs.Nodes.{Node, IsNode}
+use Rattle.spec_model.specs.Slots.{Slots, certificate_digest, slots_of}
+use Rattle.spec_model.specs.States.{State, ledger_in, floor_in}
+use Rattle.spec_model.specs.Words.{Author, Certificate, Digest}
+use Rattle.dag.specs.Graph.{DagView, size_in, slots_in, marked_in, end_in}
+use Rattle.tusk.specs.Chain.{slot_of}
+use Rattle.flatten.specs.Lengthening.{LengtheningView, FitsTo}
+use Rattle.sequencer.specs.Sequence.{SequencerView, IsCommitted}
+
+-- a certificate and its digest
+abbrev pub Digested : Type 0
+Digested = Certificate × Digest
+
+-- what each slot holds of a list of certificates
+abbrev pub listed : List Digested → Slots
+listed held = slots_of (map (λ (one : Digested). one.0) held)
+
+-- a certificate comes before another one: its round is lower, or the rounds are the same and its author is lower
+abbrev pub is_before : Digested → Digested → Bool
+is_before one other =
+    nat_lt one.0.header.round other.0.header.round
+    || ((one.0.header.round == other.0.header.round) && nat_lt one.0.header.author.0 other.0.header.author.0)
+
+-- certificates above the genesis, rising by round and then by author, each with its digest
+pub record AreListed (held : List Digested) : Type 0 where
+  pub rising : AllPairs (λ one other. is_before one other ≡ true) held
+  pub positive : All (λ one. 0 < one.0.header.round) held
+  pub digested : All (λ one. one.1 ≡ certificate_digest one.0.header) held
+
+-- slots hold, above the genesis, what a list has
+abbrev pub HoldsListed : Slots → List Digested → Type 0
+HoldsListed slots held = (round author : ℕ) → 0 < round → slots round author ≡ listed held round author
+
+-- what a sequencer is restored from: the committee, the floor, the slot of the last committed leader, the certificates above the
+-- genesis, the coins and the order
+pub record Parts : Type 0 where
+  pub charter : Charter
+  pub floor : ℕ
+  pub last : Option (ℕ × Author)
+  pub held : List Digested
+  pub coins : List ℕ
+  pub order : List Digest
+
+-- these are the parts of a sound state of a node
+pub record ArePartsOf (node : Node) (state : State) (parts : Parts) : Type 0 where
+  pub node_is : IsNode node
+  pub sound : IsSound node state
+  pub charter : parts.charter ≡ node.charter
+  pub floor : parts.floor ≡ floor_in node state
+  pub last : parts.last ≡ option_map slot_of (last_leader (ledger_in node state))
+  pub listed : AreListed parts.held
+  pub held : HoldsListed state.slots parts.held
+  pub coins : parts.coins ≡ state.coins
+  pub order : parts.order ≡ state.order
+
+-- there are such a node and a state
+abbrev pub AreParts : Parts → Type 0
+AreParts parts = (node : Node) × (state : State) × ArePartsOf node state parts
+
+-- ---- a DAG that is filled
+
+-- a DAG with this floor holds nothing but the genesis, and that at a floor of 0
+pub record IsEmpty (members : Charter) (low : ℕ) (graph : DagView) : Type 0 where
+  pub charter : graph.charter ≡ members
+  pub floor : graph.floor ≡ low
+  pub base : graph.base ≡ low + 1
+  pub slots : (round author : ℕ) → slots_in graph round author ≡ (if low == 0 then slots_of (map genesis (numbers (length members.keys))) round author else None)
+  pub marked : (round author : ℕ) → marked_in graph round author ≡ false
+  pub end : end_in graph ≡ max low 1
+
+-- the slots of a DAG with a list of certificates more
+abbrev pub with_listed : DagView → List Digested → Slots
+with_listed graph held round author = option_or (slots_in graph round author) (listed held round author)
+
+-- certificates can come into a DAG one after the other: none is of a round that it holds, and the parents of each come before it
+pub record CanEnter (graph : DagView) (held : List Digested) : Type 0 where
+  pub listed : AreListed held
+  pub members : All (λ one. one.0.header.author.0 < size_in graph) held
+  pub named : All (λ one. 0 < length one.0.header.parents) held
+  pub above : All (λ one. graph.floor ≤ one.0.header.round) held
+  pub later : All (λ one. end_in graph ≤ one.0.header.round) held
+  pub parents : All (λ one. all_held (with_listed graph held) graph.floor one.0.header ≡ true) held
+
+-- they have come into it, without marks
+pub record HaveEntered (before after : DagView) (held : List Digested) : Type 0 where
+  pub charter : after.charter ≡ before.charter
+  pub floor : after.floor ≡ before.floor
+  pub base : after.base ≡ before.base
+  pub slots : (round author : ℕ) → slots_in after round author ≡ with_listed before held round author
+  pub marked : (round author : ℕ) → marked_in after round author ≡ marked_in before round author
+
+-- ---- the marks
+
+-- a sequencer has no last leader, and nothing is marked
+pub record HasNoMarks (sequence : SequencerView) : Type 0 where
+  pub last : sequence.last ≡ None
+  pub marked : (round author : ℕ) → marked_in sequence.graph round author ≡ false
+
+-- a sequencer after the commit of a last leader, with none before it: what it reaches is marked, and the coins and the order stay
+pub record IsMarkedBy (before after : SequencerView) (leader : ℕ × Author) : Type 0 where
+  pub made : LengtheningView
+  pub of : made.last ≡ leader
+  pub fits : FitsTo before.graph made
+  pub graph : IsCommitted before.graph after.graph made
+  pub last : after.last ≡ Some leader
+  pub coins : after.coins ≡ before.coins
+  pub order : after.order ≡ before.order
+
+-- so it is where there is a last leader, and else it stays
+abbrev pub IsMarkedTo : SequencerView → SequencerView → Option (ℕ × Author) → Type 0
+IsMarkedTo before after None = after ≡ before
+IsMarkedTo before after (Some leader) = IsMarkedBy before after leader

@@ -1,0 +1,140 @@
+//! The last committed wave of certificates that stand in a list, before a DAG holds them.
+
+ghost use Rattle.std.specs.Prelude.{◌≡◌, ℕ, ◌<◌, ◌≤◌, ◌*◌, ◌==◌, ◌&&◌, nat_lt, true, false, length, List, option_map, option_copied, IfSome};
+ghost use Rattle.std.specs.List.{list_any};
+ghost use Rattle.std.specs.List.Sorted.{IsPartitionPoint};
+ghost use Rattle.committee.specs.Charter.{Charter};
+ghost use Rattle.spec_model.specs.Ordering.{supports, has_support, is_directly_committed, top};
+ghost use Rattle.spec_model.specs.Slots.{same_digest, certificate_digest, is_of_slot};
+ghost use Rattle.sequencer.specs.Restored.{AreListed, listed};
+ghost use Rattle.sequencer.specs.Listing.{comes_before, ledger_of};
+ghost use Rattle.wire.specs.declared.round.TheConstants.Round.{MAX};
+
+use committee::{Committee, MemberSet};
+use tusk::Coins;
+use wire::{Author, Certificate, Digest, ParentReference};
+
+// Whether a certificate comes before a slot.
+fn comes_before(one: &(Certificate, Digest), round: u64, author: u16) -> bool
+    ensures { result ≡ comes_before round author one.now }
+{
+    let header = &one.0.header;
+    header.round.number() < round || (header.round.number() == round && header.author.0 < author)
+}
+
+// How many certificates come before a slot.
+fn place_of(list: &[(Certificate, Digest)], round: u64, author: u16) -> usize
+    requires { AreListed list.now }
+    ensures { IsPartitionPoint (λ one. comes_before round author one ≡ true) (λ one. comes_before round author one ≡ false) list.now result }
+{
+    list.partition_point(|one| comes_before(one, round, author))
+}
+
+// Whether a certificate is that of a slot.
+fn is_of(one: &(Certificate, Digest), round: u64, author: u16) -> bool
+    ensures { result ≡ is_of_slot round author one.now.0.header }
+{
+    let header = &one.0.header;
+    header.round.number() == round && header.author.0 == author
+}
+
+// What the list has in a slot, with its digest. The list is halved until that is known.
+fn entry_of(
+    list: &[(Certificate, Digest)],
+    round: u64,
+    author: u16,
+) -> Option<&(Certificate, Digest)>
+    requires { AreListed list.now }
+    ensures value { option_map (λ one. one.0) (option_copied result) ≡ listed list.now round author }
+    ensures digested { IfSome result (λ one. one.now.1 ≡ certificate_digest one.now.0.header) }
+{
+    let entry = list.get(place_of(list, round, author))?;
+    if is_of(entry, round, author) {
+        return Some(entry);
+    }
+    None
+}
+
+// Whether a parent of this author and digest is named.
+fn is_among(parents: &[ParentReference], author: Author, digest: &Digest) -> bool
+    ensures { result ≡ list_any (λ parent. (parent.author.0 == author.0) && same_digest parent.certificate digest.now) parents.now }
+{
+    parents.iter().any(|parent| parent.author == author && parent.certificate == *digest)
+}
+
+// Whether a member supports a leader.
+fn supports(list: &[(Certificate, Digest)], leader: &(Certificate, Digest), member: u16) -> bool
+    requires listed { AreListed list.now }
+    requires digested { leader.now.1 ≡ certificate_digest leader.now.0.header }
+    ensures { (committee : Charter) (coins : List ℕ) → result ≡ supports (ledger_of committee list.now coins) leader.now.0 member }
+{
+    let (certificate, digest) = leader;
+    let header = &certificate.header;
+    match entry_of(list, header.round.number() + 1, member) {
+        Some((child, _)) => is_among(child.header.parents.as_slice(), header.author, digest),
+        None => false,
+    }
+}
+
+// Whether a leader has support.
+fn is_supported(
+    committee: &Committee,
+    list: &[(Certificate, Digest)],
+    leader: &(Certificate, Digest),
+) -> bool
+    requires listed { AreListed list.now }
+    requires digested { leader.now.1 ≡ certificate_digest leader.now.0.header }
+    ensures { (coins : List ℕ) → result ≡ has_support (ledger_of committee.now list.now coins) leader.now.0 }
+{
+    let mut supporters = MemberSet::none();
+    for member in 0..committee.size() {
+        if supports(list, leader, member) {
+            supporters.insert(Author(member));
+        }
+    }
+    committee.support() <= committee.weight(&supporters)
+}
+
+// Whether a wave is committed by itself.
+fn is_committed(
+    committee: &Committee,
+    coins: &Coins,
+    list: &[(Certificate, Digest)],
+    wave: u64,
+) -> bool
+    requires listed { AreListed list.now }
+    requires some { 0 < wave }
+    requires limit { wave ≤ MAX }
+    ensures { result ≡ is_directly_committed (ledger_of committee.now list.now coins.now) wave }
+{
+    let Some(coin) = coins.get(wave) else {
+        return false;
+    };
+    let author = (coin % committee.size() as u64) as u16;
+    match entry_of(list, 2 * wave - 1, author) {
+        Some(leader) => is_supported(committee, list, leader),
+        None => false,
+    }
+}
+
+/// The greatest wave that is committed by itself over certificates above the genesis and coins. The certificates rise by round,
+/// and within a round by author, and each stands beside its digest. The waves are asked from the last one downwards of which
+/// a leader can have support, until one is; each takes time in proportion to the members and to the logarithm of the list.
+pub fn listed_top(
+    committee: &Committee,
+    coins: &Coins,
+    list: &[(Certificate, Digest)],
+) -> Option<u64>
+    requires { AreListed list.now }
+    ensures { result ≡ top (ledger_of committee.now list.now coins.now) }
+{
+    committee.limits_hold();
+    let (last, _) = list.last()?;
+    let most = (coins.count() as u64).min(last.header.round.number() / 2);
+    for past in 0..most {
+        if is_committed(committee, coins, list, most - past) {
+            return Some(most - past);
+        }
+    }
+    None
+}

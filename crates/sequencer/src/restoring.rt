@@ -1,0 +1,41 @@
+//! How a sequencer's DAG is filled where it is restored.
+
+ghost use Rattle.std.specs.Prelude.{◌≡◌, ℕ, ◌+◌, ◌<◌, ◌≤◌, false, length, IfOk, OnOk};
+ghost use Rattle.dag.specs.Graph.{slots_in, marked_in, end_in};
+ghost use Rattle.spec_model.specs.Holdings.{genesis};
+ghost use Rattle.sequencer.specs.Restored.{CanEnter, HaveEntered, IsEmpty};
+ghost use Rattle.wire.specs.declared.round.TheConstants.Round.{MAX};
+
+use committee::Committee;
+use dag::Dag;
+use std::alloc::{AllocError, Global};
+use wire::{Certificate, Digest, Round};
+
+// A DAG with this floor: with the genesis at a floor of 0, and else with nothing.
+pub(crate) fn empty_dag<'a>(
+    alloc: Global,
+    committee: &'a Committee,
+    floor: Round,
+) -> Result<Dag<'a>, AllocError>
+    requires { floor < MAX }
+    ensures { IfOk result (λ dag. IsEmpty committee.now floor dag) }
+{
+    if floor.number() == 0 {
+        return Dag::new(alloc, committee);
+    }
+    Ok(Dag::above(alloc, committee, floor))
+}
+
+// Brings certificates into a DAG, one after the other. `AllocError` where an allocation failed: some may have come into it then.
+pub(crate) fn fill(
+    dag: &mut Dag,
+    certificates: Vec<(Certificate, Digest)>,
+) -> Result<(), AllocError>
+    requires { CanEnter dag.old certificates.items }
+    ensures { OnOk result (HaveEntered dag.old dag.new certificates.items) }
+{
+    for (certificate, digest) in certificates {
+        dag.restore(certificate, digest)?;
+    }
+    Ok(())
+}
