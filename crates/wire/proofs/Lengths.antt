@@ -13,12 +13,12 @@ use Rattle.wire.specs.Spelling.{batch_reference_bytes, parent_reference_bytes, v
 use Rattle.wire.specs.Spelling.{certificate_bytes}
 
 -- entries that are all as long
-same_length : {X : Type 0} (text : X → List ℕ) (Is : X → Type 0) (len : ℕ) → ((x : X) → Is x → length (text x) ≡ len) → (xs : List X) → All Is xs → length (flat_map text xs) ≡ len * length xs
+pub same_length : {X : Type 0} (text : X → List ℕ) (Is : X → Type 0) (len : ℕ) → ((x : X) → Is x → length (text x) ≡ len) → (xs : List X) → All Is xs → length (flat_map text xs) ≡ len * length xs
 same_length text Is len each [] all = omega arith
 same_length text Is len each (x ∷ xs) all =
     omega (arith, length-append (text x) (flat_map text xs), each x (All-head Is x xs all), same_length text Is len each xs (All-tail Is x xs all))
 
-header_length : (h : HeaderBody) → IsHeaderBody h → length (header_body h) ≡ header_body_len h
+pub header_length : (h : HeaderBody) → IsHeaderBody h → length (header_body h) ≡ header_body_len h
 header_length h is =
     let batches : length (flat_map batch_reference_bytes h.batches) ≡ 34 * length h.batches =
     same_length batch_reference_bytes IsBatchReference 34 (λ b fits. omega (arith, length-append b.digest.0 (to_be_bytes w16 b.worker), fits.digest.count_is)) h.batches is.batches.each in

@@ -2,5 +2,5 @@ pub mod RisingLemmas
 pub mod Joining
 pub mod Transactions
 pub mod DigestLemmas
-mod Lengths
+pub mod Lengths
 pub mod Pieces

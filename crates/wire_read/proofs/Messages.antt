@@ -37,7 +37,7 @@ pub record IsKind {X : Type 0} (at : List ℕ → Read X) (text : X → List ℕ
 
 -- ---- batches and acknowledgements
 
-batch_kind : IsKind batch_at batch_body IsBatch
+pub batch_kind : IsKind batch_at batch_body IsBatch
 batch_kind = record { takes = contents_take; again = contents_again }
 
 ack_takes : (bytes : List ℕ) (x : BatchAck × List ℕ) → IsBytes bytes → ack_at bytes ≡ Ok x → Takes bytes (ack_bytes x.0) x.1 × IsAck x.0
@@ -57,7 +57,7 @@ ack_again a rest is =
     let regrouped : ack_bytes a ++ rest ≡ to_be_bytes w16 a.author.0 ++ (a.batch.0 ++ rest) = simp append_assoc in
     ap ack_at regrouped ∙ rw (author_again a.author (a.batch.0 ++ rest) is.author, digest_again a.batch rest is.batch) refl
 
-ack_kind : IsKind ack_at ack_bytes IsAck
+pub ack_kind : IsKind ack_at ack_bytes IsAck
 ack_kind = record { takes = ack_takes; again = ack_again }
 
 -- ---- headers
@@ -65,7 +65,7 @@ ack_kind = record { takes = ack_takes; again = ack_again }
 abbrev body_from : Author → ℕ → List BatchReference → List ParentReference → HeaderBody
 body_from author round batches parents = record { author = author; round = round; batches = batches; parents = parents }
 
-body_takes : (bytes : List ℕ) (x : HeaderBody × List ℕ) → IsBytes bytes → header_body_at bytes ≡ Ok x → Takes bytes (header_body x.0) x.1 × IsHeaderBody x.0
+pub body_takes : (bytes : List ℕ) (x : HeaderBody × List ℕ) → IsBytes bytes → header_body_at bytes ≡ Ok x → Takes bytes (header_body x.0) x.1 × IsHeaderBody x.0
 unfolding header_body_at
 body_takes bytes x fits e =
     let a = bind_ok (author_at bytes) (λ author. round_at author.1 >>= λ round. batches_at round.1 >>= λ batches. parents_at batches.1
@@ -84,7 +84,7 @@ body_takes bytes x fits e =
     subst (λ (y : HeaderBody × List ℕ). Takes bytes (header_body y.0) y.1 × IsHeaderBody y.0) {x = made} (ok_is made x d.2)
     (from1, record { author = t1.1; round = t2.1; batches = t3.1; parents = t4.1 })
 
-body_again : (h : HeaderBody) (rest : List ℕ) → IsHeaderBody h → header_body_at (header_body h ++ rest) ≡ Ok (h, rest)
+pub body_again : (h : HeaderBody) (rest : List ℕ) → IsHeaderBody h → header_body_at (header_body h ++ rest) ≡ Ok (h, rest)
 unfolding header_body_at
 body_again h rest is =
     let three = parents_bytes h.parents ++ rest in
@@ -117,7 +117,7 @@ header_again h rest is =
     let regrouped : header_bytes h ++ rest ≡ header_body h.body ++ (h.signature.0 ++ rest) = append_assoc (header_body h.body) h.signature.0 rest in
     ap header_at regrouped ∙ rw (body_again h.body (h.signature.0 ++ rest) is.body, signature_again h.signature rest is.signature) refl
 
-header_kind : IsKind header_at header_bytes IsHeader
+pub header_kind : IsKind header_at header_bytes IsHeader
 header_kind = record { takes = header_takes; again = header_again }
 
 -- ---- votes
@@ -180,7 +180,7 @@ vote_spelled bytes x fits e =
     let t = vote_takes bytes x fits e in
     (subst (λ (l : List ℕ). Takes bytes l x.1) (sym (vote_text-is x.0)) t.0, t.1)
 
-vote_kind : IsKind vote_at vote_bytes IsVote
+pub vote_kind : IsKind vote_at vote_bytes IsVote
 vote_kind = record { takes = vote_spelled; again = vote_again }
 
 -- ---- certificates and coins
@@ -202,7 +202,7 @@ certificate_again c rest is =
     let regrouped : certificate_bytes c ++ rest ≡ header_body c.header ++ (votes_bytes c.votes ++ rest) = append_assoc (header_body c.header) (votes_bytes c.votes) rest in
     ap certificate_at regrouped ∙ rw (body_again c.header (votes_bytes c.votes ++ rest) is.header, votes_again c.votes rest is.votes) refl
 
-certificate_kind : IsKind certificate_at certificate_bytes IsCertificate
+pub certificate_kind : IsKind certificate_at certificate_bytes IsCertificate
 certificate_kind = record { takes = certificate_takes; again = certificate_again }
 
 coin_takes : (bytes : List ℕ) (x : Coin × List ℕ) → IsBytes bytes → coin_at bytes ≡ Ok x → Takes bytes (coin_bytes x.0) x.1 × IsCoin x.0
@@ -222,7 +222,7 @@ coin_again c rest is =
     let regrouped : coin_bytes c ++ rest ≡ to_be_bytes w64 c.wave ++ (to_be_bytes w64 c.value ++ rest) = append_assoc (to_be_bytes w64 c.wave) (to_be_bytes w64 c.value) rest in
     ap coin_at regrouped ∙ rw (wave_again c.wave (to_be_bytes w64 c.value ++ rest) is.wave, number_again w64 (2 ^ 64) wide64 c.value rest is.value) refl
 
-coin_kind : IsKind coin_at coin_bytes IsCoin
+pub coin_kind : IsKind coin_at coin_bytes IsCoin
 coin_kind = record { takes = coin_takes; again = coin_again }
 
 -- ---- messages

@@ -20,13 +20,13 @@ use Rattle.wire_read.proofs.EntryLists.{IsEntry, counted_take, counted_again}
 use Rattle.wire_read.proofs.Fields.{wide16, number_takes, number_again, author_takes, author_again, digest_takes, digest_again, signature_takes, signature_again}
 
 -- in a list that rises, what comes after the front may follow it
-may_follow : {X : Type 0} (below : X → X → Bool) (front : List X) (x : X) (rest : List X) → IsTrue (rises below (front ++ x ∷ rest)) → IsTrue (follows (λ a. below a x) front)
+pub may_follow : {X : Type 0} (below : X → X → Bool) (front : List X) (x : X) (rest : List X) → IsTrue (rises below (front ++ x ∷ rest)) → IsTrue (follows (λ a. below a x) front)
 may_follow below [] x rest h = refl
 may_follow below (y ∷ []) x rest h = (both-are (below y x) (rises below (x ∷ rest)) h).0
 may_follow below (y ∷ z ∷ front) x rest h = may_follow below (z ∷ front) x rest (both-are (below y z) (rises below (z ∷ (front ++ x ∷ rest))) h).1
 
 -- the front of a list that rises does
-front_rises : {X : Type 0} (below : X → X → Bool) (front rest : List X) → IsTrue (rises below (front ++ rest)) → IsTrue (rises below front)
+pub front_rises : {X : Type 0} (below : X → X → Bool) (front rest : List X) → IsTrue (rises below (front ++ rest)) → IsTrue (rises below front)
 front_rises below [] rest h = refl
 front_rises below (x ∷ []) rest h = refl
 front_rises below (x ∷ y ∷ front) rest h =
@@ -34,7 +34,7 @@ front_rises below (x ∷ y ∷ front) rest h =
     both_true parts.0 (front_rises below (y ∷ front) rest parts.1)
 
 -- an entry that is read where it may follow, in a list that rises
-rising : {X : Type 0} (entry_at : List X → List ℕ → Read X) (text : X → List ℕ) (Fits : X → Type 0) (below : X → X → Bool)
+pub rising : {X : Type 0} (entry_at : List X → List ℕ → Read X) (text : X → List ℕ) (Fits : X → Type 0) (below : X → X → Bool)
     → ((before : List X) (bytes : List ℕ) (x : X × List ℕ) → IsBytes bytes → entry_at before bytes ≡ Ok x → Takes bytes (text x.0) x.1 × Fits x.0 × IsTrue (follows (λ a. below a x.0) before))
     → ((before : List X) (x : X) (rest : List ℕ) → Fits x → IsTrue (follows (λ a. below a x) before) → entry_at before (text x ++ rest) ≡ Ok (x, rest))
     → IsEntry entry_at text Fits (λ l. IsTrue (rises below l))

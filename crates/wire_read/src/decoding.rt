@@ -44,8 +44,12 @@ fn header_body_of(alloc: Global, reader: &mut Reader) -> Result<HeaderBody, Wire
     })
 }
 
+/// A header: its body, and its signature.
+///
+/// # Errors
+/// The first fault from left to right; `Memory` where an allocation failed.
 #[tactic(auto, unfolding(wire::specs::Reading::header_at))]
-fn header_of(alloc: Global, reader: &mut Reader) -> Result<Header, WireError>
+pub fn header_of(alloc: Global, reader: &mut Reader) -> Result<Header, WireError>
     ensures { Gives (λ x. (x, reader.new)) result (header_at reader.old) }
 {
     let body = header_body_of(alloc, reader)?;
@@ -71,8 +75,12 @@ fn vote_of(reader: &mut Reader) -> Result<Vote, WireError>
     })
 }
 
+/// A certificate: its header's body, and the votes after their count.
+///
+/// # Errors
+/// The first fault from left to right; `Memory` where an allocation failed.
 #[tactic(auto, unfolding(wire::specs::Reading::certificate_at))]
-fn certificate_of(alloc: Global, reader: &mut Reader) -> Result<Certificate, WireError>
+pub fn certificate_of(alloc: Global, reader: &mut Reader) -> Result<Certificate, WireError>
     ensures { Gives (λ x. (x, reader.new)) result (certificate_at reader.old) }
 {
     let header = header_body_of(alloc, reader)?;

@@ -1,5 +1,5 @@
 //! Bytes as messages: `decode` reads from left to right and answers the first fault that it meets, and a
-//! `FrameReader` cuts a stream into the bodies of its frames.
+//! `FrameReader` cuts a stream into the bodies of its frames. A `Reader` reads fields, and parts of messages, where others have them.
 #![tactic(auto)]
 
 mod decoding;
@@ -9,7 +9,10 @@ mod reader;
 mod transactions;
 
 pub use decoding::{
-    beginnings_are_short, decode, faults_by_the_table, faults_stay, one_body, one_spelling,
-    what_follows_is_trailing,
+    beginnings_are_short, certificate_of, decode, faults_by_the_table, faults_stay, header_of,
+    one_body, one_spelling, what_follows_is_trailing,
 };
 pub use frames::{FrameReader, one_split};
+pub use lists::votes_of;
+pub use reader::Reader;
+pub use transactions::batch_of;

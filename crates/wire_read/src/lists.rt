@@ -79,8 +79,12 @@ fn vote_of(reader: &mut Reader, before: &VoteEntries) -> Result<VoteEntry, WireE
     Ok(VoteEntry { voter, signature })
 }
 
+/// Votes after their count of two bytes: each is a voter, above the one before, and a signature.
+///
+/// # Errors
+/// The first fault from left to right; `Memory` where an allocation failed.
 #[tactic(auto, unfolding(wire::specs::Reading::votes_at))]
-pub(crate) fn votes_of(alloc: Global, reader: &mut Reader) -> Result<VoteEntries, WireError>
+pub fn votes_of(alloc: Global, reader: &mut Reader) -> Result<VoteEntries, WireError>
     ensures { Gives (λ x. (x, reader.new)) result (votes_at reader.old) }
 {
     let count = reader.count_u16(MAX_VOTES as u16)?;

@@ -9,7 +9,7 @@ use wire::{Author, Digest, Round, Signature, Wave, WireError};
 
 /// Bytes that are still to be read. After a fault nothing more is said of them.
 #[derive(Drop)]
-pub(crate) struct Reader<'a> {
+pub struct Reader<'a> {
     rest: &'a [u8],
 }
 
@@ -22,21 +22,22 @@ impl<'a> Model for Reader<'a> {
 }
 
 impl<'a> Reader<'a> {
-    pub(crate) fn new(bytes: &'a [u8]) -> Reader<'a>
+    /// A reader of these bytes from their front.
+    pub fn new(bytes: &'a [u8]) -> Reader<'a>
         ensures { result ≡ bytes.now }
     {
         Reader { rest: bytes }
     }
 
     /// What is left.
-    pub(crate) fn rest(&self) -> &[u8]
+    pub fn rest(&self) -> &[u8]
         ensures { result.now ≡ self.now }
     {
         self.rest
     }
 
-    /// So many bytes.
-    pub(crate) fn slice(&mut self, len: usize) -> Result<&'a [u8], WireError>
+    /// So many bytes. `Short` where there are fewer.
+    pub fn slice(&mut self, len: usize) -> Result<&'a [u8], WireError>
         ensures reads { Gives (λ x. (x.now, self.new)) result (bytes_at len self.old) }
         ensures len { IfOk result (λ x. length x.now ≡ len) }
     {
@@ -56,65 +57,70 @@ impl<'a> Reader<'a> {
         Ok(array)
     }
 
-    /// A number of two bytes.
-    pub(crate) fn u16(&mut self) -> Result<u16, WireError>
+    /// A number of two bytes, the higher one first. `Short` where they are missing.
+    pub fn u16(&mut self) -> Result<u16, WireError>
         ensures { Gives (λ x. (x, self.new)) result (number_at w16 self.old) }
     {
         Ok(u16::from_be_bytes(self.array()?))
     }
 
-    /// A number of four bytes.
-    pub(crate) fn u32(&mut self) -> Result<u32, WireError>
+    /// A number of four bytes, the highest one first. `Short` where they are missing.
+    pub fn u32(&mut self) -> Result<u32, WireError>
         ensures { Gives (λ x. (x, self.new)) result (number_at w32 self.old) }
     {
         Ok(u32::from_be_bytes(self.array()?))
     }
 
-    /// A number of eight bytes.
-    pub(crate) fn u64(&mut self) -> Result<u64, WireError>
+    /// A number of eight bytes, the highest one first. `Short` where they are missing.
+    pub fn u64(&mut self) -> Result<u64, WireError>
         ensures { Gives (λ x. (x, self.new)) result (number_at w64 self.old) }
     {
         Ok(u64::from_be_bytes(self.array()?))
     }
 
+    /// A member's number, of two bytes. `Short` where they are missing.
     #[tactic(auto, unfolding(wire::specs::Reading::author_at))]
-    pub(crate) fn author(&mut self) -> Result<Author, WireError>
+    pub fn author(&mut self) -> Result<Author, WireError>
         ensures { Gives (λ x. (x, self.new)) result (author_at self.old) }
     {
         Ok(Author(self.u16()?))
     }
 
+    /// A digest, of 32 bytes. `Short` where they are missing.
     #[tactic(auto, unfolding(wire::specs::Reading::digest_at))]
-    pub(crate) fn digest(&mut self) -> Result<Digest, WireError>
+    pub fn digest(&mut self) -> Result<Digest, WireError>
         ensures { Gives (λ x. (x, self.new)) result (digest_at self.old) }
     {
         Ok(Digest(self.array()?))
     }
 
+    /// A signature, of 64 bytes. `Short` where they are missing.
     #[tactic(auto, unfolding(wire::specs::Reading::signature_at))]
-    pub(crate) fn signature(&mut self) -> Result<Signature, WireError>
+    pub fn signature(&mut self) -> Result<Signature, WireError>
         ensures { Gives (λ x. (x, self.new)) result (signature_at self.old) }
     {
         Ok(Signature(self.array()?))
     }
 
+    /// A round, of eight bytes. `Short` where they are missing, `BadRound` where it is above the greatest one.
     #[tactic(auto, unfolding(wire::specs::Reading::round_at))]
-    pub(crate) fn round(&mut self) -> Result<Round, WireError>
+    pub fn round(&mut self) -> Result<Round, WireError>
         ensures { Gives (λ x. (x, self.new)) result (round_at self.old) }
     {
         Round::new(self.u64()?)
     }
 
+    /// A wave, of eight bytes. `Short` where they are missing, `BadRound` where it is 0 or above the greatest one.
     #[tactic(auto, unfolding(wire::specs::Reading::wave_at))]
-    pub(crate) fn wave(&mut self) -> Result<Wave, WireError>
+    pub fn wave(&mut self) -> Result<Wave, WireError>
         ensures { Gives (λ x. (x, self.new)) result (wave_at self.old) }
     {
         Wave::new(self.u64()?)
     }
 
-    /// A count of two bytes of at most this limit.
+    /// A count of two bytes of at most this limit. `Short` where they are missing, `TooMany` above the limit.
     #[tactic(auto, unfolding(wire::specs::Reading::count_at))]
-    pub(crate) fn count_u16(&mut self, limit: u16) -> Result<u16, WireError>
+    pub fn count_u16(&mut self, limit: u16) -> Result<u16, WireError>
         ensures reads { Gives (λ x. (x, self.new)) result (count_at w16 limit self.old) }
         ensures limit { IfOk result (λ count. count ≤ limit) }
     {
@@ -125,9 +131,9 @@ impl<'a> Reader<'a> {
         Ok(count)
     }
 
-    /// A count of four bytes of at most this limit.
+    /// A count of four bytes of at most this limit. `Short` where they are missing, `TooMany` above the limit.
     #[tactic(auto, unfolding(wire::specs::Reading::count_at))]
-    pub(crate) fn count_u32(&mut self, limit: u32) -> Result<u32, WireError>
+    pub fn count_u32(&mut self, limit: u32) -> Result<u32, WireError>
         ensures reads { Gives (λ x. (x, self.new)) result (count_at w32 limit self.old) }
         ensures limit { IfOk result (λ count. count ≤ limit) }
     {

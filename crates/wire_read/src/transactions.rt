@@ -36,8 +36,12 @@ fn transactions_of(reader: &mut Reader, batch: &mut OpenBatch) -> Result<(), Wir
     Ok(())
 }
 
+/// A batch: its author and worker, and its transactions after their count, each after its length.
+///
+/// # Errors
+/// The first fault from left to right; `Memory` where an allocation failed.
 #[tactic(auto, unfolding(wire::specs::Reading::batch_at))]
-pub(crate) fn batch_of(alloc: Global, reader: &mut Reader) -> Result<Batch, WireError>
+pub fn batch_of(alloc: Global, reader: &mut Reader) -> Result<Batch, WireError>
     ensures { Gives (λ x. (x, reader.new)) result (batch_at reader.old) }
 {
     let author = reader.author()?;
