@@ -82,3 +82,13 @@ pub record AtEachMoment {D : Type 0} (device : Device D) (old new : D) (P : List
   pub each : (c : List ℕ) → device.outcome_since new (device.clock old) c → P c
   -- for a caller that began earlier
   pub before : (t : ℕ) (c : List ℕ) → t ≤ device.clock old → device.outcome_since new t c → device.outcome_since old t c ⊎ P c
+
+-- What a stop may have left of two disks since a moment: of each what it may have left then or later, whichever moments these were.
+abbrev pub AtEachMomentOfBoth : {D : Type 0} → Device D → D × D → D × D → (List ℕ → List ℕ → Type 0) → Type 0
+AtEachMomentOfBoth device old new P =
+    (a b : List ℕ) → device.outcome_since new.0 (device.clock old.0) a → device.outcome_since new.1 (device.clock old.1) b → P a b
+
+-- two disks come from one state to another in stages, and a stop at any moments of one stage leaves only such bytes of both
+pub data InStages {D : Type 0} (device : Device D) (P : List ℕ → List ℕ → Type 0) : D × D → D × D → Type 0 where
+  still : (disks : D × D) → InStages device P disks disks
+  stage : (old mid new : D × D) → InStages device P old mid → AtEachMomentOfBoth device mid new P → InStages device P old new

@@ -39,14 +39,14 @@ walk-skip place (suc k) (b ∷ rest) fits =
     walk-skip (place + 1) k rest (omega arith) ∙ ap (λ (p : ℕ). walk p 0 (drop k rest)) same
 
 -- what stands behind an open gate
-abbrev opened : ℕ → List ℕ → Result Found ℕ
+abbrev pub opened : ℕ → List ℕ → Result Found ℕ
 opened place rest = option_map_or (λ body. option_map_or (λ records. with_front (kept place records) (walk (place + 1) (4 + length body) rest)) (group_of body) (Err place)) (body_at rest) (Err place)
 
 pub walk_closed : (place gate : ℕ) (rest : List ℕ) → gate ≡ 0 → walk place 0 (gate ∷ rest) ≡ Ok ([], place)
 unfolding walk
 walk_closed place gate rest is = cond-true (eqb gate 0) (Ok ([], place)) (opened place rest) (eq-eqb gate 0 is)
 
-walk_open : (place gate : ℕ) (rest : List ℕ) → gate ≢ 0 → walk place 0 (gate ∷ rest) ≡ opened place rest
+pub walk_open : (place gate : ℕ) (rest : List ℕ) → gate ≢ 0 → walk place 0 (gate ∷ rest) ≡ opened place rest
 unfolding walk
 walk_open place gate rest is = cond-false (eqb gate 0) (Ok ([], place)) (opened place rest) (ne_eqb gate 0 is)
 
@@ -110,7 +110,7 @@ body_from rest n is some not_long inside =
     ∙ ap (λ (k : ℕ). Some (take k (drop 4 rest))) is
 
 -- another end leaves the body as it was
-body_same : (front old new body : List ℕ) → body_at (front ++ old) ≡ Some body → 4 + length body ≤ length front → 1 ≤ length new → body_at (front ++ new) ≡ Some body
+pub body_same : (front old new body : List ℕ) → body_at (front ++ old) ≡ Some body → 4 + length body ≤ length front → 1 ≤ length new → body_at (front ++ new) ≡ Some body
 body_same front old new body is within some =
     let before = body_stands (front ++ old) body is in
     let n = length body in
@@ -137,16 +137,16 @@ walk_group place gate rest body records is at_body is_group =
     ∙ ap (λ (r : Result Found ℕ). with_front (kept place records) r) (walk-skip (place + 1) (4 + length body) rest (omega arith) ∙ ap (λ (p : ℕ). walk p 0 (drop (4 + length body) rest)) same)
 
 -- what an open gate that counts has behind it
-record Goes (place : ℕ) (rest : List ℕ) (found : Found) : Type 0 where
-  body : List ℕ
-  records : List (List ℕ)
-  more : Found
-  at_body : body_at rest ≡ Some body
-  is_group : group_of body ≡ Some records
-  on : walk (place + 1) (4 + length body) rest ≡ Ok more
-  is : found ≡ (kept place records ++ more.0, more.1)
+pub record Goes (place : ℕ) (rest : List ℕ) (found : Found) : Type 0 where
+  pub body : List ℕ
+  pub records : List (List ℕ)
+  pub more : Found
+  pub at_body : body_at rest ≡ Some body
+  pub is_group : group_of body ≡ Some records
+  pub on : walk (place + 1) (4 + length body) rest ≡ Ok more
+  pub is : found ≡ (kept place records ++ more.0, more.1)
 
-goes : (place gate : ℕ) (rest : List ℕ) (found : Found) → gate ≢ 0 → walk place 0 (gate ∷ rest) ≡ Ok found → Goes place rest found
+pub goes : (place gate : ℕ) (rest : List ℕ) (found : Found) → gate ≢ 0 → walk place 0 (gate ∷ rest) ≡ Ok found → Goes place rest found
 goes place gate rest found is walked =
     let first = map_or_ok (λ body. option_map_or (λ records. with_front (kept place records) (walk (place + 1) (4 + length body) rest))
     (group_of body) (Err place)) (body_at rest) place found (sym (walk_open place gate rest is) ∙ walked) in
@@ -154,14 +154,14 @@ goes place gate rest found is walked =
     let third = with_front_ok (kept place second.0) (walk (place + 1) (4 + length first.0) rest) found second.2 in
     record { body = first.0; records = second.0; more = third.0; at_body = first.1; is_group = second.1; on = third.1; is = third.2 }
 
-closed_is : (place gate : ℕ) (rest : List ℕ) (found : Found) → gate ≡ 0 → walk place 0 (gate ∷ rest) ≡ Ok found → found ≡ ([], place)
+pub closed_is : (place gate : ℕ) (rest : List ℕ) (found : Found) → gate ≡ 0 → walk place 0 (gate ∷ rest) ≡ Ok found → found ≡ ([], place)
 closed_is place gate rest found is walked = same_ok (sym (walk_closed place gate rest is) ∙ walked)
   where
     same_ok : ◌≡◌ {A = Result Found ℕ} (Ok ([], place)) (Ok found) → found ≡ ([], place)
     same_ok both = cc
 
 -- a walk doesn't end before it began
-walk_later : (bytes : List ℕ) (place passed : ℕ) (found : Found) → walk place passed bytes ≡ Ok found → place ≤ found.1
+pub walk_later : (bytes : List ℕ) (place passed : ℕ) (found : Found) → walk place passed bytes ≡ Ok found → place ≤ found.1
 unfolding walk
 walk_later [] place passed found walked = let is : found ≡ ([], place) = cc in omega (arith, ap (λ (f : Found). f.1) is)
 walk_later (b ∷ rest) place (suc k) found walked = let later = walk_later rest (place + 1) k found walked in omega arith

@@ -5,7 +5,10 @@ ghost use Rattle.std.specs.List.{All};
 ghost use Rattle.diskmodel.specs.Outcomes.{AreBytes};
 ghost use Rattle.journal.specs.declared.layout.TheConstants.{CLOSED, OPEN, LENGTH_BYTES, MAX_GROUP_RECORDS, MAX_GROUP_BYTES, MAX_JOURNAL_BYTES};
 ghost use Rattle.journal.specs.declared.record.Record.{Record};
+ghost use Rattle.journal.specs.Areas.{pair, stands_in, IsAsOneOf};
 ghost use Rattle.journal.specs.Format.{FitsGroup, Gated, IsOpen, in_turn, file_with, file_bytes, all_kept, stands, AreGroups, IsDamagedAt};
+
+use diskmodel::Disk;
 
 /// The limits and the fixed bytes of the format, in numbers.
 pub fn layout_in_numbers()
@@ -37,4 +40,9 @@ pub fn damage_is_found()
 pub fn written_groups_stand()
     ensures stand { (groups : List (List (List ℕ))) (behind : List ℕ) → All FitsGroup groups → stands (file_bytes groups ++ behind) ≡ Ok (all_kept 0 groups) }
     ensures one_more { (groups : List (List (List ℕ))) (group : List (List ℕ)) → file_with (file_bytes groups) group ≡ file_bytes (groups ++ group ∷ []) }
+{}
+
+/// What two areas are left as, each by what one disk may be left as or as the same records, stands for what both disks may stand for.
+pub fn both_stand_as_before<D: Disk>()
+    ensures { (first second : D) (left right : List ℕ) → IsAsOneOf (D.device.outcome first) left → IsAsOneOf (D.device.outcome second) right → (one : List ℕ) × (other : List ℕ) × D.device.outcome first one × D.device.outcome second other × (stands_in (pair left right) ≡ stands_in (pair one other)) }
 {}

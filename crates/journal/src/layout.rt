@@ -12,6 +12,9 @@ pub const MAX_GROUP_BYTES: usize = 4_194_304;
 /// The greatest length of a journal, in bytes.
 pub const MAX_JOURNAL_BYTES: u64 = 1 << 40;
 
+/// The place from which those of the second area are counted, in bytes.
+pub const SECOND_AREA: u64 = 1 << 40;
+
 /// A closed gate. Any other byte is an open one.
 pub const CLOSED: u8 = 0;
 

@@ -1,6 +1,7 @@
 //! Groups of records on a disk, each atomic at every moment.
 #![tactic(auto)]
 
+mod configuration;
 mod error;
 mod group;
 mod journal;
@@ -8,15 +9,23 @@ mod laws;
 mod layout;
 mod reading;
 mod record;
+mod side;
 mod version;
 
+pub use configuration::{
+    CONFIGURATION, HEAD, HEAD_BYTES, KEY_BYTES, SETTINGS_BYTES, STAKE_BYTES, number_of,
+    shaped_version,
+};
 pub use error::{Failed, JournalError};
 pub use group::Group;
 pub use journal::{Journal, Synced};
-pub use laws::{damage_is_found, groups_stand, layout_in_numbers, written_groups_stand};
+pub use laws::{
+    both_stand_as_before, damage_is_found, groups_stand, layout_in_numbers, written_groups_stand,
+};
 pub use layout::{
-    CLOSED, LENGTH_BYTES, MAX_GROUP_BYTES, MAX_GROUP_RECORDS, MAX_JOURNAL_BYTES, OPEN,
+    CLOSED, LENGTH_BYTES, MAX_GROUP_BYTES, MAX_GROUP_RECORDS, MAX_JOURNAL_BYTES, OPEN, SECOND_AREA,
 };
 pub use reading::stands;
 pub use record::Record;
+pub use side::Side;
 pub use version::Version;

@@ -9,6 +9,7 @@ use Rattle.wire.specs.Fields.{HasBytes}
 use Rattle.wire.specs.Grammar.{IsMessage}
 use Rattle.wire.specs.Spelling.{spelling}
 use Rattle.wire.specs.declared.keys.Author.{Author}
+use Rattle.journal.specs.Configuration.{number_of}
 use Rattle.journal.specs.declared.version.Version.{Version}
 use Rattle.journal.specs.declared.version.Version.TheVariants.{First, Second}
 
@@ -17,11 +18,6 @@ abbrev pub record_of : Event → List ℕ
 record_of event = 1 ∷ to_be_bytes w16 event.sender.0 ++ spelling event.message
 
 -- ---- a node's configuration
-
--- the number of a version
-abbrev pub number_of : Version → ℕ
-number_of First = 1
-number_of Second = 2
 
 -- the stakes of a record: from the second version on it has them
 abbrev pub stakes_of : Version → List ℕ → List ℕ

@@ -10,7 +10,8 @@ use Rattle.spec_model.specs.Admitting.{IsTaken}
 use Rattle.spec_model.specs.Histories.{History}
 use Rattle.spec_model.specs.Nodes.{Node}
 use Rattle.spec_model.specs.Words.{Event}
-use Rattle.spec_records.specs.Records.{record_of, number_of, stakes_of, configuration_of}
+use Rattle.spec_records.specs.Records.{record_of, stakes_of, configuration_of}
+use Rattle.journal.specs.Configuration.{number_of}
 use Rattle.journal.specs.declared.version.Version.{Version}
 use Rattle.journal.specs.declared.version.Version.TheVariants.{First, Second}
 use Rattle.wire.specs.Batches.{BatchView, transaction_bytes, batch_body, IsTransaction, IsBatch}

@@ -1,0 +1,104 @@
+//! The shape of the records in the first group of an area.
+
+ghost use Rattle.std.specs.Prelude.{◌≡◌, ◌*◌, ◌≤◌, length};
+ghost use Rattle.journal.specs.Configuration.{number_of, stakes_size, size_in, has_front, is_configuration as told_configuration, shaped_version as told_version};
+ghost use Rattle.journal.specs.Areas.{head_in as told_head};
+
+use crate::version::Version;
+
+/// The kind of a record that has a configuration.
+pub const CONFIGURATION: u8 = 0;
+
+/// The kind of a record that has the head of a checkpoint.
+pub const HEAD: u8 = 2;
+
+/// The bytes of a configuration before the members' keys.
+pub const SETTINGS_BYTES: usize = 14;
+
+/// The bytes of a key.
+pub const KEY_BYTES: usize = 32;
+
+/// The bytes of a stake.
+pub const STAKE_BYTES: usize = 4;
+
+/// The bytes of a head: its kind, and the generation.
+pub const HEAD_BYTES: usize = 9;
+
+/// The version in whose shape bytes are, if they have a configuration's.
+pub fn shaped_version(bytes: &[u8]) -> Option<Version>
+    ensures { result ≡ told_version bytes.now }
+{
+    if is_configuration(Version::First, bytes) {
+        Some(Version::First)
+    } else if is_configuration(Version::Second, bytes) {
+        Some(Version::Second)
+    } else {
+        None
+    }
+}
+
+// Whether bytes have the shape of a configuration: its kind, the version, and the length that its members give.
+#[tactic(auto, unfolding(crate::specs::Configuration::is_configuration))]
+fn is_configuration(version: Version, bytes: &[u8]) -> bool
+    ensures { result ≡ told_configuration version bytes.now }
+{
+    if bytes.len() < SETTINGS_BYTES {
+        return false;
+    }
+    let members = u16::from_be_bytes([bytes[12], bytes[13]]);
+    has_front(version, bytes) && bytes.len() == size_in(version, members)
+}
+
+// Whether bytes begin as a configuration.
+fn has_front(version: Version, bytes: &[u8]) -> bool
+    requires { 2 ≤ length bytes.now }
+    ensures { result ≡ has_front version bytes.now }
+{
+    bytes[0] == CONFIGURATION && bytes[1] == number_of(version)
+}
+
+/// The number by which a record names its version.
+pub fn number_of(version: Version) -> u8
+    ensures { result ≡ number_of version }
+{
+    match version {
+        Version::First => 1,
+        Version::Second => 2,
+    }
+}
+
+// How many bytes a configuration of so many members has.
+fn size_in(version: Version, members: u16) -> usize
+    ensures { result ≡ size_in version members }
+{
+    SETTINGS_BYTES + members as usize * KEY_BYTES + stakes_size(version, members)
+}
+
+// How many bytes the stakes of so many members have.
+fn stakes_size(version: Version, members: u16) -> usize
+    ensures value { result ≡ stakes_size version members }
+    ensures most { result ≤ members * STAKE_BYTES }
+{
+    match version {
+        Version::First => 0,
+        Version::Second => members as usize * STAKE_BYTES,
+    }
+}
+
+// The generation that the record of a head has.
+#[tactic(auto, unfolding(crate::specs::Areas::head_in))]
+fn head_in(bytes: &[u8]) -> Option<u64>
+    ensures { result ≡ told_head bytes.now }
+{
+    if bytes.len() != HEAD_BYTES || bytes[0] != HEAD {
+        return None;
+    }
+    let generation = u64::from_be_bytes([
+        bytes[1], bytes[2], bytes[3], bytes[4], bytes[5], bytes[6], bytes[7], bytes[8],
+    ]);
+    if generation == 0 {
+        None
+    } else {
+        Some(generation)
+    }
+}
