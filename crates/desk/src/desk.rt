@@ -73,7 +73,8 @@ impl<'a, S: Sign, D: Disk> Desk<'a, S, D> {
         ensures setting { IfOk result (λ desk. desk.book.validator.setting ≡ config.now) }
         ensures ok { IfOk result (λ desk. IsOpened (node_of S.scheme config.now) D.device (D.device.content disk) desk) }
         ensures err { IfErr result (λ failed. IsNotOpened (node_of S.scheme config.now) failed.error (D.device.content disk) (D.device.outcome disk) (D.device.outcome failed.disk)) }
-        // It stands in each world in which a run has just begun whose history keeps what the disk is read as. Each legal history begins some run.
+        // Take a world in which a run has just begun with some history. If the disk is read as what is kept of that, the desk stands in
+        // this world. Each legal history begins some run.
         ensures world { let node = node_of S.scheme config.now in IfOk result (λ desk. (world : World) (history : History) → HasJustBegun node world history
             → told node (D.device.content disk) ≡ Ok (kept node history) → IsAt node D.device world desk) }
         // Its errors, and what a stop at any moment of it leaves.

@@ -1,11 +1,10 @@
 -- What callers collected goes out within what a stop leaves.
-use Rattle.std.proofs.Common.{◌≡◌, ℕ, List, [], ◌∷◌, ◌++◌, map, take, drop, refl, sym, ap, ◌∙◌, subst, append_assoc}
+use Rattle.std.proofs.Common.{◌≡◌, ℕ, List, [], ◌∷◌, ◌++◌, take, drop, refl, sym, ap, ◌∙◌, subst, append_assoc}
 use Rattle.std.proofs.lemmas.List.{map-append, take-append-drop}
 use Rattle.node_seats.proofs.Beginnings.{begins_trans}
 use Rattle.node_seats.specs.Views.{events}
 use Rattle.node_seats.specs.declared.view.Marked.{Marked}
 use Rattle.book.specs.Book.{GoesOutAfter}
-use Rattle.header.specs.declared.admission.Admission.TheVariants.{New, Known}
 use Rattle.spec_laws.proofs.Legal.{legal-last}
 use Rattle.spec_machine.specs.After.{WasPutOutAfter, by_new, by_known}
 use Rattle.spec_machine.proofs.AfterAll.{answered_kept, legal_again}
@@ -15,7 +14,7 @@ use Rattle.spec_model.specs.Histories.{History}
 use Rattle.spec_model.specs.Nodes.{Node}
 use Rattle.spec_model.specs.Words.{Output}
 use Rattle.wire.specs.Lists.{Begins}
-use Rattle.spec_world.specs.Promise.{WhatGoesOutAgrees, WasPutOut, GoesOut}
+use Rattle.spec_world.specs.Promise.{WhatGoesOutAgrees, WasPutOut, GoesOut, GoesOutWithin}
 use Rattle.spec_world.specs.Promise as promise
 use Rattle.spec_world.specs.World.{put_out}
 use Rattle.validator.specs.Setting.{node_of}
@@ -57,6 +56,8 @@ collected_is_within S scheme node began left view output put keeps has =
     }
 
 pub collected_votes_agree : (S : Type 0) → WhatGoesOutAgrees → CollectedVotesAgree S
-collected_votes_agree S agrees scheme node began left one other first second vote also keeps legal has has' put put' is is' author round =
-    (agrees (node_of scheme node.setting) left legal).votes (given_as scheme node began one first put) (given_as scheme node began other second put') vote also
-    (collected_is_within S scheme node began left one first put keeps has) (collected_is_within S scheme node began left other second put' keeps has') is is' author round
+collected_votes_agree S agrees scheme node again began restarted left one other first second vote also same keeps keeps' legal has has' put put' is is' author round =
+    let given = given_as scheme again restarted other second put' in
+    (agrees (node_of scheme node.setting) left legal).votes (given_as scheme node began one first put) given vote also
+    (collected_is_within S scheme node began left one first put keeps has)
+    (subst (λ n. GoesOutWithin n left given) same (collected_is_within S scheme again restarted left other second put' keeps' has')) is is' author round

@@ -7,7 +7,6 @@ use Rattle.journal.specs.declared.layout.TheConstants.{MAX_JOURNAL_BYTES}
 use Rattle.book.specs.Pending.{IsLongestBeginning}
 use Rattle.spec_machine.specs.After.{IsLegalAfter}
 use Rattle.spec_machine.proofs.AfterAll.{after_joins}
-use Rattle.spec_model.specs.Histories.{History}
 use Rattle.spec_model.specs.Nodes.{Node}
 use Rattle.spec_model.specs.States.{State}
 use Rattle.wire.specs.Lists.{Begins}

@@ -29,9 +29,10 @@ CollectedIsWithin S = (scheme : Scheme S) (node : NodeView S) (began left : Hist
     → KeepsBase scheme node began → Begins (began ++ events view.firm) left
     → GoesOutWithin (node_of scheme node.setting) left (given_as scheme node began view output put)
 
--- so no two votes that seats collected differ for one author and round, where a legal history has all that both know as settled
+-- so no two votes that seats collected differ for one author and round, in one run of a node or in two, where a legal history has all
+-- that both seats know as settled
 abbrev pub CollectedVotesAgree : Type 0 → Type 0
-CollectedVotesAgree S = (scheme : Scheme S) (node : NodeView S) (began left : History) (one other : View) (first second : Output) (vote also : Ballot)
-    → KeepsBase scheme node began → IsLegal (node_of scheme node.setting) left
-    → Begins (began ++ events one.firm) left → Begins (began ++ events other.firm) left → IsPutOutBy scheme node one first → IsPutOutBy scheme node other second
+CollectedVotesAgree S = (scheme : Scheme S) (node again : NodeView S) (began restarted left : History) (one other : View) (first second : Output) (vote also : Ballot)
+    → node_of scheme again.setting ≡ node_of scheme node.setting → KeepsBase scheme node began → KeepsBase scheme again restarted → IsLegal (node_of scheme node.setting) left
+    → Begins (began ++ events one.firm) left → Begins (restarted ++ events other.firm) left → IsPutOutBy scheme node one first → IsPutOutBy scheme again other second
     → vote_in first ≡ Some vote → vote_in second ≡ Some also → vote.author ≡ also.author → vote.round ≡ also.round → vote.header ≡ also.header

@@ -50,6 +50,16 @@ pub record HoldsAfter {S : Type 0} (scheme : Scheme S) (node : NodeView S) (mark
   pub legal : IsLegal (node_of scheme node.setting) (began ++ events marked)
   pub holds : Holds (node_of scheme node.setting) content (began ++ events marked)
 
+-- with each history after which a disk had what was settled, it has more of the node's events now
+abbrev pub KeepsEarlier : {S : Type 0} → Scheme S → NodeView S → List Marked → List Marked → List ℕ → List ℕ → Type 0
+KeepsEarlier scheme node settled more before left =
+    let member = node_of scheme node.setting in (began : History) → Holds member before (began ++ events settled) → Holds member left (began ++ events more)
+
+-- the bytes of a disk are the node's journal with these events, after the same history as before
+pub record LeavesAfter {S : Type 0} (scheme : Scheme S) (node : NodeView S) (settled more : List Marked) (before left : List ℕ) : Type 0 where
+  pub holds : HoldsAfter scheme node more left
+  pub earlier : KeepsEarlier scheme node settled more before left
+
 -- A flusher is a node's: its seat is, and unless it took the node down it has taken no more than is settled, and its journal can be
 -- added to and has exactly that.
 pub record IsFlusherOf {S D : Type 0} (scheme : Scheme S) (device : Device D) (node : NodeView S) (flusher : Flusher D) : Type 0 where
@@ -84,8 +94,8 @@ pub record TakesLongest (seen settled taken : List Marked) : Type 0 where
 -- ---- what it leaves
 
 -- the bytes of a disk are the node's journal with what was settled before the round, or with what the round took
-abbrev pub HoldsEither : {S : Type 0} → Scheme S → NodeView S → List Marked → List Marked → List ℕ → Type 0
-HoldsEither scheme node settled taken left = HoldsAfter scheme node settled left ⊎ HoldsAfter scheme node taken left
+abbrev pub HoldsEither : {S : Type 0} → Scheme S → NodeView S → List Marked → List Marked → List ℕ → List ℕ → Type 0
+HoldsEither scheme node settled taken before left = LeavesAfter scheme node settled settled before left ⊎ LeavesAfter scheme node settled taken before left
 
 -- the group has no room after a journal of these bytes
 pub record HasNoRoom (content : List ℕ) (settled taken : List Marked) : Type 0 where

@@ -12,7 +12,7 @@ ghost use Rattle.validator.specs.Setting.{node_of};
 ghost use Rattle.node_seats.specs.Plays.{with_down};
 ghost use Rattle.node_seats.specs.Views.{events};
 ghost use Rattle.node_shared.specs.Home.{IsBase, IsOf, IsFlushOf, group_of};
-ghost use Rattle.flusher.specs.Rounds.{journal_of, seat_of, is_down, settled_in, taken_in, IsFlusherOf, HoldsAfter, HoldsEither, GoesDown, IsToldOf, TakesAndSettles, TellsRoom, StaysAsIs};
+ghost use Rattle.flusher.specs.Rounds.{journal_of, seat_of, is_down, settled_in, taken_in, IsFlusherOf, HoldsAfter, HoldsEither, KeepsEarlier, GoesDown, IsToldOf, TakesAndSettles, TellsRoom, StaysAsIs};
 
 use book::FlushError;
 use diskmodel::Disk;
@@ -88,8 +88,10 @@ impl<D: Disk> Flusher<D> {
         ensures room { TellsRoom D.device self.old self.new result }
         ensures cause { TellsFault FlushError.Device (D.device.faults (disk_of (journal_of self.old))) (D.device.faults (disk_of (journal_of self.new))) result }
 
-        // At each moment a stop leaves what was settled, or that with the group; and once it is settled that is so for good.
-        ensures any_moment { IsErrOf result FlushError.Down ⊎ AtEachMoment D.device (disk_of (journal_of self.old)) (disk_of (journal_of self.new)) (HoldsEither S.scheme node.now (settled_in self.old) (taken_in self.new)) }
+        // At each moment a stop leaves what was settled, or that with the group; and once it is settled that is so for good. What came
+        // before stays as it was.
+        ensures any_moment { IsErrOf result FlushError.Down ⊎ AtEachMoment D.device (disk_of (journal_of self.old)) (disk_of (journal_of self.new)) (HoldsEither S.scheme node.now (settled_in self.old) (taken_in self.new) (D.device.content (disk_of (journal_of self.old)))) }
+        ensures earlier { OnOk result (KeepsEarlier S.scheme node.now (settled_in self.old) (settled_in self.new) (D.device.content (disk_of (journal_of self.old))) (D.device.content (disk_of (journal_of self.new)))) }
     {
         if self.down {
             return Err(FlushError::Down);
@@ -135,7 +137,8 @@ impl<D: Disk> Flusher<D> {
         requires of { IsOf node.now seat.old }
         ensures flusher { IsFlusherOf S.scheme D.device node.now self.new }
         ensures taken { taken_in self.new ≡ taken_in self.old }
-        ensures any_moment { AtEachMoment D.device (disk_of (journal_of self.old)) (disk_of (journal_of self.new)) (HoldsEither S.scheme node.now (settled_in self.old) (taken_in self.old)) }
+        ensures any_moment { AtEachMoment D.device (disk_of (journal_of self.old)) (disk_of (journal_of self.new)) (HoldsEither S.scheme node.now (settled_in self.old) (taken_in self.old) (D.device.content (disk_of (journal_of self.old)))) }
+        ensures earlier { OnOk result (KeepsEarlier S.scheme node.now (settled_in self.old) (taken_in self.old) (D.device.content (disk_of (journal_of self.old))) (D.device.content (disk_of (journal_of self.new)))) }
         ensures ok { IfOk result (λ count. (count ≡ length group) × (settled_in self.new ≡ taken_in self.old) × (is_down self.new ≡ false)) }
         ensures err { OnErr result ((settled_in self.new ≡ settled_in self.old) × (is_down self.new ≡ true)) }
         ensures seat { OnOk result (seat.new ≡ seat.old) }

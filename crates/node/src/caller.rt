@@ -5,6 +5,7 @@ ghost use Rattle.header.specs.Checks.{fault_of, accepts_all};
 ghost use Rattle.spec_machine.specs.Machine.{is_ready, proposed, round_in};
 ghost use Rattle.spec_model.specs.States.{State};
 ghost use Rattle.validator.specs.Setting.{node_of};
+ghost use Rattle.validator.specs.Standing.{StandSomewhere};
 ghost use Rattle.node_shared.specs.Answers.{Submits, Gives};
 ghost use Rattle.node_shared.specs.Calls.{Looked, Learned, Brought, IsBeside};
 ghost use Rattle.node_shared.specs.Home.{IsBase, IsOf, seen_in, firm_in};
@@ -66,7 +67,10 @@ impl<'n, 'a, S: Sign> Caller<'n, 'a, S> {
     pub fn config(&self) -> &'a Config<S>
         ensures config { result.now ≡ self.now.setting }
         ensures node { self.now.node.setting ≡ self.now.setting }
+        // There is a base of the node, of which the other calls speak.
+        ensures base { StandSomewhere (node_of S.scheme self.now.node.setting) self.now.node.begun }
     {
+        self.node.limits_hold();
         self.config
     }
 

@@ -1,13 +1,13 @@
 //! What a thread flushes a node with.
 
-ghost use Rattle.std.specs.Prelude.{◌≡◌, ◌⊎◌, IsOk, IfOk, IsErrOf};
+ghost use Rattle.std.specs.Prelude.{◌≡◌, ◌⊎◌, IsOk, IfOk, IsErrOf, OnOk};
 ghost use Rattle.diskmodel.specs.Disk.{AtEachMoment, TellsFault};
 ghost use Rattle.journal.specs.Journal.{disk_of};
 ghost use Rattle.wire.specs.Lists.{Begins};
 ghost use Rattle.validator.specs.Setting.{node_of};
 ghost use Rattle.node_shared.specs.Calls.{IsBeside};
 ghost use Rattle.node_shared.specs.Home.{IsOf};
-ghost use Rattle.flusher.specs.Rounds.{journal_of, settled_in, taken_in, IsFlusherOf, HoldsEither, GoesDown, IsToldOf, TakesAndSettles, TellsRoom, StaysAsIs};
+ghost use Rattle.flusher.specs.Rounds.{journal_of, settled_in, taken_in, IsFlusherOf, HoldsEither, KeepsEarlier, GoesDown, IsToldOf, TakesAndSettles, TellsRoom, StaysAsIs};
 
 use crate::caller::Caller;
 use diskmodel::Disk;
@@ -90,7 +90,8 @@ impl<'n, 'a, S: Sign, D: Disk> Rounds<'n, 'a, S, D> {
         ensures settles { TakesAndSettles self.old.seat self.new.seat self.old.flusher self.new.flusher result }
         ensures room { TellsRoom D.device self.old.flusher self.new.flusher result }
         ensures cause { TellsFault FlushError.Device (D.device.faults (disk_of (journal_of self.old.flusher))) (D.device.faults (disk_of (journal_of self.new.flusher))) result }
-        ensures any_moment { IsErrOf result FlushError.Down ⊎ AtEachMoment D.device (disk_of (journal_of self.old.flusher)) (disk_of (journal_of self.new.flusher)) (HoldsEither S.scheme self.old.node (settled_in self.old.flusher) (taken_in self.new.flusher)) }
+        ensures any_moment { IsErrOf result FlushError.Down ⊎ AtEachMoment D.device (disk_of (journal_of self.old.flusher)) (disk_of (journal_of self.new.flusher)) (HoldsEither S.scheme self.old.node (settled_in self.old.flusher) (taken_in self.new.flusher) (D.device.content (disk_of (journal_of self.old.flusher)))) }
+        ensures earlier { OnOk result (KeepsEarlier S.scheme self.old.node (settled_in self.old.flusher) (settled_in self.new.flusher) (D.device.content (disk_of (journal_of self.old.flusher))) (D.device.content (disk_of (journal_of self.new.flusher)))) }
     {
         self.flusher.round(rt, self.node, &mut self.seat)
     }

@@ -26,7 +26,8 @@ pub record NodeView (S : Type 0) : Type 0 where
   pub setting : ConfigView S
   pub begun : Tables
 
--- a state is a base of the node: its validator stood there when the node was made. There is one such state
+-- a state is a base of the node: its validator stood there when the node was made. Of a node there is exactly
+-- one (`Node::limits_hold`, `admission::one_state`)
 abbrev pub IsBase : {S : Type 0} → Scheme S → NodeView S → State → Type 0
 IsBase scheme node base = AreAtSound (node_of scheme node.setting) node.begun base
 

@@ -46,7 +46,8 @@ impl<'a, S: Sign> Model for Node<'a, S> {
 }
 
 impl<'a, S: Sign> Node<'a, S> {
-    /// A node over a validator, with a seat and the seat of who flushes. Contracts see the tables that the validator then has.
+    /// A node over a validator, with a seat and the seat of who flushes. Contracts keep the tables with which
+    /// the validator came, and so the state at which the node begins.
     /// `AllocError` where an allocation failed.
     pub fn new(
         alloc: Global,

@@ -11,10 +11,11 @@ use Rattle.std.proofs.lemmas.Nat.{from_be_bytes-to_be_bytes_2}
 use Rattle.std.proofs.lemmas.Option.{same_Some}
 use Rattle.committee.specs.Charter.{Charter, IsCharter, total_of}
 use Rattle.committee.proofs.StakeLemmas.{sum-bounds}
-use Rattle.spec_records.specs.Records.{number_of, configuration_of, CanTell}
+use Rattle.spec_records.specs.Records.{configuration_of, CanTell}
+use Rattle.journal.specs.Configuration.{number_of, size_in, has_front, is_configuration, shaped_version}
 use Rattle.journal.specs.declared.version.Version.{Version}
 use Rattle.journal.specs.declared.version.Version.TheVariants.{First, Second}
-use Rattle.opening.specs.Told.{members_in, size_in, has_ones, can_tell, has_front, is_configuration, shaped_version}
+use Rattle.opening.specs.Told.{has_ones, can_tell}
 use Rattle.wire.specs.declared.keys.Author.{Author}
 
 -- ---- stakes
@@ -92,12 +93,6 @@ pub each_more : {X : Type 0} (f : X → List ℕ) (xs : List X) (m : ℕ) (x : X
 each_more f xs m x is = let same : m + 1 ≡ suc m = omega arith in ap (λ (n : ℕ). flat_map f (take n xs)) same ∙ each_suc f xs m x is
 
 -- ---- the shape
-
-pub shape_short : (version : Version) (bytes : List ℕ) → length bytes < 14 → false ≡ is_configuration version bytes
-unfolding is_configuration
-shape_short version bytes short =
-    let size = size_in version (members_in bytes) in
-    sym (and_right (has_front version bytes) (eqb (length bytes) size) (ne_eqb (length bytes) size (λ same. omega (arith, same))))
 
 -- the configuration of a committee has it, if its keys have 32 bytes each
 shape_is : (version : Version) (charter : Charter) (own : Author) → length charter.keys < 2 ^ 16 → length (configuration_of version charter own) ≡ size_in version (length charter.keys)

@@ -32,7 +32,8 @@ use Rattle.spec_world.specs.Promise.{NothingTakenBack}
 use Rattle.spec_world.specs.Runs.{AreKeys}
 use Rattle.spec_world.specs.World.{bytes_of, journal_of, Holds, as_journal, as_new}
 use Rattle.opening.specs.Laws.{IsOfBytes, ToldStandsFor, WhatStandsIsTold, WorldsAreTold}
-use Rattle.opening.specs.Told.{IsText, stakes_size, shaped_version, is_alone, can_tell, is_own, mismatch, first_fault, unless, read_events, read_journal, told}
+use Rattle.opening.specs.Told.{IsText, is_alone, can_tell, is_own, mismatch, first_fault, unless, read_events, read_journal, told}
+use Rattle.journal.specs.Configuration.{stakes_size, shaped_version}
 use Rattle.opening.proofs.Configured.{all_pass, all_passed, tells_of, told_of, shaped_is}
 use Rattle.opening.proofs.GroupTexts.{OnlyGroups, stands_texts}
 use Rattle.opening.proofs.Histories.{AreEvents, read_back, read_whole}

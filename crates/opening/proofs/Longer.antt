@@ -25,7 +25,8 @@ use Rattle.spec_model.specs.Words.{Event}
 use Rattle.spec_records.specs.Records.{record_of}
 use Rattle.journal.specs.declared.version.Version.{Version}
 use Rattle.wire_read.proofs.Messages.{is_read}
-use Rattle.opening.specs.Told.{checked_in, if_passed, sender_in, event_in, read_event, read_events, unless, shaped_version, is_alone, is_own, first_fault, told}
+use Rattle.opening.specs.Told.{checked_in, if_passed, sender_in, event_in, read_event, read_events, unless, is_alone, is_own, first_fault, told}
+use Rattle.journal.specs.Configuration.{shaped_version}
 use Rattle.opening.proofs.Telling.{event_is, read_new, read_nil, read_ok, read_err, journal_cons, told_records, told_damaged, ok_told, by_version}
 
 -- ---- the record of an event

@@ -17,8 +17,10 @@ use Rattle.spec_model.specs.Histories.{History}
 use Rattle.spec_model.specs.Nodes.{Node, IsNode}
 use Rattle.spec_model.specs.States.{State}
 use Rattle.validator.specs.Standing.{AreAtSound}
-use Rattle.spec_world.specs.World.{StandsFor, as_journal, as_new}
-use Rattle.opening.specs.Laws.{StandsForAt, HoldsAt, IsNoRefusal}
+use Rattle.spec_records.specs.Records.{configuration_of}
+use Rattle.spec_world.proofs.Recovering.{holds_same}
+use Rattle.spec_world.specs.World.{Holds, StandsFor, as_journal, as_new, bytes_of, journal_of}
+use Rattle.opening.specs.Laws.{StandsForAt, HoldsAt, KeepsHistories, IsNoRefusal}
 use Rattle.opening.specs.Told.{IsText, HasTexts, told, Tells, StandsAt, IsToldAsOneOf, KeepsOrBegins, KeepsRecords}
 use Rattle.opening.proofs.Laws.{found_records}
 use Rattle.opening.proofs.Telling.{told_records, told_damaged, told_same, as_one_of, keeps_one, keeps_same}
@@ -55,6 +57,22 @@ one_text before later first none is records found =
 -- those that were found before
 pub same_texts : (later : List ℕ) (records : List Record) → stands later ≡ Ok records → All IsText (drop 1 records) → HasTexts later
 same_texts later records is texts other found = subst (λ (l : List Record). All IsText (drop 1 l)) (records_are records other (sym is ∙ found)) texts
+
+-- a journal's records are some
+some_records : (node : Node) (bytes : List ℕ) (history : History) → Holds node bytes history → stands bytes ≡ Ok [] → ⊥
+some_records node bytes history held none =
+    let are : bytes_of [] ≡ journal_of held.version node history = ap bytes_of (records_are [] held.records (sym none ∙ held.stands_for)) ∙ held.are in cc
+
+-- the configuration alone is a journal of no events
+begun : (node : Node) (bytes : List ℕ) → stands bytes ≡ Ok (kept_at 0 (configuration_of Second node.charter node.own) ∷ []) → Holds node bytes []
+begun node bytes is = record { records = _; stands_for = is; version = Second; are = refl; alone = All-nil _; each_taken = All-nil _; can_tell = tt }
+
+-- bytes with a record that have those of other bytes, or begin where these have none, are a journal with each history of these
+pub keeps_histories : (node : Node) (before later : List ℕ) → KeepsOrBegins Second node before later → stands later ≢ Ok [] → KeepsHistories node before later
+keeps_histories node before later (inl (records, first, after)) some history (as_journal held) = holds_same node before later history held (after ∙ sym first)
+keeps_histories node before later (inl (records, first, after)) some history (as_new none empty) = absurd (some (after ∙ sym first ∙ none))
+keeps_histories node before later (inr (none, is)) some history (as_journal held) = absurd (some_records node before history held none)
+keeps_histories node before later (inr (none, is)) some history (as_new also empty) = subst (Holds node later) (sym empty) (begun node later is)
 
 -- bytes with a record are a journal of what they are told as
 module _ (starts : StartsFresh) (node : Node) (later : List ℕ) (tables : Tables) (sound : IsNode node) (at : StandsAt node (told node later) tables) (texts : HasTexts later)

@@ -30,7 +30,8 @@ use Rattle.wire.specs.Reading.{Faults, message_of}
 use Rattle.wire.specs.declared.error.WireError.{WireError}
 use Rattle.wire.specs.declared.error.WireError.TheVariants as wire
 use Rattle.opening.specs.Told.{checked_in, sender_in, event_in, with_new, read_event, go_on, read_events, or_damaged, unless, can_tell}
-use Rattle.opening.specs.Told.{shaped_version, first_version, is_own, mismatch, first_fault, read_journal, told_by, told, Tells, StandsAt, IsOld}
+use Rattle.journal.specs.Configuration.{shaped_version}
+use Rattle.opening.specs.Told.{first_version, is_own, mismatch, first_fault, read_journal, told_by, told, Tells, StandsAt, IsOld}
 use Rattle.opening.specs.Told.{IsToldAsOneOf, KeepsOrBegins, KeepsRecords}
 use Rattle.opening.proofs.Configured.{told_of}
 

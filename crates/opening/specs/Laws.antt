@@ -67,6 +67,10 @@ pub record HoldsAt (node : Node) (bytes : List ℕ) (tables : Tables) : Type 0 w
   pub legal : IsLegal node history
   pub at : AreAtSound node tables (kept node history)
 
+-- with each history for which the first bytes stand, the second ones are a journal of the node
+abbrev pub KeepsHistories : Node → List ℕ → List ℕ → Type 0
+KeepsHistories node before later = (history : History) → StandsFor node before history → Holds node later history
+
 -- what a stop may leave in a world of the node
 pub record IsLeft (node : Node) (bytes : List ℕ) : Type 0 where
   pub moves : List Move

@@ -10,6 +10,7 @@ use Rattle.admission.specs.declared.step.Step.TheVariants.{New, Known}
 use Rattle.committee.specs.Charter.{Charter}
 use Rattle.diskmodel.specs.Outcomes.{AreBytes}
 use Rattle.header.specs.Checks.{fault_of, accepts_all}
+use Rattle.journal.specs.Configuration.{shaped_version}
 use Rattle.journal.specs.Format.{kept_at, stands}
 use Rattle.journal.specs.Journal.{HaveSameRecords}
 use Rattle.journal.specs.declared.error.JournalError.{JournalError}
@@ -22,10 +23,9 @@ use Rattle.spec_model.specs.States.{State}
 use Rattle.spec_model.specs.Words.{Author, Event, Message}
 use Rattle.header.specs.declared.refusal.Refusal.{Refusal}
 use Rattle.header.specs.declared.refusal.Refusal.TheVariants as refusals
-use Rattle.spec_records.specs.Records.{number_of, configuration_of}
+use Rattle.spec_records.specs.Records.{configuration_of}
 use Rattle.journal.specs.declared.version.Version.{Version}
 use Rattle.journal.specs.declared.version.Version.TheVariants.{First, Second}
-use Rattle.opening.specs.declared.configuration.TheConstants.{SETTINGS_BYTES, KEY_BYTES, STAKE_BYTES}
 use Rattle.opening.specs.declared.events.TheConstants.{EVENT, FRONT_BYTES}
 use Rattle.admission.specs.declared.tables.Tables.{Tables}
 use Rattle.validator.specs.Standing.{AreAtSound}
@@ -78,31 +78,6 @@ read_events node state [] = Ok state
 read_events node state (kept ∷ rest) = go_on (λ later. read_events node later rest) (read_event node state kept)
 
 -- ---- the configuration
-
--- how many members the bytes of a configuration count
-abbrev pub members_in : List ℕ → ℕ
-members_in bytes = from_be_bytes w16 (slice_index bytes 12 ∷ slice_index bytes 13 ∷ [])
-
--- how many bytes the stakes of so many members have in a version
-abbrev pub stakes_size : Version → ℕ → ℕ
-stakes_size First members = 0
-stakes_size Second members = members * STAKE_BYTES
-
--- how many bytes a configuration of so many members has in a version
-abbrev pub size_in : Version → ℕ → ℕ
-size_in version members = SETTINGS_BYTES + members * KEY_BYTES + stakes_size version members
-
--- bytes begin as a configuration of a version: its kind, the version's number
-abbrev pub has_front : Version → List ℕ → Bool
-has_front version bytes = (slice_index bytes 0 == 0) && (slice_index bytes 1 == number_of version)
-
--- bytes have the shape of a configuration of a version: they begin as one, and have the length that its members give
-unfoldable pub is_configuration : Version → List ℕ → Bool
-is_configuration version bytes = has_front version bytes && (length bytes == size_in version (members_in bytes))
-
--- the version in whose shape bytes are
-abbrev pub shaped_version : List ℕ → Option Version
-shaped_version bytes = if is_configuration First bytes then Some First else if is_configuration Second bytes then Some Second else None
 
 -- none of these records stands in the first group, whose gate is at place 0
 abbrev pub is_alone : List Record → Bool

@@ -26,7 +26,8 @@ pub const EVENT: u8 = 1;
 /// The bytes of an event's record before the message: its kind, and the sender's number.
 pub const FRONT_BYTES: usize = 3;
 
-/// The event of a record, if it is one that passes the committee's checks. Signatures were tested before it was written.
+/// The event of a record, if it is one that passes the committee's checks. Signatures were tested before it was written. `AllocError`
+/// where an allocation failed.
 pub fn event_of(
     alloc: Global,
     committee: &Committee,
@@ -56,7 +57,7 @@ fn passed(committee: &Committee, sender: Author, message: Message) -> Option<Che
     }
 }
 
-// Bytes that can't be read are no event, but where memory was refused.
+// Bytes that can't be read are no event, unless an allocation failed.
 fn unread(error: WireError) -> Result<Option<Checked>, AllocError>
     ensures { IfOk result (λ found. (found ≡ None) × (error ≢ WireError.Memory)) }
 {
@@ -99,8 +100,8 @@ fn only_new(step: Result<Step, Refusal>, gate: u64) -> Result<(), JournalError>
     }
 }
 
-// What holds of a record: it has bytes. The call does nothing.
-fn is_text(kept: &Record)
+/// What holds of a record: it has bytes. The call does nothing.
+pub fn is_text(kept: &Record)
     ensures { IsText kept.now }
 {
     are_bytes(kept.bytes.as_slice());

@@ -3,14 +3,13 @@
 ghost use Rattle.std.specs.Prelude.{◌≡◌, ◌+◌, ◌*◌, ◌≤◌, ◌++◌, [], ◌∷◌, length, flat_map, Some, IfOk, OnOk};
 ghost use Rattle.std.specs.Int.{w32, to_be_bytes};
 ghost use Rattle.committee.specs.declared.members.TheConstants.{MAX_MEMBERS};
+ghost use Rattle.journal.specs.Configuration.{stakes_size, size_in, shaped_version as told_version};
 ghost use Rattle.journal.specs.Format.{FitsGroup};
+ghost use Rattle.journal.specs.declared.configuration.TheConstants.{SETTINGS_BYTES, KEY_BYTES, STAKE_BYTES};
 ghost use Rattle.spec_records.specs.Records.{stakes_of, configuration_of};
-ghost use Rattle.opening.specs.Told.{stakes_size, size_in, shaped_version as told_version};
-ghost use Rattle.opening.specs.declared.configuration.TheConstants.{SETTINGS_BYTES, KEY_BYTES, STAKE_BYTES};
 
-use crate::configuration::{CONFIGURATION, KEY_BYTES, STAKE_BYTES, number_of};
 use committee::Committee;
-use journal::{Group, Version};
+use journal::{CONFIGURATION, Group, KEY_BYTES, STAKE_BYTES, Version, number_of};
 use std::alloc::{AllocError, Global};
 use wire::Author;
 use wire::numbers::two_bytes;

@@ -8,5 +8,6 @@ mod reopening;
 mod standing;
 
 pub use configuration::can_tell;
-pub use reopening::{reopen, write_configuration};
+pub use events::{EVENT, FRONT_BYTES, event_of, is_text};
+pub use reopening::{first_version, is_own, reopen, write_configuration};
 pub use standing::{told_stands_for, what_stands_is_told, worlds_are_told};

@@ -7,15 +7,15 @@ ghost use Rattle.journal.specs.Format.{stands};
 ghost use Rattle.journal.specs.Journal.{disk_of, IsAlive, IsClosedUp};
 ghost use Rattle.spec_records.specs.Records.{configuration_of, CanTell};
 ghost use Rattle.validator.specs.Setting.{node_of};
-ghost use Rattle.opening.specs.Laws.{StandsForAt, HoldsAt, AreLeftTold, IsOpening};
+ghost use Rattle.opening.specs.Laws.{StandsForAt, HoldsAt, KeepsHistories, AreLeftTold, IsOpening};
 ghost use Rattle.opening.specs.Told.{IsText, HasTexts, first_version as told_version, is_alone as told_alone, is_own as told_own, read_journal, told, Tells, StandsAt, KeepsOrBegins};
 
-use crate::configuration::{can_tell, shaped_version};
+use crate::configuration::can_tell;
 use crate::events::replay;
 use crate::first_group::{configuration, configuration_group};
 use crate::standing::worlds_are_told;
 use diskmodel::Disk;
-use journal::{Failed, Journal, JournalError, Record, Version};
+use journal::{Failed, Journal, JournalError, Record, Version, shaped_version};
 use sigface::Sign;
 use std::alloc::{AllocError, Global};
 use validator::{Config, Validator};
@@ -42,7 +42,9 @@ pub fn reopen<'a, S: Sign, D: Disk>(
 
     // It stands at what is kept of a history for which the bytes stand.
     ensures stands_for { IfOk result (λ opened. StandsForAt (node_of S.scheme config.now) (D.device.content disk) opened.0.tables) }
-    // The disk has the node's journal of one then.
+    // The disk then has a journal of the node with each history for which the bytes stood.
+    ensures kept { IfOk result (λ opened. KeepsHistories (node_of S.scheme config.now) (D.device.content disk) (D.device.content (disk_of opened.1))) }
+    // There is one at which the validator stands.
     ensures holds { IfOk result (λ opened. HoldsAt (node_of S.scheme config.now) (D.device.content (disk_of opened.1)) opened.0.tables) }
 
     // Its errors, and what a stop at any moment of it leaves.
@@ -157,8 +159,8 @@ fn validator_behind<'a, S: Sign>(
     replay(alloc, config, events)
 }
 
-// The version of the first record, if it has the shape of a configuration, and is alone in its group.
-fn first_version(first: &Record, events: &[Record]) -> Option<Version>
+/// The version of the first record, if it has the shape of a configuration, and is alone in its group.
+pub fn first_version(first: &Record, events: &[Record]) -> Option<Version>
     ensures { result ≡ told_version first.now events.now }
 {
     if is_alone(events) {
@@ -175,8 +177,8 @@ fn is_alone(events: &[Record]) -> bool
     events.iter().all(|event| event.gate > 0)
 }
 
-// Whether these bytes are this configuration's, in a version that can tell its committee.
-fn is_own<S: Sign>(
+/// Whether these bytes are this configuration's, in a version that can tell its committee. `AllocError` where an allocation failed.
+pub fn is_own<S: Sign>(
     alloc: Global,
     config: &Config<S>,
     version: Version,

@@ -107,8 +107,8 @@ pub fn drive<'a, S: Sign, D: StopDisk, W: Write>(
     ensures err { let node = node_of S.scheme config.now in IfErr result (λ failed. IsUnopened node failed.error (D.device.content disk) (D.device.outcome disk) (D.device.outcome failed.disk) (W.contents writer.old) (W.contents writer.new)
         ⊎ IsCutShort node (script_of commands.items) failed.error (D.device.content disk) (D.device.content failed.disk) (D.device.outcome failed.disk) (W.contents writer.old) (W.contents writer.new)) }
 
-    // It is what runs of the node give out: each that has just begun with a history of which what is kept is what the disk was
-    // told as goes on by the commands, and what goes out on the way is what is written, as frames. At an error that is a beginning of what so goes out.
+    // Runs of the node give it out. Take any run that has just begun with a history, where the disk was read as what is kept of that. It
+    // goes on by the commands, and what goes out on the way is written, as frames. After an error only a beginning of that is written.
     ensures given_out { let node = node_of S.scheme config.now in OnOk result (EachRunOn node (D.device.content disk) (GivesOut node (script_of commands.items) (W.contents writer.old) (W.contents writer.new))) }
     ensures given_out_err { let node = node_of S.scheme config.now in OnErr result (EachRunOn node (D.device.content disk) (GivesOutNoLess node (script_of commands.items) (W.contents writer.old) (W.contents writer.new))) }
 

@@ -15,8 +15,8 @@ use ref_machine::fresh;
 use sigface::Sign;
 use std::alloc::{AllocError, Global};
 
-/// What a node whose run begins with the state after these events writes for commands: after each of them the outputs that are due, in their
-/// order, each as a frame.
+/// What a node writes for commands, where its run begins with the state after the events of `history`: after each command the outputs
+/// that are due, in their order, each as a frame.
 ///
 /// # Errors
 /// When memory runs out.

@@ -25,7 +25,7 @@ use Rattle.spec_machine.specs.Sound.{AreBatches, AreVotes, AreCertificates}
 -- ---- the genesis
 
 -- of members' numbers each has its certificate of the genesis
-genesis_found : (from count author : ℕ) → from ≤ author → author < from + count → find (λ c. is_of_slot 0 author c.header) (map genesis (range_with_len from count)) ≡ Some (genesis author)
+pub genesis_found : (from count author : ℕ) → from ≤ author → author < from + count → find (λ c. is_of_slot 0 author c.header) (map genesis (range_with_len from count)) ≡ Some (genesis author)
 genesis_found from zero author least most = absurd (omega (arith, least, most))
 genesis_found from (suc count) author least most =
     elim (cases_Bool (from == author)) [

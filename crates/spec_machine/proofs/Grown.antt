@@ -219,11 +219,11 @@ slots_are node history event adds =
 
 -- ---- the greatest round
 
-at_least : (most : ℕ) (rounds : List ℕ) → most ≤ fold max most rounds
+pub at_least : (most : ℕ) (rounds : List ℕ) → most ≤ fold max most rounds
 at_least most [] = omega arith
 at_least most (round ∷ rounds) = let more = at_least (max most round) rounds in grind (arith, more)
 
-each_within : (most : ℕ) (certificates : List Certificate) (c : Certificate) → Contains certificates c → c.header.round ≤ fold max most (map (λ (d : Certificate). d.header.round) certificates)
+pub each_within : (most : ℕ) (certificates : List Certificate) (c : Certificate) → Contains certificates c → c.header.round ≤ fold max most (map (λ (d : Certificate). d.header.round) certificates)
 each_within most [] c inside = absurd (Contains-nothing c inside)
 each_within most (first ∷ rest) c inside =
     elim (Contains-cases first rest c inside) [

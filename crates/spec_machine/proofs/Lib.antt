@@ -6,13 +6,10 @@ mod Completing
 mod Deciding
 mod Enough
 mod Following
-mod FreshSound
 mod NewThere
 mod OrderStays
 mod Passing
-mod Proposing
 mod SoundProposing
-mod SoundRounds
 mod Standing
 mod Starting
 mod Staying
@@ -21,5 +18,8 @@ mod VotesStay
 pub mod AfterAll
 pub mod Answering
 pub mod Floors
+pub mod FreshSound
 pub mod Grown
 pub mod PuttingOut
+pub mod Proposing
+pub mod SoundRounds

@@ -1,7 +1,7 @@
 use Rattle.std.proofs.Common.{◌≡◌, ◌+◌, ◌*◌, ◌++◌, length, take}
 use Rattle.std.specs.Int.{w32, to_be_bytes}
 use Rattle.std.specs.List.{flat_map}
-use Rattle.opening.specs.declared.configuration.TheConstants.{STAKE_BYTES}
+use Rattle.journal.specs.declared.configuration.TheConstants.{STAKE_BYTES}
 use Rattle.opening.proofs.first_group.put_each_stake.Given as goal
 
 -- each member's stake so far has been added

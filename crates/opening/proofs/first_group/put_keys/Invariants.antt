@@ -1,6 +1,6 @@
 use Rattle.std.proofs.Common.{◌≡◌, ◌+◌, ◌*◌, ◌++◌, length, take}
 use Rattle.std.specs.List.{flat_map}
-use Rattle.opening.specs.declared.configuration.TheConstants.{KEY_BYTES}
+use Rattle.journal.specs.declared.configuration.TheConstants.{KEY_BYTES}
 use Rattle.opening.proofs.first_group.put_keys.Given as goal
 
 -- each member's key so far has been added

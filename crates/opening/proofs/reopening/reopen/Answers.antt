@@ -4,10 +4,11 @@ use Rattle.std.specs.Prelude.{All}
 use Rattle.std.proofs.lemmas.Result.{err_from_is_err_and}
 use Rattle.journal.specs.Journal.{disk_of}
 use Rattle.journal.specs.declared.error.JournalError.TheVariants.{Device}
+use Rattle.journal.specs.declared.version.Version.TheVariants.{Second}
 use Rattle.validator.specs.Setting.{node_of}
 use Rattle.opening.specs.Told.{IsText, told}
-use Rattle.opening.proofs.Telling.{told_same, tells_same, stands_same, opening_fails}
-use Rattle.opening.proofs.Opened.{stands_for_at, holds_at, no_refusal, first_told, first_kept, told_on, kept_on}
+use Rattle.opening.proofs.Telling.{told_same, tells_same, stands_same, keeps_same, opening_fails}
+use Rattle.opening.proofs.Opened.{stands_for_at, holds_at, keeps_histories, no_refusal, first_told, first_kept, told_on, kept_on}
 use Rattle.opening.proofs.reopening.reopen.Goals as goal
 
 pub returns-in-Ok-clause-stands : goal.returns-in-Ok-clause-stands
@@ -34,6 +35,18 @@ returns-in-Ok-clause-holds g c =
     let later = g.D.Disk.device.content (disk_of c.validator_on.new.journal) in
     let tables = c.in-Ok.validator.tables in
     holds_at c.starts_fresh.ensures node later tables c.limits_hold.ensures (stands_same node (told node mid) (told node later) tables (sym c.in-Ok.ensures.same) c.in-Ok.ensures.stands) c.in-Ok.ensures.texts_left c.in-Ok.ensures.configured
+
+pub returns-in-Ok-clause-kept : goal.returns-in-Ok-clause-kept
+returns-in-Ok-clause-kept g c =
+    let node = node_of g.S.Sign.scheme c.args.config.now in
+    let device = g.D.Disk.device in
+    let middle = disk_of c.in_ok-journal.journal in
+    let later = disk_of c.validator_on.new.journal in
+    let keeps = c.validator_on.ensures.keeps in
+    let now = g.met.D.Disk.counts_now later (device.clock middle) (device.content later) keeps.later (g.met.D.Disk.content_is_outcome later) in
+    keeps_histories node (device.content c.args.disk) (device.content later)
+    (keeps_same Second node (device.content c.args.disk) (device.content middle) (device.content later) c.in_ok-journal.ensures.same (keeps.each (device.content later) now))
+    c.in-Ok.ensures.configured
 
 pub returns-in-Ok-clause-same : goal.returns-in-Ok-clause-same
 returns-in-Ok-clause-same g c =

@@ -6,7 +6,8 @@ use Rattle.journal.specs.declared.layout.TheConstants.{MAX_JOURNAL_BYTES}
 use Rattle.journal.specs.Journal.{disk_of, IsBeforeOrAfter, stands_with}
 use Rattle.spec_records.specs.Records.{configuration_of}
 use Rattle.validator.specs.Setting.{node_of}
-use Rattle.opening.specs.Told.{shaped_version, told, KeepsOrBegins}
+use Rattle.opening.specs.Told.{told, KeepsOrBegins}
+use Rattle.journal.specs.Configuration.{shaped_version}
 use Rattle.diskmodel.proofs.Clock.{started, weaker}
 use Rattle.opening.proofs.Empty.{never_full, begins_with}
 use Rattle.opening.proofs.Opened.{one_text}

@@ -6,7 +6,7 @@ use Rattle.spec_model.specs.Giving.{kept}
 use Rattle.validator.specs.Setting.{node_of}
 use Rattle.node_shared.specs.Home.{taken_by}
 use Rattle.flusher.specs.Rounds.{HoldsAfter, HoldsEither}
-use Rattle.flusher.proofs.Adding.{holds_taken, holds_either}
+use Rattle.flusher.proofs.Adding.{keeps_taken, holds_taken, holds_either}
 use Rattle.diskmodel.proofs.Clock.{weaker}
 use Rattle.flusher.proofs.Taking.{settled_begins, group_behind, taken_legal}
 use Rattle.flusher.proofs.flusher.Flusher.add.Goals as goal
@@ -17,6 +17,7 @@ returns-in-Ok-clause-flusher g c =
     let flush = c.args.self.now.seat in
     let of = c.requires.flush_seat in
     let held = c.requires.holds in
+    let legal = taken_legal c.args.node.now flush of node (kept node held.began) (c.requires.legal (kept node held.began) held.base) in
     let file = g.D.Disk.device.content (disk_of c.args.self.now.journal) in
     let later = g.D.Disk.device.content (disk_of c.append.new.self) in
     record {
@@ -24,8 +25,7 @@ returns-in-Ok-clause-flusher g c =
       rests = λ up. c.settle.ensures.settles.taken ∙ sym c.settle.ensures.settles.settled;
       alive = λ up. c.in-Ok.ensures.alive;
       holds = λ up. subst (λ (l : List Marked). HoldsAfter g.S.Sign.scheme c.args.node.now l later) (sym c.settle.ensures.settles.firm)
-          (holds_taken g.S.Sign.scheme c.args.node.now flush.seat.view.firm (taken_by flush) file held (settled_begins c.args.node.now flush of)
-          (taken_legal c.args.node.now flush of node (kept node held.began) (c.requires.legal (kept node held.began) held.base)) later
+          (holds_taken g.S.Sign.scheme c.args.node.now flush.seat.view.firm (taken_by flush) file (settled_begins c.args.node.now flush of) legal.taken held legal later
           (subst (λ (group : List (List ℕ)). stands later ≡ stands_with file group) (c.requires.group ∙ group_behind c.args.node.now flush of) c.in-Ok.ensures.records));
     }
 
@@ -35,12 +35,24 @@ returns-in-Ok-clause-any_moment g c =
     let flush = c.args.self.now.seat in
     let of = c.requires.flush_seat in
     let held = c.requires.holds in
+    let legal = taken_legal c.args.node.now flush of node (kept node held.began) (c.requires.legal (kept node held.began) held.base) in
     let file = g.D.Disk.device.content (disk_of c.args.self.now.journal) in
     weaker g.D.Disk.device (disk_of c.args.self.now.journal) (disk_of c.append.new.self)
-    (HoldsEither g.S.Sign.scheme c.args.node.now flush.seat.view.firm (taken_by flush)) (IsBeforeOrAfter file c.args.group) c.append.ensures.any_moment
-    (λ left is. holds_either g.S.Sign.scheme c.args.node.now flush.seat.view.firm (taken_by flush) file held (settled_begins c.args.node.now flush of)
-    (taken_legal c.args.node.now flush of node (kept node held.began) (c.requires.legal (kept node held.began) held.base)) left
+    (HoldsEither g.S.Sign.scheme c.args.node.now flush.seat.view.firm (taken_by flush) file) (IsBeforeOrAfter file c.args.group) c.append.ensures.any_moment
+    (λ left is. holds_either g.S.Sign.scheme c.args.node.now flush.seat.view.firm (taken_by flush) file (settled_begins c.args.node.now flush of) legal.taken held legal left
     (subst (λ (group : List (List ℕ)). IsBeforeOrAfter file group left) (c.requires.group ∙ group_behind c.args.node.now flush of) is))
+
+pub returns-in-Ok-clause-earlier : goal.returns-in-Ok-clause-earlier
+returns-in-Ok-clause-earlier g c =
+    let node = node_of g.S.Sign.scheme c.args.node.now.setting in
+    let flush = c.args.self.now.seat in
+    let of = c.requires.flush_seat in
+    let held = c.requires.holds in
+    let legal = taken_legal c.args.node.now flush of node (kept node held.began) (c.requires.legal (kept node held.began) held.base) in
+    let file = g.D.Disk.device.content (disk_of c.args.self.now.journal) in
+    let later = g.D.Disk.device.content (disk_of c.append.new.self) in
+    keeps_taken g.S.Sign.scheme c.args.node.now flush.seat.view.firm (taken_by flush) file (settled_begins c.args.node.now flush of) legal.taken later
+    (subst (λ (group : List (List ℕ)). stands later ≡ stands_with file group) (c.requires.group ∙ group_behind c.args.node.now flush of) c.in-Ok.ensures.records)
 
 pub returns-in_default-clause-flusher : goal.returns-in_default-clause-flusher
 returns-in_default-clause-flusher g c = record {
@@ -56,9 +68,9 @@ returns-in_default-clause-any_moment g c =
     let flush = c.args.self.now.seat in
     let of = c.requires.flush_seat in
     let held = c.requires.holds in
+    let legal = taken_legal c.args.node.now flush of node (kept node held.began) (c.requires.legal (kept node held.began) held.base) in
     let file = g.D.Disk.device.content (disk_of c.args.self.now.journal) in
     weaker g.D.Disk.device (disk_of c.args.self.now.journal) (disk_of c.append.new.self)
-    (HoldsEither g.S.Sign.scheme c.args.node.now flush.seat.view.firm (taken_by flush)) (IsBeforeOrAfter file c.args.group) c.append.ensures.any_moment
-    (λ left is. holds_either g.S.Sign.scheme c.args.node.now flush.seat.view.firm (taken_by flush) file held (settled_begins c.args.node.now flush of)
-    (taken_legal c.args.node.now flush of node (kept node held.began) (c.requires.legal (kept node held.began) held.base)) left
+    (HoldsEither g.S.Sign.scheme c.args.node.now flush.seat.view.firm (taken_by flush) file) (IsBeforeOrAfter file c.args.group) c.append.ensures.any_moment
+    (λ left is. holds_either g.S.Sign.scheme c.args.node.now flush.seat.view.firm (taken_by flush) file (settled_begins c.args.node.now flush of) legal.taken held legal left
     (subst (λ (group : List (List ℕ)). IsBeforeOrAfter file group left) (c.requires.group ∙ group_behind c.args.node.now flush of) is))

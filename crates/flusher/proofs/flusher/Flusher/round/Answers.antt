@@ -1,11 +1,18 @@
-use Rattle.std.proofs.Common.{rules, ◌≡◌, inr, ◌+◌, length, refl, sym, ap, ◌∙◌, subst}
+use Rattle.std.proofs.Common.{rules, ◌≡◌, inr, List, ◌+◌, length, refl, sym, ap, ◌∙◌, subst}
 use Rattle.wire.specs.Lists.{Begins}
 use Rattle.node_seats.specs.Views.{IsSame}
 use Rattle.node_seats.specs.Plays.{with_down}
 use Rattle.node_seats.proofs.Beginnings.{begins_same, begins_trans}
 use Rattle.node_seats.proofs.Same.{same_then}
 use Rattle.node_shared.specs.Home.{IsFlushOf, taken_by}
-use Rattle.flusher.specs.Rounds.{IsFlusherOf, HoldsAfter}
+use Rattle.flusher.specs.Rounds.{IsFlusherOf, HoldsAfter, HoldsEither, KeepsEarlier}
+use Rattle.flusher.specs.declared.flusher.Flusher.{Flusher}
+use Rattle.flusher.proofs.Adding.{still_holds}
+use Rattle.diskmodel.proofs.Clock.{started}
+use Rattle.diskmodel.specs.Disk.{AtEachMoment}
+use Rattle.journal.specs.Journal.{disk_of}
+use Rattle.node_seats.specs.declared.view.Marked.{Marked}
+use Rattle.node_shared.specs.declared.flush_seat.FlushSeat.{FlushSeat}
 use Rattle.book.proofs.Options.{of_some}
 use Rattle.flusher.proofs.Taking.{rests_at, takes_none, takes_some, size_some, takes_as, is_none}
 use Rattle.flusher.proofs.flusher.Flusher.round.Goals as goal
@@ -120,3 +127,58 @@ returns-in_err-count-in-Some-clause-told g c =
       device = λ _. ap (λ s. s.view.down) is;
       full = λ _. ap (λ s. s.view.down) is;
     }
+
+pub returns-in-Err-clause-any_moment : goal.returns-in-Err-clause-any_moment
+returns-in-Err-clause-any_moment g c =
+    let had = c.requires.flusher in
+    let device = g.D.Disk.device in
+    let disk = disk_of c.args.self.now.journal in
+    let settled = c.args.self.now.seat.seat.view.firm in
+    let taken = taken_by c.take.new.flush in
+    inr (started device disk (HoldsEither g.S.Sign.scheme c.args.node.now settled taken (device.content disk))
+    (λ left now. still_holds g.S.Sign.scheme c.args.node.now settled taken (device.content disk) left
+    ((had.alive (search rules)).firm left (g.met.D.Disk.only_now disk left now)) (had.holds (search rules))))
+
+pub returns-clause-any_moment : goal.returns-clause-any_moment
+returns-clause-any_moment g c =
+    let had = c.requires.flusher in
+    let device = g.D.Disk.device in
+    let scheme = g.S.Sign.scheme in
+    let node = c.args.node.now in
+    let disk = disk_of c.args.self.now.journal in
+    let settled = c.args.self.now.seat.seat.view.firm in
+    let taken = taken_by c.tell_settled.new.flush in
+    let leaves = λ (f : Flusher g.row.D.Denot) (s t : List Marked). AtEachMoment device disk (disk_of f.journal) (HoldsEither scheme node s t (device.content disk)) in
+    elim c.match-found.branch [
+      | in-Some+in_ok-count-in-Some w ↦
+          let is : taken ≡ taken_by c.take.new.flush =
+          ap taken_by c.tell_settled.ensures.flush ∙ ap (λ (f : Flusher g.row.D.Denot). taken_by f.seat) w.self-is ∙ w.in_ok-count-in-Some.ensures.taken in
+          inr (subst (λ (f : Flusher g.row.D.Denot). leaves f settled taken) (sym w.self-is)
+          (subst (λ s. leaves w.add.new.self s taken) c.in-Ok.ensures.flush_firm
+          (subst (λ t. leaves w.add.new.self c.take.new.flush.seat.view.firm t) (sym is) w.in_ok-count-in-Some.ensures.any_moment)))
+      | in-None w ↦
+          inr (subst (λ (f : Flusher g.row.D.Denot). leaves f settled taken) (sym w.self-is)
+          (started device disk (HoldsEither scheme node settled taken (device.content disk))
+          (λ left now. still_holds scheme node settled taken (device.content disk) left
+          ((had.alive (search rules)).firm left (g.met.D.Disk.only_now disk left now)) (had.holds (search rules)))))
+    ]
+
+pub returns-clause-earlier : goal.returns-clause-earlier
+returns-clause-earlier g c =
+    let device = g.D.Disk.device in
+    let node = c.args.node.now in
+    let content = device.content (disk_of c.args.self.now.journal) in
+    let settled = c.args.self.now.seat.seat.view.firm in
+    let keeps = λ (f : Flusher g.row.D.Denot) (s t : List Marked). KeepsEarlier g.S.Sign.scheme node s t content (device.content (disk_of f.journal)) in
+    let told = ap (λ (f : FlushSeat). f.seat.view.firm) c.tell_settled.ensures.flush in
+    elim c.match-found.branch [
+      | in-Some+in_ok-count-in-Some w ↦
+          let is = told ∙ ap (λ (f : Flusher g.row.D.Denot). f.seat.seat.view.firm) w.self-is ∙ w.in_ok-count-in-Some.ensures.ok.1 in
+          subst (λ (f : Flusher g.row.D.Denot). keeps f settled c.tell_settled.new.flush.seat.view.firm) (sym w.self-is)
+          (subst (λ s. keeps w.add.new.self s c.tell_settled.new.flush.seat.view.firm) c.in-Ok.ensures.flush_firm
+          (subst (λ t. keeps w.add.new.self c.take.new.flush.seat.view.firm t) (sym is) w.in_ok-count-in-Some.ensures.earlier))
+      | in-None w ↦
+          let is = told ∙ ap (λ (f : Flusher g.row.D.Denot). f.seat.seat.view.firm) w.self-is ∙ c.in-Ok.ensures.flush_firm in
+          subst (λ (f : Flusher g.row.D.Denot). keeps f settled c.tell_settled.new.flush.seat.view.firm) (sym w.self-is)
+          (subst (λ t. keeps c.args.self.now settled t) (sym is) (λ began held. held))
+    ]
