@@ -1,9 +1,9 @@
 -- What a stop at any moment of a node's rounds leaves.
-use Rattle.std.proofs.Common.{◌≡◌, ℕ, Bool, true, false, List, Result, Ok, refl, sym, ap, subst, ◌∙◌, inl, inr}
-use Rattle.std.specs.Prelude.{◌⊎◌, IsErrOf, IsTrue}
+use Rattle.std.proofs.Common.{◌≡◌, ℕ, Bool, true, false, List, Result, Ok, Err, refl, sym, ap, subst, ◌∙◌, inl, inr}
+use Rattle.std.specs.Prelude.{◌⊎◌, IsErrOf, IsTrue, OnErr}
 use Rattle.diskmodel.proofs.Clock.{weaker, joins}
 use Rattle.diskmodel.specs.Disk.{AtEachMoment, Device}
-use Rattle.flusher.specs.Rounds.{journal_of, is_down, settled_in, taken_in, HoldsAfter, HoldsEither, TakesLongest}
+use Rattle.flusher.specs.Rounds.{journal_of, is_down, settled_in, taken_in, LeavesAfter, HoldsEither, KeepsEarlier, GoesDown, TakesLongest}
 use Rattle.flusher.specs.declared.flusher.Flusher.{Flusher}
 use Rattle.journal.specs.Journal.{disk_of}
 use Rattle.book.specs.declared.own.error.FlushError.{FlushError}
@@ -34,50 +34,119 @@ module _ {S D : Type 0} (scheme : Scheme S) (device : Device D) where
   abbrev pub disk : Flusher D → D
   disk flusher = disk_of (journal_of flusher)
 
+  abbrev content : Flusher D → List ℕ
+  content flusher = device.content (disk flusher)
+
   -- at each moment from one to the other there is what was settled, and perhaps more after it
   abbrev pub Leaves : NodeView S → Flusher D → Flusher D → Type 0
-  Leaves node first later = AtEachMoment device (disk first) (disk later) (HoldsMore scheme node (settled_in first))
+  Leaves node first later = AtEachMoment device (disk first) (disk later) (HoldsMore scheme node (settled_in first) (content first))
+
+  -- what there is: what was settled first, and perhaps more after it
+  abbrev May : NodeView S → Flusher D → List ℕ → Type 0
+  May node first = HoldsMore scheme node (settled_in first) (content first)
+
+  -- what a round leaves
+  abbrev Either : NodeView S → Flusher D → Flusher D → List ℕ → Type 0
+  Either node now later = HoldsEither scheme node (settled_in now) (taken_in later) (content now)
+
+  -- what came before is as it was, from one to the other
+  abbrev pub Keeps : NodeView S → Flusher D → Flusher D → Type 0
+  Keeps node first later = KeepsEarlier scheme node (settled_in first) (settled_in later) (content first) (content later)
+
+  -- so far there was no round, or there were some
+  abbrev pub SoFar : NodeView S → Flusher D → Flusher D → Type 0
+  SoFar node first now = (now ≡ first) ⊎ (Leaves node first now × Keeps node first now)
+
+  pub keeps_so_far : (node : NodeView S) (first now : Flusher D) → SoFar node first now → Keeps node first now
+  keeps_so_far node first now (inl same) = subst (Keeps node first) (sym same) (λ began held. held)
+  keeps_so_far node first now (inr (leaves, keeps)) = keeps
+
+  pub keeps_on : (node at : NodeView S) (first now later : Flusher D) → at ≡ node → Keeps node first now → Keeps at now later → Keeps node first later
+  keeps_on node at first now later here before more began held = subst (λ n. Keeps n now later) here more began (before began held)
 
   -- a round after others
   pub round_on : (node at : NodeView S) (seen : List Marked) (first now later : Flusher D) (round : Result ℕ FlushError) → at ≡ node → (IsErrOf round flush.Down → ⊥)
       → Begins (settled_in first) (settled_in now) → IsErrOf round flush.Down ⊎ IsErrOf round flush.Memory ⊎ TakesLongest seen (settled_in now) (taken_in later)
       → (IsErrOf round flush.Memory → (journal_of later ≡ journal_of now) × (taken_in later ≡ settled_in now))
-      → IsErrOf round flush.Down ⊎ AtEachMoment device (disk now) (disk later) (HoldsEither scheme at (settled_in now) (taken_in later))
-      → (now ≡ first) ⊎ Leaves node first now → Leaves node first later
+      → IsErrOf round flush.Down ⊎ AtEachMoment device (disk now) (disk later) (HoldsEither scheme at (settled_in now) (taken_in later) (content now))
+      → SoFar node first now → Leaves node first later
   round_on node at seen first now later round here up begins takes memory (inl down) so_far = absurd (up down)
   round_on node at seen first now later round here up begins takes memory (inr leaves) so_far = goes_on so_far
     where
       taken : Begins (settled_in now) (taken_in later)
       taken = begins_taken seen (settled_in now) (taken_in later) round up takes (λ none. (memory none).1)
 
-      more : (c : List ℕ) → HoldsEither scheme at (settled_in now) (taken_in later) c → HoldsMore scheme node (settled_in first) c
-      more c (inl holds) = record { more = settled_in now; begins = begins; holds = subst (λ n. HoldsAfter scheme n (settled_in now) c) here holds }
-      more c (inr holds) = record {
+      left : (all : List Marked) (c : List ℕ) → LeavesAfter scheme at (settled_in now) all (content now) c → LeavesAfter scheme node (settled_in first) all (content first) c
+      left all c it =
+          let here_it = subst (λ n. LeavesAfter scheme n (settled_in now) all (content now) c) here it in
+          record { holds = here_it.holds; earlier = λ began held. here_it.earlier began (keeps_so_far node first now so_far began held) }
+
+      more : (c : List ℕ) → HoldsEither scheme at (settled_in now) (taken_in later) (content now) c → HoldsMore scheme node (settled_in first) (content first) c
+      more c (inl it) = record { more = settled_in now; begins = begins; leaves = left (settled_in now) c it }
+      more c (inr it) = record {
         more = taken_in later;
         begins = begins_trans (settled_in first) (settled_in now) (taken_in later) begins taken;
-        holds = subst (λ n. HoldsAfter scheme n (taken_in later) c) here holds;
+        leaves = left (taken_in later) c it;
       }
 
-      goes_on : (now ≡ first) ⊎ Leaves node first now → Leaves node first later
-      goes_on (inl same) = subst (λ f. AtEachMoment device (disk f) (disk later) (HoldsMore scheme node (settled_in first))) same
-          (weaker device (disk now) (disk later) (HoldsMore scheme node (settled_in first)) (HoldsEither scheme at (settled_in now) (taken_in later)) leaves more)
-      goes_on (inr before) = joins device (disk first) (disk now) (disk later) (HoldsMore scheme node (settled_in first)) (HoldsEither scheme at (settled_in now) (taken_in later)) before leaves more
+      goes_on : SoFar node first now → Leaves node first later
+      goes_on (inl same) = subst (λ f. AtEachMoment device (disk f) (disk later) (May node first)) same
+          (weaker device (disk now) (disk later) (May node first) (Either at now later) leaves more)
+      goes_on (inr (before, keeps)) = joins device (disk first) (disk now) (disk later) (May node first) (Either at now later) before leaves more
+
+  -- what a round that failed leaves settled
+  pub fails_on : (node : NodeView S) (now later : Flusher D) (round : Result ℕ FlushError) (error : FlushError) → round ≡ Err error → is_down later ≡ false → GoesDown now later round
+      → (IsErrOf round flush.Memory → (journal_of later ≡ journal_of now) × (taken_in later ≡ settled_in now)) → OnErr round (settled_in later ≡ settled_in now) → Keeps node now later
+  fails_on node now later round error is up goes memory settled = by error is
+    where
+      down : is_down later ≡ true → Keeps node now later
+      down fell = absurd (let bad : false ≡ true = sym up ∙ fell in cc)
+
+      still : (one : FlushError) → round ≡ Err one → settled_in later ≡ settled_in now
+      still one same = subst (λ (r : Result ℕ FlushError). OnErr r (settled_in later ≡ settled_in now)) same settled
+
+      by : (one : FlushError) → round ≡ Err one → Keeps node now later
+      by flush.Memory same =
+          subst (λ (l : List Marked). KeepsEarlier scheme node (settled_in now) l (content now) (content later)) (sym (still flush.Memory same))
+          (subst (λ (j : _). KeepsEarlier scheme node (settled_in now) (settled_in now) (content now) (device.content (disk_of j))) (sym (memory same).0) (λ began held. held))
+      by flush.Device same = down (goes.device same)
+      by flush.Full same = down (goes.full same)
+      by flush.Down same = let was = goes.down.0 same in down (ap (λ f. is_down f) (goes.same same) ∙ was)
+
+  -- the same over all rounds that were called: of a node that is up
+  abbrev pub AllSoFar : NodeView S → Flusher D → Flusher D → Type 0
+  AllSoFar node first now = (now ≡ first) ⊎ (is_down first ≡ false → Leaves node first now × (is_down now ≡ false → Keeps node first now))
 
   -- rounds until nothing is pending, after others; a node that is down stays so, and its disk as it is
-  pub all_on : (node at : NodeView S) (first now later : Flusher D) → at ≡ node → Begins (settled_in first) (settled_in now) → (now ≡ first) ⊎ (is_down first ≡ false → Leaves node first now)
-      → (IsTrue (is_down now) → later ≡ now) → (is_down now ≡ false → Leaves at now later) → is_down first ≡ false → Leaves node first later
-  all_on node at first now later here begins so_far stays leaves up = goes_on (is_down now) refl so_far
+  pub all_on : (node at : NodeView S) (first now later : Flusher D) → at ≡ node → Begins (settled_in first) (settled_in now) → AllSoFar node first now
+      → (IsTrue (is_down now) → later ≡ now) → (is_down now ≡ false → Leaves at now later) → (is_down later ≡ false → Keeps at now later) → is_down first ≡ false
+      → Leaves node first later × (is_down later ≡ false → Keeps node first later)
+  all_on node at first now later here begins so_far stays leaves keeps up = goes_on (is_down now) refl so_far
     where
-      more : (c : List ℕ) → HoldsMore scheme at (settled_in now) c → HoldsMore scheme node (settled_in first) c
-      more c it = record {
-        more = it.more;
-        begins = begins_trans (settled_in first) (settled_in now) it.more begins it.begins;
-        holds = subst (λ n. HoldsAfter scheme n it.more c) here it.holds;
-      }
+      more : Keeps node first now → (c : List ℕ) → HoldsMore scheme at (settled_in now) (content now) c → May node first c
+      more before c it =
+          let here_it = subst (λ n. LeavesAfter scheme n (settled_in now) it.more (content now) c) here it.leaves in
+          record {
+            more = it.more;
+            begins = begins_trans (settled_in first) (settled_in now) it.more begins it.begins;
+            leaves = record { holds = here_it.holds; earlier = λ began held. here_it.earlier began (before began held) };
+          }
 
-      goes_on : (down : Bool) → is_down now ≡ down → (now ≡ first) ⊎ (is_down first ≡ false → Leaves node first now) → Leaves node first later
+      goes_on : (down : Bool) → is_down now ≡ down → AllSoFar node first now → Leaves node first later × (is_down later ≡ false → Keeps node first later)
       goes_on true is (inl same) = absurd (let bad : true ≡ false = sym is ∙ ap (λ f. is_down f) same ∙ up in cc)
-      goes_on true is (inr before) = subst (λ f. Leaves node first f) (sym (stays is)) (before up)
-      goes_on false is (inl same) = subst (λ f. AtEachMoment device (disk f) (disk later) (HoldsMore scheme node (settled_in first))) same
-          (weaker device (disk now) (disk later) (HoldsMore scheme node (settled_in first)) (HoldsMore scheme at (settled_in now)) (leaves is) more)
-      goes_on false is (inr before) = joins device (disk first) (disk now) (disk later) (HoldsMore scheme node (settled_in first)) (HoldsMore scheme at (settled_in now)) (before up) (leaves is) more
+      goes_on true is (inr before) =
+          let same = stays is in (
+            subst (λ f. Leaves node first f) (sym same) (before up).0,
+            λ still. absurd (let bad : true ≡ false = sym is ∙ ap (λ f. is_down f) (sym same) ∙ still in cc),
+          )
+      goes_on false is (inl same) =
+          let before = subst (Keeps node first) (sym same) (λ began held. held) in (
+            subst (λ f. AtEachMoment device (disk f) (disk later) (May node first)) same
+                (weaker device (disk now) (disk later) (May node first) (HoldsMore scheme at (settled_in now) (content now)) (leaves is) (more before)),
+            λ still. keeps_on node at first now later here before (keeps still),
+          )
+      goes_on false is (inr before) =
+          let kept = (before up).1 is in (
+            joins device (disk first) (disk now) (disk later) (May node first) (HoldsMore scheme at (settled_in now) (content now)) (before up).0 (leaves is) (more kept),
+            λ still. keeps_on node at first now later here kept (keeps still),
+          )

@@ -1,5 +1,5 @@
 -- What comes of a proposal.
-use Rattle.std.proofs.Common.{◌≡◌, ◌++◌, Bool, false, Result, Ok, Err, Option, Some, None, refl, sym, ap, subst, ◌∙◌}
+use Rattle.std.proofs.Common.{◌≡◌, Bool, false, Result, Ok, Err, Option, Some, None, refl, sym, subst, ◌∙◌}
 use Rattle.std.specs.Prelude.{IfOk, OnErr}
 use Rattle.std.specs.declared.alloc.AllocError.{AllocError}
 use Rattle.book.specs.declared.book.Receipt.{Receipt}
@@ -8,7 +8,6 @@ use Rattle.header.specs.Checks.{fault_of, accepts_all}
 use Rattle.header.specs.declared.error.CheckError.{CheckError}
 use Rattle.spec_laws.specs.Laws.{own_event}
 use Rattle.wire.specs.Lists.{Begins}
-use Rattle.spec_machine.specs.After.{after_all}
 use Rattle.spec_machine.specs.Machine.{proposed}
 use Rattle.spec_model.specs.Nodes.{Node}
 use Rattle.spec_model.specs.States.{State}

@@ -1,5 +1,5 @@
 -- How a node's run over a disk ends.
-use Rattle.std.proofs.Common.{◌≡◌, ◌<◌, ◌++◌, ℕ, Bool, true, false, List, [], Option, Some, None, refl, sym, ap, subst, ◌∙◌, inl, inr}
+use Rattle.std.proofs.Common.{◌≡◌, ◌<◌, ◌++◌, ℕ, Bool, true, false, List, [], Option, Some, None, refl, sym, ap, subst, ◌∙◌, inl, inr, append-nil}
 use Rattle.std.proofs.lemmas.Option.{none-some}
 use Rattle.std.specs.Option.{option_map_or}
 use Rattle.std.specs.Prelude.{◌≢◌, ◌⊎◌, Ok, IfSome, if◌then◌else◌}
@@ -16,10 +16,11 @@ use Rattle.node_io.specs.declared.faults.Faults.{Faults}
 use Rattle.node_seats.specs.Views.{events}
 use Rattle.node_seats.specs.declared.view.Marked.{Marked}
 use Rattle.node_shared.specs.Home.{NodeView}
-use Rattle.opening.specs.Laws.{IsLeft, IsNoRefusal}
+use Rattle.opening.specs.Laws.{IsLeft, IsNoRefusal, KeepsHistories}
 use Rattle.opening.specs.Told.{told, StandsAt, Tells, IsToldAsOneOf}
 use Rattle.spec_model.specs.Admitting.{IsLegal}
 use Rattle.spec_model.specs.Giving.{kept}
+use Rattle.spec_model.specs.Histories.{History}
 use Rattle.spec_model.specs.Nodes.{Node}
 use Rattle.spec_world.specs.World.{Holds}
 use Rattle.validator.specs.Setting.{ConfigView, node_of}
@@ -140,14 +141,14 @@ module _ {S D : Type 0} (scheme : Scheme S) (device : Device D) where
   has_run : (shared : NodeView S) (node : Node) (disk now later : D) (told_of : Faults) → node_of scheme shared.setting ≡ node
       → StandsAt node (told node (device.content disk)) shared.begun → device.faults now ≡ device.faults disk
       → TellsRounds (device.faults now) (device.faults later) told_of.journal → AtEachMoment device disk now (IsToldAsOneOf node (device.outcome disk))
-      → AtEachMoment device now later (HoldsMore scheme shared []) → RunsOver node device disk (ending_of told_of) (Some later)
-  has_run shared node disk now later told_of of_node begins same tells opening leaves = record {
+      → AtEachMoment device now later (HoldsMore scheme shared [] (device.content now)) → KeepsHistories node (device.content disk) (device.content now) → RunsOver node device disk (ending_of told_of) (Some later)
+  has_run shared node disk now later told_of of_node begins same tells opening leaves kept_all = record {
     device = λ is. subst (λ n. n < device.faults later) same (tells.disk.device (told_of_journal told_of journal.Device is));
     no_fault = λ other. tells.disk.no_fault (λ is. other (ends_with_device told_of.journal _ is)) ∙ same;
     told_as = λ named is. elim (which named is) [ inl device ↦ inl device | inr full ↦ inr (inl full) ];
     never_refused = λ left. which;
     lost = some_left later (ending_of told_of);
-    any_moment = joins device disk now later (May node disk) (HoldsMore scheme shared []) (from_opening node disk now opening) leaves more;
+    any_moment = joins device disk now later (May node disk) (HoldsMore scheme shared [] (device.content now)) (from_opening node disk now opening) leaves more;
   }
     where
       which : (named : JournalError) → ending_of told_of ≡ ends.Journal named → (named ≡ journal.Device) ⊎ (named ≡ journal.Full)
@@ -159,23 +160,29 @@ module _ {S D : Type 0} (scheme : Scheme S) (device : Device D) where
           let base = subst (λ (n : Node). AreAtSound n shared.begun (kept n it.began)) of_node it.base in
           begins.is_read ∙ ap Ok (one_state node shared.begun begins.state (kept node it.began) begins.at.sound begins.at.at base.sound base.at)
 
-      more : (bytes : List ℕ) → HoldsMore scheme shared [] bytes → May node disk bytes
-      more bytes it = inr (record {
-        history = it.holds.began;
-        is_told = is_told it.holds;
-        more = events it.more;
-        legal = subst (λ (n : Node). IsLegal n (it.holds.began ++ events it.more)) of_node it.holds.legal;
-        holds = subst (λ (n : Node). Holds n bytes (it.holds.began ++ events it.more)) of_node it.holds.holds;
-      })
+      more : (bytes : List ℕ) → HoldsMore scheme shared [] (device.content now) bytes → May node disk bytes
+      more bytes it =
+          let holds = it.leaves.holds in
+          inr (record {
+            history = holds.began;
+            is_told = is_told holds;
+            more = events it.more;
+            legal = subst (λ (n : Node). IsLegal n (holds.began ++ events it.more)) of_node holds.legal;
+            holds = subst (λ (n : Node). Holds n bytes (holds.began ++ events it.more)) of_node holds.holds;
+            earlier = λ began stands. subst (λ (n : Node). Holds n bytes (began ++ events it.more)) of_node
+                (it.leaves.earlier began (subst (λ (l : History). Holds (node_of scheme shared.setting) (device.content now) l) (sym (append-nil began))
+                (subst (λ (n : Node). Holds n (device.content now) began) (sym of_node) (kept_all began stands))));
+          })
 
   -- its threads have ended
   pub ended : (shared : NodeView S) (node : Node) (disk now : D) (told_of : Faults) (left : Option D) → node_of scheme shared.setting ≡ node
       → StandsAt node (told node (device.content disk)) shared.begun → device.faults now ≡ device.faults disk
       → IfSome left (λ later. TellsRounds (device.faults now) (device.faults later) told_of.journal) → (left ≡ None → told_of ≡ no_memory)
       → AtEachMoment device disk now (IsToldAsOneOf node (device.outcome disk))
-      → IfSome left (λ later. AtEachMoment device now later (HoldsMore scheme shared [])) → RunsOver node device disk (ending_of told_of) left
-  ended shared node disk now told_of None of_node begins same tells lost opening leaves = run_lost node disk told_of (lost refl)
-  ended shared node disk now told_of (Some later) of_node begins same tells lost opening leaves = has_run shared node disk now later told_of of_node begins same tells opening leaves
+      → IfSome left (λ later. AtEachMoment device now later (HoldsMore scheme shared [] (device.content now))) → KeepsHistories node (device.content disk) (device.content now) → RunsOver node device disk (ending_of told_of) left
+  ended shared node disk now told_of None of_node begins same tells lost opening leaves kept_all = run_lost node disk told_of (lost refl)
+  ended shared node disk now told_of (Some later) of_node begins same tells lost opening leaves kept_all =
+      has_run shared node disk now later told_of of_node begins same tells opening leaves kept_all
 
 -- a member whom a number names ran
 pub run_as : {O D : Type 0} (scheme : Scheme Key) (device : Device D)

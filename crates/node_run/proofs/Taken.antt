@@ -1,9 +1,9 @@
 -- An event that is submitted after a look.
-use Rattle.std.proofs.Common.{◌≡◌, [], ◌∷◌, ◌++◌, Bool, true, false, Result, Ok, Err, Option, Some, None, refl, sym, subst, ap, ◌∙◌, inl, inr}
+use Rattle.std.proofs.Common.{◌≡◌, [], ◌∷◌, Bool, true, false, Result, Ok, Err, Option, Some, None, refl, sym, subst, ap, ◌∙◌, inl, inr}
 use Rattle.std.specs.Prelude.{not, is_some}
 use Rattle.header.specs.Digested.{certificate_digest_in}
 use Rattle.spec_machine.specs.Machine.{answered, is_missing_parents}
-use Rattle.node_seats.specs.Views.{events, IsSame}
+use Rattle.node_seats.specs.Views.{IsSame}
 use Rattle.node_shared.specs.Home.{NodeView, IsBase, seen_in}
 use Rattle.book.specs.declared.book.Receipt.{Receipt}
 use Rattle.sigface.specs.Scheme.{Scheme}

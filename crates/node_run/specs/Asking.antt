@@ -1,27 +1,38 @@
 -- What an event leaves as it was, of what a node is asked after it.
-use Rattle.std.specs.Prelude.{◌≡◌, ◌≢◌, Bool, true, false, ◌||◌, [], ◌∷◌, ◌++◌, Result, Ok}
-use Rattle.spec_machine.specs.Machine.{is_missing_parents}
-use Rattle.spec_model.specs.Admitting.{admit}
-use Rattle.spec_model.specs.Histories.{History}
-use Rattle.spec_model.specs.Nodes.{Node}
-use Rattle.spec_model.specs.Proposing.{propose}
+use Rattle.std.specs.Prelude.{◌≡◌, ◌≢◌, Bool, true, false, ◌||◌, IsTrue, Result, Ok}
+use Rattle.spec_machine.specs.Machine.{after, answered, is_missing_parents, proposed}
+use Rattle.spec_machine.specs.Sound.{IsSound}
+use Rattle.spec_model.specs.Admitting.{IsTaken, is_new}
+use Rattle.spec_model.specs.Nodes.{Node, IsNode}
+use Rattle.spec_model.specs.States.{State}
 use Rattle.spec_model.specs.Words.{Author, Certificate, Message}
 use Rattle.wire.specs.declared.message.Message.TheVariants as message
 use Rattle.node_io.specs.declared.told.Told.{Told}
 use Rattle.node_run.specs.declared.due.Due.{Due}
 
--- after a message a certificate lacks parents exactly where it lacked them before, whatever the history
+-- a message from a sender is a new event at a sound state of a member's node
+pub record IsNewAt (own : Author) (sent : Message) (node : Node) (state : State) (sender : Author) : Type 0 where
+  pub own_is : node.own ≡ own
+  pub node_is : IsNode node
+  pub sound : IsSound node state
+  pub taken : IsTaken node (record { sender = sender; message = sent })
+  pub new : IsTrue (is_new (answered node state (record { sender = sender; message = sent })))
+
+-- whether a certificate that comes lacks parents
+abbrev pub lacks_parents : Node → State → Author → Certificate → Bool
+lacks_parents node state from certificate = is_missing_parents (answered node state (record { sender = from; message = message.Certificate certificate }))
+
+-- after a new message a certificate lacks parents exactly where it lacked them before, whatever the sound state
 abbrev pub LeavesWaiting : Author → Message → Type 0
 LeavesWaiting own sent =
-    (node : Node) (history : History) (sender from : Author) (certificate : Certificate) → node.own ≡ own
-    → is_missing_parents (admit node (history ++ record { sender = sender; message = sent } ∷ []) (record { sender = from; message = message.Certificate certificate }))
-    ≡ is_missing_parents (admit node history (record { sender = from; message = message.Certificate certificate }))
+    (node : Node) (state : State) (sender from : Author) (certificate : Certificate) → IsNewAt own sent node state sender
+    → lacks_parents node (after node state (record { sender = sender; message = sent })) from certificate ≡ lacks_parents node state from certificate
 
--- after a message the node proposes what it proposed before, whatever the history
+-- after a new message the node proposes what it proposed before, whatever the sound state
 abbrev pub LeavesProposal : Author → Message → Type 0
 LeavesProposal own sent =
-    (node : Node) (history : History) (sender : Author) → node.own ≡ own
-    → propose node (history ++ record { sender = sender; message = sent } ∷ []) ≡ propose node history
+    (node : Node) (state : State) (sender : Author) → IsNewAt own sent node state sender
+    → proposed node (after node state (record { sender = sender; message = sent })) ≡ proposed node state
 
 -- what isn't due after a message is answered as before it
 pub record Leaves (own : Author) (sent : Message) (due : Due) : Type 0 where

@@ -1,7 +1,7 @@
 -- How a node's run over a disk ends, and what a stop at any moment of it leaves.
 use Rattle.std.specs.Prelude.{◌≡◌, ◌≢◌, ◌⊎◌, ◌<◌, ℕ, false, List, ◌++◌, Option, None, Ok, IfSome}
 use Rattle.diskmodel.specs.Disk.{Device, AtEachMoment}
-use Rattle.flusher.specs.Rounds.{journal_of, is_down, settled_in, HoldsAfter}
+use Rattle.flusher.specs.Rounds.{journal_of, is_down, settled_in, LeavesAfter}
 use Rattle.flusher.specs.declared.flusher.Flusher.{Flusher}
 use Rattle.journal.specs.Journal.{disk_of}
 use Rattle.journal.specs.declared.error.JournalError.{JournalError}
@@ -19,34 +19,35 @@ use Rattle.spec_model.specs.Giving.{kept}
 use Rattle.spec_model.specs.Histories.{History}
 use Rattle.wire.specs.Lists.{Begins}
 use Rattle.spec_model.specs.Nodes.{Node}
-use Rattle.spec_world.specs.World.{Holds}
+use Rattle.spec_world.specs.World.{Holds, StandsFor}
 use Rattle.validator.specs.Setting.{ConfigView, node_of}
 use Rattle.wire.specs.declared.keys.Key.{Key}
 use Rattle.node_run.specs.Ends.{TellsRounds}
 use Rattle.node_run.specs.Members.{IsConfigOf}
 use Rattle.sigface.specs.Scheme.{Scheme}
 
--- bytes are a node's journal with what was settled, and perhaps more after it
-pub record HoldsMore {S : Type 0} (scheme : Scheme S) (node : NodeView S) (settled : List Marked) (left : List ℕ) : Type 0 where
+-- bytes are a node's journal with what was settled, and perhaps more after it, after the same history as before
+pub record HoldsMore {S : Type 0} (scheme : Scheme S) (node : NodeView S) (settled : List Marked) (before left : List ℕ) : Type 0 where
   pub more : List Marked
   pub begins : Begins settled more
-  pub holds : HoldsAfter scheme node more left
+  pub leaves : LeavesAfter scheme node settled more before left
 
 -- a node's rounds told these faults: of its journal as rounds do, and none of outputs or of the input; a stop at any moment leaves what was
 -- settled, and perhaps more after it
 pub record HasFlushed {S D : Type 0} (scheme : Scheme S) (device : Device D) (node : NodeView S) (flusher : Flusher D) (tells : Faults) (left : D) : Type 0 where
   pub told : TellsRounds (device.faults (disk_of (journal_of flusher))) (device.faults left) tells.journal
   pub others : (tells.output ≡ false) × (tells.input ≡ false)
-  pub any_moment : is_down flusher ≡ false → AtEachMoment device (disk_of (journal_of flusher)) left (HoldsMore scheme node (settled_in flusher))
+  pub any_moment : is_down flusher ≡ false → AtEachMoment device (disk_of (journal_of flusher)) left (HoldsMore scheme node (settled_in flusher) (device.content (disk_of (journal_of flusher))))
 
--- a disk was told as what is kept of a history, and bytes are the node's journal with that history, and perhaps more after it; all of that
--- is legal
+-- A disk was told as what is kept of a history, and bytes are the node's journal with that history, and perhaps more after it; all of that
+-- is legal. With each history for which the disk stood they are its journal, and with the same after it.
 pub record GoesOn (node : Node) (before left : List ℕ) : Type 0 where
   pub history : History
   pub is_told : told node before ≡ Ok (kept node history)
   pub more : History
   pub legal : IsLegal node (history ++ more)
   pub holds : Holds node left (history ++ more)
+  pub earlier : (began : History) → StandsFor node before began → Holds node left (began ++ more)
 
 -- A node was opened on a disk, if it could be, and ran until this ending; this is left of the disk. A fault of the disk is told exactly
 -- where it counted one. Of the journal's other faults a full one is told after the opening, and what the opening refused. That is what

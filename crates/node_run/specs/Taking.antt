@@ -1,5 +1,5 @@
 -- What comes of a message that a frame brings.
-use Rattle.std.specs.Prelude.{Bool, List, ◌++◌, ◌≡◌, ◌⊎◌, true, false, Option, Some, None, Result, Ok, Err, is_some, if◌then◌else◌}
+use Rattle.std.specs.Prelude.{Bool, List, ◌≡◌, ◌⊎◌, true, false, Option, Some, None, Result, Ok, Err, is_some, if◌then◌else◌}
 use Rattle.book.specs.declared.book.Receipt.{Receipt}
 use Rattle.header.specs.Checks.{fault_of, accepts_all}
 use Rattle.header.specs.Digested.{certificate_digest_in}

@@ -45,8 +45,8 @@ pub record Puts (bytes : List ℕ) (before later : Faults) (old new : Option (Li
   pub some : AppendsSome old new bytes
   pub others : later ≡ record before { output = later.output; memory = later.memory }
 
--- from each base on an output was put out after some of what a seat knows as settled, or knew of it before, and it may be given out at each
--- legal history that keeps a base, with all of that
+-- An output was put out, from each base on, after some of the events that a seat knows as settled. It may be given out after all of
+-- them, at each legal history that keeps a base.
 pub record MayGo {S : Type 0} (scheme : Scheme S) (node : NodeView S) (view : View) (output : Output) : Type 0 where
   pub settled : List Marked
   pub begins : Begins settled view.firm

@@ -58,6 +58,7 @@ impl Due {
 pub(crate) fn due_behind(own: Author, message: &Message) -> Due
     ensures left { Leaves own message.now result }
 {
+    spec_machine::sound_stays();
     match message {
         Message::Batch(batch) => Due {
             waiting: false,

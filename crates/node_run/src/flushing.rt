@@ -5,7 +5,7 @@ ghost use Rattle.diskmodel.specs.Disk.{AtEachMoment};
 ghost use Rattle.journal.specs.Journal.{disk_of};
 ghost use Rattle.wire.specs.Lists.{Begins};
 ghost use Rattle.validator.specs.Setting.{node_of};
-ghost use Rattle.flusher.specs.Rounds.{journal_of, is_down, settled_in, taken_in, HasNoRoom, TakesLongest};
+ghost use Rattle.flusher.specs.Rounds.{journal_of, is_down, settled_in, taken_in, HasNoRoom, KeepsEarlier, TakesLongest};
 ghost use Rattle.node_run.specs.Ends.{faults_behind, TellsRounds, TellsJournal};
 ghost use Rattle.node_run.specs.Runs.{HoldsMore};
 
@@ -29,7 +29,7 @@ pub(crate) fn flush_all<S: Sign, D: Disk, R: Wait>(
     ensures others { (result.output ≡ false) × (result.input ≡ false) }
     ensures node { rounds.new.node ≡ rounds.old.node }
     // A stop at any moment leaves what was settled, and perhaps more after it.
-    ensures any_moment { is_down rounds.old.flusher ≡ false → AtEachMoment D.device (disk_of (journal_of rounds.old.flusher)) (disk_of (journal_of rounds.new.flusher)) (HoldsMore S.scheme rounds.old.node (settled_in rounds.old.flusher)) }
+    ensures any_moment { is_down rounds.old.flusher ≡ false → AtEachMoment D.device (disk_of (journal_of rounds.old.flusher)) (disk_of (journal_of rounds.new.flusher)) (HoldsMore S.scheme rounds.old.node (settled_in rounds.old.flusher) (D.device.content (disk_of (journal_of rounds.old.flusher)))) }
 {
     let mut faults = Faults::none();
     for _ in rt.forever() {
@@ -64,7 +64,9 @@ fn flush_pending<S: Sign, D: Disk, R: Wait>(
     ensures others { (result.output ≡ false) × (result.input ≡ false) }
     ensures node { rounds.new.node ≡ rounds.old.node }
     ensures more { Begins (settled_in rounds.old.flusher) (settled_in rounds.new.flusher) }
-    ensures any_moment { is_down rounds.old.flusher ≡ false → AtEachMoment D.device (disk_of (journal_of rounds.old.flusher)) (disk_of (journal_of rounds.new.flusher)) (HoldsMore S.scheme rounds.old.node (settled_in rounds.old.flusher)) }
+    // What came before stays as it was.
+    ensures earlier { is_down rounds.new.flusher ≡ false → KeepsEarlier S.scheme rounds.old.node (settled_in rounds.old.flusher) (settled_in rounds.new.flusher) (D.device.content (disk_of (journal_of rounds.old.flusher))) (D.device.content (disk_of (journal_of rounds.new.flusher))) }
+    ensures any_moment { is_down rounds.old.flusher ≡ false → AtEachMoment D.device (disk_of (journal_of rounds.old.flusher)) (disk_of (journal_of rounds.new.flusher)) (HoldsMore S.scheme rounds.old.node (settled_in rounds.old.flusher) (D.device.content (disk_of (journal_of rounds.old.flusher)))) }
 {
     for _ in rt.forever() {
         let round = rounds.round(rt);

@@ -179,7 +179,7 @@ where
     ensures told { IfSome result.1 (λ left. TellsRounds (D.device.faults (disk_of (journal_of rounds.entry.flusher))) (D.device.faults left) result.0.journal) }
     ensures lost { result.1 ≡ None → result.0 ≡ no_memory }
     // A stop at any moment leaves what was settled, and perhaps more after it.
-    ensures any_moment { is_down rounds.entry.flusher ≡ false → IfSome result.1 (λ left. AtEachMoment D.device (disk_of (journal_of rounds.entry.flusher)) left (HoldsMore S.scheme rounds.entry.node (settled_in rounds.entry.flusher))) }
+    ensures any_moment { is_down rounds.entry.flusher ≡ false → IfSome result.1 (λ left. AtEachMoment D.device (disk_of (journal_of rounds.entry.flusher)) left (HoldsMore S.scheme rounds.entry.node (settled_in rounds.entry.flusher) (D.device.content (disk_of (journal_of rounds.entry.flusher))))) }
 {
     let Desks {
         reading,

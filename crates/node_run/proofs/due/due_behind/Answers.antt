@@ -37,6 +37,6 @@ returns-in-Coin c =
     record {
       left = rw c.in-Coin.is record {
         waiting = λ never. absurd cc;
-        proposal = λ _. coin_proposes c.args.own c.in-Coin.field-0;
+        proposal = λ _. coin_proposes c.sound_stays.ensures c.args.own c.in-Coin.field-0;
       };
     }

@@ -1,11 +1,9 @@
 use Rattle.std.proofs.Common.{◌≡◌, false}
-use Rattle.std.specs.Prelude.{◌⊎◌}
-use Rattle.diskmodel.specs.Disk.{AtEachMoment}
-use Rattle.node_run.specs.Runs.{HoldsMore}
 use Rattle.wire.specs.Lists.{Begins}
 use Rattle.journal.specs.Journal.{disk_of}
 use Rattle.flusher.specs.Rounds.{journal_of, is_down, settled_in, taken_in, HasNoRoom}
 use Rattle.node_run.specs.Ends.{TellsJournal}
+use Rattle.node_run.proofs.Moments.{AllSoFar}
 use Rattle.node_run.proofs.flushing.flush_all.Given as goal
 
 abbrev pub invariant-loop : goal.invariant-loop
@@ -17,5 +15,4 @@ invariant-loop g l =
     (HasNoRoom (g.D.Disk.device.content (disk_of (journal_of now))) (settled_in now) (taken_in now))
     × (l.rounds.node ≡ l.initial.rounds.node)
     × Begins (settled_in first) (settled_in now)
-    × (now ≡ first ⊎ (is_down first ≡ false → AtEachMoment g.D.Disk.device (disk_of (journal_of first)) (disk_of (journal_of now))
-    (HoldsMore g.S.Sign.scheme l.initial.rounds.node (settled_in first))))
+    × AllSoFar g.S.Sign.scheme g.D.Disk.device l.initial.rounds.node first now

@@ -4,7 +4,7 @@ use Rattle.flusher.specs.Rounds.{settled_in, taken_in}
 use Rattle.book.specs.declared.own.error.FlushError.TheVariants as flush
 use Rattle.node_seats.proofs.Beginnings.{begins_trans}
 use Rattle.wire.specs.Lists.{Begins}
-use Rattle.node_run.proofs.Moments.{begins_taken, ok_is_up, up_is_up, round_on}
+use Rattle.node_run.proofs.Moments.{begins_taken, ok_is_up, up_is_up, keeps_so_far, keeps_on, round_on, fails_on}
 use Rattle.node_run.proofs.Flushed.{nothing_left, of_ok, never_ok, stays_up}
 use Rattle.node_run.proofs.flushing.flush_pending.Goals as goal
 
@@ -27,7 +27,11 @@ loop-preserved g c =
       round.ensures.node ∙ c.loop.invariant.6,
       begins_trans (settled_in first) (settled_in now) (settled_in later) c.loop.invariant.7
           (subst (Begins (settled_in now)) (sym (of_ok round.result c.in-Ok.field-0 c.in-Ok.is round.ensures.settles.settled)) takes),
-      inr leaves,
+      inr (
+        leaves,
+        keeps_on g.S.Sign.scheme g.D.Disk.device c.args.rounds.now.node c.loop.rounds.node first now later c.loop.invariant.6
+            (keeps_so_far g.S.Sign.scheme g.D.Disk.device c.args.rounds.now.node first now c.loop.invariant.8) (of_ok round.result c.in-Ok.field-0 c.in-Ok.is round.ensures.earlier),
+      ),
     )
 
 pub returns-in-Ok-eq0-clause-all : goal.returns-in-Ok-eq0-clause-all
@@ -64,3 +68,25 @@ returns-in-Err-clause-any_moment g c = λ was_up.
     let up = up_is_up (IsErrOf round.result flush.Down) _ _ c.loop.invariant.3 was_up round.ensures.down.down.0 in
     round_on g.S.Sign.scheme g.D.Disk.device c.args.rounds.now.node c.loop.rounds.node _ c.args.rounds.now.flusher c.loop.rounds.flusher round.new.self.flusher round.result
     c.loop.invariant.6 up c.loop.invariant.7 round.ensures.settles.takes round.ensures.settles.memory round.ensures.any_moment c.loop.invariant.8
+
+pub returns-in-Ok-eq0-clause-earlier : goal.returns-in-Ok-eq0-clause-earlier
+returns-in-Ok-eq0-clause-earlier g c = λ up.
+    let round = c.round-round in
+    let ok = c.in-Ok-eq0.is ∙ ap Ok (sym c.in-Ok-eq0.field-0-is ∙ c.in-Ok-eq0.field-0-test) in
+    let first = c.args.rounds.now.flusher in
+    let now = c.loop.rounds.flusher in
+    let node = c.args.rounds.now.node in
+    keeps_on g.S.Sign.scheme g.D.Disk.device node c.loop.rounds.node first now round.new.self.flusher c.loop.invariant.6
+    (keeps_so_far g.S.Sign.scheme g.D.Disk.device node first now c.loop.invariant.8) (of_ok round.result 0 ok round.ensures.earlier)
+
+pub returns-in-Err-clause-earlier : goal.returns-in-Err-clause-earlier
+returns-in-Err-clause-earlier g c = λ up.
+    let round = c.round-round in
+    let first = c.args.rounds.now.flusher in
+    let now = c.loop.rounds.flusher in
+    let later = round.new.self.flusher in
+    let node = c.args.rounds.now.node in
+    let fails = fails_on g.S.Sign.scheme g.D.Disk.device c.loop.rounds.node now later round.result c.in-Err.error c.in-Err.is up round.ensures.down
+    round.ensures.settles.memory round.ensures.settles.not_settled in
+    keeps_on g.S.Sign.scheme g.D.Disk.device node c.loop.rounds.node first now later c.loop.invariant.6
+    (keeps_so_far g.S.Sign.scheme g.D.Disk.device node first now c.loop.invariant.8) fails

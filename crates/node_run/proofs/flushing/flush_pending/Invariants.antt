@@ -1,10 +1,9 @@
 use Rattle.std.proofs.Common.{◌≡◌}
-use Rattle.std.specs.Prelude.{◌⊎◌, IsTrue}
+use Rattle.std.specs.Prelude.{IsTrue}
 use Rattle.journal.specs.Journal.{disk_of}
 use Rattle.wire.specs.Lists.{Begins}
-use Rattle.diskmodel.specs.Disk.{AtEachMoment}
 use Rattle.flusher.specs.Rounds.{journal_of, is_down, settled_in}
-use Rattle.node_run.specs.Runs.{HoldsMore}
+use Rattle.node_run.proofs.Moments.{SoFar}
 use Rattle.node_run.proofs.flushing.flush_pending.Given as goal
 
 abbrev pub invariant-loop : goal.invariant-loop
@@ -16,5 +15,4 @@ invariant-loop g l =
     × (IsTrue (is_down l.initial.rounds.flusher) → l.rounds.flusher ≡ l.initial.rounds.flusher)
     × (l.rounds.node ≡ l.initial.rounds.node)
     × Begins (settled_in l.initial.rounds.flusher) (settled_in l.rounds.flusher)
-    × ((l.rounds.flusher ≡ l.initial.rounds.flusher) ⊎ AtEachMoment g.D.Disk.device (disk_of (journal_of l.initial.rounds.flusher)) (disk_of (journal_of l.rounds.flusher))
-    (HoldsMore g.S.Sign.scheme l.initial.rounds.node (settled_in l.initial.rounds.flusher)))
+    × SoFar g.S.Sign.scheme g.D.Disk.device l.initial.rounds.node l.initial.rounds.flusher l.rounds.flusher

@@ -7,6 +7,7 @@ use Rattle.journal.specs.Journal.{disk_of}
 use Rattle.node_io.specs.declared.ending.Ending.{Ending}
 use Rattle.node_seats.specs.declared.view.Marked.{Marked}
 use Rattle.node_shared.specs.Home.{NodeView}
+use Rattle.opening.specs.Laws.{KeepsHistories}
 use Rattle.opening.specs.Told.{told, IsToldAsOneOf, StandsAt}
 use Rattle.validator.specs.Setting.{node_of}
 use Rattle.node_run.proofs.Runs.{ended, not_run}
@@ -25,7 +26,7 @@ returns-in-Ok-new g c =
     let disk : disk_of (journal_of rounds.flusher) ≡ disk_of (journal_of c.in-Ok.started.2) = ap (λ (f : Flusher g.row.D.Denot). disk_of (journal_of f)) flusher in
     let up : is_down rounds.flusher ≡ false = ap (λ (f : Flusher g.row.D.Denot). is_down f) flusher ∙ started.up in
     let nothing : settled_in rounds.flusher ≡ [] = ap (λ (f : Flusher g.row.D.Denot). settled_in f) flusher ∙ started.nothing_settled.0 in
-    let leaves = subst (λ (settled : List Marked). IfSome left (λ later. AtEachMoment g.D.Disk.device (disk_of (journal_of rounds.flusher)) later (HoldsMore g.S.Sign.scheme rounds.node settled)))
+    let leaves = subst (λ (settled : List Marked). IfSome left (λ later. AtEachMoment g.D.Disk.device (disk_of (journal_of rounds.flusher)) later (HoldsMore g.S.Sign.scheme rounds.node settled (g.D.Disk.device.content (disk_of (journal_of rounds.flusher))))))
     nothing (c.run_threads-disk.ensures.any_moment up) in
     let opening = subst (λ (d : g.row.D.Denot). AtEachMoment g.D.Disk.device c.args.disk d (IsToldAsOneOf node (g.D.Disk.device.outcome c.args.disk))) (sym disk) started.opening.any_moment in
     subst (λ (ending : Ending). RunsOver node g.D.Disk.device c.args.disk ending left) (sym c.ending.ensures)
@@ -33,7 +34,8 @@ returns-in-Ok-new g c =
     (ap (λ (s : NodeView g.row.S.Denot). nodes s.setting) shared ∙ ap nodes started.setting)
     (subst (λ (s : NodeView g.row.S.Denot). StandsAt node (told node (g.D.Disk.device.content c.args.disk)) s.begun) (sym shared) started.begins)
     (ap g.D.Disk.device.faults disk ∙ started.opening.cause.0)
-    c.run_threads-disk.ensures.told c.run_threads-disk.ensures.lost opening leaves)
+    c.run_threads-disk.ensures.told c.run_threads-disk.ensures.lost opening leaves
+    (subst (λ (d : g.row.D.Denot). KeepsHistories node (g.D.Disk.device.content c.args.disk) (g.D.Disk.device.content d)) (sym disk) started.kept))
 
 pub returns : goal.returns
 returns g c =
