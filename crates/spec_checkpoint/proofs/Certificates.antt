@@ -1,7 +1,7 @@
 -- The certificates of a checkpoint without a fault are as they have to be.
 use Rattle.std.proofs.Common.{◌≡◌, ◌⊎◌, ℕ, zero, suc, ◌+◌, ◌-◌, ◌*◌, ◌<◌, ◌≤◌, Bool, true, false, inl, inr, List, [], ◌∷◌, map, max, refl, sym, ap, ◌∙◌, subst, arith}
 use Rattle.std.specs.Prelude.{◌==◌, nat_le, find, fold, All, Contains, Option, Some, None, slice_get, option_and_then, length, ◌%◌}
-use Rattle.std.specs.List.{list_all, range_with_len}
+use Rattle.std.specs.List.{list_all}
 use Rattle.std.specs.Option.{option_map_or}
 use Rattle.std.proofs.lemmas.Bool.{cases_Bool, cases_lt, and_parts, leb-true, eqb-true}
 use Rattle.std.proofs.lemmas.List.Elements.{All-contains}
@@ -12,6 +12,8 @@ use Rattle.spec_laws.proofs.Meeting.{mapped_from}
 use Rattle.spec_laws.proofs.OrderGrows.{members_some, sound_certificate}
 use Rattle.spec_laws.proofs.Proposed.{number_below}
 use Rattle.spec_laws.proofs.Votes.{slot_is, of_its_slot}
+use Rattle.spec_machine.proofs.FreshSound.{genesis_found}
+use Rattle.spec_machine.proofs.Grown.{each_within}
 use Rattle.spec_machine.specs.Sound.{IsReceived, AreCertificates}
 use Rattle.spec_model.specs.Admitting.{IsTaken}
 use Rattle.spec_model.specs.Holdings.{genesis, all_held, ledger_of}
@@ -68,31 +70,12 @@ placed node checkpoint round author c held = elim (cases_Bool (round == 0)) [
 
 -- ---- the genesis
 
-genesis_found : (from count author : ℕ) → from ≤ author → author < from + count → find (λ c. is_of_slot 0 author c.header) (map genesis (range_with_len from count)) ≡ Some (genesis author)
-genesis_found from zero author least most = absurd (omega (arith, least, most))
-genesis_found from (suc count) author least most =
-    elim (cases_Bool (from == author)) [
-      | inl here ↦ let is = eqb-true from author here in rw here (ap (λ a. Some (genesis a)) is)
-      | inr other ↦ rw other (genesis_found (from + 1) count author (grind (arith, least, other)) (omega (arith, most)))
-    ]
-
 the_genesis : (node : Node) (checkpoint : Checkpoint) → listed_floor node checkpoint ≡ 0 → (author : ℕ) → author < size_of node → (state_in node checkpoint).slots 0 author ≡ Some (genesis author)
 the_genesis node checkpoint none author member =
     let zero_floor : (listed_floor node checkpoint == 0) ≡ true = rw none refl in
     rw zero_floor (genesis_found 0 (size_of node) author (omega arith) (omega (arith, member)))
 
 -- ---- the greatest round
-
-each_within : (most : ℕ) (certificates : List Certificate) (c : Certificate) → Contains certificates c → c.header.round ≤ fold max most (map (λ (d : Certificate). d.header.round) certificates)
-each_within most [] c inside = absurd (Contains-nothing c inside)
-each_within most (d ∷ rest) c inside = elim (Contains-cases d rest c inside) [
-  | inl same ↦ (let grows = least (max most d.header.round) rest in let is = ap (λ (x : Certificate). x.header.round) same in grind (arith, grows, is))
-  | inr later ↦ each_within (max most d.header.round) rest c later
-]
-  where
-    least : (from : ℕ) (xs : List Certificate) → from ≤ fold max from (map (λ (x : Certificate). x.header.round) xs)
-    least from [] = omega arith
-    least from (x ∷ xs) = let rest = least (max from x.header.round) xs in grind (arith, rest)
 
 -- it is the one that it begins with, or that of a certificate
 reached_by : (most : ℕ) (certificates : List Certificate)

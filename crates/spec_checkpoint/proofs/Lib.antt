@@ -7,3 +7,9 @@ mod Votes
 mod Sound
 mod Rising
 mod NoFault
+mod Cuts
+mod RecordTexts
+mod Following
+mod ReadAgain
+mod Loadable
+mod ReadingTests

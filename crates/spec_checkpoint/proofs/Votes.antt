@@ -9,7 +9,7 @@ use Rattle.std.proofs.lemmas.List.Elements.{All-contains}
 use Rattle.std.proofs.lemmas.Option.{none-some, same_Some}
 use Rattle.std.proofs.lemmas.Slice.Eq.{bytes_eq-Decides}
 use Rattle.committee.specs.Charter.{weight}
-use Rattle.header.specs.Checks.{test, accepts_all, is_member, fault_of}
+use Rattle.header.specs.Checks.{accepts_all, is_member, fault_of}
 use Rattle.spec_laws.proofs.Lists.{found_passes}
 use Rattle.spec_laws.proofs.Meeting.{any_to}
 use Rattle.spec_laws.proofs.Votes.{of_its_slot}

@@ -1,14 +1,18 @@
 -- What holds of checkpoints.
-use Rattle.std.specs.Prelude.{◌≡◌, true}
+use Rattle.std.specs.Prelude.{◌≡◌, ◌↔◌, ℕ, List, All, Ok, None, true}
 use Rattle.spec_machine.specs.Machine.{fresh}
 use Rattle.spec_machine.specs.Sound.{IsSound}
 use Rattle.spec_model.specs.Admitting.{IsLegal}
 use Rattle.spec_model.specs.Giving.{kept}
 use Rattle.spec_model.specs.Histories.{History}
 use Rattle.spec_model.specs.Nodes.{Node, IsNode}
+use Rattle.wire.specs.Fields.{AreBytes}
 use Rattle.spec_checkpoint.specs.Data.{Checkpoint, blank, IsCanonical, IsWritten}
 use Rattle.spec_checkpoint.specs.Faults.{has_no_fault}
+use Rattle.spec_checkpoint.specs.Loading.{load_fault, AreLoadable}
 use Rattle.spec_checkpoint.specs.Meaning.{state_in}
+use Rattle.spec_checkpoint.specs.Reading.{checkpoint_read}
+use Rattle.spec_checkpoint.specs.Records.{state_records}
 
 -- the checkpoint of a node that has taken nothing is the fresh state
 abbrev pub BlankIsFresh : Type 0
@@ -27,3 +31,17 @@ SoundHasNoFault = (node : Node) (checkpoint : Checkpoint) → IsWritten node che
 abbrev pub KeptHasNoFault : Type 0
 KeptHasNoFault = (node : Node) (checkpoint : Checkpoint) (history : History) → IsWritten node checkpoint → IsLegal node history → state_in node checkpoint ≡ kept node history
     → has_no_fault node checkpoint ≡ true
+
+-- records are read as a checkpoint exactly where it is canonical and they are its records
+abbrev pub ReadAsWritten : Type 0
+ReadAsWritten = (node : Node) (records : List (List ℕ)) (checkpoint : Checkpoint) → All AreBytes records
+    → (checkpoint_read node records ≡ Ok checkpoint) ↔ (IsCanonical node checkpoint × (records ≡ state_records checkpoint))
+
+-- so records are one checkpoint's only: canonical checkpoints with the same records are one
+abbrev pub OneCheckpoint : Type 0
+OneCheckpoint = (node : Node) (one other : Checkpoint) → IsCanonical node one → IsCanonical node other → state_records one ≡ state_records other → one ≡ other
+
+-- records have no fault exactly where a node writes them of a sound state
+abbrev pub LoadsTheSound : Type 0
+LoadsTheSound = (node : Node) (records : List (List ℕ)) → IsNode node → All AreBytes records
+    → (load_fault node records ≡ None) ↔ ((checkpoint : Checkpoint) × AreLoadable node records checkpoint)

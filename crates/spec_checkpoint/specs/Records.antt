@@ -7,10 +7,6 @@ use Rattle.wire.specs.Spelling.{header_body, votes_bytes}
 use Rattle.spec_model.specs.Words.{Certificate, Digest}
 use Rattle.spec_checkpoint.specs.Data.{KeptBatch, KeptVote, KeptHeader, Checkpoint}
 
--- the head, after the record of the configuration in the first group: its kind, and the generation, which is 1 or more
-abbrev pub head_record : ℕ → List ℕ
-head_record generation = 2 ∷ to_be_bytes w64 generation
-
 -- a piece of the order: its kind, how many digests, and these
 abbrev pub order_record : List Digest → List ℕ
 order_record digests = 3 ∷ to_be_bytes w32 (length digests) ++ flat_map (λ digest. digest.0) digests

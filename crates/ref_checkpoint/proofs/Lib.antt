@@ -1,0 +1,5 @@
+pub mod HeadersTested
+pub mod LastKinds
+pub mod RecordsRead
+pub mod Counts
+pub mod RowsMore

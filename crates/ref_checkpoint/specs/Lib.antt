@@ -1,0 +1,2 @@
+pub mod HeadersRead
+pub mod Lists

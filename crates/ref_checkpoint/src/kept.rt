@@ -1,0 +1,84 @@
+//! What a checkpoint holds.
+
+use std::marker::Model;
+use wire::{Batch, Certificate, Digest, Header, Round, VoteEntries};
+
+/// A batch that is held.
+#[derive(Drop)]
+pub struct KeptBatch {
+    /// Whether an own header names it.
+    pub named: bool,
+    /// The other members who acknowledged it, by rising number.
+    pub members: Vec<u16>,
+    /// The batch.
+    pub batch: Batch,
+}
+
+impl Model for KeptBatch {
+    ghost use Rattle.spec_checkpoint.specs.Data as model;
+
+    ghost Value = { model.KeptBatch };
+
+    ghost view = { λ kept. record { named = kept.named; members = kept.members.items; batch = kept.batch } };
+}
+
+/// The vote for another author and a round.
+#[derive(Drop)]
+pub struct KeptVote {
+    /// The author.
+    pub author: u16,
+    /// The round.
+    pub round: Round,
+    /// The digest of the header that has the vote.
+    pub header: Digest,
+}
+
+impl Model for KeptVote {
+    ghost use Rattle.spec_checkpoint.specs.Data as model;
+
+    ghost Value = { model.KeptVote };
+
+    ghost view = { λ kept. record { author = kept.author; round = kept.round; header = kept.header } };
+}
+
+/// An own header, with the votes of others on it that count.
+#[derive(Drop)]
+pub struct KeptHeader {
+    /// The header.
+    pub header: Header,
+    /// The votes of others, by rising number.
+    pub votes: VoteEntries,
+}
+
+impl Model for KeptHeader {
+    ghost use Rattle.spec_checkpoint.specs.Data as model;
+
+    ghost Value = { model.KeptHeader };
+
+    ghost view = { λ kept. record { header = kept.header; votes = kept.votes } };
+}
+
+/// The state of a node as plain data.
+#[derive(Drop)]
+pub struct Checkpoint {
+    /// The order.
+    pub order: Vec<Digest>,
+    /// The batches, in the order of acceptance.
+    pub batches: Vec<KeptBatch>,
+    /// The votes for others, by round and then by author.
+    pub votes: Vec<KeptVote>,
+    /// The own headers, by round.
+    pub headers: Vec<KeptHeader>,
+    /// The certificates above the genesis, by round and then by author.
+    pub certificates: Vec<Certificate>,
+    /// The values of the coins, that of wave 1 first.
+    pub coins: Vec<u64>,
+}
+
+impl Model for Checkpoint {
+    ghost use Rattle.spec_checkpoint.specs.Data as model;
+
+    ghost Value = { model.Checkpoint };
+
+    ghost view = { λ c. record { order = c.order.items; batches = c.batches.items; votes = c.votes.items; headers = c.headers.items; certificates = c.certificates.items; coins = c.coins.items } };
+}

@@ -1,0 +1,220 @@
+//! What each kind of record has after its kind, as it is read.
+
+ghost use Rattle.std.specs.Prelude.{◌≡◌, ◌&&◌, ◌==◌, not, nat_lt, IfOk};
+ghost use Rattle.std.specs.List.{list_any};
+ghost use Rattle.std.specs.Int.{w16};
+ghost use Rattle.spec_checkpoint.specs.Data.{place_before};
+ghost use Rattle.spec_checkpoint.specs.Reading.{mark_at, member_at, counted_at, kept_batch_at, kept_vote_at, kept_header_at, kept_certificate_at, vote_may_follow, header_may_follow, certificate_may_follow, are_of_others};
+ghost use Rattle.spec_model.specs.Nodes.{node_view};
+ghost use Rattle.ref_checkpoint.specs.HeadersRead.{header_with_votes_at};
+ghost use Rattle.wire.specs.Reading.{Gives};
+ghost use Rattle.wire.specs.Rising.{follows};
+
+use crate::kept::{KeptBatch, KeptHeader, KeptVote};
+use header::Node;
+use sigface::Sign;
+use std::alloc::Global;
+use wire::{Certificate, HeaderBody, VoteEntry, WireError};
+use wire_read::{Reader, batch_of, certificate_of, header_of, votes_of};
+
+/// Whether an own header names a batch: the byte 1 or 0.
+#[tactic(auto, unfolding(spec_checkpoint::specs::Reading::mark_at))]
+fn mark_of(reader: &mut Reader) -> Result<bool, WireError>
+    ensures { Gives (λ x. (x, reader.new)) result (mark_at reader.old) }
+{
+    match reader.slice(1)? {
+        [1] => Ok(true),
+        [0] => Ok(false),
+        _ => Err(WireError::NotCanonical),
+    }
+}
+
+/// A number may come next among those that rise.
+fn member_may_follow(before: &[u16], member: u16) -> bool
+    ensures { result ≡ follows (λ one. nat_lt one member) before.now }
+{
+    match before.last() {
+        None => true,
+        Some(last) => *last < member,
+    }
+}
+
+/// Another member's number after those before it.
+#[tactic(auto, unfolding(spec_checkpoint::specs::Reading::member_at))]
+fn member_of<S: Sign>(node: &Node<S>, before: &[u16], reader: &mut Reader) -> Result<u16, WireError>
+    ensures { Gives (λ x. (x, reader.new)) result (member_at (node_view S.scheme node.now) before.now reader.old) }
+{
+    let member = reader.u16()?;
+    if !member_may_follow(before, member) || member == node.own.0 {
+        return Err(WireError::NotCanonical);
+    }
+    Ok(member)
+}
+
+/// Other members after their count.
+fn members_of<S: Sign>(
+    alloc: Global,
+    node: &Node<S>,
+    reader: &mut Reader,
+) -> Result<Vec<u16>, WireError>
+    ensures { Gives (λ x. (x.items, reader.new)) result (counted_at w16 65535 (member_at (node_view S.scheme node.now)) reader.old) }
+{
+    let count = reader.count_u16(65535)?;
+    let mut members = Vec::new(alloc);
+    for _ in 0..count {
+        let member = member_of(node, &members, reader)?;
+        members.push(member)?;
+    }
+    Ok(members)
+}
+
+/// Whether an own header names a batch, who acknowledged it, the batch.
+#[tactic(auto, unfolding(spec_checkpoint::specs::Reading::kept_batch_at))]
+pub fn kept_batch_of<S: Sign>(
+    alloc: Global,
+    node: &Node<S>,
+    reader: &mut Reader,
+) -> Result<KeptBatch, WireError>
+    ensures { Gives (λ x. (x, reader.new)) result (kept_batch_at (node_view S.scheme node.now) reader.old) }
+{
+    let named = mark_of(reader)?;
+    let members = members_of(alloc, node, reader)?;
+    let batch = batch_of(alloc, reader)?;
+    Ok(KeptBatch {
+        named,
+        members,
+        batch,
+    })
+}
+
+/// Of two places by round and author, the first comes before the second.
+fn place_before(round: u64, author: u16, other_round: u64, other_author: u16) -> bool
+    ensures { result ≡ place_before round author other_round other_author }
+{
+    round < other_round || (round == other_round && author < other_author)
+}
+
+/// A vote for this author and round may come next.
+fn vote_may_follow(before: &[KeptVote], round: u64, author: u16) -> bool
+    ensures { result ≡ vote_may_follow before.now round author }
+{
+    match before.last() {
+        None => true,
+        Some(last) => place_before(last.round.number(), last.author, round, author),
+    }
+}
+
+/// Author, round, header digest.
+#[tactic(auto, unfolding(spec_checkpoint::specs::Reading::kept_vote_at))]
+pub fn kept_vote_of(before: &[KeptVote], reader: &mut Reader) -> Result<KeptVote, WireError>
+    ensures { Gives (λ x. (x, reader.new)) result (kept_vote_at before.now reader.old) }
+{
+    let author = reader.u16()?;
+    let round = reader.round()?;
+    let header = reader.digest()?;
+    if !vote_may_follow(before, round.number(), author) {
+        return Err(WireError::NotCanonical);
+    }
+    Ok(KeptVote {
+        author,
+        round,
+        header,
+    })
+}
+
+/// An own header of this round may come next.
+fn header_may_follow(before: &[KeptHeader], round: u64) -> bool
+    ensures { result ≡ header_may_follow before.now round }
+{
+    match before.last() {
+        None => true,
+        Some(last) => last.header.body.round.number() < round,
+    }
+}
+
+/// A vote is by this member.
+fn has_vote_of(votes: &[VoteEntry], own: u16) -> bool
+    ensures { result ≡ list_any (λ entry. entry.voter.0 == own) votes.now }
+{
+    votes.iter().any(|entry| entry.voter.0 == own)
+}
+
+/// None of the votes is the node's own.
+fn are_of_others<S: Sign>(node: &Node<S>, votes: &[VoteEntry]) -> bool
+    ensures { result ≡ are_of_others (node_view S.scheme node.now) votes.now }
+{
+    !has_vote_of(votes, node.own.0)
+}
+
+/// A header with its signature, and votes, whichever they are.
+#[tactic(auto, unfolding(crate::specs::HeadersRead::header_with_votes_at))]
+fn header_with_votes_of(alloc: Global, reader: &mut Reader) -> Result<KeptHeader, WireError>
+    ensures { Gives (λ x. (x, reader.new)) result (header_with_votes_at reader.old) }
+{
+    let header = header_of(alloc, reader)?;
+    let votes = votes_of(alloc, reader)?;
+    Ok(KeptHeader { header, votes })
+}
+
+/// An own header may come next, and none of its votes is the node's own.
+fn is_header_kept<S: Sign>(node: &Node<S>, before: &[KeptHeader], kept: &KeptHeader) -> bool
+    ensures { result ≡ (header_may_follow before.now kept.now.header.body.round && are_of_others (node_view S.scheme node.now) kept.now.votes) }
+{
+    header_may_follow(before, kept.header.body.round.number())
+        && are_of_others(node, kept.votes.as_slice())
+}
+
+/// An own header with its signature, the votes of others.
+#[tactic(auto, using(crate::proofs::HeadersTested::kept_header_tested))]
+pub fn kept_header_of<S: Sign>(
+    alloc: Global,
+    node: &Node<S>,
+    before: &[KeptHeader],
+    reader: &mut Reader,
+) -> Result<KeptHeader, WireError>
+    ensures { Gives (λ x. (x, reader.new)) result (kept_header_at (node_view S.scheme node.now) before.now reader.old) }
+{
+    let kept = header_with_votes_of(alloc, reader)?;
+    if !is_header_kept(node, before, &kept) {
+        return Err(WireError::NotCanonical);
+    }
+    Ok(kept)
+}
+
+/// A certificate of this header may come next.
+fn certificate_may_follow(before: &[Certificate], header: &HeaderBody) -> bool
+    ensures { result ≡ certificate_may_follow before.now header.now }
+{
+    match before.last() {
+        None => true,
+        Some(last) => place_before(
+            last.header.round.number(),
+            last.header.author.0,
+            header.round.number(),
+            header.author.0,
+        ),
+    }
+}
+
+/// A certificate of this header is above the genesis, and may come next.
+fn is_certificate_kept(before: &[Certificate], header: &HeaderBody) -> bool
+    ensures { result ≡ (certificate_may_follow before.now header.now && nat_lt 0 header.now.round) }
+{
+    certificate_may_follow(before, header) && 0 < header.round.number()
+}
+
+/// A certificate above the genesis.
+#[tactic(auto, unfolding(spec_checkpoint::specs::Reading::kept_certificate_at))]
+pub fn kept_certificate_of(
+    alloc: Global,
+    before: &[Certificate],
+    reader: &mut Reader,
+) -> Result<Certificate, WireError>
+    ensures { Gives (λ x. (x, reader.new)) result (kept_certificate_at before.now reader.old) }
+{
+    let certificate = certificate_of(alloc, reader)?;
+    if !is_certificate_kept(before, &certificate.header) {
+        return Err(WireError::NotCanonical);
+    }
+    Ok(certificate)
+}

@@ -1,0 +1,66 @@
+//! Pieces of the order and of the coins, as they are read.
+
+ghost use Rattle.std.specs.Prelude.{◌≡◌};
+ghost use Rattle.std.specs.Int.{w32, w64};
+ghost use Rattle.spec_checkpoint.specs.Reading.{counted_at, digests_at, coins_at};
+ghost use Rattle.wire.specs.Reading.{Gives, digest_at, number_at};
+
+use std::alloc::Global;
+use wire::{Digest, WireError};
+use wire_read::Reader;
+
+/// How many digests a piece of the order has, but for the last.
+pub const ORDER_PIECE: u32 = 65_536;
+
+/// How many values a piece of the coins has, but for the last.
+pub const COINS_PIECE: u32 = 131_072;
+
+/// Digests after their count.
+fn some_digests_of(alloc: Global, reader: &mut Reader) -> Result<Vec<Digest>, WireError>
+    ensures { Gives (λ x. (x.items, reader.new)) result (counted_at w32 ORDER_PIECE (λ before. digest_at) reader.old) }
+{
+    let count = reader.count_u32(ORDER_PIECE)?;
+    let mut digests = Vec::new(alloc);
+    for _ in 0..count {
+        let digest = reader.digest()?;
+        digests.push(digest)?;
+    }
+    Ok(digests)
+}
+
+/// The digests of a piece, of which there is one at least.
+#[tactic(auto, unfolding(spec_checkpoint::specs::Reading::digests_at))]
+pub fn digests_of(alloc: Global, reader: &mut Reader) -> Result<Vec<Digest>, WireError>
+    ensures { Gives (λ x. (x.items, reader.new)) result (digests_at reader.old) }
+{
+    let digests = some_digests_of(alloc, reader)?;
+    if digests.is_empty() {
+        return Err(WireError::NotCanonical);
+    }
+    Ok(digests)
+}
+
+/// Values of coins after their count.
+fn some_coins_of(alloc: Global, reader: &mut Reader) -> Result<Vec<u64>, WireError>
+    ensures { Gives (λ x. (x.items, reader.new)) result (counted_at w32 COINS_PIECE (λ before. number_at w64) reader.old) }
+{
+    let count = reader.count_u32(COINS_PIECE)?;
+    let mut coins = Vec::new(alloc);
+    for _ in 0..count {
+        let coin = reader.u64()?;
+        coins.push(coin)?;
+    }
+    Ok(coins)
+}
+
+/// The values of a piece of coins, of which there is one at least.
+#[tactic(auto, unfolding(spec_checkpoint::specs::Reading::coins_at))]
+pub fn coins_of(alloc: Global, reader: &mut Reader) -> Result<Vec<u64>, WireError>
+    ensures { Gives (λ x. (x.items, reader.new)) result (coins_at reader.old) }
+{
+    let coins = some_coins_of(alloc, reader)?;
+    if coins.is_empty() {
+        return Err(WireError::NotCanonical);
+    }
+    Ok(coins)
+}

@@ -1,0 +1,49 @@
+-- Whether the records of a journal's beginning can be loaded: the configuration, and after it the records of a state.
+use Rattle.std.specs.Prelude.{◌≡◌, ℕ, ◌+◌, ◌==◌, ◌&&◌, ◌||◌, not, Bool, List, [], ◌∷◌, Result, Ok, Err, Option, Some, None, option_map, if◌then◌else◌}
+use Rattle.std.specs.List.{list_all, position_from}
+use Rattle.std.specs.Option.{option_or}
+use Rattle.std.specs.Str.{bytes_eq}
+use Rattle.journal.specs.declared.version.Version.{Version}
+use Rattle.journal.specs.declared.version.Version.TheVariants.{First, Second}
+use Rattle.spec_machine.specs.Sound.{IsSound}
+use Rattle.spec_model.specs.Nodes.{Node}
+use Rattle.spec_records.specs.Records.{configuration_of, CanTell}
+use Rattle.spec_checkpoint.specs.Data.{Checkpoint, IsWritten}
+use Rattle.spec_checkpoint.specs.Faults.{record_tests, is_whole_sound}
+use Rattle.spec_checkpoint.specs.Meaning.{state_in}
+use Rattle.spec_checkpoint.specs.Reading.{checkpoint_read}
+use Rattle.spec_checkpoint.specs.Records.{state_records}
+
+-- what records are at fault: the one at this place is the first, or each by itself is sound and the whole isn't
+pub data LoadFault : Type 0 where
+  at_record : ℕ → LoadFault
+  of_whole : LoadFault
+
+-- A record is the node's configuration, in a version that can tell it: the second one can, and the first one where each stake is 1.
+abbrev pub is_configuration : Node → List ℕ → Bool
+is_configuration node bytes =
+    bytes_eq bytes (configuration_of Second node.charter node.own)
+    || (list_all (λ stake. stake == 1) node.charter.stakes && bytes_eq bytes (configuration_of First node.charter node.own))
+
+-- The fault of a checkpoint, after the configuration at place 0: the first record that is at fault, and then the whole.
+abbrev pub unsound : Node → Checkpoint → Option LoadFault
+unsound node checkpoint =
+    option_or (option_map at_record (position_from not 1 (record_tests node checkpoint))) (if is_whole_sound node checkpoint then None else Some of_whole)
+
+-- the fault of records that were read: the first that doesn't follow the format, or else that of what they are
+abbrev pub fault_of_read : Node → Result Checkpoint ℕ → Option LoadFault
+fault_of_read node (Ok checkpoint) = unsound node checkpoint
+fault_of_read node (Err place) = Some (at_record (place + 1))
+
+-- Format comes before soundness, and the configuration before all.
+unfoldable pub load_fault : Node → List (List ℕ) → Option LoadFault
+load_fault node [] = Some (at_record 0)
+load_fault node (first ∷ records) = if is_configuration node first then fault_of_read node (checkpoint_read node records) else Some (at_record 0)
+
+-- These are the records that a node writes of a sound state, with its configuration before them.
+pub record AreLoadable (node : Node) (records : List (List ℕ)) (checkpoint : Checkpoint) : Type 0 where
+  pub version : Version
+  pub can_tell : CanTell version node.charter
+  pub are : records ≡ configuration_of version node.charter node.own ∷ state_records checkpoint
+  pub written : IsWritten node checkpoint
+  pub sound : IsSound node (state_in node checkpoint)
