@@ -4,10 +4,15 @@
     oracles/journals.py verify|votes|last-header JOURNAL
     oracles/journals.py list|order JOURNAL [--from PLACE]
     oracles/journals.py compare JOURNAL OTHER
+    oracles/journals.py graph JOURNAL [--rounds FIRST-LAST]
     oracles/journals.py --compare PROGRAM JOURNAL ..
+    oracles/journals.py --make-skipped > JOURNAL
 
 The formats are those of docs/FORMATS.md, the rules those of docs/RULES.md. What events are answered is taken from oracles/histories.py,
 and how groups and messages are read from oracles/recoveries.py. Of damage the place is told, and not what is wrong there.
+
+With --make-skipped it makes the journal of member 0 of a committee of four: three waves, of which the second one's leader is skipped, so
+that two leaders are ordered. Its signatures are zeros.
 
 With --compare the commands of PROGRAM are run on each of the journals, with --json too, and where it has at most 2000 bytes on each cut
 of it, and `verify` and `list` with each byte changed. Their lines and their status are compared, and the file may not have changed.
@@ -177,6 +182,89 @@ def list_all(file, start):
     return rows, None
 
 
+def fate(committed, wave):
+    if not committed or wave > max(committed):
+        return "open"
+    return "committed" if wave in committed else "skipped"
+
+
+def place(node, waves, low, round_, author):
+    """What stands at the place of a round and an author of a graph."""
+    leads = round_ % 2 == 1 and round_ // 2 < len(node.coins) and node.coins[round_ // 2] % len(node.committee.members) == author
+    if round_ == 0:
+        return 'label="%d genesis"' % author
+    one = node.certificates.get((round_, author))
+    if not one:
+        return 'style=dotted, label="%d\\nno leader"' % author if leads else 'style=invis, label=""'
+    wave = waves.get((round_, author))
+    told = 'label="%d %s%s"' % (author, one.certificate[:4].hex(), "\\nwith wave %d" % wave if wave else "")
+    told += ", fillcolor=%d" % ((wave - 1) % 12 + 1) if wave else ""
+    told += ", peripheries=2" if leads else ""
+    return told + (', style="filled,dashed"' if round_ < low else "")
+
+
+def graph(file, first, last):
+    """The lines of a graph of these rounds."""
+    lines = ["digraph journal {", "  rankdir=BT", "  node [shape=box, style=filled, colorscheme=set312, fillcolor=white]"]
+    journal = Journal(file)
+    node = journal.node
+    if not node:
+        return lines + ["}"]
+    waves = {(c.round, c.author): wave for c, wave in journal.order()}
+    committed = {(c.round + 1) // 2 for c in node.chain()}
+    members = list(node.committee.members)
+    for round_ in range(first, min(last, max(r for r, _ in node.certificates)) + 1):
+        name = "round %d" % round_
+        if round_ % 2:
+            name += "\\nwave %d: %s" % (round_ // 2 + 1, fate(committed, round_ // 2 + 1))
+        lines += ["  {", "    rank=same", '    round%d [shape=plaintext, style=solid, label="%s"]' % (round_, name)]
+        lines += ["    r%dm%d [group=m%d, %s]" % (round_, a, a, place(node, waves, node.floor(), round_, a)) for a in members]
+        lines += ["    round%d%s [style=invis]" % (round_, "".join(" -> r%dm%d" % (round_, a) for a in members)), "  }"]
+        if round_ > first:
+            for author in members:
+                one = node.certificates.get((round_, author))
+                parents = [p.author for p in one.parents if (round_ - 1, p.author) in node.certificates] if one else []
+                lines += ["  r%dm%d -> r%dm%d" % (round_, author, round_ - 1, parent) for parent in parents]
+    return lines + ["}"]
+
+
+# ---- a journal with a wave that is skipped
+
+def encoded(header):
+    text = histories.u16(header.author) + histories.u64(header.round) + histories.u16(0) + histories.u16(len(header.parents))
+    return text + b"".join(histories.u16(parent.author) + parent.certificate for parent in header.parents)
+
+
+def certificate_record(header):
+    votes = b"".join(histories.u16(voter) + bytes(64) for voter in range(3))
+    return b"\1" + histories.u16(0) + b"\5" + encoded(header) + histories.u16(3) + votes
+
+
+def coin_record(wave, value):
+    return b"\1" + histories.u16(0) + b"\6" + histories.u64(wave) + histories.u64(value)
+
+
+def group(*records):
+    body = b"".join(histories.u32(len(record)) + record for record in records)
+    return histories.u32(len(body)) + body
+
+
+def skipped():
+    """The bytes of the journal."""
+    keys, stakes = b"".join(bytes([65 + member]) * 32 for member in range(4)), histories.u32(1) * 4
+    first = b"\0\2" + histories.u16(0) + histories.u16(3) + histories.u16(1) + histories.u32(100) + histories.u16(4) + keys + stakes
+    below = [histories.Header("-", author, 0, [], []) for author in range(4)]
+    # The leaders: member 1, member 3, whom nobody names in the next round, and member 0. A wave's coin comes after its third round.
+    records, coins = [], {3: [(1, 1)], 5: [(2, 3)], 7: [(3, 0)]}
+    for round_, authors in enumerate([(0, 1, 2, 3), (0, 1, 2), (0, 1, 2, 3)] + [(0, 1, 2)] * 4, 1):
+        named = [parent for parent in below if parent.author < 3]
+        # One of the second round names member 3 too.
+        here = [histories.Header("-", author, round_, below if (round_, author) == (2, 2) else named, []) for author in authors]
+        records += [certificate_record(header) for header in here] + [coin_record(*coin) for coin in coins.get(round_, [])]
+        below = here
+    return b"\1" + group(first) + b"\1" + group(*records) + b"\0"
+
+
 # ---- what a command prints: its lines, and its status
 
 def lines_of(rows, names, as_json):
@@ -186,7 +274,7 @@ def lines_of(rows, names, as_json):
     return ["\t".join(line) for line in [names] + told]
 
 
-def told(words, files, start=0, as_json=False):
+def told(words, files, start=0, as_json=False, rounds=(0, 2 ** 64 - 1)):
     """The lines and the status of a command. A line of damage ends with its place."""
     try:
         if words == "list":
@@ -199,6 +287,8 @@ def told(words, files, start=0, as_json=False):
             return lines_of(votes(files[0]), VOTES, as_json), 0
         if words == "order":
             return lines_of(order(files[0], start), ORDER, as_json), 0
+        if words == "graph":
+            return graph(files[0], *rounds), 0
         if words == "last-header":
             return [frame.hex() for frame in last_header(files[0])], 0
         line, status = compare(*files)
@@ -219,7 +309,8 @@ def differs(program, words, path, file, options=()):
     """Runs a command on a file that is at the path, and says what differs, if anything does."""
     ran = subprocess.run([program, *words, path, *options], stdout=subprocess.PIPE, stderr=subprocess.PIPE)
     start = int(options[options.index("--from") + 1]) if "--from" in options else 0
-    lines, status = told(words[0], [file], start, "--json" in options)
+    rounds = tuple(map(int, options[1].split("-"))) if "--rounds" in options else (0, 2 ** 64 - 1)
+    lines, status = told(words[0], [file], start, "--json" in options, rounds)
     printed = ran.stdout.decode().splitlines()
     if status == 1 and words[0] == "verify":
         printed = [line.split(":", 2 if "--json" in options else 1) for line in printed]
@@ -249,9 +340,10 @@ def compare_program(program, paths):
             for what, file in variants(read(name)):
                 with open(path, "wb") as out:
                     out.write(file)
-                commands = [("verify",), ("list",)] + [("votes",), ("order",), ("last-header",)] * (not what.startswith("byte"))
+                commands = [("verify",), ("list",)] + [("votes",), ("order",), ("last-header",), ("graph",)] * (not what.startswith("byte"))
                 for words in commands:
-                    for options in [(), ("--json",)] if words[0] != "last-header" and what == "whole" else [()]:
+                    more = {"last-header": [], "graph": [("--rounds", "2-4")]}.get(words[0], [("--json",)])
+                    for options in [()] + more * (what == "whole"):
                         difference = differs(program, words, path, file, options)
                         tried, wrong = tried + 1, wrong + (difference is not None)
                         if difference and wrong <= 10:
@@ -266,16 +358,22 @@ def compare_program(program, paths):
 def main(words):
     if words[:1] == ["--compare"] and len(words) > 2:
         return compare_program(words[1], words[2:])
-    start = 0
+    if words == ["--make-skipped"]:
+        sys.stdout.buffer.write(skipped())
+        return 0
+    start, rounds = 0, (0, 2 ** 64 - 1)
+    if "--rounds" in words[:-1]:
+        at = words.index("--rounds")
+        rounds, words = tuple(map(int, words[at + 1].split("-"))), words[:at] + words[at + 2:]
     if "--from" in words[:-1]:
         at = words.index("--from")
         start, words = int(words[at + 1]), words[:at] + words[at + 2:]
-    counts = {"verify": 1, "list": 1, "votes": 1, "order": 1, "last-header": 1, "compare": 2}
+    counts = {"verify": 1, "list": 1, "votes": 1, "order": 1, "last-header": 1, "compare": 2, "graph": 1}
     as_json, words = "--json" in words, [word for word in words if word != "--json"]
     if not words or counts.get(words[0]) != len(words) - 1:
         print(__doc__, file=sys.stdout if words == ["--help"] else sys.stderr)
         return 0 if words == ["--help"] else 2
-    lines, status = told(words[0], [read(path) for path in words[1:]], start, as_json)
+    lines, status = told(words[0], [read(path) for path in words[1:]], start, as_json, rounds)
     for line in lines:
         print(line)
     return status

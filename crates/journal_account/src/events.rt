@@ -1,8 +1,6 @@
 //! The events of a journal's records, and what a validator is after them. An opening of a node reads them by the same definitions.
 
-ghost use Rattle.std.specs.Prelude.{◌≡◌, ◌≢◌, true, None, All, IfOk, IfErr, IfSome, OnOk};
-ghost use Rattle.diskmodel.specs.Outcomes.{AreBytes};
-ghost use Rattle.header.specs.Checks.{fault_of, accepts_all};
+ghost use Rattle.std.specs.Prelude.{◌≡◌, ◌≢◌, true, All, IfOk, IfErr, OnOk};
 ghost use Rattle.journal.specs.Format.{FailsAs};
 ghost use Rattle.journal.specs.declared.error.JournalError.TheVariants as errors;
 ghost use Rattle.spec_machine.specs.Machine.{fresh};
@@ -10,64 +8,18 @@ ghost use Rattle.spec_model.specs.States.{State};
 ghost use Rattle.admission.specs.Answers.{is_new_step};
 ghost use Rattle.validator.specs.Setting.{node_of};
 ghost use Rattle.validator.specs.Standing.{AreAtSound};
-ghost use Rattle.opening.specs.Told.{IsText, event_in, if_passed, read_event, read_events, StandsAt, IsOld};
+ghost use Rattle.opening.specs.Told.{IsText, read_event, read_events, StandsAt, IsOld};
 
 use crate::flaw::{Flaw, Why};
 use committee::Committee;
-use header::{Checked, recheck};
+use header::recheck;
 use journal::Record;
+use opening::{EVENT, FRONT_BYTES, event_of, is_text};
 use sigface::Sign;
-use std::alloc::{AllocError, Global};
+use std::alloc::Global;
 use validator::{Config, Refusal, Step, Validator};
-use wire::{Author, Message, WireError};
+use wire::Author;
 use wire_read::decode;
-
-/// The kind of a record that has an event.
-pub const EVENT: u8 = 1;
-
-/// The bytes of an event's record before the message: its kind, and the sender's number.
-pub const FRONT_BYTES: usize = 3;
-
-/// The event of a record, if it is one that passes the committee's checks, whatever its signatures. `AllocError` where an allocation
-/// failed.
-pub(crate) fn event_of(
-    alloc: Global,
-    committee: &Committee,
-    bytes: &[u8],
-) -> Result<Option<Checked>, AllocError>
-    ensures found { IfOk result (λ found. found ≡ event_in committee.now bytes.now) }
-    ensures passed { IfOk result (λ found. IfSome found (λ event. fault_of committee.now accepts_all event ≡ None)) }
-{
-    if bytes.len() < FRONT_BYTES || bytes[0] != EVENT {
-        return Ok(None);
-    }
-    let sender = Author(u16::from_be_bytes([bytes[1], bytes[2]]));
-    match decode(alloc, &bytes[FRONT_BYTES..]) {
-        Ok(message) => Ok(passed(committee, sender, message)),
-        Err(error) => unread(error),
-    }
-}
-
-// The event of a message with its sender, if it passes the checks, whatever its signatures.
-fn passed(committee: &Committee, sender: Author, message: Message) -> Option<Checked>
-    ensures found { result ≡ if_passed committee.now (record { sender = sender; message = message }) }
-    ensures passed { IfSome result (λ event. fault_of committee.now accepts_all event ≡ None) }
-{
-    match recheck(committee, sender, message) {
-        Ok(event) => Some(event),
-        Err(_) => None,
-    }
-}
-
-// Bytes that can't be read are no event, unless an allocation failed.
-fn unread(error: WireError) -> Result<Option<Checked>, AllocError>
-    ensures { IfOk result (λ found. (found ≡ None) × (error ≢ WireError.Memory)) }
-{
-    match error {
-        WireError::Memory => Err(AllocError),
-        _ => Ok(None),
-    }
-}
 
 // Why a record has no event.
 fn why_none(alloc: Global, committee: &Committee, bytes: &[u8]) -> Why {
@@ -116,20 +68,6 @@ fn only_new(step: Result<Step, Refusal>, gate: u64) -> Result<(), Flaw>
         Err(Refusal::Memory) => Err(Flaw::memory()),
         Err(refusal) => Err(Flaw::at(gate, Why::Refused(refusal))),
     }
-}
-
-// What holds of a record: it has bytes. The call does nothing.
-fn is_text(one: &Record)
-    ensures { IsText one.now }
-{
-    are_bytes(one.bytes.as_slice());
-}
-
-// What holds of bytes. The call does nothing.
-fn are_bytes(bytes: &[u8])
-    ensures { AreBytes bytes.now }
-{
-    let _ = bytes;
 }
 
 /// The validator after the events of these records, of which each has to be new.

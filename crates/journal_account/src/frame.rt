@@ -1,8 +1,8 @@
 //! The last own header, as a frame that gives it to its node again.
 
-use crate::events::event_of;
 use committee::Committee;
 use journal::Record;
+use opening::event_of;
 use std::alloc::{AllocError, Global};
 use wire::{Author, Message};
 

@@ -1,10 +1,10 @@
 //! What a journal comes to, told from its bytes without running a node: what an opening of a node on the same bytes would find.
 #![tactic(auto)]
 
-mod configuration;
 mod events;
 mod flaw;
 mod frame;
+mod graph;
 mod order;
 mod own;
 mod reading;
@@ -12,11 +12,11 @@ mod settings;
 mod summary;
 mod votes;
 mod waves;
-mod written;
 
-pub use events::{EVENT, FRONT_BYTES};
 pub use flaw::{Flaw, Why};
 pub use frame::last_frame;
+pub use graph::{Fate, Graph, Vertex};
+pub use opening::{EVENT, FRONT_BYTES};
 pub use order::order_of;
 pub use reading::{after_records, records_in};
 pub use settings::{config_in, own_number};

@@ -1,10 +1,9 @@
 //! The configuration that a journal begins with, as that of its member.
 
-use crate::configuration::{KEY_BYTES, SETTINGS_BYTES, STAKE_BYTES};
 use crate::flaw::{Flaw, Why};
-use crate::own::first_version;
 use committee::{Committee, CommitteeError};
-use journal::{Record, Version};
+use journal::{KEY_BYTES, Record, SETTINGS_BYTES, STAKE_BYTES, Version};
+use opening::first_version;
 use sigface::HashSign;
 use std::alloc::{AllocError, Global};
 use validator::Config;

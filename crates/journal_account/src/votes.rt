@@ -7,12 +7,12 @@ ghost use Rattle.validator.specs.Setting.{node_of};
 ghost use Rattle.opening.specs.Told.{told, Tells};
 ghost use Rattle.journal_account.specs.Accounts.{AreVotes, given_by, given_in};
 
-use crate::events::event_of;
 use crate::flaw::Flaw;
 use crate::reading::{after_records, events_of};
 use committee::Committee;
 use header::Checked;
 use journal::Record;
+use opening::event_of;
 use sigface::Sign;
 use std::alloc::{AllocError, Global};
 use validator::Config;

@@ -1,9 +1,9 @@
 //! What the certificates of a journal are, by their digests, and which of them are leaders.
 
-use crate::events::event_of;
 use committee::Committee;
 use header::Checked;
 use journal::Record;
+use opening::event_of;
 use std::alloc::{AllocError, Global};
 use wire::{Author, Digest, HeaderBody, Message, Round, certificate_digest, header_digest};
 
@@ -80,15 +80,27 @@ impl Waves {
         }
     }
 
+    /// The author whose certificate of a wave's first round is its leader: that which its coin chooses, where it is known.
+    pub fn leader_of(&self, wave: u64) -> Option<Author> {
+        if wave == 0 || self.members == 0 {
+            return None;
+        }
+        let coin = self.coins.get((wave - 1) as usize)?;
+        match u16::try_from(*coin % self.members) {
+            Ok(author) => Some(Author(author)),
+            Err(_) => None,
+        }
+    }
+
     /// The wave of which a certificate is the leader: that of its round, if it is the wave's first one and the coin chooses its author.
     pub fn led_by(&self, one: Named) -> Option<u64> {
         let round = one.round.number();
         if round % 2 == 0 {
             return None;
         }
-        let coin = self.coins.get((round / 2) as usize)?;
-        if self.members > 0 && *coin % self.members == one.author.0 as u64 {
-            Some(round / 2 + 1)
+        let wave = round / 2 + 1;
+        if self.leader_of(wave) == Some(one.author) {
+            Some(wave)
         } else {
             None
         }

@@ -17,6 +17,8 @@ pub(crate) enum Command {
     Order,
     /// Whether one of two orders is a prefix of the other.
     Compare,
+    /// The certificates, as a graph.
+    Graph,
 }
 
 /// A command with what it is about.
@@ -30,10 +32,23 @@ pub(crate) struct Request<'a> {
     pub other: Option<&'a str>,
     /// The place of the first group that is listed, in bytes, or of the first certificate of the order that is told.
     pub from: u64,
+    /// The first and the last round that are drawn.
+    pub rounds: (u64, u64),
     /// Whether a frame is written as bytes.
     pub bytes: bool,
     /// Whether lines are objects of JSON.
     pub json: bool,
+}
+
+// What the next word is.
+#[derive(Clone, Copy, PartialEq, Eq)]
+enum Awaits {
+    // A path or an option.
+    Any,
+    // The number of `--from`.
+    From,
+    // The rounds of `--rounds`.
+    Rounds,
 }
 
 // What the arguments after the command say.
@@ -42,8 +57,8 @@ struct Words<'a> {
     journal: Option<&'a str>,
     other: Option<&'a str>,
     from: Option<u64>,
-    // Whether the next word is the number of `--from`.
-    awaits: bool,
+    rounds: Option<(u64, u64)>,
+    awaits: Awaits,
     bytes: bool,
     json: bool,
 }
@@ -67,6 +82,7 @@ pub(crate) fn request_of(args: &[String]) -> Result<Request<'_>, Ending> {
         journal,
         other: words.other,
         from: words.from.unwrap_or(0),
+        rounds: words.rounds.unwrap_or((0, u64::MAX)),
         bytes: words.bytes,
         json: words.json,
     })
@@ -80,6 +96,7 @@ fn command_of(word: &str) -> Result<Command, Ending> {
         "last-header" => Ok(Command::LastHeader),
         "order" => Ok(Command::Order),
         "compare" => Ok(Command::Compare),
+        "graph" => Ok(Command::Graph),
         _ => Err(Ending::Usage("there is no such command")),
     }
 }
@@ -87,9 +104,14 @@ fn command_of(word: &str) -> Result<Command, Ending> {
 // Each option has to be one of the command.
 fn test_options(command: Command, words: &Words<'_>) -> Result<(), Ending> {
     let takes_from = matches!(command, Command::List | Command::Order);
-    let takes_json = !matches!(command, Command::LastHeader | Command::Compare);
+    let takes_json = !matches!(
+        command,
+        Command::LastHeader | Command::Compare | Command::Graph
+    );
     if words.from.is_some() && !takes_from {
         Err(Ending::Usage("--from is an option of list and order"))
+    } else if words.rounds.is_some() && command != Command::Graph {
+        Err(Ending::Usage("--rounds is an option of graph"))
     } else if words.bytes && command != Command::LastHeader {
         Err(Ending::Usage("--bytes is an option of last-header"))
     } else if words.json && !takes_json {
@@ -107,29 +129,40 @@ fn words_of(rest: &[String]) -> Result<Words<'_>, Ending> {
         journal: None,
         other: None,
         from: None,
-        awaits: false,
+        rounds: None,
+        awaits: Awaits::Any,
         bytes: false,
         json: false,
     };
     for word in rest {
         words = with_word(words, word.as_str())?;
     }
-    if words.awaits {
-        return Err(Ending::Usage("--from needs a number"));
+    match words.awaits {
+        Awaits::Any => Ok(words),
+        Awaits::From => Err(Ending::Usage("--from needs a number")),
+        Awaits::Rounds => Err(Ending::Usage("--rounds needs two rounds, as 1-6")),
     }
-    Ok(words)
 }
 
 // The same with a word more.
 fn with_word<'a>(words: Words<'a>, word: &'a str) -> Result<Words<'a>, Ending> {
-    if words.awaits {
-        let from = Some(number_of(word)?);
-        return Ok(Words {
-            from,
-            awaits: false,
+    match words.awaits {
+        Awaits::Any => with_option(words, word),
+        Awaits::From => Ok(Words {
+            from: Some(number_of(word)?),
+            awaits: Awaits::Any,
             ..words
-        });
+        }),
+        Awaits::Rounds => Ok(Words {
+            rounds: Some(rounds_of(word)?),
+            awaits: Awaits::Any,
+            ..words
+        }),
     }
+}
+
+// The same with an option or a path more.
+fn with_option<'a>(words: Words<'a>, word: &'a str) -> Result<Words<'a>, Ending> {
     match word {
         "--bytes" => Ok(Words {
             bytes: true,
@@ -140,7 +173,11 @@ fn with_word<'a>(words: Words<'a>, word: &'a str) -> Result<Words<'a>, Ending> {
             ..words
         }),
         "--from" => Ok(Words {
-            awaits: true,
+            awaits: Awaits::From,
+            ..words
+        }),
+        "--rounds" => Ok(Words {
+            awaits: Awaits::Rounds,
             ..words
         }),
         path => with_path(words, path),
@@ -169,5 +206,17 @@ fn number_of(text: &str) -> Result<u64, Ending> {
     match text.parse::<u64>() {
         Ok(number) => Ok(number),
         Err(_) => Err(Ending::Usage("--from needs a number")),
+    }
+}
+
+// The first and the last round.
+fn rounds_of(text: &str) -> Result<(u64, u64), Ending> {
+    let wrong = Err(Ending::Usage("--rounds needs two rounds, as 1-6"));
+    let Some((first, last)) = text.split_once("-") else {
+        return wrong;
+    };
+    match (first.parse::<u64>(), last.parse::<u64>()) {
+        (Ok(first), Ok(last)) if first <= last => Ok((first, last)),
+        _ => wrong,
     }
 }

@@ -1,5 +1,6 @@
 //! A run: a command on a journal, whose file is opened for reading alone.
 
+use crate::drawing::{draw, draw_nothing};
 use crate::ending::Ending;
 use crate::listing::{COLUMNS, list};
 use crate::request::{Command, Request, request_of};
@@ -7,7 +8,8 @@ use crate::telling::{Column, put_hex, put_line, put_names};
 use committee::{Committee, CommitteeError};
 use journal::Record;
 use journal_account::{
-    Summary, Waves, config_in, last_frame, order_of, records_in, summary_of, votes_of, waves_of,
+    Graph, Summary, Waves, config_in, last_frame, order_of, records_in, summary_of, votes_of,
+    waves_of,
 };
 use sigface::HashSign;
 use std::alloc::Global;
@@ -54,10 +56,11 @@ where
         }
         Command::Verify => verify(rt, alloc, request, bytes, writer),
         Command::Compare => compare(rt, alloc, request, bytes, writer),
-        Command::Votes | Command::LastHeader | Command::Order => {
+        Command::Votes | Command::LastHeader | Command::Order | Command::Graph => {
             let (config, records) = read(rt, alloc, request.other, bytes)?;
             match config {
                 Some(config) => tell(alloc, request, &config, &records, writer)?,
+                None if request.command == Command::Graph => draw_nothing(writer)?,
                 None => put_names(request.json, names_of(request.command), writer)?,
             }
             Ok(Ending::Done)
@@ -199,6 +202,10 @@ fn tell<W: Write>(
     match request.command {
         Command::Votes => tell_votes(alloc, json, config, records, writer),
         Command::Order => tell_order(alloc, json, request.from, config, records, writer),
+        Command::Graph => {
+            let (first, last) = request.rounds;
+            draw(&Graph::new(alloc, config, records)?, first, last, writer)
+        }
         _ => tell_last(alloc, request.bytes, config, records, writer),
     }
 }

@@ -1,5 +1,0 @@
-use Rattle.opening.proofs.Configured.{shape_short}
-use Rattle.journal_account.proofs.configuration.is_configuration.Goals as goal
-
-pub returns-then-bytes-lt-SETTINGS_BYTES : goal.returns-then-bytes-lt-SETTINGS_BYTES
-returns-then-bytes-lt-SETTINGS_BYTES c = shape_short c.args.version c.args.bytes.now c.if-bytes-lt-SETTINGS_BYTES.true
