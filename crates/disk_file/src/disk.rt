@@ -19,8 +19,8 @@ use std::rt::Files;
 /// A disk over a regular file, which it has alone: no other can open the file as a disk until this one is dropped.
 ///
 /// Once a call has failed each later one fails too: open the file again. The length is kept and never asked for. The bytes are
-/// read when the file is opened, and a read answers from these until the first write, which gives up their memory: from then on
-/// a read of one byte or more fails. So no memory grows with what is written.
+/// read when the file is opened, and a read answers from these until the end of reading is told, or the first write, which give up
+/// their memory: from then on a read of one byte or more fails. So no memory grows with what is written.
 ///
 /// The contracts speak of a record, which no memory holds: the bytes that were read at the opening, and the calls since. What a
 /// read gives and what a stop may leave is what the model of a disk makes of that record. That the real file is so is the
@@ -184,7 +184,7 @@ impl Disk for FileDisk {
         ensures cause { HasCause (story_of self.old).faults (story_of self.new).faults result }
         ensures calls { (story_of self.new).calls ≡ (story_of self.old).calls }
 
-        // It fails only behind another failure, or where a byte was written.
+        // It fails only behind another failure, or where a byte was written, or reading has ended.
         ensures down { StaysDown self.old self.new result }
         ensures succeeds { is_down self.old ≡ false → IsReadable self.old → IsOk result }
         ensures unchanged { OnOk result (self.new ≡ self.old) }
@@ -267,5 +267,12 @@ impl Disk for FileDisk {
         self.counted(outcome)?;
         self.tape.synced();
         Ok(())
+    }
+
+    fn end_reading(&mut self)
+        ensures story { story_of self.new ≡ story_of self.old }
+        ensures down { is_down self.new ≡ is_down self.old }
+    {
+        self.mirror = None;
     }
 }

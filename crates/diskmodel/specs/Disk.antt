@@ -87,8 +87,3 @@ pub record AtEachMoment {D : Type 0} (device : Device D) (old new : D) (P : List
 abbrev pub AtEachMomentOfBoth : {D : Type 0} → Device D → D × D → D × D → (List ℕ → List ℕ → Type 0) → Type 0
 AtEachMomentOfBoth device old new P =
     (a b : List ℕ) → device.outcome_since new.0 (device.clock old.0) a → device.outcome_since new.1 (device.clock old.1) b → P a b
-
--- two disks come from one state to another in stages, and a stop at any moments of one stage leaves only such bytes of both
-pub data InStages {D : Type 0} (device : Device D) (P : List ℕ → List ℕ → Type 0) : D × D → D × D → Type 0 where
-  still : (disks : D × D) → InStages device P disks disks
-  stage : (old mid new : D × D) → InStages device P old mid → AtEachMomentOfBoth device mid new P → InStages device P old new

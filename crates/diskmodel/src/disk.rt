@@ -64,6 +64,14 @@ pub trait Disk {
         ensures cause { HasCause (device.faults self.old) (device.faults self.new) result }
         ensures calls { Makes Synced result (device.calls self.old) (device.calls self.new) };
 
+    /// Says that nothing is read any more, so that memory that was kept for reads can go. A read after it may fail.
+    fn end_reading(&mut self)
+        ensures content { device.content self.new ≡ device.content self.old }
+        ensures outcomes { NoneNew (device.outcome self.old) (device.outcome self.new) }
+        ensures time { TimePasses device self.old self.new }
+        ensures faults { device.faults self.new ≡ device.faults self.old }
+        ensures calls { device.calls self.new ≡ device.calls self.old };
+
     /// What a read gives is among what a stop may leave.
     ghost content_is_outcome: { (disk : Self) → device.outcome disk (device.content disk) };
 

@@ -120,6 +120,10 @@ impl<D: Disk, G: Gate> Disk for GatedDisk<D, G> {
         self.gate.pass();
         self.disk.sync()
     }
+
+    fn end_reading(&mut self) {
+        self.disk.end_reading();
+    }
 }
 
 impl<D: StopDisk, G: Gate> StopDisk for GatedDisk<D, G> {

@@ -302,6 +302,11 @@ impl Disk for MemDisk {
         let outcome = self.history.sync(&mut self.refusals);
         self.counted(outcome)
     }
+
+    // It keeps what a stop may leave, so a read goes on to succeed.
+    fn end_reading(&mut self)
+        ensures { self.new ≡ self.old }
+    {}
 }
 
 impl StopDisk for MemDisk {

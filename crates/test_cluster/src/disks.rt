@@ -177,6 +177,10 @@ impl Disk for GrippedDisk {
     fn sync(&mut self) -> Result<(), DiskFault> {
         self.disk.sync()
     }
+
+    fn end_reading(&mut self) {
+        self.disk.end_reading();
+    }
 }
 
 impl StopDisk for GrippedDisk {
