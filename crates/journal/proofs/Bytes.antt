@@ -1,11 +1,11 @@
 -- How records and groups are read back from their bytes.
-use Rattle.std.proofs.Common.{◌≡◌, ◌≢◌, ℕ, zero, suc, ◌+◌, ◌<◌, ◌≤◌, ◌^◌, Bool, true, false, cond, List, [], ◌∷◌, ◌++◌, length, take, drop, Option}
+use Rattle.std.proofs.Common.{inl, inr, ◌≡◌, ◌≢◌, ℕ, zero, suc, ◌+◌, ◌<◌, ◌≤◌, ◌^◌, Bool, true, false, cond, List, [], ◌∷◌, ◌++◌, length, take, drop, Option}
 use Rattle.std.proofs.Common.{Some, None, refl, sym, ◌∙◌, ap, arith, length-append, length-drop, ltb}
 use Rattle.std.specs.Option.{option_map, option_and_then}
 use Rattle.std.proofs.lemmas.List.{drop-drop, take_all, take_at, drop_at, length-take-le}
 use Rattle.std.proofs.lemmas.List.Sums.{sum_by-cons}
 use Rattle.std.proofs.lemmas.Nat.{from_be_bytes-to_be_bytes_4}
-use Rattle.std.proofs.lemmas.Bool.{ltb-false, le-ltb, cond-false}
+use Rattle.std.proofs.lemmas.Bool.{cases_lt, ltb-false, le-ltb, cond-false}
 use Rattle.std.proofs.lemmas.Option.{same_Some, none-some}
 use Rattle.journal.specs.Format.{FitsGroup, body_len, record_bytes, body_bytes, group_bytes, length_field, split_record, records_behind, records_of, group_of}
 
@@ -106,3 +106,13 @@ pub read_whole : (len : ℕ) (buffer behind before found file : List ℕ) → le
 read_whole len buffer behind before found file before_len len_is filled same =
     let whole : buffer ≡ found = filled ∙ take_all (length before) found (omega (arith, ap length same)) in
     take_at buffer behind len (omega (arith, ap length whole, ap length same)) ∙ whole ∙ same
+
+-- a buffer of the length of a front that a read filled
+pub read_part : (len most : ℕ) (buffer behind before found file : List ℕ) → length before ≡ len → len ≤ length file → len ≤ most → (len < most → length file ≤ len) → buffer ≡ take (length before) found
+    → found ≡ file → take len (buffer ++ behind) ≡ take most file
+read_part len most buffer behind before found file before_len inside within short filled same =
+    let part : buffer ≡ take len file = filled ∙ (λ i. take (before_len i) (same i)) in
+    take_at buffer behind len (ap length part ∙ length-take-le len file inside) ∙ part ∙ elim (cases_lt len most) [
+      | inl less ↦ take_all len file (short less) ∙ sym (take_all most file (omega (arith, short less)))
+      | inr full ↦ let is : len ≡ most = omega arith in ap (λ (n : ℕ). take n file) is
+    ]

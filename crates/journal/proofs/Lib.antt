@@ -1,11 +1,20 @@
 mod AreaTests
 mod Bytes
+mod Checkpoints
+mod Closing
+mod Drafting
 mod Loops
 mod Moments
+mod Openings
+mod Packing
+mod Pairs
 mod Parts
 mod ReadBack
 mod Shapes
+mod Rewritten
+mod Sides
 pub mod Stops
 pub mod Telling
 pub mod Walks
+mod Windows
 mod Written

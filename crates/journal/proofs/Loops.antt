@@ -37,34 +37,37 @@ pub body_all : (gate : ℕ) (records : List Record) (rest : List ℕ) (whole : O
 body_all gate records rest whole is none =
     ap Some (sym (append-nil records)) ∙ sym (ap (so_far gate records) (ap records_of none ∙ records_nil)) ∙ is
 
-module _ (bytes : List ℕ) (gate : ℕ) (inside : gate < length bytes) (records : List Record) (whole : Result (List Record × ℕ) ℕ)
-    (found : with_front records (walk gate 0 (drop gate bytes)) ≡ whole) where
-  at_gate : walk gate 0 (drop gate bytes) ≡ walk gate 0 (get_or bytes gate 0 ∷ drop (gate + 1) bytes)
-  at_gate = ap (λ (l : List ℕ). walk gate 0 l) (drop_more bytes gate 0 inside)
+module _ (base : ℕ) (bytes : List ℕ) (gate : ℕ) (inside : gate < length bytes) (records : List Record) (whole : Result (List Record × ℕ) ℕ)
+    (found : with_front records (walk (base + gate) 0 (drop gate bytes)) ≡ whole) where
+  at_gate : walk (base + gate) 0 (drop gate bytes) ≡ walk (base + gate) 0 (get_or bytes gate 0 ∷ drop (gate + 1) bytes)
+  at_gate = ap (λ (l : List ℕ). walk (base + gate) 0 l) (drop_more bytes gate 0 inside)
 
-  pub file_closed : get_or bytes gate 0 ≡ 0 → whole ≡ Ok (records, gate)
+  pub file_closed : get_or bytes gate 0 ≡ 0 → whole ≡ Ok (records, base + gate)
   file_closed shut =
-      sym found ∙ ap (with_front records) (at_gate ∙ walk_closed gate (get_or bytes gate 0) (drop (gate + 1) bytes) shut)
-      ∙ ap (λ (l : List Record). Ok (l, gate)) (append-nil records)
+      sym found ∙ ap (with_front records) (at_gate ∙ walk_closed (base + gate) (get_or bytes gate 0) (drop (gate + 1) bytes) shut)
+      ∙ ap (λ (l : List Record). Ok (l, base + gate)) (append-nil records)
 
-  pub file_no_body : get_or bytes gate 0 ≢ 0 → None ≡ body_at (drop (gate + 1) bytes) → whole ≡ Err gate
-  file_no_body is_open none = sym found ∙ ap (with_front records) (at_gate ∙ walk_no_body gate (get_or bytes gate 0) (drop (gate + 1) bytes) is_open (sym none))
+  pub file_no_body : get_or bytes gate 0 ≢ 0 → None ≡ body_at (drop (gate + 1) bytes) → whole ≡ Err (base + gate)
+  file_no_body is_open none = sym found ∙ ap (with_front records) (at_gate ∙ walk_no_body (base + gate) (get_or bytes gate 0) (drop (gate + 1) bytes) is_open (sym none))
 
-  pub file_no_group : (body : List ℕ) → get_or bytes gate 0 ≢ 0 → Some body ≡ body_at (drop (gate + 1) bytes) → group_of body ≡ None → whole ≡ Err gate
-  file_no_group body is_open is none = sym found ∙ ap (with_front records) (at_gate ∙ walk_no_group gate (get_or bytes gate 0) (drop (gate + 1) bytes) body is_open (sym is) none)
+  pub file_no_group : (body : List ℕ) → get_or bytes gate 0 ≢ 0 → Some body ≡ body_at (drop (gate + 1) bytes) → group_of body ≡ None → whole ≡ Err (base + gate)
+  file_no_group body is_open is none =
+      sym found ∙ ap (with_front records) (at_gate ∙ walk_no_group (base + gate) (get_or bytes gate 0) (drop (gate + 1) bytes) body is_open (sym is) none)
 
   pub file_inside : (body : List ℕ) → Some body ≡ body_at (drop (gate + 1) bytes) → gate + (5 + length body) < length bytes
   file_inside body is = omega (arith, (body_stands (drop (gate + 1) bytes) body (sym is)).inside, length-drop (gate + 1) bytes)
 
   pub file_more : (body : List ℕ) (group : List (List ℕ)) → get_or bytes gate 0 ≢ 0 → Some body ≡ body_at (drop (gate + 1) bytes) → group_of body ≡ Some group
-      → with_front (records ++ kept gate group) (walk (gate + (5 + length body)) 0 (drop (gate + (5 + length body)) bytes)) ≡ whole
+      → with_front (records ++ kept (base + gate) group) (walk (base + (gate + (5 + length body))) 0 (drop (gate + (5 + length body)) bytes)) ≡ whole
   file_more body group is_open is is_group =
       let same : gate + 1 + (4 + length body) ≡ gate + (5 + length body) = omega arith in
+      let place : base + (gate + (5 + length body)) ≡ base + gate + (5 + length body) = omega arith in
       let behind : drop (4 + length body) (drop (gate + 1) bytes) ≡ drop (gate + (5 + length body)) bytes = drop-drop (4 + length body) (gate + 1) bytes ∙ ap (λ (n : ℕ). drop n bytes) same in
-      let next = walk (gate + (5 + length body)) 0 (drop (gate + (5 + length body)) bytes) in
-      with_front-append records (kept gate group) next
-      ∙ ap (with_front records) (sym (at_gate ∙ walk_group gate (get_or bytes gate 0) (drop (gate + 1) bytes) body group is_open (sym is) is_group
-      ∙ ap (λ (l : List ℕ). with_front (kept gate group) (walk (gate + (5 + length body)) 0 l)) behind))
+      let next = walk (base + gate + (5 + length body)) 0 (drop (gate + (5 + length body)) bytes) in
+      ap (λ (n : ℕ). with_front (records ++ kept (base + gate) group) (walk n 0 (drop (gate + (5 + length body)) bytes))) place
+      ∙ with_front-append records (kept (base + gate) group) next
+      ∙ ap (with_front records) (sym (at_gate ∙ walk_group (base + gate) (get_or bytes gate 0) (drop (gate + 1) bytes) body group is_open (sym is) is_group
+      ∙ ap (λ (l : List ℕ). with_front (kept (base + gate) group) (walk (base + gate + (5 + length body)) 0 l)) behind))
       ∙ found
 
 -- a group that was read, by its records with their gate

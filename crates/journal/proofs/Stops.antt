@@ -151,7 +151,7 @@ module _ (file : List ℕ) (ends : EndsClosed file) where
           content = whole ∙ ap (λ (l : List ℕ). l ++ gate ∷ group_bytes group) (sym before_gate);
         }
 
-abbrev gate_of : Result (List Record × ℕ) ℕ → ℕ
+abbrev pub gate_of : Result (List Record × ℕ) ℕ → ℕ
 gate_of (Ok found) = found.1
 gate_of (Err gate) = gate
 
@@ -185,7 +185,7 @@ module _ (file : List ℕ) (gate : ℕ) (scans : ScansTo file gate) where
       }
 
   module _ (long : 2 ≤ length file) where
-    walked : walk 0 0 file ≡ Ok (scans.0, gate)
+    pub walked : walk 0 0 file ≡ Ok (scans.0, gate)
     unfolding scan
     walked = sym (cond-false _ _ _ (le-ltb (length file) 2 long)) ∙ scans.1
 

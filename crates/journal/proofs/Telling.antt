@@ -10,7 +10,8 @@ use Rattle.journal.specs.declared.record.Record.{Record}
 use Rattle.journal.specs.declared.side.Side.{Side}
 use Rattle.journal.specs.declared.side.Side.TheVariants.{First, Second}
 use Rattle.journal.specs.Format.{body_at, group_of, walk, scan, stands, only_records}
-use Rattle.journal.specs.Areas.{moved, first_generation, generation_of, tells, chosen, pair, pair_of, other_side, stands_at, stands_in, read_from, IsAtRest, IsOlder, IsOlderOrNew, AreSame, IsAsOneOf}
+use Rattle.journal.specs.Journal.{AreSame, IsAsOneOf}
+use Rattle.journal.specs.Areas.{moved, first_generation, generation_of, tells, chosen, pair, pair_of, other_side, stands_at, stands_in, read_from, IsAtRest, IsOlder, IsOlderOrNew}
 use Rattle.journal.proofs.Walks.{Found, walk_open, walk_later, walk-skip, goes, closed_is, walk_ended, body_stands, body_same}
 
 -- ---- one area
@@ -114,7 +115,7 @@ chosen_second generation lower less =
     ∙ cond-false (ltb generation lower) _ _ (le-ltb generation lower (omega arith))
 
 -- by what both areas tell
-by_telling : (one other : List ℕ) (told also : Option (Option ℕ)) → tells one ≡ told → tells other ≡ also → stands_in (pair one other) ≡ read_from one other (chosen told also)
+pub by_telling : (one other : List ℕ) (told also : Option (Option ℕ)) → tells one ≡ told → tells other ≡ also → stands_in (pair one other) ≡ read_from one other (chosen told also)
 unfolding stands_in
 by_telling one other told also is_told is_also = λ i. read_from one other (chosen (is_told i) (is_also i))
 

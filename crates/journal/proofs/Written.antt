@@ -70,11 +70,11 @@ groups_stand groups behind all_open =
     ∙ ap (λ (r : Result (List Record × ℕ) ℕ). with_front records r) (walk_closed gate 0 behind refl)
     ∙ ap (λ (l : List Record). Ok (l, gate)) (append-nil records))
 
-records_written : (groups : List (List (List ℕ))) → their_records (map as_written groups) ≡ groups
+pub records_written : (groups : List (List (List ℕ))) → their_records (map as_written groups) ≡ groups
 records_written [] = refl
 records_written (records ∷ groups) = ap (λ (others : List (List (List ℕ))). records ∷ others) (records_written groups)
 
-open_written : (groups : List (List (List ℕ))) → All FitsGroup groups → All IsOpen (map as_written groups)
+pub open_written : (groups : List (List (List ℕ))) → All FitsGroup groups → All IsOpen (map as_written groups)
 open_written [] fits = All-nil IsOpen
 open_written (records ∷ groups) fits =
     All-cons IsOpen (as_written records) (map as_written groups) (record { not_closed = λ one. omega arith; fits = All-head FitsGroup records groups fits })

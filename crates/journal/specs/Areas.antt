@@ -7,7 +7,6 @@ use Rattle.diskmodel.specs.declared.call.Call.{Call}
 use Rattle.diskmodel.specs.declared.call.Call.TheVariants.{Wrote, Cut, Synced}
 use Rattle.journal.specs.Configuration.{shaped_version}
 use Rattle.journal.specs.Format.{body_at, group_of, stands}
-use Rattle.journal.specs.Journal.{HaveSameRecords}
 use Rattle.journal.specs.declared.configuration.TheConstants.{HEAD, HEAD_BYTES}
 use Rattle.journal.specs.declared.layout.TheConstants.{CLOSED, OPEN, SECOND_AREA}
 use Rattle.journal.specs.declared.record.Record.{Record}
@@ -133,13 +132,3 @@ fill_calls bytes = Wrote 1 bytes ∷ Synced ∷ Wrote 0 (OPEN ∷ []) ∷ Synced
 -- the calls of a rewriting of an area to an open gate and these bytes
 abbrev pub rewrite_calls : List ℕ → List Call
 rewrite_calls bytes = clear_calls ++ fill_calls bytes
-
--- ---- an opening
-
--- two files tell the same, and stand for the same records
-abbrev pub AreSame : List ℕ → List ℕ → Type 0
-AreSame file left = (tells left ≡ tells file) × HaveSameRecords file left
-
--- what a stop leaves is one of these byte for byte, or tells and stands for the same as one that isn't damaged
-abbrev pub IsAsOneOf : (List ℕ → Type 0) → List ℕ → Type 0
-IsAsOneOf outcome left = outcome left ⊎ ((was : List ℕ) × outcome was × AreSame was left)

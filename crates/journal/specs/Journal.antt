@@ -1,5 +1,5 @@
 -- What a journal on a disk is, and what a stop of the machine leaves of it.
-use Rattle.std.specs.Prelude.{◌≡◌, ◌≢◌, ◌⊎◌, ℕ, ◌+◌, ◌-◌, ◌<◌, ◌≤◌, List, [], ◌∷◌, ◌++◌, length, take, Result, Ok, Err, IfOk, IfErr}
+use Rattle.std.specs.Prelude.{◌≡◌, ◌≢◌, ◌⊎◌, ℕ, ◌+◌, ◌-◌, ◌<◌, ◌≤◌, List, [], ◌∷◌, ◌++◌, length, take, Option, Some, Result, Ok, Err, IfOk, IfErr, IfSome}
 use Rattle.diskmodel.specs.Disk.{LeavesOnly, Device}
 use Rattle.diskmodel.specs.declared.call.Call.{Call}
 use Rattle.diskmodel.specs.declared.call.Call.TheVariants.{Wrote, Synced}
@@ -7,11 +7,19 @@ use Rattle.journal.specs.declared.error.Failed.{Failed}
 use Rattle.journal.specs.declared.layout.TheConstants.{CLOSED, OPEN}
 use Rattle.journal.specs.declared.record.Record.{Record}
 use Rattle.journal.specs.declared.journal.Journal.{Journal}
+use Rattle.journal.specs.declared.side.Side.{Side}
+use Rattle.journal.specs.declared.side.Side.TheVariants.{First}
+use Rattle.journal.specs.declared.spare.Spare.{Spare}
+use Rattle.journal.specs.Areas.{tells, IsAtRest}
 use Rattle.journal.specs.Format.{group_bytes, kept, walk, stands, ScansTo}
 
--- the disk of a journal
+-- the disk of a journal, to which it is written
 abbrev pub disk_of : {D : Type 0} → Journal D → D
 disk_of journal = journal.disk
+
+-- what a journal on two disks has beside it: the other disk, and the side and the generation of the one that is written to
+abbrev pub spare_of : {D : Type 0} → Journal D → Option (Spare D)
+spare_of journal = journal.spare
 
 -- the disk after a call that takes one: it is in what the call gives, or is handed back with the error
 abbrev pub disk_after : {T D E : Type 0} → (T → D) → Result T (Failed E D) → D
@@ -32,11 +40,25 @@ pub record EndsClosed (file : List ℕ) : Type 0 where
   pub ends : walk 0 0 file ≡ Ok (records, length file - 1)
   pub some : 0 < length file
 
--- A journal that can be added to: its file ends with its closed gate and is firm, and its length is kept.
+-- no group was written to a journal on two disks yet: the first group goes to the first area
+pub record IsNewPair (live spare : List ℕ) (side : Side) (generation : ℕ) : Type 0 where
+  pub empty : live ≡ CLOSED ∷ []
+  pub lowest : generation ≡ 0
+  pub first : side ≡ First
+  pub other_short : length spare ≡ 1
+
+-- Of two disks: the one that is written to tells its generation, or the pair is new; the other one is at rest and firm.
+pub record IsAlivePair {D : Type 0} (device : Device D) (live : D) (spare : Spare D) : Type 0 where
+  pub of_generation : (tells (device.content live) ≡ Some (Some spare.generation)) ⊎ IsNewPair (device.content live) (device.content spare.disk) spare.side spare.generation
+  pub at_rest : IsAtRest spare.generation (device.content spare.disk)
+  pub firm : LeavesOnly (device.content spare.disk) (device.outcome spare.disk)
+
+-- A journal that can be added to: its file ends with its closed gate and is firm, and its length is kept. Of two disks the other one is too.
 pub record IsAlive {D : Type 0} (device : Device D) (journal : Journal D) : Type 0 where
   pub ends_closed : EndsClosed (device.content (disk_of journal))
   pub len : journal.len ≡ length (device.content (disk_of journal))
   pub firm : LeavesOnly (device.content (disk_of journal)) (device.outcome (disk_of journal))
+  pub pair : IfSome (spare_of journal) (IsAlivePair device (disk_of journal))
 
 -- the calls that add a group of these records to a file of this length: it is written behind the file's closed gate, and synced; then
 -- that gate is opened, in a write of its own, and synced
@@ -76,3 +98,17 @@ HaveSameRecords file left = (records : List Record) × (stands file ≡ Ok recor
 -- what a stop leaves is one of these byte for byte, or stands for the records of one
 abbrev pub StandsAsOneOf : (List ℕ → Type 0) → List ℕ → Type 0
 StandsAsOneOf outcome left = outcome left ⊎ ((first : List ℕ) × outcome first × HaveSameRecords first left)
+
+-- ---- two areas
+
+-- two files tell the same, and stand for the same records
+abbrev pub AreSame : List ℕ → List ℕ → Type 0
+AreSame file left = (tells left ≡ tells file) × HaveSameRecords file left
+
+-- what a stop leaves is one of these byte for byte, or tells and stands for the same as one that isn't damaged
+abbrev pub IsAsOneOf : (List ℕ → Type 0) → List ℕ → Type 0
+IsAsOneOf outcome left = outcome left ⊎ ((was : List ℕ) × outcome was × AreSame was left)
+
+-- what a stop leaves is this file, or tells and stands for the same as it does
+abbrev pub IsSameAs : List ℕ → List ℕ → Type 0
+IsSameAs file left = (left ≡ file) ⊎ AreSame file left

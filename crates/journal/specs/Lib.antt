@@ -1,5 +1,14 @@
 pub mod Areas
 pub mod Configuration
+pub mod Drafts
+pub mod Durable
 pub mod Format
 pub mod Journal
 pub mod OneGroup
+pub mod Opened
+pub mod Pairs
+pub mod Reader
+pub mod Snapshot
+pub mod Spares
+pub mod Stores
+pub mod Window

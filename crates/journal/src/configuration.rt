@@ -87,7 +87,7 @@ fn stakes_size(version: Version, members: u16) -> usize
 
 // The generation that the record of a head has.
 #[tactic(auto, unfolding(crate::specs::Areas::head_in))]
-fn head_in(bytes: &[u8]) -> Option<u64>
+pub(crate) fn head_in(bytes: &[u8]) -> Option<u64>
     ensures { result ≡ told_head bytes.now }
 {
     if bytes.len() != HEAD_BYTES || bytes[0] != HEAD {

@@ -1,6 +1,6 @@
 //! A group of records, ready to be written.
 
-ghost use Rattle.std.specs.Prelude.{◌≡◌, ◌+◌, ◌<◌, ◌≤◌, ◌^◌, ◌++◌, [], ◌∷◌, length, take, drop, IfOk, OnOk};
+ghost use Rattle.std.specs.Prelude.{◌≡◌, ◌+◌, ◌<◌, ◌≤◌, ◌++◌, length, IfOk, OnOk};
 ghost use Rattle.std.specs.Option.{SomeIff};
 ghost use Rattle.journal.specs.Format.{FitsGroup, IsGroup, body_len, contents, body_bytes, group_bytes};
 ghost use Rattle.journal.specs.OneGroup.{one_group};

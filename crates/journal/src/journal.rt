@@ -1,15 +1,30 @@
 //! A journal on a disk.
 
-ghost use Rattle.std.specs.Prelude.{◌≡◌, ◌≢◌, ◌⊎◌, ◌↔◌, ◌+◌, ◌-◌, ◌*◌, ◌^◌, ◌<◌, ◌≤◌, List, ℕ, ◌++◌, length, Ok, Err, IfOk, IfErr, OnOk, OnErr, IsErrOf};
+ghost use Rattle.std.specs.Prelude.{◌≡◌, ◌≢◌, ◌⊎◌, ◌↔◌, ◌+◌, ◌-◌, ◌^◌, ◌<◌, List, ℕ, ◌++◌, length, Ok, Err, IfOk, IfErr, OnOk, OnErr, IsErrOf, IsSome, IsTrue, Some, None, ◌∷◌, []};
 ghost use Rattle.diskmodel.specs.Disk.{LeavesOnly, AtEachMoment, NoneNew, TellsFault};
-ghost use Rattle.journal.specs.Format.{group_bytes, stands, file_with, ScansTo};
-ghost use Rattle.journal.specs.Journal.{disk_of, disk_after, TellsFaultBack, append_calls, EndsClosed, IsAlive, MadeSome, stands_with, IsClosedUp, IsBeforeOrAfter, StandsAsOneOf};
+ghost use Rattle.journal.specs.declared.layout.TheConstants.{CLOSED, OPEN, MAX_JOURNAL_BYTES};
+ghost use Rattle.journal.specs.Format.{FitsGroup, group_bytes, stands, file_with, ScansTo};
+ghost use Rattle.journal.specs.Areas.{generation_of, tells, other_side, pair, stands_in, rewrite_calls};
+ghost use Rattle.journal.specs.Snapshot.{bytes_for};
+ghost use Rattle.journal.specs.Pairs.{HaveChangedPlaces, HaveKeptPlaces, StandsAsOrAfter, stands_as, spare_disk, side_in, generation_in, areas_of, areas_in, store_of, rewritten_disk, untouched_disk};
+ghost use Rattle.journal.specs.Reader.{TakesAll};
+ghost use Rattle.journal.specs.Opened.{on_side, off_side, spare_with};
+ghost use Rattle.journal.specs.Spares.{by_area};
+ghost use Rattle.journal.specs.Journal.{disk_of, spare_of, disk_after, TellsFaultBack, append_calls, EndsClosed, IsAlive, MadeSome, stands_with, IsClosedUp, IsBeforeOrAfter, StandsAsOneOf, IsAsOneOf};
+ghost use Rattle.journal.specs.Stores.{disks_of, faults_of_both, faults_in, TellsFaultsBack, IsChosenOf, AreClosedUp, IsOpenedOn, OpensAtEachMoment};
 
+use crate::areas::{Opened, open_areas};
+use crate::durable::Durable;
 use crate::error::{Failed, JournalError};
 use crate::group::Group;
 use crate::layout::{CLOSED, MAX_JOURNAL_BYTES, OPEN};
-use crate::reading::scan;
+use crate::reader::Reader;
 use crate::record::Record;
+use crate::side::Side;
+use crate::snapshot::Snapshot;
+use crate::spare::Spare;
+use crate::store::Store;
+use crate::window::read_area;
 use diskmodel::Disk;
 use std::alloc::Global;
 use std::marker::Model;
@@ -21,36 +36,52 @@ const DEAD: u64 = 0;
 pub struct Journal<D: Disk> {
     disk: D,
     len: u64,
+    // Of two disks, the other one.
+    spare: Option<Spare<D>>,
 }
 
 impl<D: Disk + Drop> Drop for Journal<D> {
     fn drop(self) {
-        let Journal { disk: _, len: _ } = self;
+        let Journal {
+            disk: _,
+            len: _,
+            spare: _,
+        } = self;
     }
 }
 
-/// Says that a group is on the disk. Contracts see its records. It must be spent.
+/// Says that records are on the disk: those of a group, or of a checkpoint without its head. Contracts see them. It must be spent.
 pub struct Synced {
-    group: Group,
+    durable: Durable,
 }
 
 impl Model for Synced {
     ghost use Rattle.std.specs.Prelude.{List, ℕ};
+    ghost use Rattle.journal.specs.Durable.{records_of_durable};
 
     ghost Value = { List (List ℕ) };
 
-    ghost view = { λ synced. synced.group };
+    ghost view = { λ synced. records_of_durable synced.durable };
 }
 
 impl Synced {
-    /// How many records the group has. It spends the word that they are on the disk.
+    /// How many records they are. It spends the word that they are on the disk.
     pub fn records(self) -> u64
         ensures { result ≡ length self }
     {
-        let Synced { group } = self;
-        let records = group.records_count();
-        group.discard();
-        records
+        let Synced { durable } = self;
+        match durable {
+            Durable::Group(group) => {
+                let records = group.records_count();
+                group.discard();
+                records
+            }
+            Durable::Snapshot(snapshot) => {
+                let records = snapshot.records_count();
+                snapshot.discard();
+                records
+            }
+        }
     }
 }
 
@@ -79,17 +110,147 @@ impl<D: Disk> Journal<D> {
 
         // It answers Device exactly where the disk has failed.
         ensures cause { TellsFaultBack D.device (λ opened. disk_of opened.0) JournalError.Device disk result }
+
+        ensures alone { IfOk result (λ opened. spare_of opened.0 ≡ None) }
     {
-        match repair(alloc, &mut disk) {
-            Ok((records, len)) => Ok((Journal { disk, len }, records)),
+        let mut records = Vec::new(alloc);
+        match repair(alloc, &mut disk, &mut records) {
+            Ok(len) => Ok((Journal::on_one(disk, len), records)),
             Err(error) => Err(Failed { error, disk }),
         }
+    }
+
+    /// Opens the journal on two disks, that of the first area and that of the second, and gives the records of the area
+    /// that is read. A failed call hands both disks back.
+    pub fn open_pair(
+        alloc: Global,
+        mut first: D,
+        mut second: D,
+    ) -> Result<(Journal<D>, Vec<Record>), Failed<JournalError, (D, D)>>
+        ensures alive { IfOk result (λ opened. IsAlive D.device opened.0) }
+        ensures pair { IfOk result (λ opened. IsSome (spare_of opened.0)) }
+
+        // The area of the greater generation is read. Where none has a group it is the first one, with generation 0.
+        ensures chosen { IfOk result (λ opened. IsChosenOf D.device first second opened.0) }
+
+        ensures records { IfOk result (λ opened. stands_in (pair (D.device.content first) (D.device.content second)) ≡ Ok opened.1.items) }
+        ensures same { IfOk result (λ opened. stands_in (areas_of D.device opened.0) ≡ stands_in (pair (D.device.content first) (D.device.content second))) }
+
+        // An area whose first gate is open, and that isn't read, keeps all its bytes.
+        ensures content { IfOk result (λ opened. AreClosedUp D.device first second opened.0) }
+
+        // Only a failure of a disk leaves other bytes than there were.
+        ensures first_unchanged { IfErr result (λ failed. failed.error ≢ JournalError.Device → D.device.content failed.disk.0 ≡ D.device.content first) }
+        ensures second_unchanged { IfErr result (λ failed. failed.error ≢ JournalError.Device → D.device.content failed.disk.1 ≡ D.device.content second) }
+
+        // A stop at any moment of the call leaves of each disk bytes that one before it might have left, or what tells and
+        // stands for the same as such bytes.
+        ensures first_moment { AtEachMoment D.device first (disk_after (λ opened. disks_of opened.0) result).0 (IsAsOneOf (D.device.outcome first)) }
+        ensures second_moment { AtEachMoment D.device second (disk_after (λ opened. disks_of opened.0) result).1 (IsAsOneOf (D.device.outcome second)) }
+
+        ensures damaged { IfErr result (λ failed. (place : ℕ) → failed.error ≡ JournalError.Damaged place → stands_in (pair (D.device.content first) (D.device.content second)) ≡ Err place) }
+        ensures never_full { IfErr result (λ failed. failed.error ≢ JournalError.Full) }
+        ensures never_config { IfErr result (λ failed. failed.error ≢ JournalError.ConfigMismatch) }
+
+        // It answers Device exactly where one of both disks has failed.
+        ensures cause { TellsFaultsBack (faults_of_both D.device) (λ opened. disks_of opened.0) JournalError.Device (first, second) result }
+    {
+        let mut records = Vec::new(alloc);
+        match open_areas(alloc, &mut first, &mut second, &mut records) {
+            Ok(opened) => Ok((Journal::on_two(opened, first, second), records)),
+            Err(error) => {
+                let disk = (first, second);
+                Err(Failed { error, disk })
+            }
+        }
+    }
+
+    /// Opens the journal on what is given, one disk or two, and hands its records to a reader, group by group. A failed call hands
+    /// all of it back.
+    #[tactic(auto, unfolding(crate::specs::Areas::stands_in))]
+    pub fn open_store<R: Reader>(
+        alloc: Global,
+        store: Store<D>,
+        reader: &mut R,
+    ) -> Result<Journal<D>, Failed<JournalError, Store<D>>>
+        ensures alive { IfOk result (λ journal. IsAlive D.device journal) }
+        ensures records { OnOk result (TakesAll (λ records. R.takes reader.old records reader.new) (stands_in (areas_in D.device store))) }
+        ensures same { IfOk result (λ journal. stands_in (areas_of D.device journal) ≡ stands_in (areas_in D.device store)) }
+        ensures content { IfOk result (λ journal. IsOpenedOn D.device store journal) }
+
+        // Only a failure of a disk leaves other bytes than there were.
+        ensures unchanged { IfErr result (λ failed. failed.error ≢ JournalError.Device → areas_in D.device failed.disk ≡ areas_in D.device store) }
+
+        // It gives back as many disks as it was given, whatever the answer.
+        ensures any_moment { OpensAtEachMoment D.device store (disk_after store_of result) }
+
+        ensures damaged { IfErr result (λ failed. (place : ℕ) → failed.error ≡ JournalError.Damaged place → stands_in (areas_in D.device store) ≡ Err place) }
+        ensures never_full { IfErr result (λ failed. failed.error ≢ JournalError.Full) }
+        ensures never_config { IfErr result (λ failed. failed.error ≢ JournalError.ConfigMismatch) }
+
+        // It answers Device exactly where one of the disks has failed.
+        ensures cause { TellsFaultsBack (faults_in D.device) store_of JournalError.Device store result }
+    {
+        match store {
+            Store::One(mut disk) => match repair(alloc, &mut disk, reader) {
+                Ok(len) => Ok(Journal::on_one(disk, len)),
+                Err(error) => Err(Failed {
+                    error,
+                    disk: Store::One(disk),
+                }),
+            },
+            Store::Two(mut first, mut second) => {
+                match open_areas(alloc, &mut first, &mut second, reader) {
+                    Ok(opened) => Ok(Journal::on_two(opened, first, second)),
+                    Err(error) => Err(Failed {
+                        error,
+                        disk: Store::Two(first, second),
+                    }),
+                }
+            }
+        }
+    }
+
+    // On a disk whose file is of this length.
+    fn on_one(disk: D, len: u64) -> Journal<D>
+        ensures disk { disk_of result ≡ disk }
+        ensures len { result.len ≡ len }
+        ensures spare { spare_of result ≡ None }
+    {
+        Journal {
+            disk,
+            len,
+            spare: None,
+        }
+    }
+
+    // On both disks, as they were opened.
+    fn on_two(opened: Opened, first: D, second: D) -> Journal<D>
+        ensures disk { disk_of result ≡ on_side opened.side first second }
+        ensures len { result.len ≡ opened.len }
+        ensures spare { spare_of result ≡ Some (spare_with (off_side opened.side first second) opened.side opened.generation) }
+    {
+        let Opened {
+            side,
+            generation,
+            len,
+        } = opened;
+        let (disk, other) = side.before_other(first, second);
+        let spare = Some(Spare {
+            disk: other,
+            side,
+            generation,
+        });
+        Journal { disk, len, spare }
     }
 
     /// Adds a group behind the others. At `Ok` it is on the disk. At `Full` nothing has changed.
     /// At `Device` nothing can be added any more: open the disk again. It takes no memory.
     pub fn append(&mut self, group: Group) -> Result<Synced, JournalError>
-        requires { IsAlive D.device self.old }
+        requires alive { IsAlive D.device self.old }
+
+        // A new journal on two disks begins with its configuration alone.
+        requires first { IsSome (spare_of self.old) → D.device.content (disk_of self.old) ≡ CLOSED ∷ [] → generation_of group ≡ Some 0 }
 
         ensures alive { OnOk result (IsAlive D.device self.new) }
         ensures records { OnOk result (stands (D.device.content (disk_of self.new)) ≡ stands_with (D.device.content (disk_of self.old)) group) }
@@ -113,6 +274,9 @@ impl<D: Disk> Journal<D> {
 
         ensures full { IsErrOf result JournalError.Full ↔ (MAX_JOURNAL_BYTES < length (D.device.content (disk_of self.old)) + length (group_bytes group)) }
         ensures unchanged { IsErrOf result JournalError.Full → self.new ≡ self.old }
+
+        // Of two disks it writes to one alone.
+        ensures spare { spare_of self.new ≡ spare_of self.old }
     {
         let added = group.written_len();
         if added > MAX_JOURNAL_BYTES.saturating_sub(self.len) {
@@ -125,15 +289,142 @@ impl<D: Disk> Journal<D> {
             return Err(error);
         }
         self.len += added;
-        Ok(Synced { group })
+        Ok(Synced {
+            durable: Durable::Group(group),
+        })
     }
 
-    /// Gives the disk back.
+    /// Writes a checkpoint to the area that isn't read, which is read from then on. At `Full` nothing has changed. At `Device`
+    /// nothing can be written any more: open both disks again. It takes no memory.
+    pub fn rewrite(&mut self, mut snapshot: Snapshot) -> Result<Synced, JournalError>
+        requires alive { IsAlive D.device self.old }
+        requires pair { IsSome (spare_of self.old) }
+
+        // The area that is read has its first group.
+        requires begun { tells (D.device.content (disk_of self.old)) ≡ Some (Some (generation_in self.old)) }
+
+        ensures alive { OnOk result (IsAlive D.device self.new) }
+        ensures swapped { OnOk result (HaveChangedPlaces self.old self.new) }
+        ensures content { OnOk result (D.device.content (disk_of self.new) ≡ OPEN ∷ bytes_for (generation_in self.old + 1) snapshot) }
+        ensures records { OnOk result (stands_in (areas_of D.device self.new) ≡ stands_as (other_side (side_in self.old)) (generation_in self.old + 1) snapshot) }
+        ensures synced { IfOk result (λ synced. synced ≡ snapshot) }
+
+        // A stop at any moment of the call leaves an area with which both stand for the records from before it, or for the checkpoint's.
+        ensures any_moment { AtEachMoment D.device (spare_disk self.old) (rewritten_disk result self.new) (StandsAsOrAfter D.device self.old snapshot) }
+
+        // The other one is the same, whatever the answer.
+        ensures untouched { untouched_disk result self.new ≡ disk_of self.old }
+
+        ensures errors { IfErr result (λ error. (error ≡ JournalError.Device) ⊎ (error ≡ JournalError.Full)) }
+
+        // It answers Device exactly where the disk that it writes has failed.
+        ensures cause { TellsFault JournalError.Device (D.device.faults (spare_disk self.old)) (D.device.faults (rewritten_disk result self.new)) result }
+
+        // At `Device` nothing can be written any more.
+        ensures dead { IsErrOf result JournalError.Device → ¬ IsAlive D.device self.new }
+
+        // The disk has made the eight calls of a rewriting, or some of them.
+        ensures calls { OnOk result (D.device.calls (disk_of self.new) ≡ D.device.calls (spare_disk self.old) ++ rewrite_calls (bytes_for (generation_in self.old + 1) snapshot)) }
+        ensures calls_err { OnErr result (MadeSome (rewrite_calls (bytes_for (generation_in self.old + 1) snapshot)) (D.device.calls (spare_disk self.old)) (D.device.calls (spare_disk self.new))) }
+
+        ensures full { IsErrOf result JournalError.Full ↔ ((MAX_JOURNAL_BYTES < 1 + length (bytes_for (generation_in self.old + 1) snapshot)) ⊎ (generation_in self.old ≡ 2 ^ 64 - 1)) }
+        ensures unchanged { IsErrOf result JournalError.Full → self.new ≡ self.old }
+
+        // It stays a journal on two disks, each on its side.
+        ensures keeps { OnErr result (HaveKeptPlaces self.old self.new) }
+    {
+        let Some(spare) = &mut self.spare else {
+            unreachable!()
+        };
+        let len = snapshot.written_len();
+        if len >= MAX_JOURNAL_BYTES || spare.generation == u64::MAX {
+            snapshot.discard();
+            return Err(JournalError::Full);
+        }
+        if let Err(error) = spare.rewrite(&mut self.disk, &mut snapshot) {
+            snapshot.discard();
+            self.len = DEAD;
+            return Err(error);
+        }
+        self.len = 1 + len;
+        Ok(Synced {
+            durable: Durable::Snapshot(snapshot),
+        })
+    }
+
+    /// Whether it is a journal on two disks.
+    pub fn is_pair(&self) -> bool
+        ensures { IsTrue result ↔ IsSome (spare_of self.now) }
+    {
+        self.spare.is_some()
+    }
+
+    /// The generation of the area that is read: how often a journal on two disks was rewritten. 0 of a journal on one disk.
+    pub fn generation(&self) -> u64
+        ensures { result ≡ generation_in self.now }
+    {
+        match &self.spare {
+            Some(spare) => spare.generation,
+            None => 0,
+        }
+    }
+
+    /// How long the area that is read is, in bytes.
+    pub fn len(&self) -> u64
+        requires { IsAlive D.device self.now }
+        ensures { result ≡ length (D.device.content (disk_of self.now)) }
+    {
+        self.len
+    }
+
+    /// Gives both disks back, of a journal on two: that of the first area, and that of the second.
+    pub fn into_disks(self) -> (D, D)
+        requires { IsSome (spare_of self) }
+        ensures { result ≡ by_area (side_in self) (disk_of self) (spare_disk self) }
+    {
+        let Journal {
+            disk,
+            len: _,
+            spare,
+        } = self;
+        match spare {
+            Some(spare) => spare.into_disks(disk),
+            None => unreachable!(),
+        }
+    }
+
+    /// Gives back what it was opened on.
+    pub fn into_store(self) -> Store<D>
+        ensures { result ≡ store_of self }
+    {
+        let Journal {
+            disk,
+            len: _,
+            spare,
+        } = self;
+        match spare {
+            None => Store::One(disk),
+            Some(spare) => {
+                let (first, second) = spare.into_disks(disk);
+                Store::Two(first, second)
+            }
+        }
+    }
+
+    /// Gives the disk back, of a journal on one.
     pub fn into_disk(self) -> D
+        requires { spare_of self ≡ None }
         ensures { result ≡ disk_of self }
     {
-        let Journal { disk, len: _ } = self;
-        disk
+        let Journal {
+            disk,
+            len: _,
+            spare,
+        } = self;
+        match spare {
+            None => disk,
+            Some(_) => unreachable!(),
+        }
     }
 }
 
@@ -145,6 +436,7 @@ fn write_group<D: Disk>(disk: &mut D, len: u64, group: &Group) -> Result<(), Jou
     requires firm { LeavesOnly (D.device.content disk.old) (D.device.outcome disk.old) }
 
     ensures ends_closed { OnOk result (EndsClosed (D.device.content disk.new)) }
+    ensures fits { FitsGroup group.now }
     ensures len { OnOk result (length (D.device.content disk.new) ≡ len + length (group_bytes group.now)) }
     ensures records { OnOk result (stands (D.device.content disk.new) ≡ stands_with (D.device.content disk.old) group.now) }
     ensures content { OnOk result (D.device.content disk.new ≡ file_with (D.device.content disk.old) group.now) }
@@ -163,11 +455,15 @@ fn write_group<D: Disk>(disk: &mut D, len: u64, group: &Group) -> Result<(), Jou
     Ok(())
 }
 
-// The records on a disk and the length of its file, which it leaves with a closed gate at its end.
-fn repair<D: Disk>(alloc: Global, disk: &mut D) -> Result<(Vec<Record>, u64), JournalError>
+// Hands the records on a disk to a reader, and gives the length of its file, which it leaves with a closed gate at its end.
+fn repair<D: Disk, R: Reader>(
+    alloc: Global,
+    disk: &mut D,
+    reader: &mut R,
+) -> Result<u64, JournalError>
     ensures ends_closed { OnOk result (EndsClosed (D.device.content disk.new)) }
-    ensures len { IfOk result (λ found. found.1 ≡ length (D.device.content disk.new)) }
-    ensures records { IfOk result (λ found. stands (D.device.content disk.old) ≡ Ok found.0.items) }
+    ensures len { IfOk result (λ len. len ≡ length (D.device.content disk.new)) }
+    ensures records { OnOk result (TakesAll (λ records. R.takes reader.old records reader.new) (stands (D.device.content disk.old))) }
     ensures same { OnOk result (stands (D.device.content disk.new) ≡ stands (D.device.content disk.old)) }
     ensures content { OnOk result (IsClosedUp (D.device.content disk.old) (D.device.content disk.new)) }
     ensures unchanged { IfErr result (λ error. error ≢ JournalError.Device → D.device.content disk.new ≡ D.device.content disk.old) }
@@ -180,29 +476,13 @@ fn repair<D: Disk>(alloc: Global, disk: &mut D) -> Result<(Vec<Record>, u64), Jo
 {
     // Each gate has to be firm before it is read.
     disk.sync()?;
-    let bytes = read_all(alloc, disk)?;
-    let (records, gate) = scan(alloc, &bytes)?;
-    close_end(disk, bytes.len() as u64, gate)?;
-    Ok((records, gate + 1))
-}
-
-// All the bytes of a disk.
-fn read_all<D: Disk>(alloc: Global, disk: &mut D) -> Result<Vec<u8>, JournalError>
-    ensures bytes { IfOk result (λ bytes. bytes.items ≡ D.device.content disk.old) }
-    ensures content { D.device.content disk.new ≡ D.device.content disk.old }
-    ensures outcomes { NoneNew (D.device.outcome disk.old) (D.device.outcome disk.new) }
-    ensures any_moment { AtEachMoment D.device disk.old disk.new (D.device.outcome disk.old) }
-    ensures errors { IfErr result (λ error. (error ≡ JournalError.Memory) ⊎ (error ≡ JournalError.Device)) }
-    ensures cause { TellsFault JournalError.Device (D.device.faults disk.old) (D.device.faults disk.new) result }
-{
-    let len = disk.len()? as usize;
-    let mut bytes = vec![in alloc; 0; len]?;
-    disk.read_at(0, &mut bytes)?;
-    Ok(bytes)
+    let (gate, len) = read_area(alloc, Side::First, disk, reader)?;
+    close_end(disk, len, gate)?;
+    Ok(gate + 1)
 }
 
 // Makes the closed gate at this place the end of a firm file of this length.
-fn close_end<D: Disk>(disk: &mut D, len: u64, gate: u64) -> Result<(), JournalError>
+pub(crate) fn close_end<D: Disk>(disk: &mut D, len: u64, gate: u64) -> Result<(), JournalError>
     requires len { len ≡ length (D.device.content disk.old) }
     requires found { ScansTo (D.device.content disk.old) gate }
     requires firm { LeavesOnly (D.device.content disk.old) (D.device.outcome disk.old) }
@@ -213,6 +493,8 @@ fn close_end<D: Disk>(disk: &mut D, len: u64, gate: u64) -> Result<(), JournalEr
     ensures records { OnOk result (stands (D.device.content disk.new) ≡ stands (D.device.content disk.old)) }
     ensures firm { OnOk result (LeavesOnly (D.device.content disk.new) (D.device.outcome disk.new)) }
     ensures any_moment { AtEachMoment D.device disk.old disk.new (λ left. stands left ≡ stands (D.device.content disk.old)) }
+    ensures tells { OnOk result (tells (D.device.content disk.new) ≡ tells (D.device.content disk.old)) }
+    ensures telling { AtEachMoment D.device disk.old disk.new (λ left. tells left ≡ tells (D.device.content disk.old)) }
     ensures errors { IfErr result (λ error. error ≡ JournalError.Device) }
     ensures cause { TellsFault JournalError.Device (D.device.faults disk.old) (D.device.faults disk.new) result }
 {

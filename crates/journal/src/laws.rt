@@ -5,7 +5,8 @@ ghost use Rattle.std.specs.List.{All};
 ghost use Rattle.diskmodel.specs.Outcomes.{AreBytes};
 ghost use Rattle.journal.specs.declared.layout.TheConstants.{CLOSED, OPEN, LENGTH_BYTES, MAX_GROUP_RECORDS, MAX_GROUP_BYTES, MAX_JOURNAL_BYTES};
 ghost use Rattle.journal.specs.declared.record.Record.{Record};
-ghost use Rattle.journal.specs.Areas.{pair, stands_in, IsAsOneOf};
+ghost use Rattle.journal.specs.Areas.{pair, stands_in};
+ghost use Rattle.journal.specs.Journal.{IsAsOneOf};
 ghost use Rattle.journal.specs.Format.{FitsGroup, Gated, IsOpen, in_turn, file_with, file_bytes, all_kept, stands, AreGroups, IsDamagedAt};
 
 use diskmodel::Disk;

@@ -9,6 +9,9 @@ pub const MAX_GROUP_RECORDS: usize = 1_024;
 /// The greatest length of a group's body, in bytes: its records, each with its length before it.
 pub const MAX_GROUP_BYTES: usize = 4_194_304;
 
+/// How much of a file an opening has at once, in bytes: a gate, the greatest group, and the gate after it.
+pub const WINDOW_BYTES: u64 = 4_194_310;
+
 /// The greatest length of a journal, in bytes.
 pub const MAX_JOURNAL_BYTES: u64 = 1 << 40;
 

@@ -1,21 +1,31 @@
 //! Groups of records on a disk, each atomic at every moment.
 #![tactic(auto)]
 
+mod areas;
 mod configuration;
+mod draft;
+mod durable;
 mod error;
 mod group;
 mod journal;
 mod laws;
 mod layout;
+mod reader;
 mod reading;
 mod record;
+mod rewriting;
 mod side;
+mod snapshot;
+mod spare;
+mod store;
 mod version;
+mod window;
 
 pub use configuration::{
     CONFIGURATION, HEAD, HEAD_BYTES, KEY_BYTES, SETTINGS_BYTES, STAKE_BYTES, number_of,
     shaped_version,
 };
+pub use draft::SnapshotDraft;
 pub use error::{Failed, JournalError};
 pub use group::Group;
 pub use journal::{Journal, Synced};
@@ -25,7 +35,10 @@ pub use laws::{
 pub use layout::{
     CLOSED, LENGTH_BYTES, MAX_GROUP_BYTES, MAX_GROUP_RECORDS, MAX_JOURNAL_BYTES, OPEN, SECOND_AREA,
 };
+pub use reader::Reader;
 pub use reading::stands;
 pub use record::Record;
 pub use side::Side;
+pub use snapshot::Snapshot;
+pub use store::Store;
 pub use version::Version;

@@ -1,12 +1,16 @@
 //! What the bytes of a journal stand for.
 
-ghost use Rattle.std.specs.Prelude.{◌≡◌, ◌≤◌, ◌<◌, length, Ok, IfOk, IfErr, drop};
+ghost use Rattle.std.specs.Prelude.{◌≡◌, ◌+◌, ◌≤◌, ◌<◌, length, map, Ok, IfOk, IfErr};
 ghost use Rattle.std.specs.Option.{option_map, option_copied};
-ghost use Rattle.journal.specs.Format.{stands, scan, walk, records_of, group_of, body_at, length_field, kept, FailsAs, split_record};
+ghost use Rattle.journal.specs.Format.{stands, scan, walk, records_of, group_of, body_at, length_field, kept, FailsAs, ScansTo, split_record};
+ghost use Rattle.journal.specs.Areas.{stands_at, first_generation, generation_of, tells};
+ghost use Rattle.journal.specs.declared.layout.TheConstants.{SECOND_AREA};
 
+use crate::configuration::{head_in, shaped_version};
 use crate::error::JournalError;
 use crate::layout::{CLOSED, LENGTH_BYTES, MAX_GROUP_BYTES, MAX_GROUP_RECORDS};
 use crate::record::Record;
+use crate::side::Side;
 use diskmodel::KeptBytes;
 use std::alloc::{AllocError, Global};
 
@@ -39,10 +43,20 @@ fn walk(alloc: Global, bytes: &[u8]) -> Result<(Vec<Record>, u64), JournalError>
     ensures ok { IfOk result (λ found. walk 0 0 bytes.now ≡ Ok (found.0.items, found.1)) }
     ensures err { IfErr result (λ error. FailsAs error (walk 0 0 bytes.now)) }
 {
+    walk_from(alloc, bytes, 0)
+}
+
+// The same, of bytes whose places are counted from this one, from which that of the closed gate is counted.
+fn walk_from(alloc: Global, bytes: &[u8], base: u64) -> Result<(Vec<Record>, u64), JournalError>
+    requires some { 0 < length bytes.now }
+    requires base { base ≤ SECOND_AREA }
+    ensures ok { IfOk result (λ found. walk base 0 bytes.now ≡ Ok (found.0.items, base + found.1)) }
+    ensures err { IfErr result (λ error. FailsAs error (walk base 0 bytes.now)) }
+{
     let mut records = Vec::new(alloc);
     let mut gate = 0;
     while bytes[gate] != CLOSED {
-        let place = gate as u64;
+        let place = base + gate as u64;
         let Some(body) = body_at(&bytes[gate + 1..]) else {
             return Err(JournalError::Damaged(place));
         };
@@ -53,6 +67,46 @@ fn walk(alloc: Global, bytes: &[u8]) -> Result<(Vec<Record>, u64), JournalError>
         gate += 1 + LENGTH_BYTES + body.len();
     }
     Ok((records, gate as u64))
+}
+
+// What an area with these bytes in front tells by its first group.
+#[tactic(auto, unfolding(crate::specs::Areas::tells))]
+pub(crate) fn tells(alloc: Global, bytes: &[u8]) -> Result<Option<Option<u64>>, AllocError>
+    ensures { IfOk result (λ told. told ≡ tells bytes.now) }
+{
+    if bytes.len() < 2 || bytes[0] == CLOSED {
+        return Ok(None);
+    }
+    Ok(Some(first_generation(alloc, &bytes[1..])?))
+}
+
+// The generation of an area with these bytes after its first gate.
+fn first_generation(alloc: Global, bytes: &[u8]) -> Result<Option<u64>, AllocError>
+    ensures { IfOk result (λ generation. generation ≡ first_generation bytes.now) }
+{
+    let Some(body) = body_at(bytes) else {
+        return Ok(None);
+    };
+    let Some(records) = group_of(alloc, body, 0)? else {
+        return Ok(None);
+    };
+    Ok(generation_of(&records))
+}
+
+// The generation of an area with these records in its first group.
+#[tactic(auto, unfolding(crate::specs::Areas::generation_of))]
+fn generation_of(records: &[Record]) -> Option<u64>
+    ensures { result ≡ generation_of (map (λ one. one.bytes) records.now) }
+{
+    if records.is_empty() || records.len() > 2 {
+        return None;
+    }
+    shaped_version(records[0].bytes.as_slice())?;
+    if records.len() == 1 {
+        Some(0)
+    } else {
+        head_in(records[1].bytes.as_slice())
+    }
 }
 
 // The number in a length field at the front of the bytes.
@@ -66,7 +120,7 @@ fn length_at(bytes: &[u8]) -> u32
 
 // The body behind an open gate, if it and the next gate stand within the bytes.
 #[tactic(auto, unfolding(crate::specs::Format::body_at))]
-fn body_at(bytes: &[u8]) -> Option<&[u8]>
+pub(crate) fn body_at(bytes: &[u8]) -> Option<&[u8]>
     ensures { option_copied result ≡ body_at bytes.now }
 {
     if bytes.len() < LENGTH_BYTES {
@@ -82,7 +136,11 @@ fn body_at(bytes: &[u8]) -> Option<&[u8]>
 // The records of a body, with the place of its gate, if it is a list of whole records and not too
 // many.
 #[tactic(auto, unfolding(crate::specs::Format::group_of))]
-fn group_of(alloc: Global, body: &[u8], gate: u64) -> Result<Option<Vec<Record>>, AllocError>
+pub(crate) fn group_of(
+    alloc: Global,
+    body: &[u8],
+    gate: u64,
+) -> Result<Option<Vec<Record>>, AllocError>
     ensures { IfOk result (λ found. option_map (λ records. records.items) found ≡ option_map (kept gate) (group_of body.now)) }
 {
     let Some(records) = records_of(alloc, body, gate)? else {

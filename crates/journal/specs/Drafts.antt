@@ -1,0 +1,50 @@
+-- A checkpoint that is being made.
+use Rattle.std.specs.Prelude.{◌≡◌, ◌⊎◌, ℕ, ◌≤◌, List, [], ◌∷◌, ◌++◌, length, map}
+use Rattle.std.specs.Borrow.{Bor}
+use Rattle.std.specs.List.{flat_map}
+use Rattle.journal.specs.Areas.{head_record}
+use Rattle.journal.specs.Format.{sized_body, in_turn, as_written}
+use Rattle.journal.specs.Snapshot.{packed, bytes_for, CanPack, BeginsShaped, head_place}
+use Rattle.journal.specs.declared.layout.TheConstants.{OPEN, MAX_GROUP_RECORDS}
+
+-- the bytes of the first group, of these groups, and then an open gate
+abbrev pub before_group : List ℕ → List (List (List ℕ)) → List ℕ
+before_group configuration groups = sized_body (configuration ∷ head_record 0 ∷ []) ++ (in_turn (map as_written groups) ++ OPEN ∷ [])
+
+-- The last group of a state has so many records, and its length stands at this place.
+pub record EndsIn (configuration : List ℕ) (state : List (List ℕ)) (start count : ℕ) : Type 0 where
+  pub front : List (List (List ℕ))
+  pub last : List (List ℕ)
+  pub groups : packed state ≡ front ++ last ∷ []
+  pub counts : count ≡ length last
+  pub at : start ≡ length (before_group configuration front)
+
+-- no record of the state stands there yet: the next one begins a group
+pub record IsBare (state : List (List ℕ)) (start count : ℕ) : Type 0 where
+  pub none : state ≡ []
+  pub at : start ≡ 0
+  pub full : count ≡ MAX_GROUP_RECORDS
+
+-- how the groups of these records end
+abbrev pub IsLast : List (List ℕ) → ℕ → ℕ → Type 0
+IsLast [] start count = ⊥
+IsLast (configuration ∷ state) start count = IsBare state start count ⊎ EndsIn configuration state start count
+
+-- Bytes are those of a checkpoint of generation 0 behind its first gate, whose last group is this one.
+pub record IsDraft (bytes : List ℕ) (start count : ℕ) : Type 0 where
+  pub records : List (List ℕ)
+  pub written : bytes ≡ bytes_for 0 records
+  pub packable : CanPack records
+  pub last : IsLast records start count
+
+-- The same, with what a checkpoint keeps beside its bytes: where the generation stands, and how many records it has without the head.
+pub record IsDraftOf (bytes : List ℕ) (place records_count start count : ℕ) : Type 0 where
+  pub draft : IsDraft bytes start count
+  pub shaped : BeginsShaped draft.records
+  pub at : place ≡ head_place draft.records
+  pub counts : records_count ≡ length draft.records
+  pub few : records_count ≤ length bytes
+
+-- the bytes of the parts of a record, one behind the other
+abbrev pub whole : List (Bor (List ℕ)) → List ℕ
+whole parts = flat_map (λ part. part.now) parts

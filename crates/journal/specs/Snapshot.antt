@@ -1,0 +1,81 @@
+-- The records of a checkpoint, the groups in which they are written, and the bytes of these.
+use Rattle.std.specs.Prelude.{◌≡◌, ⊤, ℕ, ◌+◌, ◌&&◌, nat_lt, nat_le, Bool, List, [], ◌∷◌, ◌++◌, length, map, IsSome, Result, Ok, Err, if◌then◌else◌}
+use Rattle.std.specs.List.{All}
+use Rattle.journal.specs.Areas.{head_record}
+use Rattle.journal.specs.Configuration.{shaped_version}
+use Rattle.journal.specs.Format.{FitsGroup, body_len, sized_body, file_bytes, stands}
+use Rattle.journal.specs.declared.layout.TheConstants.{OPEN, LENGTH_BYTES, MAX_GROUP_BYTES, MAX_GROUP_RECORDS}
+use Rattle.journal.specs.declared.record.Record.{Record}
+
+-- ---- groups
+
+-- a record fits a group after these
+abbrev pub has_room : List (List ℕ) → List ℕ → Bool
+has_room group next = nat_lt (length group) MAX_GROUP_RECORDS && nat_le (body_len group + (LENGTH_BYTES + length next)) MAX_GROUP_BYTES
+
+-- records in groups, each as long as the next record allows; the first group has these records already
+unfoldable pub packed_after : List (List ℕ) → List (List ℕ) → List (List (List ℕ))
+packed_after group [] = group ∷ []
+packed_after group (next ∷ rest) =
+    if has_room group next then packed_after (group ++ next ∷ []) rest else group ∷ packed_after (next ∷ []) rest
+
+-- records in groups, each as long as the next record allows
+unfoldable pub packed : List (List ℕ) → List (List (List ℕ))
+packed [] = []
+packed (first ∷ rest) = packed_after (first ∷ []) rest
+
+-- the groups of a checkpoint of this generation: its configuration with a head, and then the records of the state
+abbrev pub checkpoint_groups : ℕ → List (List ℕ) → List (List (List ℕ))
+checkpoint_groups generation [] = []
+checkpoint_groups generation (configuration ∷ state) = (configuration ∷ head_record generation ∷ []) ∷ packed state
+
+-- their bytes behind the first gate
+abbrev pub bytes_for : ℕ → List (List ℕ) → List ℕ
+bytes_for generation [] = []
+bytes_for generation (configuration ∷ state) = sized_body (configuration ∷ head_record generation ∷ []) ++ file_bytes (packed state)
+
+-- ---- records
+
+-- a record fits a group of its own
+abbrev pub FitsAlone : List ℕ → Type 0
+FitsAlone bytes = FitsGroup (bytes ∷ [])
+
+-- a first record, which fits a group with a head after it, and others, each of which fits a group
+abbrev pub CanPack : List (List ℕ) → Type 0
+CanPack [] = ⊥
+CanPack (configuration ∷ state) = FitsGroup (configuration ∷ head_record 0 ∷ []) × All FitsAlone state
+
+-- the first record, if there is one, has the shape of a configuration
+abbrev pub BeginsShaped : List (List ℕ) → Type 0
+BeginsShaped [] = ⊤
+BeginsShaped (configuration ∷ state) = IsSome (shaped_version configuration)
+
+-- the records without the second one
+abbrev pub without_head : List (List ℕ) → List (List ℕ)
+without_head [] = []
+without_head (configuration ∷ []) = configuration ∷ []
+without_head (configuration ∷ head ∷ state) = configuration ∷ state
+
+-- the bytes of what was read without the head, or of nothing
+abbrev pub read_without_head : Result (List Record) ℕ → List (List ℕ)
+read_without_head (Ok records) = without_head (map (λ one. one.bytes) records)
+read_without_head (Err gate) = []
+
+-- the records of a checkpoint whose bytes these are behind its first gate
+unfoldable pub records_in : List ℕ → List (List ℕ)
+records_in bytes = read_without_head (stands (OPEN ∷ bytes))
+
+-- the place of the generation in the bytes of a checkpoint
+abbrev pub head_place : List (List ℕ) → ℕ
+head_place [] = 0
+head_place (configuration ∷ state) = 13 + length configuration
+
+-- Bytes are those of a checkpoint of some generation behind its first gate, which has so many records without the head, and the generation
+-- at this place.
+pub record IsSnapshot (bytes : List ℕ) (place count : ℕ) : Type 0 where
+  pub generation : ℕ
+  pub written : bytes ≡ bytes_for generation (records_in bytes)
+  pub packable : CanPack (records_in bytes)
+  pub shaped : BeginsShaped (records_in bytes)
+  pub at : place ≡ head_place (records_in bytes)
+  pub counts : count ≡ length (records_in bytes)

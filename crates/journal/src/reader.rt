@@ -1,0 +1,37 @@
+//! What takes the records of a journal while it is opened.
+
+ghost use Rattle.std.specs.Prelude.{◌≡◌, ◌++◌, [], List, OnOk};
+ghost use Rattle.std.proofs.Common.{sym, ap, ◌∙◌, append_assoc};
+ghost use Rattle.std.proofs.lemmas.List.{append-nil};
+ghost use Rattle.journal.specs.declared.record.Record.{Record};
+
+use crate::record::Record;
+use std::alloc::{AllocError, Global};
+
+/// What takes the records of a journal, group by group, while it is opened.
+pub trait Reader {
+    /// It has come from one state to another by taking these records, from the first to the last.
+    ghost takes: { Self → List Record → Self → Type 0 };
+
+    /// Takes the records of the next group.
+    fn take(&mut self, alloc: Global, group: Vec<Record>) -> Result<(), AllocError>
+        ensures { OnOk result (takes self.old group.items self.new) };
+
+    /// It stays as it is by taking none.
+    ghost takes_none: { (one : Self) → takes one [] one };
+
+    /// It takes some records, and then others.
+    ghost takes_more: { (one other third : Self) (records more : List Record) → takes one records other → takes other more third → takes one (records ++ more) third };
+}
+
+impl Reader for Vec<Record> {
+    ghost takes = { λ old records new. new.items ≡ old.items ++ records };
+
+    ghost takes_none = { λ one. sym (append-nil one.items) };
+
+    ghost takes_more = { λ one other third records more first then. then ∙ ap (λ (l : List Record). l ++ more) first ∙ append_assoc one.items records more };
+
+    fn take(&mut self, _alloc: Global, mut group: Vec<Record>) -> Result<(), AllocError> {
+        self.append(&mut group)
+    }
+}
